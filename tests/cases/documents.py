@@ -11,7 +11,7 @@ from kit.case import CASES, case
 TOP = os.path.join(os.path.dirname(os.path.abspath(__file__)), "..", "..")
 
 # Names in backticks that look like code of the crates and are the toolchain's, or patterns of names.
-NOT_CODE = {"Lts", "RT_JOBS", "StemDecision", "StemStep", "StemDeed"}
+NOT_CODE = {"Lts", "RT_JOBS", "StemDecision", "StemStep", "StemEffect"}
 
 # Traits of std that the crates' types meet.
 OF_STD = {"Display", "From"}

@@ -30,7 +30,7 @@ LISTED = {
     "shop_request/src/routes.rt new": "the router takes the routes, which are constants, but for want of memory",
     "shop_rows/src/part_rows.rt reserve": "a number of origins of 32 bits: acts end at 2147483647, and each begins one at most",
     "shop_serve/src/answers.rt note_want": "what the watch told of a backup is asked for, to be noted",
-    "shop_serve/src/lines.rt ask": "there is no answer where memory is wanting for it",
+    "shop_serve/src/clients.rt ask": "there is no answer where memory is wanting for it",
     "shop_store/src/named_parts.rt searched_parts": "the taker of parts stops where its list has no room",
     "shop_text/src/yields.rt report_text": "the taker of a report's lines stops where its text has no room",
     "shop_wire/src/serving.rt write_made": "the text is handed over as it was made, or the want of memory",
@@ -240,6 +240,11 @@ def equations(text):
     return re.findall(rf"[:{{]\s*([\w.]+?)(?:\.now)?\s*≡\s*{NUMBER}\s*(?:\}}|$)", text, re.MULTILINE)
 
 
+def statements(text):
+    """The names of the statements of which a text says what they do."""
+    return re.findall(r"\{\s*(?:Adds|Does) S\.Store (\w+)\.now\b", text)
+
+
 def lawful(text, laws):
     """The names that a definition's text says to be a number, in a record that is one of these laws."""
     records = re.findall(r"(?m)^(?:pub )?record (\w+)[^\n]*\n((?:[ \t][^\n]*\n|\n)*)", text)
@@ -253,7 +258,7 @@ def numbered():
     # (a law that is a record is a clause with nothing but its name)
     laws = {it for text in sources for it in re.findall(r"\bensures \w+ \{ (\w+) \}", text)}
     every, known, stated = set(), set(), set()
-    said = [*[(it, lawful(it, laws)) for it in definitions], *[(it, equations(it)) for it in sources]]
+    said = [*[(it, lawful(it, laws)) for it in definitions], *[(it, equations(it) + statements(it)) for it in sources]]
     for text, equal in said:
         by_name = cited(text)
         every |= set(by_name.values())
@@ -267,8 +272,8 @@ def numbered():
 
 @case(
     "constants have their numbers in a law",
-    "Each constant of the code that a definition or a contract cites has its number, or its text, in a law, as in "
-    "`limits_have_numbers`, by its own name or by that of the definition that is it.",
+    "Each constant of the code that a definition or a contract cites has its number, its text or, of a statement, what it does "
+    "in a law, as in `limits_have_numbers`, by its own name or by that of the definition that is it.",
 )
 def numbers(trial):
     every, known = numbered()
@@ -283,7 +288,7 @@ HINTING = {"cut_search", "cut_master", "cut_fill_bars", "cut_fill_sheets", "shop
 LAWLESS = {
     "cut_tree read MOST_WORDS": ("512", "one word more than a tree of 255 cuts has: the contract has the first fault at one of these"),
     "shop_backup backing MOST_BACKUPS": ("1000000", "the greatest number of a backup, as the formats have it"),
-    "shop_backup backing ROOM": ("65536", "how much of a file is in memory at once"),
+    "shop_backup backing BUFFER_SIZE": ("65536", "how much of a file is in memory at once"),
     "shop_backup folders MOST_TRIES": ("1000", "how often an interrupted call is made again"),
     "shop_planning asking ALL_ROWS": ("MOST_NUMBERS as usize", "all rows of a list, of which none has a greater number"),
     "shop_planning asking FIRST_ROWS": ("2000", "so many rows are read first; where these don't suffice all are"),
@@ -291,7 +296,7 @@ LAWLESS = {
     "shop_request fields LONGEST_BODY": ("131072", "the definition `most_body` has the number"),
     "shop_request heads LONGEST_HEAD": ("8192", "the definition `most_head` has the number"),
     "shop_request heads MOST_FIELDS": ("64", "the definition `most_fields` has the number"),
-    "shop_request pieces ROOM": ("8192", "how much a read of a request brings at most"),
+    "shop_request pieces BUFFER_SIZE": ("8192", "how much a read of a request brings at most"),
     "shop_rows sums TOO_LARGE": ("18446744073709551616", "sums that 64 bits don't hold are no totals"),
     "shop_serve connections MOST_TRIES": ("1000", "how often an interrupted call is made again"),
     "shop_serve ports MOST_EVENTS": ("256", "how many connections are reported at once; others are in the next report"),
@@ -301,7 +306,7 @@ LAWLESS = {
     "shop_serve thinking MOST_THOUGHTS": ("8", "questions that are thought about at once; others wait"),
     "shop_serve transfers MOST_BYTES": ("150000", "more bytes than come of any request that is read"),
     "shop_serve transfers MOST_DROPS": ("1024", "reads at once of what is dropped: more than a socket keeps"),
-    "shop_serve transfers ROOM": ("8192", "how much a read of a connection brings at most"),
+    "shop_serve transfers BUFFER_SIZE": ("8192", "how much a read of a connection brings at most"),
     "shop_store names ROWS_A_LOOK": ("32", "where more than one part in so many stands all rows are gone through"),
     "shop_streams counted MOST_TRIES": ("1000", "how often an interrupted call is made again"),
 }

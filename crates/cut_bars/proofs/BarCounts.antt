@@ -62,13 +62,13 @@ Piled wants k w g = (t : Tree) × Legal wants k t w 1 × ((f : ℕ → ℕ) → 
 
 many : (wants : List Want) (k : ℕ) (x : Want) → Contains wants x → x.size.h ≡ 1 → 1 ≤ x.size.w → (r : ℕ) (g : (ℕ → ℕ) → ℕ) → ((w : ℕ) → r ≤ w + k → Piled wants k w g)
     → (r ≤ k → (f : ℕ → ℕ) → g f ≡ 0) → (a w : ℕ) → (x.size.w + k) * a + r ≤ w + k → Piled wants k w (λ f. f x.demand * a + g f)
-many wants k x has flat some r g behind none zero w fit =
-    let b = behind w (omega arith) in
+many wants k x has flat some r g after none zero w fit =
+    let b = after w (omega arith) in
     (b.0, b.1, λ f. omega (arith, b.2 f))
-many wants k x has flat some r g behind none (suc a) w fit =
+many wants k x has flat some r g after none (suc a) w fit =
     elim (cases_lt (x.size.w + k) w) [
       | inl lt ↦
-          let b = many wants k x has flat some r g behind none a (w - x.size.w - k) (omega arith) in
+          let b = many wants k x has flat some r g after none a (w - x.size.w - k) (omega arith) in
           (Cut X x.size.w (Piece x.demand false) b.0, (some, lt, (x, has, refl, (refl, flat)), b.1), λ f. omega (arith, b.2 f))
       | inr ge ↦ last ge
     ]

@@ -55,9 +55,9 @@ module _ (k whole : ℕ) (xs : List Want) (has : Entry → Type 0) (r : AreReach
           let most = best.most g.counts g.within (omega (arith, takes, le)) in
           omega (arith, value, most)
 
-pub best_room : (k whole at : ℕ) (xs ys : List Want) (front back : Entry → Type 0) → AreReached k xs whole front → AreReached k ys whole back → IsBestDivision whole at front back
+pub best_room : (k whole at : ℕ) (xs ys : List Want) (prefix back : Entry → Type 0) → AreReached k xs whole prefix → AreReached k ys whole back → IsBestDivision whole at prefix back
     → IsBestRoomForFirst k xs ys whole at
-best_room k whole at xs ys front back r s d = record {
+best_room k whole at xs ys prefix back r s d = record {
   within = omega (arith, d.rest);
   best = λ ns ms a b. record {
     within = counts_append xs ys ns ms a.within b.within;
@@ -72,9 +72,9 @@ best_room k whole at xs ys front back r s d = record {
     most ns ms a b others (ps, qs, p, q, e) fits =
         let room = ap (λ l. room_taken k (xs ++ ys) l) e ∙ total_append (λ x. x.size.w + k) xs ys ps qs p in
         let worth = ap (λ l. worth_of_counts (xs ++ ys) l) e ∙ total_append (λ x. x.worth) xs ys ps qs p in
-        let x = entry_worth k whole xs front r ps p (omega (arith, room, fits)) in
+        let x = entry_worth k whole xs prefix r ps p (omega (arith, room, fits)) in
         let y = entry_worth k whole ys back s qs q (omega (arith, room, fits)) in
-        let one = best_worth k whole xs front r at ns d.one a d.in_front d.fits in
+        let one = best_worth k whole xs prefix r at ns d.one a d.in_prefix d.fits in
         let other = best_worth k whole ys back s (whole - at) ms d.other b d.in_back (omega (arith, d.rest)) in
         let both = d.most x.0 y.0 x.1 y.1 (omega (arith, x.2, y.2, room, fits)) in
         omega (arith, worth, total_append (λ x. x.worth) xs ys ns ms a.within, x.3, y.3, both, one, other)
@@ -107,8 +107,8 @@ taken P n xs each x has = each x (subst (λ ys. Contains ys x) (take-append-drop
 pub dropped : (P : Want → Type 0) (n : ℕ) (xs : List Want) → ((x : Want) → Contains xs x → P x) → (x : Want) → Contains (drop n xs) x → P x
 dropped P n xs each x has = each x (subst (λ ys. Contains ys x) (take-append-drop n xs) (Contains-append_right (take n xs) (drop n xs) x has))
 
-pub both_parts : (n : ℕ) (xs front back : List Want) → front ≡ take n xs → back ≡ drop n xs → front ++ back ≡ xs
-both_parts n xs front back first others = ap (λ l. l ++ back) first ∙ ap (λ l. take n xs ++ l) others ∙ take-append-drop n xs
+pub both_parts : (n : ℕ) (xs prefix back : List Want) → prefix ≡ take n xs → back ≡ drop n xs → prefix ++ back ≡ xs
+both_parts n xs prefix back first others = ap (λ l. l ++ back) first ∙ ap (λ l. take n xs ++ l) others ∙ take-append-drop n xs
 
 -- of two parts, both have lengths
 pub lengths_append : (xs ys : List Want) → HaveLength xs → HaveLength ys → HaveLength (xs ++ ys)
@@ -165,16 +165,16 @@ small_worths limit k whole xs has p r = record {
     nothing (x ∷ xs) = omega (arith, nothing xs)
 
 -- the same of sets of the same entries
-pub division_same : (whole at : ℕ) (front front' back back' : Entry → Type 0) → IsBestDivision whole at front back → ((e : Entry) → front e ↔ front' e) → ((e : Entry) → back e ↔ back' e)
-    → IsBestDivision whole at front' back'
-division_same whole at front front' back back' d same same' = record {
+pub division_same : (whole at : ℕ) (prefix prefix' back back' : Entry → Type 0) → IsBestDivision whole at prefix back → ((e : Entry) → prefix e ↔ prefix' e) → ((e : Entry) → back e ↔ back' e)
+    → IsBestDivision whole at prefix' back'
+division_same whole at prefix prefix' back back' d same same' = record {
   one = d.one;
   other = d.other;
-  in_front = (same d.one).0 d.in_front;
+  in_prefix = (same d.one).0 d.in_prefix;
   in_back = (same' d.other).0 d.in_back;
   fits = d.fits;
   rest = d.rest;
-  most = λ e f there behind fits. d.most e f ((same e).1 there) ((same' f).1 behind) fits;
+  most = λ e f there after fits. d.most e f ((same e).1 there) ((same' f).1 after) fits;
 }
 
 pub small_same : (limit whole : ℕ) (has has' : Entry → Type 0) → HaveSmallWorths limit whole has → ((e : Entry) → has' e ↔ has e) → HaveSmallWorths limit whole has'
@@ -185,52 +185,52 @@ small_same limit whole has has' s same = record {
 }
 
 -- the best of the entries `done` with one of the other set, where both are worth `extra` more
-pub record IsDivided (whole extra : ℕ) (front back done : Entry → Type 0) (found : Entry) : Type 0 where
+pub record IsDivided (whole extra : ℕ) (prefix back done : Entry → Type 0) (found : Entry) : Type 0 where
   pub one : Entry
   pub other : Entry
-  pub in_front : front one
+  pub in_prefix : prefix one
   pub in_back : back other
   pub room : one.room ≡ found.room
   pub rest : other.room + found.room ≤ whole
   pub worth : one.worth + other.worth + extra ≡ found.worth
-  pub most : (e f : Entry) → done e → front e → back f → e.room + f.room ≤ whole → e.worth + f.worth + extra ≤ found.worth
+  pub most : (e f : Entry) → done e → prefix e → back f → e.room + f.room ≤ whole → e.worth + f.worth + extra ≤ found.worth
 
-module _ (whole extra : ℕ) (front back done : Entry → Type 0) (found : Entry) (d : IsDivided whole extra front back done found) where
-  pub divided_all : ((e : Entry) → front e → done e) → IsBestDivision whole found.room front back
+module _ (whole extra : ℕ) (prefix back done : Entry → Type 0) (found : Entry) (d : IsDivided whole extra prefix back done found) where
+  pub divided_all : ((e : Entry) → prefix e → done e) → IsBestDivision whole found.room prefix back
   divided_all all = record {
     one = d.one;
     other = d.other;
-    in_front = d.in_front;
+    in_prefix = d.in_prefix;
     in_back = d.in_back;
     fits = omega (arith, d.room);
     rest = d.rest;
-    most = λ e f there behind fits. let le = d.most e f (all e there) there behind fits in omega (arith, d.worth, le);
+    most = λ e f there after fits. let le = d.most e f (all e there) there after fits in omega (arith, d.worth, le);
   }
 
-  pub divided_skip : (done' : Entry → Type 0) → ((e : Entry) → done' e → front e → done e) → IsDivided whole extra front back done' found
+  pub divided_skip : (done' : Entry → Type 0) → ((e : Entry) → done' e → prefix e → done e) → IsDivided whole extra prefix back done' found
   divided_skip done' before = record {
     one = d.one;
     other = d.other;
-    in_front = d.in_front;
+    in_prefix = d.in_prefix;
     in_back = d.in_back;
     room = d.room;
     rest = d.rest;
     worth = d.worth;
-    most = λ e f did there behind fits. d.most e f (before e did there) there behind fits;
+    most = λ e f did there after fits. d.most e f (before e did there) there after fits;
   }
 
   -- one entry more, with the one of the other set that is worth most beside it
-  pub divided_more : (done' : Entry → Type 0) (both found' e o : Entry) → IsWorthierOf found both found' → front e → back o → o.room + e.room ≤ whole → both.room ≡ e.room
+  pub divided_more : (done' : Entry → Type 0) (both found' e o : Entry) → IsWorthierOf found both found' → prefix e → back o → o.room + e.room ≤ whole → both.room ≡ e.room
       → both.worth ≡ e.worth + o.worth + extra → ((f : Entry) → back f → e.room + f.room ≤ whole → f.worth ≤ o.worth)
-      → ((x : Entry) → done' x → front x → done x ⊎ ((x.room ≡ e.room) × (x.worth ≡ e.worth))) → IsDivided whole extra front back done' found'
-  divided_more done' both found' e o w there behind fits room worth beside before = elim w.one [
+      → ((x : Entry) → done' x → prefix x → done x ⊎ ((x.room ≡ e.room) × (x.worth ≡ e.worth))) → IsDivided whole extra prefix back done' found'
+  divided_more done' both found' e o w there after fits room worth beside before = elim w.one [
     | inl same ↦
         let r : found'.room ≡ found.room = ap (λ (x : Entry). x.room) same in
         let v : found'.worth ≡ found.worth = ap (λ (x : Entry). x.worth) same in
         record {
           one = d.one;
           other = d.other;
-          in_front = d.in_front;
+          in_prefix = d.in_prefix;
           in_back = d.in_back;
           room = omega (arith, d.room, r);
           rest = omega (arith, d.rest, r);
@@ -243,8 +243,8 @@ module _ (whole extra : ℕ) (front back done : Entry → Type 0) (found : Entry
         record {
           one = e;
           other = o;
-          in_front = there;
-          in_back = behind;
+          in_prefix = there;
+          in_back = after;
           room = omega (arith, room, r);
           rest = omega (arith, fits, room, r);
           worth = omega (arith, worth, v);
@@ -252,7 +252,7 @@ module _ (whole extra : ℕ) (front back done : Entry → Type 0) (found : Entry
         }
   ]
     where
-      most : (x f : Entry) → done' x → front x → back f → x.room + f.room ≤ whole → x.worth + f.worth + extra ≤ found'.worth
+      most : (x f : Entry) → done' x → prefix x → back f → x.room + f.room ≤ whole → x.worth + f.worth + extra ≤ found'.worth
       most x f did x_there f_there x_fits = elim (before x did x_there) [
         | inl old ↦ omega (arith, d.most x f old x_there f_there x_fits, w.worth_a)
         | inr same ↦ omega (arith, beside f f_there (omega (arith, same.0, x_fits)), same.1, worth, w.worth_b)
@@ -263,12 +263,12 @@ abbrev pub IsFrom : List Entry → ℕ → Entry → Type 0
 IsFrom entries left e = (i : ℕ) × (left ≤ i) × (i < length entries) × (get_or entries i e ≡ e)
 
 -- what the first entries of the second list are worth at most: as much as one that has room beside each of the first `left`
-pub record IsBehind (whole : ℕ) (front back : List Entry) (left next behind : ℕ) : Type 0 where
+pub record IsAfter (whole : ℕ) (prefix back : List Entry) (left next after : ℕ) : Type 0 where
   pub other : Entry
   pub there : Contains back other
-  pub worth : other.worth ≡ behind
-  pub fits : (i : ℕ) → i < left → other.room + (get_or front i none).room ≤ whole
-  pub most : (j : ℕ) → j < next → (get_or back j none).worth ≤ behind
+  pub worth : other.worth ≡ after
+  pub fits : (i : ℕ) → i < left → other.room + (get_or prefix i none).room ≤ whole
+  pub most : (j : ℕ) → j < next → (get_or back j none).worth ≤ after
 
 in_order : (xs : List Entry) (i j : ℕ) → AreRising xs → i ≤ j → j < length xs → (get_or xs i none).room ≤ (get_or xs j none).room
 in_order xs i j rising le lt = elim (cases_lt i j) [
@@ -276,63 +276,63 @@ in_order xs i j rising le lt = elim (cases_lt i j) [
   | inr ge ↦ let same : i ≡ j = omega arith in omega (arith, ap (λ n. (get_or xs n none).room) same)
 ]
 
-module _ (whole limit limit' : ℕ) (front back : List Entry) (rising_front : AreRising front) (rising_back : AreRising back)
-    (small_front : HaveSmallWorths limit whole (Contains front)) (small_back : HaveSmallWorths limit' whole (Contains back)) where
-  pub lists_start : IsBehind whole front back (length front) 0 0 × IsDivided whole 0 (Contains front) (Contains back) (IsFrom front (length front)) none
+module _ (whole limit limit' : ℕ) (prefix back : List Entry) (rising_prefix : AreRising prefix) (rising_back : AreRising back)
+    (small_prefix : HaveSmallWorths limit whole (Contains prefix)) (small_back : HaveSmallWorths limit' whole (Contains back)) where
+  pub lists_start : IsAfter whole prefix back (length prefix) 0 0 × IsDivided whole 0 (Contains prefix) (Contains back) (IsFrom prefix (length prefix)) none
   lists_start = (
     record {
       other = none;
       there = small_back.none;
       worth = refl;
-      fits = λ i lt. omega (arith, (small_front.low (get_or front i none) (Contains-get_or front i none lt)).0);
+      fits = λ i lt. omega (arith, (small_prefix.low (get_or prefix i none) (Contains-get_or prefix i none lt)).0);
       most = λ j lt. absurd (omega arith);
     },
     record {
       one = none;
       other = none;
-      in_front = small_front.none;
+      in_prefix = small_prefix.none;
       in_back = small_back.none;
       room = refl;
       rest = omega arith;
       worth = refl;
-      most = λ e f (i, ge, lt, is) there behind fits. absurd (omega arith);
+      most = λ e f (i, ge, lt, is) there after fits. absurd (omega arith);
     },
   )
 
   -- one entry more of the second list has room
-  pub behind_next : (left next behind behind' : ℕ) → IsBehind whole front back left next behind → 1 ≤ left → left ≤ length front → next < length back
-      → (get_or back next none).room + (get_or front (left - 1) none).room ≤ whole → behind' ≡ max (get_or back next none).worth behind → IsBehind whole front back left (next + 1) behind'
-  behind_next left next behind behind' b some inside lt fits is = elim (max_one (get_or back next none).worth behind behind' is) [
+  pub after_next : (left next after after' : ℕ) → IsAfter whole prefix back left next after → 1 ≤ left → left ≤ length prefix → next < length back
+      → (get_or back next none).room + (get_or prefix (left - 1) none).room ≤ whole → after' ≡ max (get_or back next none).worth after → IsAfter whole prefix back left (next + 1) after'
+  after_next left next after after' b some inside lt fits is = elim (max_one (get_or back next none).worth after after' is) [
     | inl e ↦ record {
       other = get_or back next none;
       there = Contains-get_or back next none lt;
       worth = sym e;
-      fits = λ i less. omega (arith, fits, in_order front i (left - 1) rising_front (omega arith) (omega arith));
+      fits = λ i less. omega (arith, fits, in_order prefix i (left - 1) rising_prefix (omega arith) (omega arith));
       most = most;
     }
     | inr e ↦ record { other = b.other; there = b.there; worth = b.worth ∙ sym e; fits = b.fits; most = most }
   ]
     where
-      most : (j : ℕ) → j < next + 1 → (get_or back j none).worth ≤ behind'
+      most : (j : ℕ) → j < next + 1 → (get_or back j none).worth ≤ after'
       most j less = elim (cases_lt j next) [
-        | inl before ↦ omega (arith, b.most j before, is, le-max_right (get_or back next none).worth behind)
+        | inl before ↦ omega (arith, b.most j before, is, le-max_right (get_or back next none).worth after)
         | inr ge ↦
             let same : j ≡ next = omega arith in
-            omega (arith, ap (λ n. (get_or back n none).worth) same, is, le-max_left (get_or back next none).worth behind)
+            omega (arith, ap (λ n. (get_or back n none).worth) same, is, le-max_left (get_or back next none).worth after)
       ]
 
   -- no further entry of the second list has room beside the last that is left of the first
-  pub lists_more : (left next behind : ℕ) (found both found' : Entry) → IsBehind whole front back left next behind → IsDivided whole 0 (Contains front) (Contains back) (IsFrom front left) found
-      → IsWorthierOf found both found' → 1 ≤ left → left ≤ length front → (next < length back → whole < (get_or back next none).room + (get_or front (left - 1) none).room)
-      → both.room ≡ (get_or front (left - 1) none).room → both.worth ≡ (get_or front (left - 1) none).worth + behind
-      → IsBehind whole front back (left - 1) next behind × IsDivided whole 0 (Contains front) (Contains back) (IsFrom front (left - 1)) found'
-  lists_more left next behind found both found' b d w some inside stop room worth = (
+  pub lists_more : (left next after : ℕ) (found both found' : Entry) → IsAfter whole prefix back left next after → IsDivided whole 0 (Contains prefix) (Contains back) (IsFrom prefix left) found
+      → IsWorthierOf found both found' → 1 ≤ left → left ≤ length prefix → (next < length back → whole < (get_or back next none).room + (get_or prefix (left - 1) none).room)
+      → both.room ≡ (get_or prefix (left - 1) none).room → both.worth ≡ (get_or prefix (left - 1) none).worth + after
+      → IsAfter whole prefix back (left - 1) next after × IsDivided whole 0 (Contains prefix) (Contains back) (IsFrom prefix (left - 1)) found'
+  lists_more left next after found both found' b d w some inside stop room worth = (
     record { other = b.other; there = b.there; worth = b.worth; fits = λ i lt. b.fits i (omega arith); most = b.most },
-    divided_more whole 0 (Contains front) (Contains back) (IsFrom front left) found d (IsFrom front (left - 1)) both found' (get_or front (left - 1) none) b.other w
-        (Contains-get_or front (left - 1) none (omega arith)) b.there (b.fits (left - 1) (omega arith)) room (omega (arith, worth, b.worth)) beside before,
+    divided_more whole 0 (Contains prefix) (Contains back) (IsFrom prefix left) found d (IsFrom prefix (left - 1)) both found' (get_or prefix (left - 1) none) b.other w
+        (Contains-get_or prefix (left - 1) none (omega arith)) b.there (b.fits (left - 1) (omega arith)) room (omega (arith, worth, b.worth)) beside before,
   )
     where
-      beside : (f : Entry) → Contains back f → (get_or front (left - 1) none).room + f.room ≤ whole → f.worth ≤ b.other.worth
+      beside : (f : Entry) → Contains back f → (get_or prefix (left - 1) none).room + f.room ≤ whole → f.worth ≤ b.other.worth
       beside f (j, lt, is) fits =
           let at : get_or back j none ≡ f = get_or_default back j none f lt ∙ is in
           elim (cases_lt j next) [
@@ -340,97 +340,97 @@ module _ (whole limit limit' : ℕ) (front back : List Entry) (rising_front : Ar
             | inr ge ↦ absurd (omega (arith, stop (omega arith), in_order back next j rising_back ge lt, ap (λ (e : Entry). e.room) at, fits))
           ]
 
-      before : (x : Entry) → IsFrom front (left - 1) x → Contains front x
-          → IsFrom front left x ⊎ ((x.room ≡ (get_or front (left - 1) none).room) × (x.worth ≡ (get_or front (left - 1) none).worth))
+      before : (x : Entry) → IsFrom prefix (left - 1) x → Contains prefix x
+          → IsFrom prefix left x ⊎ ((x.room ≡ (get_or prefix (left - 1) none).room) × (x.worth ≡ (get_or prefix (left - 1) none).worth))
       before x (i, ge, lt, is) there = elim (cases_lt i left) [
         | inr later ↦ inl (i, later, lt, is)
         | inl here ↦
             let same : i ≡ left - 1 = omega arith in
-            let at : get_or front (left - 1) none ≡ x = ap (λ n. get_or front n none) (sym same) ∙ get_or_default front i none x lt ∙ is in
+            let at : get_or prefix (left - 1) none ≡ x = ap (λ n. get_or prefix n none) (sym same) ∙ get_or_default prefix i none x lt ∙ is in
             inr (sym (ap (λ (e : Entry). e.room) at), sym (ap (λ (e : Entry). e.worth) at))
       ]
 
-  pub lists_done : (left : ℕ) (found : Entry) → left ≡ 0 → IsDivided whole 0 (Contains front) (Contains back) (IsFrom front left) found → IsBestDivision whole found.room (Contains front) (Contains back)
+  pub lists_done : (left : ℕ) (found : Entry) → left ≡ 0 → IsDivided whole 0 (Contains prefix) (Contains back) (IsFrom prefix left) found → IsBestDivision whole found.room (Contains prefix) (Contains back)
   lists_done left found end d =
-      divided_all whole 0 (Contains front) (Contains back) (IsFrom front left) found d (λ e (i, lt, is). (i, omega (arith, end), lt, is))
+      divided_all whole 0 (Contains prefix) (Contains back) (IsFrom prefix left) found d (λ e (i, lt, is). (i, omega (arith, end), lt, is))
 
--- tables: the entries of rooms behind one
+-- tables: the entries of rooms after one
 abbrev pub IsPast : ℕ → ℕ → Entry → Type 0
 IsPast whole room e = whole < e.room + room
 
 -- the greatest of the first cells of the second table
-pub record IsGreatestCell (cells : List ℕ) (room behind : ℕ) : Type 0 where
+pub record IsGreatestCell (cells : List ℕ) (room after : ℕ) : Type 0 where
   pub at : ℕ
   pub within : at ≤ room
-  pub there : get_or cells at 0 ≡ behind
-  pub some : 1 ≤ behind
-  pub most : (j : ℕ) → j < room → get_or cells j 0 ≤ behind
+  pub there : get_or cells at 0 ≡ after
+  pub some : 1 ≤ after
+  pub most : (j : ℕ) → j < room → get_or cells j 0 ≤ after
 
-module _ (whole limit : ℕ) (front back : List ℕ) (front_len : length front ≡ whole + 1) (back_len : length back ≡ whole + 1)
-    (small_front : HaveSmallWorths limit whole (HasCell front)) (small_back : HaveSmallWorths limit whole (HasCell back)) where
-  pub tables_start : (behind worth : ℕ) → behind ≡ get_or back 0 0 → worth ≡ get_or front 0 0 + behind
-      → IsGreatestCell back 0 behind × IsDivided whole 2 (HasCell front) (HasCell back) (IsPast whole 0) (record { room = 0; worth = worth })
-  tables_start behind worth is both = (
+module _ (whole limit : ℕ) (prefix back : List ℕ) (front_len : length prefix ≡ whole + 1) (back_len : length back ≡ whole + 1)
+    (small_prefix : HaveSmallWorths limit whole (HasCell prefix)) (small_back : HaveSmallWorths limit whole (HasCell back)) where
+  pub tables_start : (after worth : ℕ) → after ≡ get_or back 0 0 → worth ≡ get_or prefix 0 0 + after
+      → IsGreatestCell back 0 after × IsDivided whole 2 (HasCell prefix) (HasCell back) (IsPast whole 0) (record { room = 0; worth = worth })
+  tables_start after worth is both = (
     record { at = 0; within = omega arith; there = sym is; some = omega (arith, is, small_back.none); most = λ j lt. absurd (omega arith) },
     record {
       one = none;
       other = none;
-      in_front = small_front.none;
+      in_prefix = small_prefix.none;
       in_back = small_back.none;
       room = refl;
       rest = omega arith;
-      worth = omega (arith, is, both, small_front.none, small_back.none);
-      most = λ e f past there behind fits. absurd (omega arith);
+      worth = omega (arith, is, both, small_prefix.none, small_back.none);
+      most = λ e f past there after fits. absurd (omega arith);
     },
   )
 
   -- one cell more of either table: what is known of the greatest, and of the pairs where the first table has an entry and where not
-  pub greater : (room behind behind' : ℕ) → IsGreatestCell back room behind → behind' ≡ max (get_or back room 0) behind
-      → (at : ℕ) × (at ≤ room) × (get_or back at 0 ≡ behind') × (1 ≤ behind') × ((j : ℕ) → j < room + 1 → get_or back j 0 ≤ behind')
-  greater room behind behind' g is = elim (max_one (get_or back room 0) behind behind' is) [
-    | inl e ↦ (room, omega arith, sym e, omega (arith, is, g.some, le-max_right (get_or back room 0) behind), most)
+  pub greater : (room after after' : ℕ) → IsGreatestCell back room after → after' ≡ max (get_or back room 0) after
+      → (at : ℕ) × (at ≤ room) × (get_or back at 0 ≡ after') × (1 ≤ after') × ((j : ℕ) → j < room + 1 → get_or back j 0 ≤ after')
+  greater room after after' g is = elim (max_one (get_or back room 0) after after' is) [
+    | inl e ↦ (room, omega arith, sym e, omega (arith, is, g.some, le-max_right (get_or back room 0) after), most)
     | inr e ↦ (g.at, g.within, g.there ∙ sym e, omega (arith, e, g.some), most)
   ]
     where
-      most : (j : ℕ) → j < room + 1 → get_or back j 0 ≤ behind'
+      most : (j : ℕ) → j < room + 1 → get_or back j 0 ≤ after'
       most j lt = elim (cases_lt j room) [
-        | inl less ↦ omega (arith, g.most j less, is, le-max_right (get_or back room 0) behind)
+        | inl less ↦ omega (arith, g.most j less, is, le-max_right (get_or back room 0) after)
         | inr ge ↦
             let same : j ≡ room = omega arith in
-            omega (arith, ap (λ n. get_or back n 0) same, is, le-max_left (get_or back room 0) behind)
+            omega (arith, ap (λ n. get_or back n 0) same, is, le-max_left (get_or back room 0) after)
       ]
 
-  pub greatest_more : (room behind behind' : ℕ) → IsGreatestCell back room behind → behind' ≡ max (get_or back room 0) behind → IsGreatestCell back (room + 1) behind'
-  greatest_more room behind behind' g is =
-      let n = greater room behind behind' g is in
+  pub greatest_more : (room after after' : ℕ) → IsGreatestCell back room after → after' ≡ max (get_or back room 0) after → IsGreatestCell back (room + 1) after'
+  greatest_more room after after' g is =
+      let n = greater room after after' g is in
       record { at = n.0; within = omega (arith, n.1); there = n.2; some = n.3; most = n.4 }
 
-  pub tables_more : (room behind behind' : ℕ) (found both found' : Entry) → IsGreatestCell back room behind → behind' ≡ max (get_or back room 0) behind
-      → IsDivided whole 2 (HasCell front) (HasCell back) (IsPast whole room) found → room ≤ whole → 1 ≤ get_or front (whole - room) 0 → IsWorthierOf found both found'
-      → both.room ≡ whole - room → both.worth ≡ get_or front (whole - room) 0 + behind' → IsDivided whole 2 (HasCell front) (HasCell back) (IsPast whole (room + 1)) found'
-  tables_more room behind behind' found both found' g is d inside some w at worth =
-      let n = greater room behind behind' g is in
-      divided_more whole 2 (HasCell front) (HasCell back) (IsPast whole room) found d (IsPast whole (room + 1)) both found' (record { room = whole - room; worth = get_or front (whole - room) 0 - 1 })
-      (record { room = n.0; worth = behind' - 1 }) w (omega (arith, some)) (omega (arith, n.2, n.3)) (omega (arith, n.1, inside)) at (omega (arith, worth, some, n.3))
+  pub tables_more : (room after after' : ℕ) (found both found' : Entry) → IsGreatestCell back room after → after' ≡ max (get_or back room 0) after
+      → IsDivided whole 2 (HasCell prefix) (HasCell back) (IsPast whole room) found → room ≤ whole → 1 ≤ get_or prefix (whole - room) 0 → IsWorthierOf found both found'
+      → both.room ≡ whole - room → both.worth ≡ get_or prefix (whole - room) 0 + after' → IsDivided whole 2 (HasCell prefix) (HasCell back) (IsPast whole (room + 1)) found'
+  tables_more room after after' found both found' g is d inside some w at worth =
+      let n = greater room after after' g is in
+      divided_more whole 2 (HasCell prefix) (HasCell back) (IsPast whole room) found d (IsPast whole (room + 1)) both found' (record { room = whole - room; worth = get_or prefix (whole - room) 0 - 1 })
+      (record { room = n.0; worth = after' - 1 }) w (omega (arith, some)) (omega (arith, n.2, n.3)) (omega (arith, n.1, inside)) at (omega (arith, worth, some, n.3))
       (λ f there fits. omega (arith, there, n.4 f.room (omega (arith, fits, inside)), n.3)) before
     where
-      before : (x : Entry) → IsPast whole (room + 1) x → HasCell front x → IsPast whole room x ⊎ ((x.room ≡ whole - room) × (x.worth ≡ get_or front (whole - room) 0 - 1))
+      before : (x : Entry) → IsPast whole (room + 1) x → HasCell prefix x → IsPast whole room x ⊎ ((x.room ≡ whole - room) × (x.worth ≡ get_or prefix (whole - room) 0 - 1))
       before x past there = elim (cases_lt whole (x.room + room)) [
         | inl old ↦ inl old
         | inr new ↦
             let same : x.room ≡ whole - room = omega (arith, past) in
-            inr (same, omega (arith, there, ap (λ n. get_or front n 0) same))
+            inr (same, omega (arith, there, ap (λ n. get_or prefix n 0) same))
       ]
 
-  pub tables_skip : (room : ℕ) (found : Entry) → IsDivided whole 2 (HasCell front) (HasCell back) (IsPast whole room) found → room ≤ whole → get_or front (whole - room) 0 ≡ 0
-      → IsDivided whole 2 (HasCell front) (HasCell back) (IsPast whole (room + 1)) found
+  pub tables_skip : (room : ℕ) (found : Entry) → IsDivided whole 2 (HasCell prefix) (HasCell back) (IsPast whole room) found → room ≤ whole → get_or prefix (whole - room) 0 ≡ 0
+      → IsDivided whole 2 (HasCell prefix) (HasCell back) (IsPast whole (room + 1)) found
   tables_skip room found d inside empty =
-      divided_skip whole 2 (HasCell front) (HasCell back) (IsPast whole room) found d (IsPast whole (room + 1)) (λ x past there. elim (cases_lt whole (x.room + room)) [
+      divided_skip whole 2 (HasCell prefix) (HasCell back) (IsPast whole room) found d (IsPast whole (room + 1)) (λ x past there. elim (cases_lt whole (x.room + room)) [
         | inl old ↦ old
         | inr new ↦
             let same : x.room ≡ whole - room = omega (arith, past) in
-            absurd (omega (arith, there, empty, ap (λ n. get_or front n 0) same))
+            absurd (omega (arith, there, empty, ap (λ n. get_or prefix n 0) same))
       ])
 
-  pub tables_done : (room : ℕ) (found : Entry) → room ≡ whole + 1 → IsDivided whole 2 (HasCell front) (HasCell back) (IsPast whole room) found → IsBestDivision whole found.room (HasCell front) (HasCell back)
-  tables_done room found end d = divided_all whole 2 (HasCell front) (HasCell back) (IsPast whole room) found d (λ e there. omega (arith, end))
+  pub tables_done : (room : ℕ) (found : Entry) → room ≡ whole + 1 → IsDivided whole 2 (HasCell prefix) (HasCell back) (IsPast whole room) found → IsBestDivision whole found.room (HasCell prefix) (HasCell back)
+  tables_done room found end d = divided_all whole 2 (HasCell prefix) (HasCell back) (IsPast whole room) found d (λ e there. omega (arith, end))

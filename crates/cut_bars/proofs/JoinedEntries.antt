@@ -59,7 +59,7 @@ module _ (entries : List Entry) (i : ℕ) (d : Entry) (rising : AreRising entrie
     ],
   )
 
--- the rooms still rise once a longer one is behind them
+-- the rooms still rise once a longer one is after them
 pub rising_push : (xs : List Entry) (x : Entry) → AreRising xs → ((e : Entry) → Contains xs e → e.room < x.room) → AreRising (xs ++ x ∷ [])
 rising_push xs x rising above = λ i j d lt in_range.
     elim (cases_lt j (length xs)) [
@@ -328,7 +328,7 @@ module _ (step gain : ℕ) (base : List Entry) (kept moved : ℕ) (joined joined
   pub join_step : (moved' ≤ kept') × (kept' ≤ length base) × AreJoined step gain base kept' moved' joined' × AreUpTo base joined'
   join_step = (step_order, step_inside, step_joined, step_up_to)
 
--- behind the last entry, one entry more that a batch leads to
+-- after the last entry, one entry more that a batch leads to
 module _ (step gain whole : ℕ) (base : List Entry) (moved : ℕ) (offered offered' : List Entry) (rising : AreRising base) (inside : moved < length base)
     (items : offered' ≡ offered ++ (record { room = (get_or base moved none).room + step; worth = (get_or base moved none).worth + gain }) ∷ [])
     (j : AreJoined step gain base (length base) moved offered) where

@@ -14,7 +14,7 @@ use Rattle.cut_bars.proofs.JoinedEntries.{none, one_worth}
 use Rattle.cut_bars.proofs.WantEntries.{reached_none, reached_want, reached_low}
 use Rattle.cut_bars.proofs.RaisedCells.{cells_own}
 
--- what the wants behind the first i reach, and the want before them
+-- what the wants after the first i reach, and the want before them
 pub stays_below : (limit k whole i j : ℕ) (xs : List Want) (d : Want) (has : Entry → Type 0) → ArePricedBelow limit k whole xs → i < length xs → AreReached k (drop j xs) whole has
     → StayBelow limit whole has ((get_or xs i d).size.w + k) (get_or xs i d).worth
 stays_below limit k whole i j xs d has p lt r = record {

@@ -22,14 +22,14 @@ IsLevel whole (Listed entries) = AreRising entries.items
 IsLevel whole (Tabled cells) = length cells.items ≡ whole + 1
 
 -- a room for the first of two sets of entries: one of either, which fit that room and the rest of the whole, are worth no less than any that fit the whole
-pub record IsBestDivision (whole at : ℕ) (front back : Entry → Type 0) : Type 0 where
+pub record IsBestDivision (whole at : ℕ) (prefix back : Entry → Type 0) : Type 0 where
   pub one : Entry
   pub other : Entry
-  pub in_front : front one
+  pub in_prefix : prefix one
   pub in_back : back other
   pub fits : one.room ≤ at
   pub rest : other.room + at ≤ whole
-  pub most : (e f : Entry) → front e → back f → e.room + f.room ≤ whole → e.worth + f.worth ≤ one.worth + other.worth
+  pub most : (e f : Entry) → prefix e → back f → e.room + f.room ≤ whole → e.worth + f.worth ≤ one.worth + other.worth
 
 -- a room for the first wants: best counts of them within it, and of the others within the rest of the whole, are together best counts
 pub record IsBestRoomForFirst (k : ℕ) (first others : List Want) (whole at : ℕ) : Type 0 where

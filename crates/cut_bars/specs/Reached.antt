@@ -22,7 +22,7 @@ pub record AreReached (k : ℕ) (wants : List Want) (whole : ℕ) (has : Entry �
   pub only : (e : Entry) → has e → (e.room ≤ whole) × IsGreatestAt k wants e.room e.worth
   pub each : (counts : List ℕ) → AreCounts wants counts → room_taken k wants counts ≤ whole → (e : Entry) × has e × (e.room ≡ room_taken k wants counts)
 
--- each room is less than those behind it
+-- each room is less than those after it
 abbrev pub AreRising : List Entry → Type 0
 AreRising entries = (i j : ℕ) (d : Entry) → i < j → j < length entries → (slice_index_or entries i d).room < (slice_index_or entries j d).room
 

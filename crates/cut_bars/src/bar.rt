@@ -116,9 +116,9 @@ fn room_by<T: Number>(
     requires kerf { kerf ≤ MOST_KERF }
     ensures { IfOk result (IsBestRoomForFirst kerf first.now others.now whole) }
 {
-    let front: Level<T> = reached_level(alloc, first, kerf, whole)?;
+    let prefix: Level<T> = reached_level(alloc, first, kerf, whole)?;
     let back = reached_level(alloc, others, kerf, whole)?;
-    let at = divide(alloc, front, back, whole)?;
+    let at = divide(alloc, prefix, back, whole)?;
     Ok(at)
 }
 

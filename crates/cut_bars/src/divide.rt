@@ -19,27 +19,27 @@ fn worthier(a: Entry, b: Entry) -> Entry
 
 /// The room for the first of two lists: the first from its end and the second from its start, so that all of the second
 /// that has room beside an entry lies before.
-fn divide_lists(front: &[Entry], back: &[Entry], whole: u32) -> u32
-    requires rising_front { AreRising front.now }
+fn divide_lists(prefix: &[Entry], back: &[Entry], whole: u32) -> u32
+    requires rising_prefix { AreRising prefix.now }
     requires rising_back { AreRising back.now }
-    requires small_front { (limit : ℕ) × HaveSmallWorths limit whole (Contains front.now) }
+    requires small_prefix { (limit : ℕ) × HaveSmallWorths limit whole (Contains prefix.now) }
     requires small_back { (limit : ℕ) × HaveSmallWorths limit whole (Contains back.now) }
     requires whole { whole ≤ 2 ^ 20 }
-    ensures { IsBestDivision whole result (Contains front.now) (Contains back.now) }
+    ensures { IsBestDivision whole result (Contains prefix.now) (Contains back.now) }
 {
-    let mut left = front.len();
+    let mut left = prefix.len();
     let mut next = 0;
-    let mut behind = 0;
+    let mut after = 0;
     let mut found = Entry { room: 0, worth: 0 };
     while left > 0 {
-        let entry = front[left - 1];
+        let entry = prefix[left - 1];
         if next < back.len() && back[next].room + entry.room <= whole {
-            behind = back[next].worth.max(behind);
+            after = back[next].worth.max(after);
             next += 1;
         } else {
             let both = Entry {
                 room: entry.room,
-                worth: entry.worth + behind,
+                worth: entry.worth + after,
             };
             found = worthier(found, both);
             left -= 1;
@@ -49,28 +49,28 @@ fn divide_lists(front: &[Entry], back: &[Entry], whole: u32) -> u32
 }
 
 /// The room for the first of two tables of one length: the first from its end and the second from its start.
-fn divide_tables<T: Number>(front: &[T], back: &[T], whole: u32) -> u32
-    requires front { length front.now ≡ whole + 1 }
+fn divide_tables<T: Number>(prefix: &[T], back: &[T], whole: u32) -> u32
+    requires prefix { length prefix.now ≡ whole + 1 }
     requires back { length back.now ≡ whole + 1 }
-    requires small_front { HaveSmallWorths T.limit whole (HasCell (map T.value front.now)) }
+    requires small_prefix { HaveSmallWorths T.limit whole (HasCell (map T.value prefix.now)) }
     requires small_back { HaveSmallWorths T.limit whole (HasCell (map T.value back.now)) }
     requires whole { whole ≤ 2 ^ 20 }
-    ensures { IsBestDivision whole result (HasCell (map T.value front.now))
+    ensures { IsBestDivision whole result (HasCell (map T.value prefix.now))
         (HasCell (map T.value back.now)) }
 {
-    let mut behind = back[0].worth();
+    let mut after = back[0].worth();
     let mut found = Entry {
         room: 0,
-        worth: front[0].worth() + behind,
+        worth: prefix[0].worth() + after,
     };
     for room in 0..back.len() {
         let at = whole as usize - room;
-        let cell = front[at].worth();
-        behind = back[room].worth().max(behind);
+        let cell = prefix[at].worth();
+        after = back[room].worth().max(after);
         if cell != 0 {
             let both = Entry {
                 room: at as u32,
-                worth: cell + behind,
+                worth: cell + after,
             };
             found = worthier(found, both);
         }
@@ -81,21 +81,21 @@ fn divide_tables<T: Number>(front: &[T], back: &[T], whole: u32) -> u32
 /// The room within the whole for the first of two levels, so that both together are worth most; the other has the rest.
 pub fn divide<T: Number>(
     alloc: Global,
-    front: Level<T>,
+    prefix: Level<T>,
     back: Level<T>,
     whole: u32,
 ) -> Result<u32, AllocError>
-    requires front { IsLevel whole front }
+    requires prefix { IsLevel whole prefix }
     requires back { IsLevel whole back }
-    requires small_front { HaveSmallWorths T.limit whole (Has T.value front) }
+    requires small_prefix { HaveSmallWorths T.limit whole (Has T.value prefix) }
     requires small_back { HaveSmallWorths T.limit whole (Has T.value back) }
     requires whole { whole ≤ 2 ^ 20 }
-    ensures { IfOk result (λ at. IsBestDivision whole at (Has T.value front) (Has T.value back)) }
+    ensures { IfOk result (λ at. IsBestDivision whole at (Has T.value prefix) (Has T.value back)) }
 {
-    if let (Level::Listed(front), Level::Listed(back)) = (&front, &back) {
-        return Ok(divide_lists(front, back, whole));
+    if let (Level::Listed(prefix), Level::Listed(back)) = (&prefix, &back) {
+        return Ok(divide_lists(prefix, back, whole));
     }
-    let front = front.into_cells(alloc, whole)?;
+    let prefix = prefix.into_cells(alloc, whole)?;
     let back = back.into_cells(alloc, whole)?;
-    Ok(divide_tables(&front, &back, whole))
+    Ok(divide_tables(&prefix, &back, whole))
 }

@@ -12,10 +12,10 @@ use Rattle.cut_wants.specs.Legal.{HasSides, HaveOwnDemands, IsWantedPiece, Legal
 use Rattle.cut_wants.proofs.LeafSums.{of_demand_found}
 use Rattle.cut_sheets.proofs.RoundedUp.{fitted}
 use Rattle.cut_plan.specs.Faults.{is_fitting}
-use Rattle.cut_bound.specs.Planned.{Holds}
+use Rattle.cut_bound.specs.Planned.{HoldsPiece}
 
 -- a want's piece that fits, alone on the size
-pub held : (wants : List Want) (k : ℕ) (size : Extent) (x : Want) → Contains wants x → 1 ≤ x.size.w → 1 ≤ x.size.h → IsTrue (is_fitting size x) → Holds wants k size x
+pub held : (wants : List Want) (k : ℕ) (size : Extent) (x : Want) → Contains wants x → 1 ≤ x.size.w → 1 ≤ x.size.h → IsTrue (is_fitting size x) → HoldsPiece wants k size x
 held wants k size x has wide tall fits =
     let p = fitted k wants x size.w size.h has wide tall fits in
     let one : count_of p.tree x.demand ≡ cond (eqb x.demand x.demand) 1 0 = p.sums (λ f. if f == x.demand then 1 else 0) in
@@ -85,7 +85,7 @@ by_sides size x y true w h same sides wide tall =
     (and_from _ _ (and_from _ _ (same_bit y.may_turn x.may_turn sides.0 (same (λ z. cond z.may_turn 1 0))) (le-leb x.size.h size.w (omega (arith, same (λ z. z.size.h), sides.1))))
     (le-leb x.size.w size.h (omega (arith, same (λ z. z.size.w), sides.2))))
 
-pub fitting : (wants : List Want) (k : ℕ) (size : Extent) (x : Want) → HaveOwnDemands wants → Contains wants x → Holds wants k size x → IsTrue (is_fitting size x)
+pub fitting : (wants : List Want) (k : ℕ) (size : Extent) (x : Want) → HaveOwnDemands wants → Contains wants x → HoldsPiece wants k size x → IsTrue (is_fitting size x)
 fitting wants k size x own has is =
     let p = small wants k is.tree size.w size.h x.demand is.legal is.some_piece in
     let y = p.wanted.0 in

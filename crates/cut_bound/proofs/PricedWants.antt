@@ -15,7 +15,7 @@ pub record IsPricedWant (kind : Kind) (k s : ℕ) (wants : List Want) (x : Want)
   pub picked : IsPickedWant wants x
   pub price : has_price kind k s picked.want x.worth ≡ true
 
--- one of the wants behind the first is one of all
+-- one of the wants after the first is one of all
 priced_tail : (kind : Kind) (k s : ℕ) (y : Want) (ys : List Want) (x : Want) → IsPricedWant kind k s ys x → IsPricedWant kind k s (y ∷ ys) x
 priced_tail kind k s y ys x r =
     record { picked = record { want = r.picked.want; there = Contains-tail y ys r.picked.want r.picked.there; same = r.picked.same }; price = r.price }

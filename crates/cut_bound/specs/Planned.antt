@@ -59,7 +59,7 @@ pub record IsOrderPlan (wants : List Want) (kerf : ℕ) (sizes : List StockSize)
   pub at_hand : AreAtHand sizes (cutting_of units)
   pub no_more : MakesNoMore wants (cutting_of units)
 
--- how many pieces of a want are left to make behind a cutting
+-- how many pieces of a want are left to make after a cutting
 abbrev pub missing_of : Cutting → Want → ℕ
 missing_of cutting x = x.left - pieces_of cutting x.demand
 
@@ -88,7 +88,7 @@ IsCheckFault wants k sizes units TooCostly = 2 ^ 128 ≤ cost_of sizes (cutting_
 IsCheckFault wants k sizes units NoMemory = Unit {0}
 
 -- a legal tree of the size has a piece of the want
-pub record Holds (wants : List Want) (kerf : ℕ) (size : Extent) (x : Want) : Type 0 where
+pub record HoldsPiece (wants : List Want) (kerf : ℕ) (size : Extent) (x : Want) : Type 0 where
   pub tree : Tree
   pub legal : Legal wants kerf tree size.w size.h
   pub some_piece : 1 ≤ count_of tree x.demand

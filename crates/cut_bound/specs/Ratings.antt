@@ -13,7 +13,7 @@ use Rattle.cut_sheets.specs.Table.{HaveBoundedWorths}
 use Rattle.cut_plan.specs.Faults.{is_large}
 use Rattle.cut_bound.specs.declared.stock.StockSize.{StockSize}
 
--- the worth of counts that fit a bar with a kerf behind each piece, such that none that fit are worth more
+-- the worth of counts that fit a bar with a kerf after each piece, such that none that fit are worth more
 pub record IsBarRating (wants : List Want) (kerf w best : ℕ) : Type 0 where
   pub counts : List ℕ
   pub best_counts : AreBestCounts kerf wants (w + kerf) counts

@@ -14,7 +14,7 @@ ghost use Rattle.cut_bound.specs.Cuttings.{Cutting, IsCostBound, IsCutting, Make
 ghost use Rattle.cut_bound.specs.Bounds.{AreRated, IsGreatestCost, SetsPrice, cost_at, sizes_of};
 ghost use Rattle.cut_bound.specs.Prices.{ArePicked};
 ghost use Rattle.cut_bound.specs.Orders.{IsCommonDivisor, told_cost};
-ghost use Rattle.cut_bound.specs.Planned.{Holds};
+ghost use Rattle.cut_bound.specs.Planned.{HoldsPiece};
 ghost use Rattle.cut_bound.specs.declared.limits.TheConstants.{MOST_BOUGHT_SIZES, MOST_BOUND, MOST_CALLS, MOST_ORDER_WANTS, MOST_PARTS, MOST_UNITS};
 
 /// Whatever the wants are worth, and whatever worths no legal plan of a unit of each size exceeds:
@@ -73,7 +73,7 @@ pub fn stock_falls_short()
 /// turned where it may be.
 pub fn fitting_pieces_are_held()
     ensures held { (wants : List Want) (k : ℕ) (size : Extent) (x : Want) → Contains wants x
-        → 1 ≤ x.size.w → 1 ≤ x.size.h → IsTrue (is_fitting size x) → Holds wants k size x }
+        → 1 ≤ x.size.w → 1 ≤ x.size.h → IsTrue (is_fitting size x) → HoldsPiece wants k size x }
     ensures fitting { (wants : List Want) (k : ℕ) (size : Extent) (x : Want) → HaveOwnDemands wants
-        → Contains wants x → Holds wants k size x → IsTrue (is_fitting size x) }
+        → Contains wants x → HoldsPiece wants k size x → IsTrue (is_fitting size x) }
 {}

@@ -126,7 +126,7 @@ fn cut_of(word: &str) -> Result<Option<u32>> {
     }
 }
 
-/// What is left of a unit where work halted after the cuts of a list, and maybe a part was lost at the cut behind a
+/// What is left of a unit where work halted after the cuts of a list, and maybe a part was lost at the cut after a
 /// semicolon: `0 2; 1`.
 pub fn listed_told(alloc: Global, plan: &Plan, words: &str) -> Result<String> {
     let (made, lost) = words.split_once(';').unwrap_or((words, ""));

@@ -1,5 +1,5 @@
-//! How the libraries of cutting trees and plans are called: a tree is read and laid, a bar and a sheet are planned. Behind
-//! that each line of the input asks one call, by its name, numbers and, behind a colon, a text: `stdin` has the lines,
+//! How the libraries of cutting trees and plans are called: a tree is read and laid, a bar and a sheet are planned. After
+//! that each line of the input asks one call, by its name, numbers and, after a colon, a text: `stdin` has the lines,
 //! `stdout` each with what came of it.
 #![tactic(auto)]
 
@@ -17,7 +17,7 @@ use cut_tree::Plan;
 use std::alloc::Global;
 use std::io::{self, BufRead, BufReader, BufWriter, Write};
 
-// The numbers of some words, and zeros behind them.
+// The numbers of some words, and zeros after them.
 fn numbers_of(words: &str) -> Result<[u32; 8]> {
     let mut numbers = [0; 8];
     for (number, word) in numbers.iter_mut().zip(words.split_whitespace()) {
@@ -56,7 +56,7 @@ fn wanted_told(alloc: Global, name: &str, numbers: [u32; 8], text: &str) -> Resu
     }
 }
 
-// What comes of a line about a plan, where work may have halted at a cut, behind the one before it or behind some that are
+// What comes of a line about a plan, where work may have halted at a cut, after the one before it or after some that are
 // listed.
 fn planned_told(
     alloc: Global,

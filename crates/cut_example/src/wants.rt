@@ -143,7 +143,7 @@ pub fn bound_told(
     }
 }
 
-// The worth, the dropped pieces and the ceiling of a sheet's plan for three wants, with so many zeros behind their worths.
+// The worth, the dropped pieces and the ceiling of a sheet's plan for three wants, with so many zeros after their worths.
 fn scaled(alloc: Global, unit: Unit, zeros: &str) -> Result<(u64, u32, u64)> {
     let text = format!(in alloc; "1 4 3 9 7{zeros},2 5 2 9 6{zeros},3 3 3 2 5{zeros}")?;
     let wants = wants_of(alloc, text.as_str())?;

@@ -254,7 +254,7 @@ impl Bars {
         Ok(())
     }
 
-    /// The rows behind all items of the part that is shown.
+    /// The rows after all items of the part that is shown.
     fn shown_items(&self) -> usize {
         let first = self.shown.saturating_mul(self.part);
         self.entries.len().saturating_sub(first).min(self.part)
@@ -444,14 +444,14 @@ impl Bars {
     }
 }
 
-/// A piece that is cut off what is left of a bar, and what comes behind it.
+/// A piece that is cut off what is left of a bar, and what comes after it.
 fn cut_off(
     alloc: Global,
     rest: u32,
     length: u32,
     kerf: u32,
     demand: u32,
-    behind: Node,
+    after: Node,
 ) -> Result<Node, AllocError> {
     let piece = Node::Piece(demand, false);
     if rest <= length {
@@ -461,7 +461,7 @@ fn cut_off(
     if rest - length <= kerf {
         return Ok(Node::Trim(Axis::X, length, first));
     }
-    let second = Box::new(alloc, behind)?;
+    let second = Box::new(alloc, after)?;
     Ok(Node::Cut(Axis::X, length, first, second))
 }
 

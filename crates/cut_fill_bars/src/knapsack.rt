@@ -1,5 +1,5 @@
 //! The bounded knapsack: for each room the greatest worth of items within it, by a row of cells
-//! behind each item. What it answers is a hint, and where worths are so great that a row's cells
+//! after each item. What it answers is a hint, and where worths are so great that a row's cells
 //! overflow, it is a wrong one.
 
 use std::alloc::{AllocError, Global};
@@ -76,7 +76,7 @@ fn most_within(item: &Item, cells: usize) -> u32 {
     u32::try_from(fit.unwrap_or(0)).unwrap_or(u32::MAX)
 }
 
-/// Writes the row behind an item from the row before it.
+/// Writes the row after an item from the row before it.
 fn write_row(row: &mut [u32], before: &[u32], item: &Item) {
     for (cell, below) in row.iter_mut().zip(before) {
         *cell = *below;
@@ -89,7 +89,7 @@ fn write_row(row: &mut [u32], before: &[u32], item: &Item) {
     }
 }
 
-/// Writes the rows behind the items from the first row.
+/// Writes the rows after the items from the first row.
 fn write_rows(rows: &mut [Vec<u32>], items: &[Item]) {
     for (place, item) in items.iter().enumerate() {
         let next = place.saturating_add(1);

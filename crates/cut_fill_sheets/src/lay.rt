@@ -121,8 +121,8 @@ impl Saw<'_> {
         }
     }
 
-    // What is left of a side behind a cut at a length.
-    fn behind(&self, side: u32, length: u32) -> u32 {
+    // What is left of a side after a cut at a length.
+    fn after(&self, side: u32, length: u32) -> u32 {
         side.saturating_sub(length).saturating_sub(self.kerf)
     }
 
@@ -152,12 +152,12 @@ impl Saw<'_> {
         }
     }
 
-    // A rectangle that is cut behind what the first part takes, and the parts' sides.
+    // A rectangle that is cut after what the first part takes, and the parts' sides.
     fn split(&self, axis: Axis, first: Sides, room: Sides) -> Split {
         match axis {
             Axis::X => {
                 let at = first.w.min(room.w);
-                let w = self.behind(room.w, at);
+                let w = self.after(room.w, at);
                 Split {
                     at,
                     side: room.w,
@@ -167,7 +167,7 @@ impl Saw<'_> {
             }
             Axis::Y => {
                 let at = first.h.min(room.h);
-                let h = self.behind(room.h, at);
+                let h = self.after(room.h, at);
                 Split {
                     at,
                     side: room.h,

@@ -73,7 +73,7 @@ struct Rooms {
 }
 
 impl Rooms {
-    // The rooms of lengths with their worths and numbers, each length with a kerf behind it.
+    // The rooms of lengths with their worths and numbers, each length with a kerf after it.
     fn new(
         alloc: Global,
         lengths: &[u32],

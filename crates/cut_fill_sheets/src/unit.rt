@@ -31,7 +31,7 @@ enum Stage {
     End,
 }
 
-/// A plan that is being made, and what is left behind it.
+/// A plan that is being made, and what is left after it.
 #[derive(Drop)]
 struct Draft {
     laid: Laid,

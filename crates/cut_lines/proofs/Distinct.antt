@@ -19,8 +19,8 @@ module _ (f : PlannedUnit → PlanLine) (us rest : List PlannedUnit) (u : Planne
 -- the units from one on
 pub from_one : (us : List PlannedUnit) (i : ℕ) (u : PlannedUnit) → i < length us → u ≡ get_or us i u → drop i us ≡ u ∷ drop (i + 1) us
 from_one us i u within is =
-    let behind : suc i ≡ i + 1 = omega arith in
-    drop-cons us i u within ∙ ap (λ v. v ∷ drop (suc i) us) (sym is) ∙ ap (λ k. u ∷ drop k us) behind
+    let after : suc i ≡ i + 1 = omega arith in
+    drop-cons us i u within ∙ ap (λ v. v ∷ drop (suc i) us) (sym is) ∙ ap (λ k. u ∷ drop k us) after
 
 -- a line more
 pub one_more : (done : List Line) (line : Line) (p : PlanLine) (rest : List PlanLine) → told line ≡ p

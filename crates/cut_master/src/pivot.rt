@@ -66,7 +66,7 @@ pub fn leaving_row(rows: &[Vec<i128>], slopes: &[i128]) -> Option<usize> {
     Some(found?.row)
 }
 
-/// The place of the slope that is farthest from 0, at a first place or behind it.
+/// The place of the slope that is farthest from 0, at a first place or after it.
 fn steepest(slopes: &[i128], first: usize) -> usize {
     let mut place = first;
     let mut most = 0u128;

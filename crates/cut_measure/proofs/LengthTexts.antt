@@ -19,17 +19,17 @@ pub only_whole : (text : List ℕ) → IsWholeMillimetres text → IsLengthText 
 only_whole text is = (text, is, inl (refl, refl))
 
 -- a text that a point divides
-module _ (text whole behind : List ℕ) (parts : text ≡ whole ++ 46 ∷ behind) (none : Lacks 46 whole) where
-  pub pointed : (n : ℕ) → IsLengthText text n → (d : ℕ) × (d < 10) × (behind ≡ (48 + d) ∷ []) × IsWholeMillimetres whole
+module _ (text whole after : List ℕ) (parts : text ≡ whole ++ 46 ∷ after) (none : Lacks 46 whole) where
+  pub pointed : (n : ℕ) → IsLengthText text n → (d : ℕ) × (d < 10) × (after ≡ (48 + d) ∷ []) × IsWholeMillimetres whole
   pointed n h =
       elim h.2 [
-        | inl p ↦ absurd (has_it 46 whole behind (subst (Lacks 46) (sym p.0 ∙ parts) (digits_lack 46 h.0 (omega arith) h.1.2)))
+        | inl p ↦ absurd (has_it 46 whole after (subst (Lacks 46) (sym p.0 ∙ parts) (digits_lack 46 h.0 (omega arith) h.1.2)))
         | inr p ↦
-            let same = one_split 46 h.0 ((48 + p.0) ∷ []) whole behind (sym p.2 ∙ parts) (digits_lack 46 h.0 (omega arith) h.1.2) none in
+            let same = one_split 46 h.0 ((48 + p.0) ∷ []) whole after (sym p.2 ∙ parts) (digits_lack 46 h.0 (omega arith) h.1.2) none in
             (p.0, p.1, sym same.1, subst IsWholeMillimetres same.0 h.1)
       ]
 
-  pub with_tenth : IsWholeMillimetres whole → (d : ℕ) → d < 10 → behind ≡ (48 + d) ∷ [] → IsLengthText text (10 * digits_value 10 whole + d)
+  pub with_tenth : IsWholeMillimetres whole → (d : ℕ) → d < 10 → after ≡ (48 + d) ∷ [] → IsLengthText text (10 * digits_value 10 whole + d)
   with_tenth is d small tenth = (whole, is, inr (d, small, parts ∙ ap (λ l. whole ++ 46 ∷ l) tenth, refl))
 
 digit_of : (c d : ℕ) → (48 + c) ∷ [] ≡ (48 + d) ∷ [] → c ≡ d

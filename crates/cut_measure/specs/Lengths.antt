@@ -7,7 +7,7 @@ use Rattle.std.specs.Str.Parse.{AllDigits, digits_value}
 abbrev pub IsWholeMillimetres : List ℕ → Type 0
 IsWholeMillimetres digits = (1 ≤ length digits) × (length digits ≤ 6) × AllDigits 10 digits
 
--- The text says a length of n tenths: one to six digits of millimetres, behind which a point and a digit of tenths may
+-- The text says a length of n tenths: one to six digits of millimetres, after which a point and a digit of tenths may
 -- stand.
 abbrev pub IsLengthText : List ℕ → ℕ → Type 0
 IsLengthText text n =

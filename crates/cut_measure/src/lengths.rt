@@ -45,7 +45,7 @@ fn tenths_of(text: &str) -> Option<u32>
     }
 }
 
-/// The tenths of a millimetre that a text says: one to six digits of millimetres, behind which a point and one digit
+/// The tenths of a millimetre that a text says: one to six digits of millimetres, after which a point and one digit
 /// of tenths may stand.
 pub fn read_mm(text: &str) -> Option<u32>
     ensures said { IfSome result (λ n. IsLengthText text.now n) }

@@ -1,4 +1,4 @@
--- More units behind others: what they make and use, that they stay a plan of the order, and when no more can be added.
+-- More units after others: what they make and use, that they stay a plan of the order, and when no more can be added.
 use Rattle.std.proofs.Common.{◌≡◌, ◌⊎◌, ℕ, ◌+◌, ◌*◌, ◌<◌, ◌≤◌, cond, eqb, List, [], ◌∷◌, ◌++◌, length, Option, Some, None, refl, ap, sym, subst, ◌∙◌, inl, inr, append_assoc, arith}
 use Rattle.std.specs.Prelude.{Contains, IfSome, IsTrue, slice_get, sum_by}
 use Rattle.std.proofs.lemmas.Bool.{cases_lt, eq-eqb}

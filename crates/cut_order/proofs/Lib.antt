@@ -1,5 +1,5 @@
 -- one piece on a unit
 pub mod SingleTrees
--- more units behind others, and when nothing more can be added
+-- more units after others, and when nothing more can be added
 pub mod GrownUnits
 pub mod Answered

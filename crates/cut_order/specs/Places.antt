@@ -17,7 +17,7 @@ pub record IsFewOrderPlan (wants : List Want) (kerf : ℕ) (sizes : List StockSi
   pub plan : IsOrderPlan wants kerf sizes units
   pub few : unit_count units ≤ MOST_UNITS
 
--- the same units and others behind them
+-- the same units and others after them
 pub record IsGrown (old new : List PlannedUnit) : Type 0 where
   pub more : List PlannedUnit
   pub same : new ≡ old ++ more

@@ -6,7 +6,7 @@ use Rattle.cut_measure.specs.Measures.{Extent}
 use Rattle.cut_tree.specs.Tree.{Tree, Piece, Rest, Trim, Cut}
 use Rattle.cut_wants.specs.declared.wants.Want.{Want}
 
--- a tree on the first columns or rows of a rectangle, and what is behind them left over
+-- a tree on the first columns or rows of a rectangle, and what is after them left over
 abbrev pub cut_off : Axis → (place side kerf : ℕ) → Tree → Tree
 cut_off axis place side k first = if place == side then first else (if nat_le side (place + k) then Trim axis place first else Cut axis place first Rest)
 

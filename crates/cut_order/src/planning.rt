@@ -28,8 +28,8 @@ fn go_on(alloc: Global, search: &mut OrderSearch, calls: u32) -> Result<(), Allo
     Ok(())
 }
 
-// The answer of a search behind so many calls of `advance`.
-fn answer_behind(alloc: Global, search: OrderSearch, calls: u32) -> Result<OrderPlan, AllocError>
+// The answer of a search after so many calls of `advance`.
+fn answer_after(alloc: Global, search: OrderSearch, calls: u32) -> Result<OrderPlan, AllocError>
     ensures { IfOk result (IsOrderAnswer (question_of search)) }
 {
     let mut search = search;
@@ -60,7 +60,7 @@ pub fn plan_order(
 {
     match OrderSearch::new(alloc, kind, kerf, step, sizes, wants) {
         Err(fault) => Err(fault),
-        Ok(search) => match answer_behind(alloc, search, calls) {
+        Ok(search) => match answer_after(alloc, search, calls) {
             Ok(plan) => Ok(plan),
             Err(_) => Err(PlanFault::NoMemory),
         },

@@ -26,7 +26,7 @@ use Rattle.cut_sheets.proofs.RoundedUp.{fitted}
 use Rattle.cut_sheets.proofs.SheetSteps.{ceiling_holds}
 use Rattle.cut_plan.specs.Bounds.{IsUnitBest}
 use Rattle.cut_plan.specs.declared.faults.PlanFault.{PlanFault}
-use Rattle.cut_plan.specs.Faults.{is_bad_number, is_bad_want, has_twice, are_bad_wants, is_short, is_bad_step, is_large, fault_of, SomeFits}
+use Rattle.cut_plan.specs.Faults.{is_bad_number, is_bad_want, has_twice, are_bad_wants, is_short, is_bad_step, is_large, plan_fault, SomeFits}
 
 -- neither of two tests holds
 neither : (a b : Bool) → (a || b) ≡ false → (a ≡ false) × (b ≡ false)
@@ -59,7 +59,7 @@ pub record Faultless (kind : Kind) (size : Extent) (k s : ℕ) (wants : List Wan
   pub stepped : is_bad_step kind k s wants ≡ false
   pub small : is_large kind size k s ≡ false
 
-pub faultless : (kind : Kind) (size : Extent) (k s : ℕ) (wants : List Want) → fault_of kind size k s wants ≡ None → Faultless kind size k s wants
+pub faultless : (kind : Kind) (size : Extent) (k s : ℕ) (wants : List Want) → plan_fault kind size k s wants ≡ None → Faultless kind size k s wants
 faultless kind size k s wants e =
     let a = past (are_bad_wants MOST_WANTS kind wants) _ _ e in
     let b = past (is_bad_step kind k s wants) _ _ a.1 in

@@ -48,8 +48,8 @@ abbrev pub is_fitting : Extent → Want → Bool
 is_fitting size x =
     (nat_le x.size.w size.w && nat_le x.size.h size.h) || (x.may_turn && nat_le x.size.h size.w && nat_le x.size.w size.h)
 
-abbrev pub fault_of : Kind → Extent → (kerf step : ℕ) → List Want → Option PlanFault
-fault_of kind size k s wants =
+abbrev pub plan_fault : Kind → Extent → (kerf step : ℕ) → List Want → Option PlanFault
+plan_fault kind size k s wants =
     if are_bad_wants MOST_WANTS kind wants then Some BadWant
     else (if is_bad_step kind k s wants then Some BadStep
     else (if is_large kind size k s then Some TableTooLarge

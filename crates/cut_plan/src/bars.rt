@@ -3,7 +3,7 @@
 ghost use Rattle.std.specs.Prelude.{◌≡◌, ◌≤◌, ◌++◌, ◌⊎◌, ◌↔◌, IsTrue, ℕ, IfOk, IfErr, IfSome, OnOk, None, Some, length, replicate};
 ghost use Rattle.cut_measure.specs.declared.sizes.Kind.TheVariants.{Bar};
 ghost use Rattle.cut_plan.specs.declared.faults.PlanFault.TheVariants.{NoMemory, TableTooLarge};
-ghost use Rattle.cut_plan.specs.Faults.{fault_of};
+ghost use Rattle.cut_plan.specs.Faults.{plan_fault};
 ghost use Rattle.cut_plan.specs.Proposals as proposals;
 
 use crate::faults::{PlanFault, first_fault};
@@ -56,7 +56,7 @@ fn counted_pieces(
 // The pieces of best counts.
 fn best_pieces(alloc: Global, size: Size, kerf: u32, wants: &[Want]) -> Result<Pieces, AllocError>
     requires kerf { kerf ≤ MOST_KERF }
-    requires faultless { fault_of Bar size kerf 0 wants.now ≡ None }
+    requires faultless { plan_fault Bar size kerf 0 wants.now ≡ None }
     ensures { IfOk result (proposals.AreBestPieces size kerf wants.now) }
 {
     let counts = best_counts(alloc, wants, size.w(), kerf)?;
@@ -76,7 +76,7 @@ fn proposal_of(
     requires kerf { kerf ≤ MOST_KERF }
     requires flat { size.h ≡ 1 }
     requires demands { proposals.AreDemands wants.now }
-    requires faultless { fault_of Bar size kerf 0 wants.now ≡ None }
+    requires faultless { plan_fault Bar size kerf 0 wants.now ≡ None }
     requires best { proposals.AreBestPieces size kerf wants.now best.now }
     ensures ok { IfOk result (proposals.IsBarProposal size kerf wants.now) }
     ensures err { IfErr result
@@ -103,7 +103,7 @@ fn faultless_bar(
     requires kerf { kerf ≤ MOST_KERF }
     requires flat { size.h ≡ 1 }
     requires demands { proposals.AreDemands wants.now }
-    requires faultless { fault_of Bar size kerf 0 wants.now ≡ None }
+    requires faultless { plan_fault Bar size kerf 0 wants.now ≡ None }
     ensures ok { IfOk result (proposals.IsBarProposal size kerf wants.now) }
     ensures err { IfErr result
         (λ fault. (fault ≡ NoMemory)
@@ -131,11 +131,11 @@ pub fn plan_bar(alloc: Global, size: Size, kerf: u32, wants: &[Want]) -> Result<
     requires kerf { kerf ≤ MOST_KERF }
     requires flat { size.h ≡ 1 }
     requires demands { proposals.AreDemands wants.now }
-    ensures ok { IfOk result (λ p. (fault_of Bar size kerf 0 wants.now ≡ None)
+    ensures ok { IfOk result (λ p. (plan_fault Bar size kerf 0 wants.now ≡ None)
         × proposals.IsBarProposal size kerf wants.now p) }
-    ensures faulty { IfSome (fault_of Bar size kerf 0 wants.now) (λ fault. result ≡ Err fault) }
+    ensures faulty { IfSome (plan_fault Bar size kerf 0 wants.now) (λ fault. result ≡ Err fault) }
     ensures err { IfErr result
-        (λ fault. (fault ≡ NoMemory) ⊎ (fault_of Bar size kerf 0 wants.now ≡ Some fault)
+        (λ fault. (fault ≡ NoMemory) ⊎ (plan_fault Bar size kerf 0 wants.now ≡ Some fault)
         ⊎ ((fault ≡ TableTooLarge) × proposals.HasManyPieces size kerf wants.now)) }
 {
     match first_fault(Kind::Bar, size, kerf, 0, wants) {

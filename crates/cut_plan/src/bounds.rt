@@ -4,7 +4,7 @@ ghost use Rattle.std.specs.Prelude.{◌≡◌, ◌+◌, ◌≤◌, ◌<◌, ◌^
 ghost use Rattle.cut_measure.specs.declared.sizes.Kind.TheVariants.{Bar, Sheet};
 ghost use Rattle.cut_bars.specs.Counts.{AreCounts, worth_of_counts};
 ghost use Rattle.cut_sheets.specs.Bound.{worth_left};
-ghost use Rattle.cut_plan.specs.Faults.{fault_of, SomeFits};
+ghost use Rattle.cut_plan.specs.Faults.{plan_fault, SomeFits};
 ghost use Rattle.cut_plan.specs.Bounds.{IsUnitBest, IsBound};
 ghost use Rattle.cut_plan.specs.declared.faults.PlanFault.TheVariants.{NoMemory};
 
@@ -33,7 +33,7 @@ fn unit_best(
 ) -> Result<u64, AllocError>
     requires kerf { kerf ≤ MOST_KERF }
     requires flat { kind ≡ Bar → size.h ≡ 1 }
-    requires faultless { fault_of kind size kerf step wants.now ≡ None }
+    requires faultless { plan_fault kind size kerf step wants.now ≡ None }
     ensures best { IfOk result (IsUnitBest kind size kerf step wants.now) }
     ensures small { IfOk result (λ best. best < 2 ^ 62) }
 {
@@ -58,7 +58,7 @@ fn faultless_bound(
 ) -> Result<Bound, AllocError>
     requires kerf { kerf ≤ MOST_KERF }
     requires flat { kind ≡ Bar → size.h ≡ 1 }
-    requires faultless { fault_of kind size kerf step wants.now ≡ None }
+    requires faultless { plan_fault kind size kerf step wants.now ≡ None }
     requires fits { SomeFits size wants.now }
     ensures { IfOk result (IsBound kind size kerf step wants.now) }
 {
@@ -81,9 +81,9 @@ pub fn least_units(
     requires kerf { kerf ≤ MOST_KERF }
     requires flat { kind ≡ Bar → size.h ≡ 1 }
     ensures ok { IfOk result (IsBound kind size kerf step wants.now) }
-    ensures faulty { IfSome (fault_of kind size kerf step wants.now) (λ fault. result ≡ Err fault) }
+    ensures faulty { IfSome (plan_fault kind size kerf step wants.now) (λ fault. result ≡ Err fault) }
     ensures err { IfErr result
-        (λ fault. (fault ≡ NoMemory) ⊎ (fault_of kind size kerf step wants.now ≡ Some fault)) }
+        (λ fault. (fault ≡ NoMemory) ⊎ (plan_fault kind size kerf step wants.now ≡ Some fault)) }
 {
     match first_fault(kind, size, kerf, step, wants) {
         Some(fault) => Err(fault),

@@ -168,7 +168,7 @@ pub fn first_fault(
     wants: &[Want],
 ) -> Option<PlanFault>
     requires { kerf ≤ MOST_KERF }
-    ensures value { result ≡ faults.fault_of kind size kerf step wants.now }
+    ensures value { result ≡ faults.plan_fault kind size kerf step wants.now }
     ensures which { IfNone result (faults.SomeFits size wants.now) }
 {
     if are_bad_wants(MOST_WANTS, kind, wants) {

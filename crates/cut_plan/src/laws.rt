@@ -8,7 +8,7 @@ ghost use Rattle.cut_tree.specs.Leaves.{leaves_of};
 ghost use Rattle.cut_wants.specs.declared.wants.Want.{Want};
 ghost use Rattle.cut_wants.specs.Legal.{Legal, IsWantedPiece, worth_of};
 ghost use Rattle.cut_plan.specs.declared.sheets.SheetProposal.{SheetProposal};
-ghost use Rattle.cut_plan.specs.Faults.{fault_of};
+ghost use Rattle.cut_plan.specs.Faults.{plan_fault};
 ghost use Rattle.cut_plan.specs.Sheets.{IsSheetProposal};
 
 /// Each piece leaf that a legal plan lists has the demand and the sides of a want, and is turned only where the want may
@@ -22,9 +22,9 @@ pub fn legal_pieces_are_listed()
 /// however many pieces, is worth more.
 pub fn whole_plans_are_best()
     ensures ceiling { (size : Extent) (k : ℕ) (wants : List Want) (p : SheetProposal)
-        → fault_of Sheet size k 1 wants ≡ None → IsSheetProposal size k 1 wants p → p.dropped ≡ 0
+        → plan_fault Sheet size k 1 wants ≡ None → IsSheetProposal size k 1 wants p → p.dropped ≡ 0
         → p.worth ≡ p.ceiling }
     ensures best { (size : Extent) (k : ℕ) (wants : List Want) (p : SheetProposal)
-        → fault_of Sheet size k 1 wants ≡ None → IsSheetProposal size k 1 wants p → p.dropped ≡ 0
+        → plan_fault Sheet size k 1 wants ≡ None → IsSheetProposal size k 1 wants p → p.dropped ≡ 0
         → (t : Tree) → Legal wants k t size.w size.h → worth_of wants t ≤ p.worth }
 {}

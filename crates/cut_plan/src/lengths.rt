@@ -6,7 +6,7 @@ ghost use Rattle.std.specs.Ordering.{nat_cmp};
 ghost use Rattle.cut_measure.specs.declared.sizes.Kind.TheVariants.{Bar};
 ghost use Rattle.cut_bars.specs.Reached.{AreRising, IsReached};
 ghost use Rattle.cut_plan.specs.declared.faults.PlanFault.TheVariants.{NoMemory};
-ghost use Rattle.cut_plan.specs.Faults.{fault_of};
+ghost use Rattle.cut_plan.specs.Faults.{plan_fault};
 ghost use Rattle.cut_plan.specs.Lengths.{IsMapOf};
 ghost use Rattle.cut_plan.specs.Proposals.{AreDemands};
 
@@ -37,7 +37,7 @@ fn faultless_map(
     wants: &[Want],
 ) -> Result<BTreeMap<u32, u64>, AllocError>
     requires kerf { kerf ≤ MOST_KERF }
-    requires faultless { fault_of Bar size kerf 0 wants.now ≡ None }
+    requires faultless { plan_fault Bar size kerf 0 wants.now ≡ None }
     ensures { IfOk result (λ map. IsReached kerf wants.now (size.w + kerf) (get nat_cmp map)) }
 {
     let entries = reach(alloc, wants, size.w(), kerf)?;
@@ -45,7 +45,7 @@ fn faultless_map(
     Ok(map)
 }
 
-/// What pieces of the wants, each at most as often as is left and each with a kerf behind it, take together of a bar and
+/// What pieces of the wants, each at most as often as is left and each with a kerf after it, take together of a bar and
 /// a kerf, and for each such sum the greatest worth of counts that have it (a knapsack that keeps reached sums alone).
 /// Faults in the order of `PlanFault`, but never for a plan of many cuts; the bar has a height of 1, and demands are in
 /// 1..=2147483647.
@@ -58,11 +58,11 @@ pub fn reached(
     requires kerf { kerf ≤ MOST_KERF }
     requires flat { size.h ≡ 1 }
     requires demands { AreDemands wants.now }
-    ensures ok { IfOk result (λ map. (fault_of Bar size kerf 0 wants.now ≡ None)
+    ensures ok { IfOk result (λ map. (plan_fault Bar size kerf 0 wants.now ≡ None)
         × IsReached kerf wants.now (size.w + kerf) (get nat_cmp map)) }
-    ensures faulty { IfSome (fault_of Bar size kerf 0 wants.now) (λ fault. result ≡ Err fault) }
+    ensures faulty { IfSome (plan_fault Bar size kerf 0 wants.now) (λ fault. result ≡ Err fault) }
     ensures err { IfErr result
-        (λ fault. (fault ≡ NoMemory) ⊎ (fault_of Bar size kerf 0 wants.now ≡ Some fault)) }
+        (λ fault. (fault ≡ NoMemory) ⊎ (plan_fault Bar size kerf 0 wants.now ≡ Some fault)) }
 {
     match first_fault(Kind::Bar, size, kerf, 0, wants) {
         Some(fault) => Err(fault),

@@ -8,7 +8,7 @@ ghost use Rattle.cut_wants.specs.Legal.{HaveOwnDemands};
 ghost use Rattle.cut_sheets.specs.Table.{HaveSidesAndBoundedWorths};
 ghost use Rattle.cut_wants.specs.Best.{IsBestOf};
 ghost use Rattle.cut_plan.specs.declared.faults.PlanFault.TheVariants.{NoMemory, TableTooLarge};
-ghost use Rattle.cut_plan.specs.Faults.{fault_of};
+ghost use Rattle.cut_plan.specs.Faults.{plan_fault};
 ghost use Rattle.cut_plan.specs.Proposals.{AreDemands};
 ghost use Rattle.cut_plan.specs.Sheets as spec;
 
@@ -106,7 +106,7 @@ fn lay_out(
     wants: &[Want],
 ) -> Result<Laid, AllocError>
     requires kerf { kerf ≤ MOST_KERF }
-    requires faultless { fault_of Sheet size kerf step wants.now ≡ None }
+    requires faultless { plan_fault Sheet size kerf step wants.now ≡ None }
     ensures laid { IfOk result
         (λ l. spec.IsSheetPlan size kerf step wants.now (tree_of l.root) l.worth l.dropped) }
     ensures few { IfOk result (λ l. cut_count (tree_of l.root) < 2 ^ 32) }
@@ -173,7 +173,7 @@ fn faultless_sheet(
 ) -> Result<SheetProposal, PlanFault>
     requires kerf { kerf ≤ MOST_KERF }
     requires demands { AreDemands wants.now }
-    requires faultless { fault_of Sheet size kerf step wants.now ≡ None }
+    requires faultless { plan_fault Sheet size kerf step wants.now ≡ None }
     ensures ok { IfOk result (spec.IsSheetProposal size kerf step wants.now) }
     ensures err { IfErr result
         (λ fault. (fault ≡ NoMemory)
@@ -198,12 +198,12 @@ pub fn plan_sheet(
 ) -> Result<SheetProposal, PlanFault>
     requires kerf { kerf ≤ MOST_KERF }
     requires demands { AreDemands wants.now }
-    ensures ok { IfOk result (λ p. (fault_of Sheet size kerf step wants.now ≡ None)
+    ensures ok { IfOk result (λ p. (plan_fault Sheet size kerf step wants.now ≡ None)
         × spec.IsSheetProposal size kerf step wants.now p) }
-    ensures faulty { IfSome (fault_of Sheet size kerf step wants.now)
+    ensures faulty { IfSome (plan_fault Sheet size kerf step wants.now)
         (λ fault. result ≡ Err fault) }
     ensures err { IfErr result
-        (λ fault. (fault ≡ NoMemory) ⊎ (fault_of Sheet size kerf step wants.now ≡ Some fault)
+        (λ fault. (fault ≡ NoMemory) ⊎ (plan_fault Sheet size kerf step wants.now ≡ Some fault)
         ⊎ ((fault ≡ TableTooLarge) × spec.HasManyKept size kerf step wants.now)) }
 {
     match first_fault(Kind::Sheet, size, kerf, step, wants) {

@@ -37,7 +37,7 @@ pub enum Progress {
 pub struct Correct {
     /// What is planned already.
     base: Draft,
-    /// The round's units behind it.
+    /// The round's units after it.
     pub draft: Draft,
     start: Vec<u64>,
     values: Vec<u64>,
@@ -76,8 +76,8 @@ fn logarithm(number: u64) -> i64 {
 /// A piece's room to a power a little above 1, as 1024ths: larger pieces are worth more for their
 /// room.
 fn raised(cells: u64, most: u64, power: u64) -> u64 {
-    let behind = logarithm(cells).saturating_sub(logarithm(most));
-    let log = behind.saturating_mul(693) / 256;
+    let after = logarithm(cells).saturating_sub(logarithm(most));
+    let log = after.saturating_mul(693) / 256;
     let share = (power as i128)
         .saturating_mul(log as i128)
         .saturating_add(1_000_000);

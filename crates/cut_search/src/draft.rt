@@ -13,7 +13,7 @@ pub struct Batch {
     pub times: u32,
 }
 
-/// Some units, what is left of the wants and of the stock behind them, and what they cost.
+/// Some units, what is left of the wants and of the stock after them, and what they cost.
 #[derive(Drop)]
 pub struct Draft {
     pub batches: Vec<Batch>,

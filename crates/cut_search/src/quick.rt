@@ -61,19 +61,19 @@ fn fill(
 ) -> Result<(), AllocError> {
     let each = pieces_within(open.room, cells, open.pieces.min(*left));
     let full = left.checked_div(each).unwrap_or(0).min(open.times);
-    let mut behind = open.times - full;
+    let mut after = open.times - full;
     *left = left.saturating_sub(full.saturating_mul(each));
     if full > 0 {
         units.push(open.with(alloc, full, want, each, cells)?)?;
     }
-    if each > 0 && *left > 0 && behind > 0 {
+    if each > 0 && *left > 0 && after > 0 {
         let last = (*left).min(each);
         units.push(open.with(alloc, 1, want, last, cells)?)?;
         *left = left.saturating_sub(last);
-        behind -= 1;
+        after -= 1;
     }
-    if behind > 0 {
-        units.push(open.with(alloc, behind, want, 0, cells)?)?;
+    if after > 0 {
+        units.push(open.with(alloc, after, want, 0, cells)?)?;
     }
     Ok(())
 }

@@ -44,7 +44,7 @@ pub fn round_down(
     Ok(done)
 }
 
-/// Adds one unit of what is taken to a draft: the one with the greatest amount that fits, behind so
+/// Adds one unit of what is taken to a draft: the one with the greatest amount that fits, after so
 /// many others. Whether there was one.
 pub fn take_greatest(
     alloc: Global,

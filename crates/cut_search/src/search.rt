@@ -21,7 +21,7 @@ use std::alloc::{AllocError, Global};
 /// So many tables are made for a program at most.
 const TABLES: u32 = 2000;
 
-/// So many rounds of value correction, before the first dive and behind each.
+/// So many rounds of value correction, before the first dive and after each.
 const ROUNDS: u32 = 20;
 
 /// The same of sheets.

@@ -12,7 +12,7 @@ use Rattle.cut_tree.specs.Tree.{Tree, Rest, Piece, Trim, Cut}
 use Rattle.cut_measure.specs.declared.sizes.Axis.TheVariants.{X, Y}
 use Rattle.cut_wants.specs.Legal.{HasSides, IsWantedPiece, Legal, of_demand, worth_of, HaveOwnDemands}
 use Rattle.cut_wants.specs.Best.{IsBest, IsBestOf}
-use Rattle.cut_sheets.specs.Table.{IsPlainWorth, IsPlainRow, IsOffered, IsLifted, IsJoined, IsUncut, IsBestRow, AreRows, AreUseful, HaveSidesAndBoundedWorths, ArePriced, IsPricedBelow, IsBelow}
+use Rattle.cut_sheets.specs.Table.{IsPlainWorth, IsPlainRow, IsOffered, IsLifted, IsJoined, IsUncut, IsBestRow, AreBestRows, AreUseful, HaveSidesAndBoundedWorths, ArePriced, IsPricedBelow, IsBelow}
 use Rattle.cut_wants.proofs.LeafSums.{of_demand_found, first_each}
 use Rattle.cut_wants.proofs.NumberRows.{same_length}
 
@@ -414,26 +414,26 @@ some_of [] lt = absurd (omega arith)
 some_of (row ∷ rows) lt = row
 
 module _ {T : Type 0} (value : T → ℕ) where
-  pub row_worth : (wants : List Want) (places : ℕ) (rows : List (Vec T Global)) (w h : ℕ) → AreRows value wants places rows → w < places → h < length rows
+  pub row_worth : (wants : List Want) (places : ℕ) (rows : List (Vec T Global)) (w h : ℕ) → AreBestRows value wants places rows → w < places → h < length rows
       → (b : ℕ) × IsBestOf wants 0 w h b
   row_worth wants places rows w h table wp hl =
       let d = some_of rows (omega arith) in
       (get_or (map value (get_or rows h d).items) w 0, (table h d hl).best w wp)
 
   -- what a row of the table says, read as a slice
-  pub row_best : (wants : List Want) (places : ℕ) (rows : List (Vec T Global)) (h : ℕ) (row : Vec T Global) (s : List T) → AreRows value wants places rows
+  pub row_best : (wants : List Want) (places : ℕ) (rows : List (Vec T Global)) (h : ℕ) (row : Vec T Global) (s : List T) → AreBestRows value wants places rows
       → row ≡ get_or rows h row → s ≡ row.items → h < length rows → (w : ℕ) → w < places → IsBestOf wants 0 w h (get_or (map value s) w 0)
   row_best wants places rows h row s table is items hl w wl =
       let b = subst (λ (r : Vec T Global). IsBestRow wants places h (map value r.items)) (sym is) (table h row hl) in
       subst (λ r. IsBestOf wants 0 w h (get_or (map value r) w 0)) (sym items) (b.best w wl)
 
-  pub row_len : (wants : List Want) (places : ℕ) (rows : List (Vec T Global)) (h : ℕ) (row : Vec T Global) → AreRows value wants places rows → row ≡ get_or rows h row
+  pub row_len : (wants : List Want) (places : ℕ) (rows : List (Vec T Global)) (h : ℕ) (row : Vec T Global) → AreBestRows value wants places rows → row ≡ get_or rows h row
       → h < length rows → length row.items ≡ places
   row_len wants places rows h row table is hl =
       sym (same_length value row.items) ∙ (subst (λ (r : Vec T Global). IsBestRow wants places h (map value r.items)) (sym is) (table h row hl)).len
 
-  pub table_push : (wants : List Want) (places : ℕ) (rows : List (Vec T Global)) (row : Vec T Global) → AreRows value wants places rows
-      → IsBestRow wants places (length rows) (map value row.items) → AreRows value wants places (rows ++ row ∷ [])
+  pub table_push : (wants : List Want) (places : ℕ) (rows : List (Vec T Global)) (row : Vec T Global) → AreBestRows value wants places rows
+      → IsBestRow wants places (length rows) (map value row.items) → AreBestRows value wants places (rows ++ row ∷ [])
   table_push wants places rows row table new = λ h d hl. elim (cases_lt h (length rows)) [
     | inl lt ↦ subst (λ (r : Vec T Global). IsBestRow wants places h (map value r.items)) (sym (get_or-append rows (row ∷ []) d h lt)) (table h d lt)
     | inr ge ↦

@@ -56,8 +56,8 @@ pub record IsBestRow (wants : List Want) (places h : ℕ) (row : List ℕ) : Typ
   pub best : (w : ℕ) → w < places → IsBestOf wants 0 w h (slice_index row w)
 
 -- the rows of the heights from 0 on, their numbers having these worths
-abbrev pub AreRows : {T : Type 0} → (T → ℕ) → List Want → ℕ → List (Vec T Global) → Type 0
-AreRows {T = T} value wants places rows =
+abbrev pub AreBestRows : {T : Type 0} → (T → ℕ) → List Want → ℕ → List (Vec T Global) → Type 0
+AreBestRows {T = T} value wants places rows =
     (h : ℕ) (d : Vec T Global) → h < length rows → IsBestRow wants places h (map value (slice_index_or rows h d).items)
 
 abbrev pub heights : Table → ℕ
@@ -65,8 +65,8 @@ heights (Narrow rows) = length rows.items
 heights (Wide rows) = length rows.items
 
 abbrev pub IsTable : List Want → ℕ → Table → Type 0
-IsTable wants places (Narrow rows) = AreRows (λ v. v) wants places rows.items
-IsTable wants places (Wide rows) = AreRows (λ v. v) wants places rows.items
+IsTable wants places (Narrow rows) = AreBestRows (λ v. v) wants places rows.items
+IsTable wants places (Wide rows) = AreBestRows (λ v. v) wants places rows.items
 
 -- a height that isn't useful gives no more than the one below it
 abbrev pub AreUseful : List Want → ℕ → List Bool → Type 0

@@ -4,7 +4,7 @@ ghost use Rattle.std.specs.Prelude.{◌≡◌, ℕ, ◌+◌, ◌-◌, ◌*◌, �
 ghost use Rattle.cut_wants.specs.declared.wants.Want.{Want};
 ghost use Rattle.cut_wants.specs.Best.{IsBestOf};
 ghost use Rattle.cut_wants.specs.Legal.{HaveOwnDemands, HasSides};
-ghost use Rattle.cut_sheets.specs.Table.{IsTable, AreRows, heights, HaveSidesAndBoundedWorths, IsCutX, IsCutY, IsPieceAt, Explains};
+ghost use Rattle.cut_sheets.specs.Table.{IsTable, AreBestRows, heights, HaveSidesAndBoundedWorths, IsCutX, IsCutY, IsPieceAt, Explains};
 
 use crate::sheet::{MOST_STEPS, Table};
 use cut_wants::number::Number;
@@ -20,7 +20,7 @@ pub enum Choice {
 }
 
 fn worth_in<T: Number>(wants: &[Scaled], rows: &[Vec<T>], places: usize, w: usize, h: usize) -> u64
-    requires table { AreRows T.value wants.now places rows.now }
+    requires table { AreBestRows T.value wants.now places rows.now }
     requires w { w < places }
     requires h { h < length rows.now }
     ensures { IsBestOf wants.now 0 w h result }

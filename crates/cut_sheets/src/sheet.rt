@@ -3,7 +3,7 @@
 ghost use Rattle.std.specs.Prelude.{◌≡◌, ℕ, ◌+◌, ◌-◌, ◌*◌, ◌/◌, ◌^◌, ◌<◌, ◌≤◌, length, map, IfOk, IsTrue, All, true, false};
 ghost use Rattle.cut_wants.specs.Legal.{HaveOwnDemands, HasSides};
 ghost use Rattle.cut_wants.specs.Best.{IsBestOf};
-ghost use Rattle.cut_sheets.specs.Table.{IsOffered, IsPlainRow, IsLiftedRow, IsUncutRow, IsBestRow, AreRows, AreUseful, ArePriced, IsPricedBelow, IsTable, HaveSidesAndBoundedWorths, heights};
+ghost use Rattle.cut_sheets.specs.Table.{IsOffered, IsPlainRow, IsLiftedRow, IsUncutRow, IsBestRow, AreBestRows, AreUseful, ArePriced, IsPricedBelow, IsTable, HaveSidesAndBoundedWorths, heights};
 
 use crate::row::{is_same, join_row, offer, stack_rows};
 use cut_wants::number::Number;
@@ -58,7 +58,7 @@ fn fill_plain<T: Number>(row: &mut [T], wants: &[Scaled], height: usize)
 fn lift<T: Number>(row: &mut [T], wants: &[Scaled], rows: &[Vec<T>])
     requires own { HaveOwnDemands wants.now }
     requires fits { IsPricedBelow T.limit wants.now (length row.old) (length rows.now) }
-    requires table { AreRows T.value wants.now (length row.old) rows.now }
+    requires table { AreBestRows T.value wants.now (length row.old) rows.now }
     requires plain { IsPlainRow wants.now (length rows.now) (map T.value row.old) }
     ensures { IsLiftedRow wants.now (length rows.now) (map T.value row.new) }
 {
@@ -72,7 +72,7 @@ fn lift<T: Number>(row: &mut [T], wants: &[Scaled], rows: &[Vec<T>])
 fn stack_all<T: Number>(row: &mut [T], wants: &[Scaled], rows: &[Vec<T>], useful: &[bool])
     requires own { HaveOwnDemands wants.now }
     requires fits { IsPricedBelow T.limit wants.now (length row.old) (length rows.now) }
-    requires table { AreRows T.value wants.now (length row.old) rows.now }
+    requires table { AreBestRows T.value wants.now (length row.old) rows.now }
     requires len { length useful.now ≡ length rows.now }
     requires useful { AreUseful wants.now (length row.old) useful.now }
     requires lifted { IsLiftedRow wants.now (length rows.now) (map T.value row.old) }
@@ -90,7 +90,7 @@ fn stack_all<T: Number>(row: &mut [T], wants: &[Scaled], rows: &[Vec<T>], useful
 fn fill_best<T: Number>(row: &mut [T], wants: &[Scaled], rows: &[Vec<T>], useful: &[bool])
     requires own { HaveOwnDemands wants.now }
     requires fits { IsPricedBelow T.limit wants.now (length row.old) (length rows.now) }
-    requires table { AreRows T.value wants.now (length row.old) rows.now }
+    requires table { AreBestRows T.value wants.now (length row.old) rows.now }
     requires len { length useful.now ≡ length rows.now }
     requires useful { AreUseful wants.now (length row.old) useful.now }
     requires zeros { All (λ v. v ≡ 0) (map T.value row.old) }
@@ -112,7 +112,7 @@ fn best_row<T: Number>(
     requires own { HaveOwnDemands wants.now }
     requires width { width ≤ MOST_STEPS }
     requires fits { IsPricedBelow T.limit wants.now (width + 1) (length rows.now) }
-    requires table { AreRows T.value wants.now (width + 1) rows.now }
+    requires table { AreBestRows T.value wants.now (width + 1) rows.now }
     requires len { length useful.now ≡ length rows.now }
     requires useful { AreUseful wants.now (width + 1) useful.now }
     ensures { IfOk result (λ row. IsBestRow wants.now (width + 1) (length rows.now)
@@ -125,7 +125,7 @@ fn best_row<T: Number>(
 
 /// Whether the next row is worth more than the last one somewhere.
 fn is_useful<T: Number>(rows: &[Vec<T>], row: &[T], wants: &[Scaled], places: usize) -> bool
-    requires table { AreRows T.value wants.now places rows.now }
+    requires table { AreBestRows T.value wants.now places rows.now }
     requires row { IsBestRow wants.now places (length rows.now) (map T.value row.now) }
     ensures no { result ≡ false → (w v : ℕ) → w < places
         → IsBestOf wants.now 0 w (length rows.now) v
@@ -149,7 +149,7 @@ fn best_rows<T: Number>(
     requires height { height ≤ MOST_STEPS }
     requires fits { IsPricedBelow T.limit wants.now (width + 1) height }
     ensures len { IfOk result (λ rows. length rows.items ≡ height + 1) }
-    ensures table { IfOk result (λ rows. AreRows T.value wants.now (width + 1) rows.items) }
+    ensures table { IfOk result (λ rows. AreBestRows T.value wants.now (width + 1) rows.items) }
 {
     let mut rows: Vec<Vec<T>> = Vec::new(alloc);
     let mut useful = Vec::new(alloc);

@@ -15,8 +15,8 @@ pub sum_below-same : (f g : ℕ → ℕ) (n : ℕ) → ((i : ℕ) → i < n → 
 sum_below-same f g zero same = refl
 sum_below-same f g (suc n) same =
     let last : f n ≡ g n = same n (omega arith) in
-    let front : sum_below f n ≡ sum_below g n = sum_below-same f g n (λ i l. same i (omega arith)) in
-    omega (arith, last, front)
+    let prefix : sum_below f n ≡ sum_below g n = sum_below-same f g n (λ i l. same i (omega arith)) in
+    omega (arith, last, prefix)
 
 sum_below-add : (f g : ℕ → ℕ) (n : ℕ) → sum_below (λ i. f i + g i) n ≡ sum_below f n + sum_below g n
 sum_below-add f g zero = refl
@@ -40,18 +40,18 @@ within_in low len i l r = rw (le-ltb i low l, lt-ltb i (low + len) r) refl
 within_before : (low len i : ℕ) → i < low → within low len i ≡ 0
 within_before low len i l = rw (lt-ltb i low l) refl
 
-within_behind : (low len i : ℕ) → low ≤ i → low + len ≤ i → within low len i ≡ 0
-within_behind low len i l r = rw (le-ltb i low l, le-ltb i (low + len) r) refl
+within_after : (low len i : ℕ) → low ≤ i → low + len ≤ i → within low len i ≡ 0
+within_after low len i l r = rw (le-ltb i low l, le-ltb i (low + len) r) refl
 
 sum_below-within : (low len n : ℕ) → sum_below (within low len) n ≡ min len (n - low)
 sum_below-within low len zero = omega arith
 sum_below-within low len (suc n) =
-    let front : sum_below (within low len) n ≡ min len (n - low) = sum_below-within low len n in
+    let prefix : sum_below (within low len) n ≡ min len (n - low) = sum_below-within low len n in
     elim (cases_lt n low) [
-      | inl before ↦ (let e : within low len n ≡ 0 = within_before low len n before in omega (arith, front, e))
+      | inl before ↦ (let e : within low len n ≡ 0 = within_before low len n before in omega (arith, prefix, e))
       | inr from ↦ elim (cases_lt n (low + len)) [
-        | inl in' ↦ (let e : within low len n ≡ 1 = within_in low len n from in' in omega (arith, front, e))
-        | inr behind ↦ (let e : within low len n ≡ 0 = within_behind low len n from behind in omega (arith, front, e))
+        | inl in' ↦ (let e : within low len n ≡ 1 = within_in low len n from in' in omega (arith, prefix, e))
+        | inr after ↦ (let e : within low len n ≡ 0 = within_after low len n from after in omega (arith, prefix, e))
       ]
     ]
 
@@ -110,11 +110,11 @@ mark_out true left top w h x y out =
     elim (cases_lt x left) [
       | inl l ↦ zero_x (within_before left w x l)
       | inr l ↦ elim (cases_lt x (left + w)) [
-        | inr k ↦ zero_x (within_behind left w x l k)
+        | inr k ↦ zero_x (within_after left w x l k)
         | inl k ↦ elim (cases_lt y top) [
           | inl m ↦ zero_y (within_before top h y m)
           | inr m ↦ elim (cases_lt y (top + h)) [
-            | inr j ↦ zero_y (within_behind top h y m j)
+            | inr j ↦ zero_y (within_after top h y m j)
             | inl j ↦ absurd (out refl l k m j)
           ]
         ]

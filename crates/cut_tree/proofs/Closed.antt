@@ -21,10 +21,10 @@ above_range (Cut axis a first second) n c d (inr (inr q)) =
 
 -- the first cut is above all others
 pub first_above : (t : Tree) (n d : ℕ) → n + 1 ≤ d → d < n + cut_count t → IsAbove t n n d
-first_above (Piece e turned) n d behind within = absurd (omega (arith, behind, within))
-first_above Rest n d behind within = absurd (omega (arith, behind, within))
-first_above (Trim axis a first) n d behind within = inl (refl, omega (arith, behind), omega (arith, within))
-first_above (Cut axis a first second) n d behind within = inl (refl, omega (arith, behind), omega (arith, within))
+first_above (Piece e turned) n d after within = absurd (omega (arith, after, within))
+first_above Rest n d after within = absurd (omega (arith, after, within))
+first_above (Trim axis a first) n d after within = inl (refl, omega (arith, after), omega (arith, within))
+first_above (Cut axis a first second) n d after within = inl (refl, omega (arith, after), omega (arith, within))
 
 module _ (cuts : List ℕ) (lost : Option ℕ) where
   -- where the first cut wasn't made, none of the others was tried

@@ -201,7 +201,7 @@ module _ (x y w h a n m : ℕ) (f s : ℕ → ℕ → Spot) (kerf first : List R
         | inr l ↦ inl (record { left = omega arith; right = omega arith; top = omega arith; bottom = omega arith })
       ])
 
--- The parts of a rectangle that a cut along X makes, behind one another, share it out.
+-- The parts of a rectangle that a cut along X makes, after one another, share it out.
 module _ (x y w h k a n n1 n2 m : ℕ) (f s g : ℕ → ℕ → Spot) (kerf first second : List Row) where
   pub cut_x : a + k < w → n + 1 ≤ n1 → n1 ≤ n2 → n2 ≤ m →
       Covers kerf (Inside (x + a) y k h) s n (n + 1) →
@@ -240,7 +240,7 @@ module _ (x y w h k a n n1 n2 m : ℕ) (f s g : ℕ → ℕ → Spot) (kerf firs
         ]
       ])
 
--- The parts of a rectangle that a cut along Y makes, behind one another, share it out.
+-- The parts of a rectangle that a cut along Y makes, after one another, share it out.
 module _ (x y w h k a n n1 n2 m : ℕ) (f s g : ℕ → ℕ → Spot) (kerf first second : List Row) where
   pub cut_y : a + k < h → n + 1 ≤ n1 → n1 ≤ n2 → n2 ≤ m →
       Covers kerf (Inside x (y + a) w k) s n (n + 1) →

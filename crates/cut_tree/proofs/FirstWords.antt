@@ -5,7 +5,7 @@ use Rattle.cut_tree.specs.declared.token.Token.{Token}
 use Rattle.cut_tree.specs.declared.token.Cause.{Cause}
 use Rattle.cut_tree.specs.declared.token.Cause.TheVariants.{NoMemory}
 use Rattle.cut_tree.specs.Tree.{Tree}
-use Rattle.cut_tree.specs.Spelling.{words, tokens, SpelledAt, IsFaultWithin, IsFaultBehind, HasReadTree, IsWrong, IsWrongBehind, IsFirstFault}
+use Rattle.cut_tree.specs.Spelling.{words, tokens, SpelledAt, IsFaultWithin, IsFaultAfter, HasReadTree, IsWrong, IsWrongAfter, IsFirstFault}
 
 get-take : {A : Type 0} (n : ℕ) (ws : List A) (i : ℕ) → i < n → slice_get (take n ws) i ≡ slice_get ws i
 get-take zero ws i h = absurd (omega arith)
@@ -19,22 +19,22 @@ SpelledAt-take n ws at (t ∷ ts) p h = (sym (get-take n ws at (omega arith)) �
 
 pub Stops-take : (m : ℕ) (ws : List (List ℕ)) (w h k n : ℕ) (cause : Cause) → n < m → IsFaultWithin (take m ws) 0 0 w h k n cause → IsFaultWithin ws 0 0 w h k n cause
 Stops-take m ws w h k n cause early s = record {
-  front = s.front;
+  prefix = s.prefix;
   place = s.place;
-  spelled = SpelledAt-take m ws 0 s.front s.spelled (omega (arith, s.place));
+  spelled = SpelledAt-take m ws 0 s.prefix s.spelled (omega (arith, s.place));
   goes_on = s.goes_on;
   few_cuts = s.few_cuts;
-  wrong = subst (λ (word : Option (List ℕ)). IsWrong cause s.front word 0 w h k) (get-take m ws n early) s.wrong;
+  wrong = subst (λ (word : Option (List ℕ)). IsWrong cause s.prefix word 0 w h k) (get-take m ws n early) s.wrong;
 }
 
-pub FollowsOn-take : (m : ℕ) (ws : List (List ℕ)) (w h k n : ℕ) (cause : Cause) → n < m → IsFaultBehind (take m ws) w h k n cause → IsFaultBehind ws w h k n cause
+pub FollowsOn-take : (m : ℕ) (ws : List (List ℕ)) (w h k n : ℕ) (cause : Cause) → n < m → IsFaultAfter (take m ws) w h k n cause → IsFaultAfter ws w h k n cause
 FollowsOn-take m ws w h k n cause early s = record {
-  front = s.front;
+  prefix = s.prefix;
   place = s.place;
-  spelled = SpelledAt-take m ws 0 s.front s.spelled (omega (arith, s.place));
+  spelled = SpelledAt-take m ws 0 s.prefix s.spelled (omega (arith, s.place));
   whole = s.whole;
   few_cuts = s.few_cuts;
-  wrong = subst (λ (word : Option (List ℕ)). IsWrongBehind cause word) (get-take m ws n early) s.wrong;
+  wrong = subst (λ (word : Option (List ℕ)). IsWrongAfter cause word) (get-take m ws n early) s.wrong;
 }
 
 -- words that end before so many are all of them
@@ -50,16 +50,16 @@ read_fault ws text w h k n cause is early (inl p) = inl p
 read_fault ws text w h k n cause is early (inr s) =
     inr (inl (Stops-take 512 (words text) w h k n cause (omega arith) (subst (λ (v : List (List ℕ)). IsFaultWithin v 0 0 w h k n cause) is s)))
 
--- the fault behind a tree that it read
-pub behind_fault : (ws : List (List ℕ)) (text : List ℕ) (w h k n cuts : ℕ) (cause : Cause) (tree : Tree) → ws ≡ take 512 (words text) → n ≤ 511 →
-    HasReadTree ws 0 0 w h k tree n cuts → IsWrongBehind cause (slice_get ws n) → IsFirstFault text w h k n cause
-behind_fault ws text w h k n cuts cause tree is early r wrong =
-    let s : IsFaultBehind ws w h k n cause = record {
-      front = tokens tree;
+-- the fault after a tree that it read
+pub after_fault : (ws : List (List ℕ)) (text : List ℕ) (w h k n cuts : ℕ) (cause : Cause) (tree : Tree) → ws ≡ take 512 (words text) → n ≤ 511 →
+    HasReadTree ws 0 0 w h k tree n cuts → IsWrongAfter cause (slice_get ws n) → IsFirstFault text w h k n cause
+after_fault ws text w h k n cuts cause tree is early r wrong =
+    let s : IsFaultAfter ws w h k n cause = record {
+      prefix = tokens tree;
       place = omega (arith, r.upto);
       spelled = r.spelled;
       whole = (tree, r.shaped, refl);
       few_cuts = omega (arith, r.counted, r.few_cuts);
       wrong = wrong;
     } in
-    inr (inr (FollowsOn-take 512 (words text) w h k n cause (omega arith) (subst (λ (v : List (List ℕ)). IsFaultBehind v w h k n cause) is s)))
+    inr (inr (FollowsOn-take 512 (words text) w h k n cause (omega arith) (subst (λ (v : List (List ℕ)). IsFaultAfter v w h k n cause) is s)))

@@ -76,9 +76,9 @@ second_piece : step_at sheet 0 0 10 8 1 3 3 ≡ record { node = 3; x = 0; y = 4;
 unfolding sheet
 second_piece = refl
 
-rest_behind : step_at sheet 0 0 10 8 1 4 4 ≡ record { node = 4; x = 5; y = 0; w = 5; h = 8; what = token.Rest }
+rest_after : step_at sheet 0 0 10 8 1 4 4 ≡ record { node = 4; x = 5; y = 0; w = 5; h = 8; what = token.Rest }
 unfolding sheet
-rest_behind = refl
+rest_after = refl
 
 -- bars of 100 under a kerf of 3: 60 and 37 fill one, 60 and 38 are too long, and of nothing all is left
 full_bar : bar_tree ((1, 60) ∷ (2, 37) ∷ []) 100 3 ≡ Cut X 60 (Piece 1 false) (Piece 2 false)

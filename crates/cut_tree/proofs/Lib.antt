@@ -8,7 +8,7 @@ pub mod StepPlaces
 pub mod CutTexts
 pub mod PieceWords
 pub mod FirstWords
-pub mod TreeFronts
+pub mod TreePrefixes
 pub mod NodeReading
 pub mod WholeTexts
 pub mod SpelledTexts

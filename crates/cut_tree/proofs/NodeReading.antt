@@ -13,7 +13,7 @@ use Rattle.cut_tree.specs.declared.read.SpellFault.{SpellFault}
 use Rattle.cut_tree.specs.Sides.{side_along, part_sides}
 use Rattle.cut_tree.specs.Tree.{Tree, Rest, Cut, IsShaped}
 use Rattle.cut_tree.specs.Spelling.{tokens, token_text, IsToken, cuts_in, SpelledAt, IsWrong, IsNoTokenFor, IsFaultWithin, HasReadTree}
-use Rattle.cut_tree.proofs.TreeFronts.{first_stops_x, first_stops_y, second_stops_x, second_stops_y, off_x, off_y, SpelledAt-append, cuts_in-append}
+use Rattle.cut_tree.proofs.TreePrefixes.{first_stops_x, first_stops_y, second_stops_x, second_stops_y, off_x, off_y, SpelledAt-append, cuts_in-append}
 
 abbrev pub Fails : List (List ℕ) → (at cuts : ℕ) → Sides → (kerf : ℕ) → SpellFault → Type 0
 Fails ws at cuts s k f = ((f.token ≡ 0) × (f.cause ≡ NoMemory)) ⊎ IsFaultWithin ws at cuts s.w s.h k f.token f.cause
@@ -29,7 +29,7 @@ wrong_start NoMemory word cuts w h k p = absurd p
 module _ (ws : List (List ℕ)) (at cuts : ℕ) (s : Sides) (k : ℕ) (few : cuts ≤ MOST_CUTS) where
   pub start_fails : (f : SpellFault) → f.token ≡ at → IsNoTokenFor f.cause (slice_get ws at) → Fails ws at cuts s k f
   start_fails f here p = inr (record {
-    front = [];
+    prefix = [];
     place = omega arith;
     spelled = tt;
     goes_on = (Rest, token.Rest, [], tt, refl);
@@ -40,7 +40,7 @@ module _ (ws : List (List ℕ)) (at cuts : ℕ) (s : Sides) (k : ℕ) (few : cut
   module _ (axis : Axis) (a : ℕ) (got : slice_get ws at ≡ Some (token_text (token.Cut axis a))) (is_token : IsToken (token.Cut axis a)) where
     pub full_fails : cuts ≡ MOST_CUTS → IsFaultWithin ws at cuts s.w s.h k at TooManyCuts
     full_fails full = record {
-      front = [];
+      prefix = [];
       place = omega arith;
       spelled = tt;
       goes_on = (Rest, token.Rest, [], tt, refl);

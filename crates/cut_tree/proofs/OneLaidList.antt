@@ -32,8 +32,8 @@ above n r [] high p = absurd p
 above n r (s ∷ rows) high (inl e) = let first : n < s.node = high 0 s (omega arith) in let same : r.node ≡ s.node = ap (λ v. v.node) e in omega arith
 above n r (s ∷ rows) high (inr p) = above n r rows (λ k d l. high (suc k) d (omega arith)) p
 
-behind_first : (r : Row) (rows : List Row) → Rising (r ∷ rows) → All (λ s. r.node < s.node) rows
-behind_first r rows rising = λ k d l. rising 0 (suc k) d (omega arith) (omega arith)
+after_first : (r : Row) (rows : List Row) → Rising (r ∷ rows) → All (λ s. r.node < s.node) rows
+after_first r rows rising = λ k d l. rising 0 (suc k) d (omega arith) (omega arith)
 
 without_first : (r : Row) (rows : List Row) → Rising (r ∷ rows) → Rising rows
 without_first r rows rising = λ i j d lt l. rising (suc i) (suc j) d (omega arith) (omega arith)
@@ -56,7 +56,7 @@ one_list [] [] p q to from = refl
 one_list [] (s ∷ more) p q to from = absurd (from s (inl refl))
 one_list (r ∷ rows) [] p q to from = absurd (to r (inl refl))
 one_list (r ∷ rows) (s ∷ more) p q to from =
-    let high = behind_first r rows p in let low = behind_first s more q in
+    let high = after_first r rows p in let low = after_first s more q in
     let first : r ≡ s = one_first r s rows more high low (to r (inl refl)) (from s (inl refl)) in
     let rest : rows ≡ more = one_list rows more (without_first r rows p) (without_first s more q)
     (λ v i. in_rest v r s rows more first high i (to v (inr i)))

@@ -19,24 +19,24 @@ no_strip : (d k n x y w h : ℕ) → pieces d (strip_row k n x y w h) ≡ 0
 no_strip d zero n x y w h = refl
 no_strip d (suc k) n x y w h = refl
 
--- behind a strip
-behind_strip : (d k n x y w h : ℕ) (rows : List Row) → pieces d (strip_row k n x y w h ++ rows) ≡ pieces d rows
-behind_strip d k n x y w h rows = omega (arith, two_lists d (strip_row k n x y w h) rows, no_strip d k n x y w h)
+-- after a strip
+after_strip : (d k n x y w h : ℕ) (rows : List Row) → pieces d (strip_row k n x y w h ++ rows) ≡ pieces d rows
+after_strip d k n x y w h rows = omega (arith, two_lists d (strip_row k n x y w h) rows, no_strip d k n x y w h)
 
-two_behind : (d k n x y w h : ℕ) (first second : List Row) → pieces d (strip_row k n x y w h ++ first ++ second) ≡ pieces d first + pieces d second
-two_behind d k n x y w h first second =
-    omega (arith, two_lists d (strip_row k n x y w h ++ first) second, behind_strip d k n x y w h first)
+two_after : (d k n x y w h : ℕ) (first second : List Row) → pieces d (strip_row k n x y w h ++ first ++ second) ≡ pieces d first + pieces d second
+two_after d k n x y w h first second =
+    omega (arith, two_lists d (strip_row k n x y w h ++ first) second, after_strip d k n x y w h first)
 
 -- one for each piece leaf where all cuts are made
 pub all_pieces : (t : Tree) (x y w h k n c d : ℕ) → pieces d (rows_of t x y w h k all_made n c) ≡ count_of t d
 all_pieces (Piece e turned) x y w h k n c d = omega arith
 all_pieces Rest x y w h k n c d = refl
 all_pieces (Trim X a f) x y w h k n c d =
-    behind_strip d k n (x + a) y (w - a) h (rows_of f x y a h k all_made (n + 1) (c + 1)) ∙ all_pieces f x y a h k (n + 1) (c + 1) d
+    after_strip d k n (x + a) y (w - a) h (rows_of f x y a h k all_made (n + 1) (c + 1)) ∙ all_pieces f x y a h k (n + 1) (c + 1) d
 all_pieces (Trim Y a f) x y w h k n c d =
-    behind_strip d k n x (y + a) w (h - a) (rows_of f x y w a k all_made (n + 1) (c + 1)) ∙ all_pieces f x y w a k (n + 1) (c + 1) d
+    after_strip d k n x (y + a) w (h - a) (rows_of f x y w a k all_made (n + 1) (c + 1)) ∙ all_pieces f x y w a k (n + 1) (c + 1) d
 all_pieces (Cut X a f s) x y w h k n c d =
-    let split = two_behind d k n (x + a) y k h (rows_of f x y a h k all_made (n + 1) (c + 1)) (rows_of s (x + a + k) y (w - a - k) h k all_made (n + 1 + node_count f) (c + 1 + cut_count f)) in
+    let split = two_after d k n (x + a) y k h (rows_of f x y a h k all_made (n + 1) (c + 1)) (rows_of s (x + a + k) y (w - a - k) h k all_made (n + 1 + node_count f) (c + 1 + cut_count f)) in
     omega (
       arith,
       split,
@@ -44,7 +44,7 @@ all_pieces (Cut X a f s) x y w h k n c d =
       all_pieces s (x + a + k) y (w - a - k) h k (n + 1 + node_count f) (c + 1 + cut_count f) d,
     )
 all_pieces (Cut Y a f s) x y w h k n c d =
-    let split = two_behind d k n x (y + a) w k (rows_of f x y w a k all_made (n + 1) (c + 1)) (rows_of s x (y + a + k) w (h - a - k) k all_made (n + 1 + node_count f) (c + 1 + cut_count f)) in
+    let split = two_after d k n x (y + a) w k (rows_of f x y w a k all_made (n + 1) (c + 1)) (rows_of s x (y + a + k) w (h - a - k) k all_made (n + 1 + node_count f) (c + 1 + cut_count f)) in
     omega (
       arith,
       split,
@@ -63,13 +63,13 @@ few_pieces (Piece e turned) x y w h k outcome n c d = omega arith
 few_pieces Rest x y w h k outcome n c d = omega arith
 few_pieces (Trim X a f) x y w h k outcome n c d =
     by_cases (outcome c) _ n x y w h d (count_of f d)
-    (let split = behind_strip d k n (x + a) y (w - a) h (rows_of f x y a h k outcome (n + 1) (c + 1)) in omega (arith, split, few_pieces f x y a h k outcome (n + 1) (c + 1) d))
+    (let split = after_strip d k n (x + a) y (w - a) h (rows_of f x y a h k outcome (n + 1) (c + 1)) in omega (arith, split, few_pieces f x y a h k outcome (n + 1) (c + 1) d))
 few_pieces (Trim Y a f) x y w h k outcome n c d =
     by_cases (outcome c) _ n x y w h d (count_of f d)
-    (let split = behind_strip d k n x (y + a) w (h - a) (rows_of f x y w a k outcome (n + 1) (c + 1)) in omega (arith, split, few_pieces f x y w a k outcome (n + 1) (c + 1) d))
+    (let split = after_strip d k n x (y + a) w (h - a) (rows_of f x y w a k outcome (n + 1) (c + 1)) in omega (arith, split, few_pieces f x y w a k outcome (n + 1) (c + 1) d))
 few_pieces (Cut X a f s) x y w h k outcome n c d =
     by_cases (outcome c) _ n x y w h d (count_of f d + count_of s d)
-    (let split = two_behind d k n (x + a) y k h (rows_of f x y a h k outcome (n + 1) (c + 1)) (rows_of s (x + a + k) y (w - a - k) h k outcome (n + 1 + node_count f) (c + 1 + cut_count f)) in
+    (let split = two_after d k n (x + a) y k h (rows_of f x y a h k outcome (n + 1) (c + 1)) (rows_of s (x + a + k) y (w - a - k) h k outcome (n + 1 + node_count f) (c + 1 + cut_count f)) in
     omega (
       arith,
       split,
@@ -78,7 +78,7 @@ few_pieces (Cut X a f s) x y w h k outcome n c d =
     ))
 few_pieces (Cut Y a f s) x y w h k outcome n c d =
     by_cases (outcome c) _ n x y w h d (count_of f d + count_of s d)
-    (let split = two_behind d k n x (y + a) w k (rows_of f x y w a k outcome (n + 1) (c + 1)) (rows_of s x (y + a + k) w (h - a - k) k outcome (n + 1 + node_count f) (c + 1 + cut_count f)) in
+    (let split = two_after d k n x (y + a) w k (rows_of f x y w a k outcome (n + 1) (c + 1)) (rows_of s x (y + a + k) w (h - a - k) k outcome (n + 1 + node_count f) (c + 1 + cut_count f)) in
     omega (
       arith,
       split,

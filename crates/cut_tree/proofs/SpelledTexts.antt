@@ -16,9 +16,9 @@ use Rattle.cut_tree.specs.declared.token.Token.TheVariants as token
 use Rattle.cut_tree.specs.declared.token.Cause.{Cause}
 use Rattle.cut_tree.specs.declared.token.Cause.TheVariants.{BadToken, TooManyCuts, OffUnit, Missing, Extra, NoMemory}
 use Rattle.cut_tree.specs.Tree.{Tree, Piece, Rest, Trim, Cut, IsShaped, cut_count}
-use Rattle.cut_tree.specs.Spelling.{tokens, token_text, turn_mark, words, IsToken, AllTokens, IsSpelling, cuts_in, SpelledAt, GoesOn, IsNoToken, IsWrong, IsWrongBehind, IsFaultWithin, IsFaultBehind, IsFirstFault}
+use Rattle.cut_tree.specs.Spelling.{tokens, token_text, turn_mark, words, IsToken, AllTokens, IsSpelling, cuts_in, SpelledAt, GoesOn, IsNoToken, IsWrong, IsWrongAfter, IsFaultWithin, IsFaultAfter, IsFirstFault}
 use Rattle.cut_tree.proofs.PieceWords.{own, unlike, first_byte}
-use Rattle.cut_tree.proofs.TreeFronts.{one_tree, no_end, append-nil', cuts_in-append}
+use Rattle.cut_tree.proofs.TreePrefixes.{one_tree, no_end, append-nil', cuts_in-append}
 use Rattle.cut_tree.proofs.WholeTexts.{words-some, cuts_in-tokens}
 
 plain_decimal : (n : ℕ) → n < 2 ^ 64 → All (λ b. eqb b 32 ≡ false) (decimal n)
@@ -103,8 +103,8 @@ drop_none (w ∷ ws) zero same = absurd (cc)
 drop_none (w ∷ ws) (suc n) same = drop_none ws n same
 
 -- what words of tokens spell begins the tokens
-agree : (ws : List (List ℕ)) (at : ℕ) (ts front : List Token) → drop at ws ≡ map token_text ts → AllTokens ts → SpelledAt ws at front →
-    (rest : List Token) × (ts ≡ front ++ rest) × AllTokens rest × (drop (at + length front) ws ≡ map token_text rest)
+agree : (ws : List (List ℕ)) (at : ℕ) (ts prefix : List Token) → drop at ws ≡ map token_text ts → AllTokens ts → SpelledAt ws at prefix →
+    (rest : List Token) × (ts ≡ prefix ++ rest) × AllTokens rest × (drop (at + length prefix) ws ≡ map token_text rest)
 agree ws at ts [] here all p = let e : at + 0 ≡ at = omega arith in (ts, refl, all, ap (λ n. drop n ws) e ∙ here)
 agree ws at [] (f ∷ fs) here all p = absurd (let n : slice_get ws at ≡ None = drop_none ws at here in let s : slice_get ws at ≡ Some (token_text f) = p.0 in cc)
 agree ws at (t ∷ ts) (f ∷ fs) here all p =
@@ -117,59 +117,59 @@ agree ws at (t ∷ ts) (f ∷ fs) here all p =
     (more.0, cc, more.2, ap (λ n. drop n ws) e ∙ more.3)
 
 module _ (t : Tree) (w h k : ℕ) (shaped : IsShaped t w h k) (few : cut_count t ≤ MOST_CUTS) where
-  -- the tree ends where the front does, or the next word is the tree's next token
-  at_end : (front : List Token) → tokens t ≡ front ++ [] → GoesOn front w h k → ⊥
-  at_end front same g =
-      let u : Tree = g.0 in let text : tokens u ≡ front ++ g.1 ∷ g.2 = g.4 in
+  -- the tree ends where the prefix does, or the next word is the tree's next token
+  at_end : (prefix : List Token) → tokens t ≡ prefix ++ [] → GoesOn prefix w h k → ⊥
+  at_end prefix same g =
+      let u : Tree = g.0 in let text : tokens u ≡ prefix ++ g.1 ∷ g.2 = g.4 in
       no_end [] g.1 g.2 (one_tree t u w h k (g.1 ∷ g.2) [] shaped g.3
-      (ap (λ l. l ++ g.1 ∷ g.2) (same ∙ append-nil front) ∙ sym text ∙ append-nil' (tokens u))).1
+      (ap (λ l. l ++ g.1 ∷ g.2) (same ∙ append-nil prefix) ∙ sym text ∙ append-nil' (tokens u))).1
 
-  at_token : (cause : Cause) (front : List Token) (c : Token) (cs : List Token) (word : Option (List ℕ)) → tokens t ≡ front ++ c ∷ cs → IsToken c → word ≡ Some (token_text c) →
-      IsWrong cause front word 0 w h k → ⊥
-  at_token BadToken front c cs word same p is wrong = (let no : IsNoToken (Some (token_text c)) = subst IsNoToken is wrong in no c p refl)
-  at_token TooManyCuts front c cs word same p is wrong =
+  at_token : (cause : Cause) (prefix : List Token) (c : Token) (cs : List Token) (word : Option (List ℕ)) → tokens t ≡ prefix ++ c ∷ cs → IsToken c → word ≡ Some (token_text c) →
+      IsWrong cause prefix word 0 w h k → ⊥
+  at_token BadToken prefix c cs word same p is wrong = (let no : IsNoToken (Some (token_text c)) = subst IsNoToken is wrong in no c p refl)
+  at_token TooManyCuts prefix c cs word same p is wrong =
       let i : word ≡ Some (token_text (token.Cut wrong.0 wrong.1)) = wrong.2.0 in
       let cut : c ≡ token.Cut wrong.0 wrong.1 = one_token c (token.Cut wrong.0 wrong.1) p wrong.2.1 (cc) in
-      let full : 0 + cuts_in front ≡ MOST_CUTS = wrong.3 in
-      let count : cuts_in (tokens t) ≡ cuts_in front + cuts_in (token.Cut wrong.0 wrong.1 ∷ cs) =
-      ap cuts_in (same ∙ ap (λ v. front ++ v ∷ cs) cut) ∙ cuts_in-append front (token.Cut wrong.0 wrong.1 ∷ cs) in
+      let full : 0 + cuts_in prefix ≡ MOST_CUTS = wrong.3 in
+      let count : cuts_in (tokens t) ≡ cuts_in prefix + cuts_in (token.Cut wrong.0 wrong.1 ∷ cs) =
+      ap cuts_in (same ∙ ap (λ v. prefix ++ v ∷ cs) cut) ∙ cuts_in-append prefix (token.Cut wrong.0 wrong.1 ∷ cs) in
       omega (arith, count, full, cuts_in-tokens t)
-  at_token OffUnit front c cs word same p is wrong =
+  at_token OffUnit prefix c cs word same p is wrong =
       let i : word ≡ Some (token_text (token.Cut wrong.0 wrong.1)) = wrong.2.0 in
       let cut : c ≡ token.Cut wrong.0 wrong.1 = one_token c (token.Cut wrong.0 wrong.1) p wrong.2.1 (cc) in
-      wrong.3 (t, cs, shaped, same ∙ ap (λ v. front ++ v ∷ cs) cut ∙ sym (append_assoc front (token.Cut wrong.0 wrong.1 ∷ []) cs))
-  at_token Missing front c cs word same p is wrong = cc
-  at_token Extra front c cs word same p is wrong = wrong
-  at_token NoMemory front c cs word same p is wrong = wrong
+      wrong.3 (t, cs, shaped, same ∙ ap (λ v. prefix ++ v ∷ cs) cut ∙ sym (append_assoc prefix (token.Cut wrong.0 wrong.1 ∷ []) cs))
+  at_token Missing prefix c cs word same p is wrong = cc
+  at_token Extra prefix c cs word same p is wrong = wrong
+  at_token NoMemory prefix c cs word same p is wrong = wrong
 
-  at_rest : (ws : List (List ℕ)) (cause : Cause) (front rest : List Token) (n : ℕ) → tokens t ≡ front ++ rest → AllTokens rest → drop n ws ≡ map token_text rest →
-      GoesOn front w h k → IsWrong cause front (slice_get ws n) 0 w h k → ⊥
-  at_rest ws cause front [] n same all here g wrong = at_end front same g
-  at_rest ws cause front (c ∷ cs) n same all here g wrong =
-      at_token cause front c cs (slice_get ws n) same all.0 (drop_head ws n (token_text c) (map token_text cs) here).0 wrong
+  at_rest : (ws : List (List ℕ)) (cause : Cause) (prefix rest : List Token) (n : ℕ) → tokens t ≡ prefix ++ rest → AllTokens rest → drop n ws ≡ map token_text rest →
+      GoesOn prefix w h k → IsWrong cause prefix (slice_get ws n) 0 w h k → ⊥
+  at_rest ws cause prefix [] n same all here g wrong = at_end prefix same g
+  at_rest ws cause prefix (c ∷ cs) n same all here g wrong =
+      at_token cause prefix c cs (slice_get ws n) same all.0 (drop_head ws n (token_text c) (map token_text cs) here).0 wrong
 
   not_stopped : (ws : List (List ℕ)) (n : ℕ) (cause : Cause) → ws ≡ map token_text (tokens t) → AllTokens (tokens t) → IsFaultWithin ws 0 0 w h k n cause → ⊥
   not_stopped ws n cause here all s =
-      let a = agree ws 0 (tokens t) s.front here all s.spelled in
-      at_rest ws cause s.front a.0 n a.1 a.2 (subst (λ (m : ℕ). drop m ws ≡ map token_text a.0) s.place a.3) s.goes_on s.wrong
+      let a = agree ws 0 (tokens t) s.prefix here all s.spelled in
+      at_rest ws cause s.prefix a.0 n a.1 a.2 (subst (λ (m : ℕ). drop m ws ≡ map token_text a.0) s.place a.3) s.goes_on s.wrong
 
-  nothing_behind : (cause : Cause) (word : Option (List ℕ)) → word ≡ None → IsWrongBehind cause word → ⊥
-  nothing_behind BadToken word is wrong = (let no : IsNoToken None = subst IsNoToken is wrong in no)
-  nothing_behind Extra word is wrong = (let s : word ≡ Some (token_text wrong.0) = wrong.2 in cc)
-  nothing_behind TooManyCuts word is wrong = wrong
-  nothing_behind OffUnit word is wrong = wrong
-  nothing_behind Missing word is wrong = wrong
-  nothing_behind NoMemory word is wrong = wrong
+  nothing_after : (cause : Cause) (word : Option (List ℕ)) → word ≡ None → IsWrongAfter cause word → ⊥
+  nothing_after BadToken word is wrong = (let no : IsNoToken None = subst IsNoToken is wrong in no)
+  nothing_after Extra word is wrong = (let s : word ≡ Some (token_text wrong.0) = wrong.2 in cc)
+  nothing_after TooManyCuts word is wrong = wrong
+  nothing_after OffUnit word is wrong = wrong
+  nothing_after Missing word is wrong = wrong
+  nothing_after NoMemory word is wrong = wrong
 
-  not_behind : (ws : List (List ℕ)) (n : ℕ) (cause : Cause) → ws ≡ map token_text (tokens t) → AllTokens (tokens t) → IsFaultBehind ws w h k n cause → ⊥
-  not_behind ws n cause here all s =
-      let a = agree ws 0 (tokens t) s.front here all s.spelled in
-      let u : Tree = s.whole.0 in let text : tokens u ≡ s.front = s.whole.2 in
-      let body : tokens t ≡ s.front ++ a.0 = a.1 in
+  not_after : (ws : List (List ℕ)) (n : ℕ) (cause : Cause) → ws ≡ map token_text (tokens t) → AllTokens (tokens t) → IsFaultAfter ws w h k n cause → ⊥
+  not_after ws n cause here all s =
+      let a = agree ws 0 (tokens t) s.prefix here all s.spelled in
+      let u : Tree = s.whole.0 in let text : tokens u ≡ s.prefix = s.whole.2 in
+      let body : tokens t ≡ s.prefix ++ a.0 = a.1 in
       let none : [] ≡ a.0 = (one_tree t u w h k [] a.0 shaped s.whole.1 (append-nil (tokens t) ∙ body ∙ ap (λ l. l ++ a.0) (sym text))).1 in
-      let place : 0 + length s.front ≡ n = omega (arith, s.place) in
+      let place : 0 + length s.prefix ≡ n = omega (arith, s.place) in
       let end : drop n ws ≡ [] = subst (λ (m : ℕ). drop m ws ≡ map token_text a.0) place a.3 ∙ ap (map token_text) (sym none) in
-      nothing_behind cause (slice_get ws n) (drop_none ws n end) s.wrong
+      nothing_after cause (slice_get ws n) (drop_none ws n end) s.wrong
 
 some_token : (t : Tree) → 0 < length (tokens t)
 some_token (Piece d b) = omega arith
@@ -184,7 +184,7 @@ spelled_words text t w h k s = ap words s.text_is ∙ words-text_of (tokens t) (
 pub faultless : (text : List ℕ) (t : Tree) (w h k n : ℕ) (cause : Cause) → IsSpelling text t w h k → cut_count t ≤ MOST_CUTS → IsFirstFault text w h k n cause → cause ≡ NoMemory
 faultless text t w h k n cause s few (inl p) = p.1
 faultless text t w h k n cause s few (inr (inl p)) = absurd (not_stopped t w h k s.shaped few (words text) n cause (spelled_words text t w h k s) s.numbers p)
-faultless text t w h k n cause s few (inr (inr p)) = absurd (not_behind t w h k s.shaped few (words text) n cause (spelled_words text t w h k s) s.numbers p)
+faultless text t w h k n cause s few (inr (inr p)) = absurd (not_after t w h k s.shaped few (words text) n cause (spelled_words text t w h k s) s.numbers p)
 
 same_tokens : (ts us : List Token) → AllTokens ts → AllTokens us → map token_text ts ≡ map token_text us → ts ≡ us
 same_tokens [] [] p q same = refl

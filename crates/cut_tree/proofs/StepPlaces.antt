@@ -54,22 +54,22 @@ get-steps_of Rest x y w h k n (suc i) m inside e = absurd (omega arith)
 get-steps_of (Trim X a f) x y w h k n (suc i) m inside e = get-steps_of f x y a h k (n + 1) i m (omega arith) (omega arith)
 get-steps_of (Trim Y a f) x y w h k n (suc i) m inside e = get-steps_of f x y w a k (n + 1) i m (omega arith) (omega arith)
 get-steps_of (Cut X a f s) x y w h k n (suc i) m inside e =
-    let front = steps_of f x y a h k (n + 1) in
-    let behind = steps_of s (x + a + k) y (w - a - k) h k (n + 1 + node_count f) in
-    cond_both (nat_lt i (node_count f)) _ _ (λ r. slice_get (front ++ behind) i ≡ Some r)
-    (λ near. get-left front behind i (omega (arith, length-steps_of f x y a h k (n + 1), ltb-true i (node_count f) near)) ∙ get-steps_of f x y a h k (n + 1) i m (ltb-true i (node_count f) near) (omega arith))
+    let prefix = steps_of f x y a h k (n + 1) in
+    let after = steps_of s (x + a + k) y (w - a - k) h k (n + 1 + node_count f) in
+    cond_both (nat_lt i (node_count f)) _ _ (λ r. slice_get (prefix ++ after) i ≡ Some r)
+    (λ near. get-left prefix after i (omega (arith, length-steps_of f x y a h k (n + 1), ltb-true i (node_count f) near)) ∙ get-steps_of f x y a h k (n + 1) i m (ltb-true i (node_count f) near) (omega arith))
     (λ beyond.
     let far : node_count f ≤ i = ltb-false i (node_count f) beyond in
-    get-right front behind i (i - node_count f) (omega (arith, length-steps_of f x y a h k (n + 1)))
+    get-right prefix after i (i - node_count f) (omega (arith, length-steps_of f x y a h k (n + 1)))
     ∙ get-steps_of s (x + a + k) y (w - a - k) h k (n + 1 + node_count f) (i - node_count f) m (omega arith) (omega arith))
 get-steps_of (Cut Y a f s) x y w h k n (suc i) m inside e =
-    let front = steps_of f x y w a k (n + 1) in
-    let behind = steps_of s x (y + a + k) w (h - a - k) k (n + 1 + node_count f) in
-    cond_both (nat_lt i (node_count f)) _ _ (λ r. slice_get (front ++ behind) i ≡ Some r)
-    (λ near. get-left front behind i (omega (arith, length-steps_of f x y w a k (n + 1), ltb-true i (node_count f) near)) ∙ get-steps_of f x y w a k (n + 1) i m (ltb-true i (node_count f) near) (omega arith))
+    let prefix = steps_of f x y w a k (n + 1) in
+    let after = steps_of s x (y + a + k) w (h - a - k) k (n + 1 + node_count f) in
+    cond_both (nat_lt i (node_count f)) _ _ (λ r. slice_get (prefix ++ after) i ≡ Some r)
+    (λ near. get-left prefix after i (omega (arith, length-steps_of f x y w a k (n + 1), ltb-true i (node_count f) near)) ∙ get-steps_of f x y w a k (n + 1) i m (ltb-true i (node_count f) near) (omega arith))
     (λ beyond.
     let far : node_count f ≤ i = ltb-false i (node_count f) beyond in
-    get-right front behind i (i - node_count f) (omega (arith, length-steps_of f x y w a k (n + 1)))
+    get-right prefix after i (i - node_count f) (omega (arith, length-steps_of f x y w a k (n + 1)))
     ∙ get-steps_of s x (y + a + k) w (h - a - k) k (n + 1 + node_count f) (i - node_count f) m (omega arith) (omega arith))
 
 pub all_steps : (t : Tree) (w h k : ℕ) → AreSteps t w h k (steps_of t 0 0 w h k 0)

@@ -1,4 +1,4 @@
--- A halt behind the first cuts, and the same one with these cuts listed.
+-- A halt after the first cuts, and the same one with these cuts listed.
 use Rattle.std.proofs.Common.{◌≡◌, ◌<◌, ◌⊎◌, ◌∙◌, ◌||◌, ◌==◌, ℕ, zero, suc, Bool, true, false, [], ◌∷◌, Some, None, if◌then◌else◌, nat_lt, refl, sym, inl, inr, arith}
 use Rattle.std.proofs.lemmas.Bool.{true≢false, or_cases, or_left, or_right, eqb-true, eq-eqb, ltb_from_iff, cases_order}
 use Rattle.std.proofs.lemmas.List.Folds.{list_any-append}
@@ -37,7 +37,7 @@ among_from (suc n) c l = step_from n c (among_from n c) l (cases_order c n)
 pub among_below : (n c : ℕ) → is_among (below n) c ≡ nat_lt c n
 among_below n c = ltb_from_iff (among_to n c, among_from n c)
 
--- the cut behind the listed ones went wrong, or none
+-- the cut after the listed ones went wrong, or none
 same_lost : (cuts c : ℕ) (lost : Bool) → is_wrong (if lost then Some cuts else None) c ≡ is_lost (First cuts lost) c
 same_lost cuts c true = refl
 same_lost cuts c false = refl

@@ -8,7 +8,7 @@ use Rattle.cut_tree.specs.declared.token.Token.{Token}
 use Rattle.cut_tree.specs.Tree.{Tree, Piece, Rest, Trim, Cut, cut_count}
 use Rattle.cut_tree.specs.Patterns.{HasDemands}
 use Rattle.cut_tree.specs.Spelling.{tokens, token_text, text_of, words, cuts_in, SpelledAt}
-use Rattle.cut_tree.proofs.TreeFronts.{cuts_in-append}
+use Rattle.cut_tree.proofs.TreePrefixes.{cuts_in-append}
 
 -- words that the tokens spell up to the end
 spelled_whole : (ws : List (List ℕ)) (at : ℕ) (ts : List Token) → SpelledAt ws at ts → length ws ≤ at + length ts → drop at ws ≡ map token_text ts
@@ -37,11 +37,11 @@ cuts_in-tokens Rest = refl
 cuts_in-tokens (Trim axis a f) = ap (λ n. 1 + n) (cuts_in-tokens f)
 cuts_in-tokens (Cut axis a f s) = omega (arith, cuts_in-append (tokens f) (tokens s), cuts_in-tokens f, cuts_in-tokens s)
 
-SpelledAt-front : (ws : List (List ℕ)) (at : ℕ) (ts us : List Token) → SpelledAt ws at (ts ++ us) → SpelledAt ws at ts × SpelledAt ws (at + length ts) us
-SpelledAt-front ws at [] us p = let e : at ≡ at + 0 = omega arith in (tt, subst (λ (n : ℕ). SpelledAt ws n us) e p)
-SpelledAt-front ws at (t ∷ ts) us p =
+SpelledAt-prefix : (ws : List (List ℕ)) (at : ℕ) (ts us : List Token) → SpelledAt ws at (ts ++ us) → SpelledAt ws at ts × SpelledAt ws (at + length ts) us
+SpelledAt-prefix ws at [] us p = let e : at ≡ at + 0 = omega arith in (tt, subst (λ (n : ℕ). SpelledAt ws n us) e p)
+SpelledAt-prefix ws at (t ∷ ts) us p =
     let e : at + 1 + length ts ≡ at + suc (length ts) = omega arith in
-    let q : SpelledAt ws (at + 1) ts × SpelledAt ws (at + 1 + length ts) us = SpelledAt-front ws (at + 1) ts us p.2 in
+    let q : SpelledAt ws (at + 1) ts × SpelledAt ws (at + 1 + length ts) us = SpelledAt-prefix ws (at + 1) ts us p.2 in
     ((p.0, p.1, q.0), subst (λ (n : ℕ). SpelledAt ws n us) e q.1)
 
 pub demands_read : (ws : List (List ℕ)) (at : ℕ) (t : Tree) → SpelledAt ws at (tokens t) → HasDemands t
@@ -49,7 +49,7 @@ demands_read ws at (Piece d b) p = p.1
 demands_read ws at Rest p = tt
 demands_read ws at (Trim axis a f) p = demands_read ws (at + 1) f p.2
 demands_read ws at (Cut axis a f s) p =
-    let q : SpelledAt ws (at + 1) (tokens f) × SpelledAt ws (at + 1 + length (tokens f)) (tokens s) = SpelledAt-front ws (at + 1) (tokens f) (tokens s) p.2 in
+    let q : SpelledAt ws (at + 1) (tokens f) × SpelledAt ws (at + 1 + length (tokens f)) (tokens s) = SpelledAt-prefix ws (at + 1) (tokens f) (tokens s) p.2 in
     (demands_read ws (at + 1) f q.0, demands_read ws (at + 1 + length (tokens f)) s q.1)
 
 -- the words of a text that isn't empty

@@ -28,7 +28,7 @@ abbrev pub first_rect : Rect → Axis → ℕ → Rect
 first_rect r X n = record r { w = n }
 first_rect r Y n = record r { h = n }
 
--- what is behind its first columns or rows
+-- what is after its first columns or rows
 abbrev pub rest_rect : Rect → Axis → ℕ → Rect
 rest_rect r X n = record r { x = r.x + n; w = r.w - n }
 rest_rect r Y n = record r { y = r.y + n; h = r.h - n }

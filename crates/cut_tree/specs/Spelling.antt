@@ -18,7 +18,7 @@ abbrev pub axis_letter : Axis → ℕ
 axis_letter X = 120
 axis_letter Y = 121
 
--- t behind the number of a turned piece
+-- t after the number of a turned piece
 abbrev pub turn_mark : Bool → List ℕ
 turn_mark true = 116 ∷ []
 turn_mark false = []
@@ -62,8 +62,8 @@ abbrev pub AreTreeTokens : List Token → (w h kerf : ℕ) → Type 0
 AreTreeTokens ts w h k = (t : Tree) × IsShaped t w h k × (tokens t ≡ ts)
 
 -- such a tree's tokens begin so
-abbrev pub IsFront : List Token → (w h kerf : ℕ) → Type 0
-IsFront ts w h k = (t : Tree) × (more : List Token) × IsShaped t w h k × (tokens t ≡ ts ++ more)
+abbrev pub IsPrefix : List Token → (w h kerf : ℕ) → Type 0
+IsPrefix ts w h k = (t : Tree) × (more : List Token) × IsShaped t w h k × (tokens t ≡ ts ++ more)
 
 -- they begin so, and aren't all
 abbrev pub GoesOn : List Token → (w h kerf : ℕ) → Type 0
@@ -83,49 +83,49 @@ IsNoToken (Some word) = (t : Token) → IsToken t → token_text t ≡ word → 
 abbrev pub IsCut : Option (List ℕ) → Axis → ℕ → Type 0
 IsCut word axis place = (word ≡ Some (token_text (token.Cut axis place))) × IsToken (token.Cut axis place)
 
--- What is wrong with the word behind a front of a tree, or with its absence. So many cuts stand before the tree.
-abbrev pub IsWrong : Cause → (front : List Token) → Option (List ℕ) → (cuts w h kerf : ℕ) → Type 0
-IsWrong BadToken front word cuts w h k = IsNoToken word
-IsWrong TooManyCuts front word cuts w h k = (axis : Axis) × (place : ℕ) × IsCut word axis place × (cuts + cuts_in front ≡ MOST_CUTS)
+-- What is wrong with the word after a prefix of a tree, or with its absence. So many cuts stand before the tree.
+abbrev pub IsWrong : Cause → (prefix : List Token) → Option (List ℕ) → (cuts w h kerf : ℕ) → Type 0
+IsWrong BadToken prefix word cuts w h k = IsNoToken word
+IsWrong TooManyCuts prefix word cuts w h k = (axis : Axis) × (place : ℕ) × IsCut word axis place × (cuts + cuts_in prefix ≡ MOST_CUTS)
 -- no tree goes on with the cut
-IsWrong OffUnit front word cuts w h k =
-    (axis : Axis) × (place : ℕ) × IsCut word axis place × (IsFront (front ++ token.Cut axis place ∷ []) w h k → ⊥) × (cuts + cuts_in front < MOST_CUTS)
-IsWrong Missing front word cuts w h k = word ≡ None
-IsWrong Extra front word cuts w h k = ⊥
-IsWrong NoMemory front word cuts w h k = ⊥
+IsWrong OffUnit prefix word cuts w h k =
+    (axis : Axis) × (place : ℕ) × IsCut word axis place × (IsPrefix (prefix ++ token.Cut axis place ∷ []) w h k → ⊥) × (cuts + cuts_in prefix < MOST_CUTS)
+IsWrong Missing prefix word cuts w h k = word ≡ None
+IsWrong Extra prefix word cuts w h k = ⊥
+IsWrong NoMemory prefix word cuts w h k = ⊥
 
 -- The words from `at` on begin as a tree does, at most 255 cuts among them and before them. The next word, number n,
 -- or its absence is wrong.
 pub record IsFaultWithin (ws : List (List ℕ)) (at cuts w h kerf n : ℕ) (cause : Cause) : Type 0 where
-  pub front : List Token
-  pub place : at + length front ≡ n
-  pub spelled : SpelledAt ws at front
-  pub goes_on : GoesOn front w h kerf
-  pub few_cuts : cuts + cuts_in front ≤ MOST_CUTS
-  pub wrong : IsWrong cause front (slice_get ws n) cuts w h kerf
+  pub prefix : List Token
+  pub place : at + length prefix ≡ n
+  pub spelled : SpelledAt ws at prefix
+  pub goes_on : GoesOn prefix w h kerf
+  pub few_cuts : cuts + cuts_in prefix ≤ MOST_CUTS
+  pub wrong : IsWrong cause prefix (slice_get ws n) cuts w h kerf
 
--- what is wrong with a word behind a whole tree
-abbrev pub IsWrongBehind : Cause → Option (List ℕ) → Type 0
-IsWrongBehind BadToken word = IsNoToken word
-IsWrongBehind Extra word = (t : Token) × IsToken t × (word ≡ Some (token_text t))
-IsWrongBehind TooManyCuts word = ⊥
-IsWrongBehind OffUnit word = ⊥
-IsWrongBehind Missing word = ⊥
-IsWrongBehind NoMemory word = ⊥
+-- what is wrong with a word after a whole tree
+abbrev pub IsWrongAfter : Cause → Option (List ℕ) → Type 0
+IsWrongAfter BadToken word = IsNoToken word
+IsWrongAfter Extra word = (t : Token) × IsToken t × (word ≡ Some (token_text t))
+IsWrongAfter TooManyCuts word = ⊥
+IsWrongAfter OffUnit word = ⊥
+IsWrongAfter Missing word = ⊥
+IsWrongAfter NoMemory word = ⊥
 
 -- The words begin with a whole tree of at most 255 cuts, and one more follows, number n.
-pub record IsFaultBehind (ws : List (List ℕ)) (w h kerf n : ℕ) (cause : Cause) : Type 0 where
-  pub front : List Token
-  pub place : length front ≡ n
-  pub spelled : SpelledAt ws 0 front
-  pub whole : AreTreeTokens front w h kerf
-  pub few_cuts : cuts_in front ≤ MOST_CUTS
-  pub wrong : IsWrongBehind cause (slice_get ws n)
+pub record IsFaultAfter (ws : List (List ℕ)) (w h kerf n : ℕ) (cause : Cause) : Type 0 where
+  pub prefix : List Token
+  pub place : length prefix ≡ n
+  pub spelled : SpelledAt ws 0 prefix
+  pub whole : AreTreeTokens prefix w h kerf
+  pub few_cuts : cuts_in prefix ≤ MOST_CUTS
+  pub wrong : IsWrongAfter cause (slice_get ws n)
 
 -- the first fault of a text, if it is no tree's or memory ran out
 abbrev pub IsFirstFault : List ℕ → (w h kerf n : ℕ) → Cause → Type 0
 IsFirstFault text w h k n cause =
-    ((n ≡ 0) × (cause ≡ NoMemory)) ⊎ IsFaultWithin (words text) 0 0 w h k n cause ⊎ IsFaultBehind (words text) w h k n cause
+    ((n ≡ 0) × (cause ≡ NoMemory)) ⊎ IsFaultWithin (words text) 0 0 w h k n cause ⊎ IsFaultAfter (words text) w h k n cause
 
 -- what a reader of nodes has read: a tree, which the words from `at` on spell, up to number `next`
 pub record HasReadTree (ws : List (List ℕ)) (at cuts w h kerf : ℕ) (tree : Tree) (next cuts_after : ℕ) : Type 0 where

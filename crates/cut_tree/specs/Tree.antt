@@ -3,7 +3,7 @@ use Rattle.std.specs.Prelude.{ℕ, Bool, ◌+◌, ◌-◌, ◌≤◌, ◌<◌, �
 use Rattle.cut_measure.specs.declared.sizes.Axis.{Axis}
 use Rattle.cut_measure.specs.declared.sizes.Axis.TheVariants.{X, Y}
 
--- A piece of a demand, turned or not; a rest; a cut behind which the saw leaves nothing; a cut with a second part.
+-- A piece of a demand, turned or not; a rest; a cut after which the saw leaves nothing; a cut with a second part.
 pub data Tree : Type 0 where
   Piece : (demand : ℕ) (turned : Bool) → Tree
   Rest : Tree

@@ -42,7 +42,7 @@ impl fmt::Display for BarFault {
 impl Error for BarFault {}
 
 // What is left of a room once each piece has taken its length and a kerf, if the room is enough.
-fn room_behind(pieces: &[(u32, u32)], room: u32, kerf: u32) -> Option<u32>
+fn room_after(pieces: &[(u32, u32)], room: u32, kerf: u32) -> Option<u32>
     ensures { SomeIff result (sum_by (λ p. p.1 + kerf) pieces.now ≤ room)
         (room - sum_by (λ p. p.1 + kerf) pieces.now) }
 {
@@ -75,8 +75,8 @@ fn bar_node(
     if length - *place <= kerf {
         return Ok(Node::Trim(Axis::X, *place, first));
     }
-    let behind = bar_node(alloc, more, length - *place - kerf, kerf)?;
-    let second = Box::new(alloc, behind)?;
+    let after = bar_node(alloc, more, length - *place - kerf, kerf)?;
+    let second = Box::new(alloc, after)?;
     Ok(Node::Cut(Axis::X, *place, first, second))
 }
 
@@ -96,7 +96,7 @@ pub fn bar_root(
     ensures few_cuts { OnOk result (cut_count (bar_tree pieces.now length kerf) ≤ MOST_CUTS) }
     ensures fault { IfErr result (λ f. IsBarFault f pieces.now length kerf) }
 {
-    let Some(room) = room_behind(pieces, length + kerf, kerf) else {
+    let Some(room) = room_after(pieces, length + kerf, kerf) else {
         return Err(BarFault::TooLong);
     };
     // A last piece that fills its part needs no cut.

@@ -140,8 +140,8 @@ pub fn are_closed(node: &Node, number: u32, cuts: &[u32], lost: Option<u32>) -> 
         }
         Node::Cut(_, _, first, second) => {
             if is_among(cuts, number) {
-                let behind = number + 1 + count_cuts(first);
-                are_closed(first, number + 1, cuts, lost) && are_closed(second, behind, cuts, lost)
+                let after = number + 1 + count_cuts(first);
+                are_closed(first, number + 1, cuts, lost) && are_closed(second, after, cuts, lost)
             } else {
                 none_tried(cuts, lost, number + 1, end)
             }

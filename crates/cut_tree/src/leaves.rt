@@ -48,8 +48,8 @@ pub fn add_leaves(
         }
         Node::Cut(axis, place, first, second) => {
             add_leaves(first, first_of(rect, *axis, *place), kerf, leaves)?;
-            let behind = rest_of(rest_of(rect, *axis, *place), *axis, kerf);
-            add_leaves(second, behind, kerf, leaves)
+            let after = rest_of(rest_of(rect, *axis, *place), *axis, kerf);
+            add_leaves(second, after, kerf, leaves)
         }
     }
 }

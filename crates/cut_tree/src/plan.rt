@@ -17,7 +17,7 @@ use crate::halts::{Halt, Stop, are_closed, is_among, rise};
 use crate::lay::{Rect, Row, lay_node};
 use crate::leaves::{Leaf, add_leaves};
 use crate::node::{Node, count_cuts, count_pieces, is_same};
-use crate::read::{SpellFault, behind, read_node, words_of};
+use crate::read::{SpellFault, after, read_node, words_of};
 use crate::steps::{Step, step_node};
 use crate::token::{Cause, MOST_CUTS, Sides};
 use crate::write::write_node;
@@ -87,7 +87,7 @@ impl Plan {
         };
         let read = read_node(alloc, words, 0, 0, sides, kerf)?;
         if read.next < words.len() {
-            return Err(behind(words, read.next));
+            return Err(after(words, read.next));
         }
         match Plan::of(alloc, read.node, size, kerf) {
             Ok(plan) => Ok(plan),
@@ -193,7 +193,7 @@ impl Plan {
         Ok(leaves)
     }
 
-    // Whether the work can have halted behind these cuts, the lost one going wrong.
+    // Whether the work can have halted after these cuts, the lost one going wrong.
     fn allows_listed(&self, cuts: &[u32], lost: Option<u32>) -> bool
         ensures { IsTrue result ↔ AreDone self.now.tree cuts.now lost }
     {

@@ -75,9 +75,9 @@ pub fn step_node(
                 number + 1,
                 steps,
             )?;
-            let behind = rest_of(rest_of(rect, *axis, *place), *axis, kerf);
+            let after = rest_of(rest_of(rect, *axis, *place), *axis, kerf);
             let number = number + 1 + count_nodes(first);
-            step_node(second, behind, kerf, number, steps)
+            step_node(second, after, kerf, number, steps)
         }
     }
 }

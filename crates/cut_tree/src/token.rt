@@ -32,7 +32,7 @@ pub enum Cause {
     OffUnit,
     /// The text ended before the tree; the token is the number of its tokens.
     Missing,
-    /// A token behind the whole tree.
+    /// A token after the whole tree.
     Extra,
     /// Want of memory; the token is 0.
     NoMemory,

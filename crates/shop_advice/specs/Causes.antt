@@ -49,10 +49,10 @@ backup_text backup.Failed = codes "files can't be made in it"
 -- of a database that has other tables
 abbrev pub version_text : VersionCause → List ℕ
 version_text version.Newer = codes "a newer cutshop made it; run that one"
-version_text version.Strange = codes "it has the tables of another program; name another file"
+version_text version.Foreign = codes "it has the tables of another program; name another file"
 version_text version.Contradicting = codes "its totals or rows contradict each other; put a copy of it and its log in its place"
 
--- of a shop file; behind some stands a key, or what TOML wants
+-- of a shop file; after some stands a key, or what TOML wants
 abbrev pub shop_text : ShopCause → List ℕ
 shop_text shop.Long = codes "it is over 65536 bytes long"
 shop_text shop.NoText = codes "it is no UTF-8 text"

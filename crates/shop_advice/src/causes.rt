@@ -76,7 +76,7 @@ pub enum VersionCause {
     /// They are of a later version.
     Newer,
     /// They are another program's.
-    Strange,
+    Foreign,
     /// They are of a known version, and contradict each other.
     Contradicting,
 }
@@ -184,7 +184,7 @@ impl VersionCause {
     {
         match self {
             VersionCause::Newer => "a newer cutshop made it; run that one",
-            VersionCause::Strange => "it has the tables of another program; name another file",
+            VersionCause::Foreign => "it has the tables of another program; name another file",
             VersionCause::Contradicting => {
                 "its totals or rows contradict each other; put a copy of it and its log in its place"
             }
@@ -193,7 +193,7 @@ impl VersionCause {
 }
 
 impl ShopCause {
-    /// What is told of it. Behind the last words of some stands a key, or what TOML wants.
+    /// What is told of it. After the last words of some stands a key, or what TOML wants.
     pub fn text(self) -> &'static str
         ensures { result.now ≡ spec.shop_text self }
     {

@@ -28,8 +28,8 @@ fn place(
     Ok(ShopPlace { line, cause, word })
 }
 
-// The line that begins behind a text.
-fn line_behind(text: &[u8]) -> usize {
+// The line that begins after a text.
+fn line_after(text: &[u8]) -> usize {
     let mut line = 1usize;
     for byte in text {
         if *byte == b'\n' {
@@ -63,12 +63,12 @@ fn entry_line(text: &str, entry: usize) -> Option<usize> {
     None
 }
 
-// The first line behind this one that gives a key its value, in the same table.
-fn key_line(text: &str, behind: usize, key: &str) -> Option<usize> {
+// The first line after this one that gives a key its value, in the same table.
+fn key_line(text: &str, after: usize, key: &str) -> Option<usize> {
     let mut number = 0usize;
     for line in text.lines() {
         number = number.saturating_add(1);
-        if number > behind {
+        if number > after {
             if line.trim_start().starts_with('[') {
                 return None;
             }
@@ -229,7 +229,7 @@ pub fn look_at_shop(
         Ok(document) => look_at_document(alloc, text, entry, &document),
         Err(error) => {
             let line = match error.span() {
-                Some(span) => Some(line_behind(bytes.get(..span.start).unwrap_or(bytes))),
+                Some(span) => Some(line_after(bytes.get(..span.start).unwrap_or(bytes))),
                 None => None,
             };
             place(alloc, line, ShopCause::NoDocument, error.message())

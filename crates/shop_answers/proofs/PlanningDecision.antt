@@ -17,7 +17,7 @@ use Rattle.shop_records.specs.declared.messages.Reply.{Reply}
 use Rattle.shop_records.specs.declared.messages.Reply.TheVariants.{Refused}
 use Rattle.shop_records.specs.Columns.{is_free}
 use Rattle.shop_machine.specs.Decisions.{first_of}
-use Rattle.shop_answers.specs.Planning.{demands_refusal, numbers_refusal, want_of, wants_of, planned_size, planning_refusal, bound_refusal, IsPlanned, IsBounded, IsPlanAnswer, IsBoundAnswer, numbers_in, AreFound, AreAsked, Tells}
+use Rattle.shop_answers.specs.Planning.{demands_refusal, numbers_refusal, want_of, wants_of, planned_size, planning_refusal, bound_refusal, IsPlanned, IsBounded, IsPlanAnswer, IsBoundAnswer, numbers_in, AreFound, AreAsked, TellsReply}
 
 -- ---- the demands of a query
 
@@ -43,7 +43,7 @@ asked_ok at material numbers demands found first second wants is one two allowed
 
 -- ---- what is told
 
-pub tells_more : (P Q : Reply → Type 0) → ((answer : Reply) → P answer → Q answer) → (result : Result Reply Refusal) → Tells P result → Tells Q result
+pub tells_more : (P Q : Reply → Type 0) → ((answer : Reply) → P answer → Q answer) → (result : Result Reply Refusal) → TellsReply P result → TellsReply Q result
 tells_more P Q more (Ok answer) it = more answer it
 tells_more P Q more (Err refusal) it = λ other. more (Refused refusal) (it other)
 

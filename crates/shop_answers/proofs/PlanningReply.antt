@@ -23,7 +23,7 @@ use Rattle.cut_wants.specs.declared.wants.Want.{Want}
 use Rattle.cut_wants.specs.Legal.{Legal, IsWantedPiece, IsWithinCounts, HasSides, of_demand}
 use Rattle.cut_plan.specs.declared.faults.PlanFault.{PlanFault}
 use Rattle.cut_plan.specs.declared.faults.PlanFault.TheVariants as fault
-use Rattle.cut_plan.specs.Faults.{fault_of}
+use Rattle.cut_plan.specs.Faults.{plan_fault}
 use Rattle.shop_records.specs.declared.records.Material.{Material}
 use Rattle.shop_records.specs.declared.records.Part.{Part}
 use Rattle.shop_records.specs.declared.records.Demand.{Demand}
@@ -190,7 +190,7 @@ module _ (ceiling dropped : ℕ) (text : List ℕ) (worth : ℕ) where
       record { plan = p.0.plan; is = p.1; text_is = cc; width = p.2.unit.0; height = p.2.unit.1; kerf = p.2.unit.2; legal = p.2.laid.legal; within = p.2.laid.within }
 
   told : (kind : Kind) (size : Extent) (k s : ℕ) (wants : List Want) → IsPlanned kind (planned_size kind size) k s wants answer → IsTold (planned_size kind size) k wants text
-  told kind size k s wants it = by (fault_of kind (planned_size kind size) k s wants) it
+  told kind size k s wants it = by (plan_fault kind (planned_size kind size) k s wants) it
     where
       by : (o : Option PlanFault)
           → MatchOption o (IsProposed kind (planned_size kind size) k s wants answer ⊎ ((answer ≡ reply.Refused (planner_refusal fault.TableTooLarge)) × HasManyCuts kind (planned_size kind size) k s wants))
@@ -200,7 +200,7 @@ module _ (ceiling dropped : ℕ) (text : List ℕ) (worth : ℕ) where
       by None (inr e) = cc
       by (Some why) e = cc
 
-  -- the rows behind a told plan
+  -- the rows after a told plan
   record HasRows (found : Option Part) (known : Option Material) (at : ℕ → Option Demand) (numbers : List ℕ) : Type 0 where
     pub row : Part
     pub material : Material

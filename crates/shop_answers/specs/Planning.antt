@@ -15,7 +15,7 @@ use Rattle.cut_plan.specs.declared.faults.PlanFault.TheVariants as fault
 use Rattle.cut_plan.specs.declared.bars.Proposal.{Proposal}
 use Rattle.cut_plan.specs.declared.sheets.SheetProposal.{SheetProposal}
 use Rattle.cut_plan.specs.declared.bounds.Bound.{Bound}
-use Rattle.cut_plan.specs.Faults.{fault_of}
+use Rattle.cut_plan.specs.Faults.{plan_fault}
 use Rattle.cut_plan.specs.Proposals.{IsBarProposal, HasManyPieces}
 use Rattle.cut_plan.specs.Sheets.{IsSheetProposal, HasManyKept}
 use Rattle.cut_plan.specs.Bounds.{IsBound}
@@ -101,14 +101,14 @@ HasManyCuts Sheet size k s wants = HasManyKept size k s wants
 -- what a planner of units of a kind may answer: its first fault, or else a plan, or that the plan takes too many cuts
 abbrev pub IsPlanned : Kind → Extent → (kerf step : ℕ) → List Want → Reply → Type 0
 IsPlanned kind size k s wants answer =
-    MatchOption (fault_of kind size k s wants)
+    MatchOption (plan_fault kind size k s wants)
     (IsProposed kind size k s wants answer ⊎ ((answer ≡ reply.Refused TableTooLarge) × HasManyCuts kind size k s wants))
     (λ why. answer ≡ reply.Refused (planner_refusal why))
 
 -- the same of a bound, which is never refused for a plan of many cuts
 abbrev pub IsBounded : Kind → Extent → (kerf step : ℕ) → List Want → Reply → Type 0
 IsBounded kind size k s wants answer =
-    MatchOption (fault_of kind size k s wants)
+    MatchOption (plan_fault kind size k s wants)
     ((b : Bound) × IsBound kind size k s wants b × (answer ≡ reply.Bound b.best b.units))
     (λ why. answer ≡ reply.Refused (planner_refusal why))
 
@@ -166,9 +166,9 @@ abbrev pub HasNumber : FoundDemand → Type 0
 HasNumber found = (1 ≤ found.number) × (found.number ≤ MOST_NUMBERS)
 
 -- a reply is one of these, or a refusal is, memory aside
-abbrev pub Tells : (Reply → Type 0) → Result Reply Refusal → Type 0
-Tells what (Ok answer) = what answer
-Tells what (Err refusal) = refusal ≢ NoMemory → what (reply.Refused refusal)
+abbrev pub TellsReply : (Reply → Type 0) → Result Reply Refusal → Type 0
+TellsReply what (Ok answer) = what answer
+TellsReply what (Err refusal) = refusal ≢ NoMemory → what (reply.Refused refusal)
 
 -- neither tells of a failed store
 abbrev pub SparesStore : Result Reply Refusal → Type 0

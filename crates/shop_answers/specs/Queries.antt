@@ -12,7 +12,7 @@ use Rattle.shop_records.specs.declared.messages.Reply.TheVariants as reply
 use Rattle.shop_records.specs.Columns.{state_word, state_of}
 use Rattle.shop_records.specs.Content.{Content, material_at, part_at, has_order, demand_at, totals_of, parts_of, rack_rows, material_of}
 use Rattle.shop_answers.specs.Planning.{IsPlanAnswer, IsBoundAnswer}
-use Rattle.shop_records.specs.Lists.{materials_of, parts_behind, open_demands, waiting_jobs, job_numbers, orders_behind}
+use Rattle.shop_records.specs.Lists.{materials_of, parts_after, open_demands, waiting_jobs, job_numbers, orders_after}
 use Rattle.shop_answers.specs.Listing.{is_known, job_with_part, told_parts, told_demands, told_jobs, told_job, IsOrdersAnswer, IsLinesAnswer, IsTerminalAnswer}
 
 abbrev pub told_totals : Option Material → List ℕ → Totals → Reply
@@ -43,12 +43,12 @@ IsAnswer content (query.Plan part demands step) answer =
 IsAnswer content (query.Bound material w h demands step) answer =
     IsBoundAnswer (material_at content material) material (record { w = w; h = h }) (demand_at content) demands step answer
 IsAnswer content query.Materials answer = answer ≡ reply.Materials (materials_of content)
-IsAnswer content (query.Parts material after) answer = answer ≡ told_parts (material_at content material) material (parts_behind content material after)
+IsAnswer content (query.Parts material after) answer = answer ≡ told_parts (material_at content material) material (parts_after content material after)
 IsAnswer content (query.Demands after material) answer = answer ≡ told_demands (is_known content material) (open_demands content after material)
 IsAnswer content (query.Jobs after) answer = answer ≡ told_jobs content (job_numbers (waiting_jobs content after))
 IsAnswer content (query.Job job) answer = answer ≡ told_job (job_with_part content job)
 IsAnswer content (query.Terminal terminal) answer = IsTerminalAnswer content terminal answer
-IsAnswer content (query.Orders after) answer = IsOrdersAnswer content (orders_behind content after) answer
+IsAnswer content (query.Orders after) answer = IsOrdersAnswer content (orders_after content after) answer
 IsAnswer content (query.Lines order) answer = IsLinesAnswer content order (has_order content order) answer
 
 -- the same, memory and the store aside; a query changes nothing

@@ -9,7 +9,7 @@ ghost use Rattle.shop_records.specs.declared.records.Demand.{Demand as DemandOf}
 ghost use Rattle.shop_records.specs.declared.refusals.Refusal.TheVariants.{NoMemory, StoreFault};
 ghost use Rattle.shop_records.specs.declared.messages.Reply.TheVariants.{Refused};
 ghost use Rattle.shop_answers.specs.Planning as planning;
-ghost use Rattle.shop_answers.specs.Planning.{AreAsked, AreFound, HasNumber, IsPlanAnswer, IsBoundAnswer, IsPlanned, IsBounded, Tells, are_bad_numbers, numbers_in, planned_size, numbers_refusal};
+ghost use Rattle.shop_answers.specs.Planning.{AreAsked, AreFound, HasNumber, IsPlanAnswer, IsBoundAnswer, IsPlanned, IsBounded, TellsReply, are_bad_numbers, numbers_in, planned_size, numbers_refusal};
 
 use cut_measure::{Code, Kind, MOST_NUMBERS, RowList, Size};
 use cut_plan::{MOST_WANTS, PlanFault, Want, least_units, plan_bar, plan_sheet};
@@ -172,7 +172,7 @@ fn bar_reply(
 ) -> Result<Reply, Refusal>
     requires kerf { kerf ≤ MOST_KERF }
     requires demands { AreDemands wants.now }
-    ensures told { Tells (IsPlanned Bar (planned_size Bar size) kerf step wants.now) result }
+    ensures told { TellsReply (IsPlanned Bar (planned_size Bar size) kerf step wants.now) result }
     ensures store { planning.SparesStore result }
 {
     let Some(bar) = Size::new(Kind::Bar, size.w(), 1) else {
@@ -204,7 +204,7 @@ fn sheet_reply(
 ) -> Result<Reply, Refusal>
     requires kerf { kerf ≤ MOST_KERF }
     requires demands { AreDemands wants.now }
-    ensures told { Tells (IsPlanned Sheet size kerf step wants.now) result }
+    ensures told { TellsReply (IsPlanned Sheet size kerf step wants.now) result }
     ensures store { planning.SparesStore result }
 {
     let proposal = match plan_sheet(alloc, size, kerf, step, wants) {
@@ -232,7 +232,7 @@ fn planned(
     wants: &[Want],
 ) -> Result<Reply, Refusal>
     requires { AreDemands wants.now }
-    ensures told { Tells (IsPlanned material.now.kind
+    ensures told { TellsReply (IsPlanned material.now.kind
         (planned_size material.now.kind size) material.now.limits.kerf step wants.now) result }
     ensures store { planning.SparesStore result }
 {
@@ -251,7 +251,7 @@ fn plan_told(
     step: u32,
 ) -> Result<Reply, Refusal>
     ensures told { (at : ℕ → Option DemandOf) (numbers : List ℕ) → AreAsked at numbers demands.now
-        → Tells (IsPlanAnswer part material at numbers step) result }
+        → TellsReply (IsPlanAnswer part material at numbers step) result }
     ensures store { planning.SparesStore result }
 {
     let Some(part) = part else {
@@ -278,7 +278,7 @@ fn bounded(
     wants: &[Want],
 ) -> Result<Reply, Refusal>
     requires { material.now.kind ≡ Bar → size.h ≡ 1 }
-    ensures told { Tells (IsBounded material.now.kind size material.now.limits.kerf step wants.now)
+    ensures told { TellsReply (IsBounded material.now.kind size material.now.limits.kerf step wants.now)
         result }
     ensures store { planning.SparesStore result }
 {
@@ -308,7 +308,7 @@ fn bound_told(
     step: u32,
 ) -> Result<Reply, Refusal>
     ensures told { (at : ℕ → Option DemandOf) (numbers : List ℕ) → AreAsked at numbers demands.now
-        → Tells (IsBoundAnswer material code (record { w = w; h = h }) at numbers step) result }
+        → TellsReply (IsBoundAnswer material code (record { w = w; h = h }) at numbers step) result }
     ensures store { planning.SparesStore result }
 {
     let Some(material) = material else {
@@ -327,7 +327,7 @@ fn bound_told(
 /// with their rows, or none where they are no list of 1 to 40 numbers, each once. What is left of a demand is what is
 /// neither reserved nor made; demands of which nothing is left are passed over. A bar is planned by its length; sides of a
 /// sheet are counted in steps. Refused in this order: `NoPart`, `NotStanding`, `BadWant` for the list, then demand by
-/// demand `NoDemand`, `WrongMaterial`, then the planner's faults; `NoMaterial` behind `NotStanding` where no history gives
+/// demand `NoDemand`, `WrongMaterial`, then the planner's faults; `NoMaterial` after `NotStanding` where no history gives
 /// the content.
 pub fn answer_plan(
     alloc: Global,

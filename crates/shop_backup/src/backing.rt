@@ -2,7 +2,7 @@
 
 ghost use Rattle.std.specs.Prelude.{◌≡◌, ◌∷◌, ◌++◌, [], ℕ, suc, List, Ok, true, false, IfOk, IfSome, OnErr, OnOk};
 ghost use Rattle.std.specs.Io.KnownBytes.{Appends, Consumes, IsAtEnd};
-ghost use Rattle.shop_backup.specs.Deeds.{Adds, Deed, IsMade, IsNotMade, IsPart, finished, kept, made, passes};
+ghost use Rattle.shop_backup.specs.Steps.{Adds, BackupStep, IsBackupMade, IsNoBackupMade, IsPart, finished, kept, made, passes};
 ghost use Rattle.shop_backup.specs.declared.shelves.Half.TheVariants.{Store, Log};
 
 use crate::faults::BackupFault;
@@ -11,41 +11,41 @@ use shop_advice::BackupCause;
 use shop_streams::{Sink, Source, write_all};
 
 // How many bytes are in memory at once.
-const ROOM: usize = 65536;
+const BUFFER_SIZE: usize = 65536;
 
 /// The greatest number of a backup.
 pub const MOST_BACKUPS: u32 = 1_000_000;
 
 // Why not all bytes were copied.
 #[derive(Clone, Copy, PartialEq, Eq)]
-enum Halt {
+enum CopyFault {
     Read,
     Write,
 }
 
 // Copies a piece of what is left of a source, and tells whether there was one.
-fn copy_piece<S: Source, W: Sink>(source: &mut S, sink: &mut W) -> Result<bool, Halt>
+fn copy_piece<S: Source, W: Sink>(source: &mut S, sink: &mut W) -> Result<bool, CopyFault>
     ensures more { result ≡ Ok true → (piece : List ℕ)
         × Consumes (S.left source.old) (S.left source.new) piece
         × Appends (W.held sink.old) (W.held sink.new) piece }
     ensures end { result ≡ Ok false → Consumes (S.left source.old) (S.left source.new) []
         × IsAtEnd (S.left source.new) × (W.held sink.new ≡ W.held sink.old) }
 {
-    let mut room = [0; ROOM];
-    let Ok(count) = source.read(&mut room) else {
-        return Err(Halt::Read);
+    let mut buffer = [0; BUFFER_SIZE];
+    let Ok(count) = source.read(&mut buffer) else {
+        return Err(CopyFault::Read);
     };
     if count == 0 {
         return Ok(false);
     }
-    match write_all(sink, &room[..count]) {
+    match write_all(sink, &buffer[..count]) {
         Ok(()) => Ok(true),
-        Err(_) => Err(Halt::Write),
+        Err(_) => Err(CopyFault::Write),
     }
 }
 
 // Copies all that is left of a source, in pieces.
-fn copy_all<S: Source, W: Sink>(source: &mut S, sink: &mut W) -> Result<(), Halt>
+fn copy_all<S: Source, W: Sink>(source: &mut S, sink: &mut W) -> Result<(), CopyFault>
     ensures { OnOk result (IfSome (S.left source.old)
         (λ bytes. Appends (W.held sink.old) (W.held sink.new) bytes)) }
 {
@@ -54,7 +54,7 @@ fn copy_all<S: Source, W: Sink>(source: &mut S, sink: &mut W) -> Result<(), Halt
             return Ok(());
         }
     }
-    Err(Halt::Read)
+    Err(CopyFault::Read)
 }
 
 // Copies a file of the store to the backup that was begun.
@@ -72,8 +72,8 @@ fn copy_half<S: Source + Drop, W: Sink + Drop, T: Shelf<S, W>>(
     let mut to = shelf.sink(number, half)?;
     match copy_all(&mut from, &mut to) {
         Ok(()) => shelf.keep(number, half, to),
-        Err(Halt::Read) => Err(BackupFault::Failed(BackupCause::Unread)),
-        Err(Halt::Write) => Err(BackupFault::Failed(shelf.cause(&to))),
+        Err(CopyFault::Read) => Err(BackupFault::Failed(BackupCause::Unread)),
+        Err(CopyFault::Write) => Err(BackupFault::Failed(shelf.cause(&to))),
     }
 }
 
@@ -86,7 +86,7 @@ fn fill<S: Source + Drop, W: Sink + Drop, T: Shelf<S, W>>(
     ensures ok { OnOk result (Adds (T.done shelf.old) (T.done shelf.new)
         (kept number Store (T.holds shelf.old Store) ∷ kept number Log (T.holds shelf.old Log)
         ∷ finished number ∷ [])) }
-    ensures err { OnErr result ((part : List Deed) × IsPart (T.holds shelf.old) number part
+    ensures err { OnErr result ((part : List BackupStep) × IsPart (T.holds shelf.old) number part
         × Adds (T.done shelf.old) (T.done shelf.new) part) }
 {
     copy_half(shelf, number, Half::Store)?;
@@ -118,9 +118,9 @@ fn begin_next<S: Source, W: Sink, T: Shelf<S, W>>(shelf: &mut T) -> Result<u32, 
 pub fn back_up<S: Source + Drop, W: Sink + Drop, T: Shelf<S, W>>(
     shelf: &mut T,
 ) -> Result<u32, BackupFault>
-    ensures ok { IfOk result (IsMade (T.holds shelf.old) (T.done shelf.old) (T.done shelf.new)) }
+    ensures ok { IfOk result (IsBackupMade (T.holds shelf.old) (T.done shelf.old) (T.done shelf.new)) }
     ensures err { OnErr result
-        (IsNotMade (T.holds shelf.old) (T.done shelf.old) (T.done shelf.new)) }
+        (IsNoBackupMade (T.holds shelf.old) (T.done shelf.old) (T.done shelf.new)) }
 {
     let number = begin_next(shelf)?;
     match fill(shelf, number) {

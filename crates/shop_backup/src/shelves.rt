@@ -1,7 +1,7 @@
 //! Where backups are made: what is done there, step by step.
 
 ghost use Rattle.std.specs.Prelude.{◌≡◌, ◌∷◌, [], ℕ, List, Option, IfOk, IsSome, Ok, OnErr, OnOk, Some, true, false};
-ghost use Rattle.shop_backup.specs.Deeds.{Adds, Deed, cleared, finished, kept, made, passed};
+ghost use Rattle.shop_backup.specs.Steps.{Adds, BackupStep, cleared, finished, kept, made, passed};
 
 use crate::faults::BackupFault;
 use shop_advice::BackupCause;
@@ -19,7 +19,7 @@ pub trait Shelf<S: Source, W: Sink> {
     ghost use Rattle.shop_backup.specs.declared.shelves.Half.{Half};
 
     /// What was done so far, where that is known.
-    ghost done: { Self → Option (List Deed) };
+    ghost done: { Self → Option (List BackupStep) };
 
     /// What a file of the store holds, where it is known what was done.
     ghost holds: { Self → Half → List ℕ };

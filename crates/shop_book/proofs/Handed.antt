@@ -4,7 +4,7 @@ use Rattle.std.specs.Prelude.{Ok, Option, cond, Some, None, filter, filter_map}
 use Rattle.std.specs.FinMap.{from_sorted, values}
 use Rattle.cut_measure.specs.Names.{Name, name_cmp}
 use Rattle.shop_records.specs.Content.{is_listed}
-use Rattle.shop_records.specs.Lists.{is_behind}
+use Rattle.shop_records.specs.Lists.{is_after}
 use Rattle.shop_rows.specs.Keys.{part_key}
 use Rattle.shop_rows.specs.Open.{names_of, parts_named, AreInOrder, AreListed}
 use Rattle.shop_rows.specs.Rows.{entries_of, rise}
@@ -96,24 +96,24 @@ module _ (code : List ℕ) (lists : List NameList) (parts : List Part) (order : 
   abbrev content_parts : List Part
   content_parts = values (from_sorted {R = name_cmp} (entries_of part_key name_cmp parts))
 
-  -- the first of the parts that stand behind a name
-  pub first_named : (after : Option Name) (most : ℕ) → parts_named (take most (filter (is_behind after) (names_of code lists))) parts ≡ take most (filter (λ part. is_behind after part.name) (filter (is_listed code) content_parts))
+  -- the first of the parts that stand after a name
+  pub first_named : (after : Option Name) (most : ℕ) → parts_named (take most (filter (is_after after) (names_of code lists))) parts ≡ take most (filter (λ part. is_after after part.name) (filter (is_listed code) content_parts))
   first_named after most =
       first_named_are code after lists parts order rises listed most
-      ∙ ap (λ (ps : List Part). take most (filter (λ part. is_behind after part.name) (filter (is_listed code) ps))) (sym (values-rows part_key name_cmp parts rises))
+      ∙ ap (λ (ps : List Part). take most (filter (λ part. is_after after part.name) (filter (is_listed code) ps))) (sym (values-rows part_key name_cmp parts rises))
 
   -- all of them
-  pub all_named : parts_named (filter (is_behind None) (names_of code lists)) parts ≡ filter (is_listed code) content_parts
+  pub all_named : parts_named (filter (is_after None) (names_of code lists)) parts ≡ filter (is_listed code) content_parts
   all_named =
       named_are code None lists parts order rises listed ∙ filter_all (filter (is_listed code) parts) ∙ ap (filter (is_listed code)) (sym (values-rows part_key name_cmp parts rises))
 
 -- ---- the first rows that pass
 
-pub take_front : {X : Type 0} (n : ℕ) (xs ys : List X) → n ≡ length xs → take n (xs ++ ys) ≡ xs
-take_front zero [] ys e = refl
-take_front zero (x ∷ xs) ys e = absurd (omega arith)
-take_front (suc n) [] ys e = absurd (omega arith)
-take_front (suc n) (x ∷ xs) ys e = ap (λ zs. x ∷ zs) (take_front n xs ys (omega arith))
+pub take_prefix : {X : Type 0} (n : ℕ) (xs ys : List X) → n ≡ length xs → take n (xs ++ ys) ≡ xs
+take_prefix zero [] ys e = refl
+take_prefix zero (x ∷ xs) ys e = absurd (omega arith)
+take_prefix (suc n) [] ys e = absurd (omega arith)
+take_prefix (suc n) (x ∷ xs) ys e = ap (λ zs. x ∷ zs) (take_prefix n xs ys (omega arith))
 
 -- what passes of what is found so far, and of the rest
 pub passed_rest : {A X : Type 0} (at : A → Option X) (test : X → Bool) (names : List A) (i : ℕ)

@@ -23,7 +23,7 @@ use Rattle.std.proofs.lemmas.Bool.Decides.{Decides-like}
 use Rattle.std.proofs.lemmas.Slice.Eq.{slice_eq-Decides}
 use Rattle.cut_measure.specs.Codes.{code_cmp}
 use Rattle.shop_records.specs.Content.{with_order}
-use Rattle.shop_records.specs.Lists.{is_code_behind}
+use Rattle.shop_records.specs.Lists.{is_code_after}
 use Rattle.shop_records.specs.declared.records.Demand.{Demand}
 use Rattle.shop_rows.specs.Keys.{codes_exact, demand_key}
 use Rattle.shop_rows.specs.Rows.{entries_of, rise, row_at, IsPut, ArePut}
@@ -205,7 +205,7 @@ pub all_placed : (orders : List KnownOrder) (rows old new : List Demand) → lis
     → list_all (is_placed orders) new ≡ true
 all_placed orders rows old new own placed are_put = all-put-each (is_placed orders) demand_key nat_cmp rows old new own placed are_put
 
--- ---- codes behind another
+-- ---- codes after another
 
 codes_filter : (p : List ℕ → Bool) (q : KnownOrder → Bool) → ((order : KnownOrder) → q order ≡ p order.code) → (orders : List KnownOrder) → codes_in (filter q orders) ≡ filter p (codes_in orders)
 codes_filter p q same [] = refl
@@ -220,10 +220,10 @@ and_true : (b : Bool) → (b && true) ≡ b
 and_true true = refl
 and_true false = refl
 
--- the orders from a start on have the codes behind another one, where the start says so
-pub codes_from : (after : Option (List ℕ)) (start : Bound KnownOrder) → ((order : KnownOrder) → is_from_start order_cmp start order ≡ is_code_behind after order.code) → (orders : List KnownOrder)
-    → codes_in (filter (range_contains order_cmp start Unbounded) orders) ≡ filter (is_code_behind after) (codes_in orders)
-codes_from after start same = codes_filter (is_code_behind after) (range_contains order_cmp start Unbounded) (λ order. and_true (is_from_start order_cmp start order) ∙ same order)
+-- the orders from a start on have the codes after another one, where the start says so
+pub codes_from : (after : Option (List ℕ)) (start : Bound KnownOrder) → ((order : KnownOrder) → is_from_start order_cmp start order ≡ is_code_after after order.code) → (orders : List KnownOrder)
+    → codes_in (filter (range_contains order_cmp start Unbounded) orders) ≡ filter (is_code_after after) (codes_in orders)
+codes_from after start same = codes_filter (is_code_after after) (range_contains order_cmp start Unbounded) (λ order. and_true (is_from_start order_cmp start order) ∙ same order)
 
 -- ---- equal sets have equal codes in order
 

@@ -6,8 +6,8 @@ use Rattle.shop_book.specs.Books.{Keeps}
 
 -- the book is left as it was, and counts its failures so
 abbrev pub Unchanged : {B : Type 0} → Ghosts B → (ℕ → ℕ → Type 0) → B → B → Type 0
-Unchanged book counts old new = Keeps book.is_honest book.holds book.may_leave book.failed counts old new
+Unchanged book counts old new = Keeps book.has_clean_disk book.holds book.may_leave book.failed counts old new
 
--- on a book that is still honest, this of each content that it held
+-- on a book whose disk is still clean, this of each content that it held
 abbrev pub OnContent : {B : Type 0} → Ghosts B → B → B → (Content → Type 0) → Type 0
-OnContent book old new what = book.is_honest new → (m : Content) → book.holds old m → what m
+OnContent book old new what = book.has_clean_disk new → (m : Content) → book.holds old m → what m

@@ -6,7 +6,7 @@ use Rattle.cut_measure.specs.Names.{name_cmp}
 use Rattle.shop_records.specs.declared.records.Part.{Part}
 use Rattle.shop_rows.specs.Keys.{part_key}
 use Rattle.shop_rows.specs.Open.{AreInOrder, AreListed, HaveRoom}
-use Rattle.shop_rows.specs.PartRows.{HasRoom}
+use Rattle.shop_rows.specs.PartRows.{HasCapacity}
 use Rattle.shop_rows.specs.Rows.{rise}
 use Rattle.shop_rows.specs.Sums.{sums_key, AreSumsOf, all_small}
 use Rattle.shop_rows.specs.declared.names.NameList.{NameList}
@@ -24,6 +24,6 @@ pub record Tallies (rows : List Part) (totals : List Sums) (lists : List NameLis
 
 -- there is room for so many more, which are of the materials of these parts
 pub record HaveRooms (count : ℕ) (rows : List Part) (parts : PartRows) (totals : Vec Sums Global) (lists : List NameList) : Type 0 where
-  pub room : HasRoom count parts
+  pub room : HasCapacity count parts
   pub sums : vec_len totals + count ≤ vec_capacity totals
   pub names : HaveRoom count rows lists

@@ -2,7 +2,7 @@
 
 ghost use Rattle.std.specs.Prelude.{◌≡◌, ◌+◌, ◌≤◌, ◌⊎◌, ℕ, IfOk, IfSome, OnOk, OnErr, map, option_map, take};
 ghost use Rattle.shop_records.specs.Content.{Content, material_at, part_at, job_at, has_order, demand_at, kept_at, import_at, totals_of, parts_of as listed_parts, changed};
-ghost use Rattle.shop_records.specs.Lists.{AreLines, IsLastNumber, materials_of, orders_behind, parts_behind, open_demands, waiting_jobs};
+ghost use Rattle.shop_records.specs.Lists.{AreLines, IsLastNumber, materials_of, orders_after, parts_after, open_demands, waiting_jobs};
 ghost use Rattle.shop_records.specs.Soundness.{Fits};
 ghost use Rattle.shop_records.specs.declared.records.Job.{Job as JobOf};
 ghost use Rattle.shop_book.specs.Failures.{CountsFailure};
@@ -111,104 +111,104 @@ pub trait Book {
     ghost holds: { Self → Content → Type 0 };
 
     /// So far the store gave back what was put into it.
-    ghost is_honest: { Self → Type 0 };
+    ghost has_clean_disk: { Self → Type 0 };
 
     /// How often the store failed, up to the greatest number that is counted.
     ghost failed: { Self → ℕ };
 
     /// The material of a code.
     fn material(&mut self, code: Code) -> Result<Option<Material>, BookFault>
-        ensures row { is_honest self.new → (m : Content) → holds self.old m
+        ensures row { has_clean_disk self.new → (m : Content) → holds self.old m
             → IfOk result (λ row. row ≡ material_at m code) }
-        ensures keeps { Keeps is_honest holds may_leave failed
+        ensures keeps { Keeps has_clean_disk holds may_leave failed
             (CountsFailure result) self.old self.new };
 
     /// The part of a name.
     fn part(&mut self, name: PartName) -> Result<Option<Part>, BookFault>
-        ensures row { is_honest self.new → (m : Content) → holds self.old m
+        ensures row { has_clean_disk self.new → (m : Content) → holds self.old m
             → IfOk result (λ row. row ≡ part_at m name) }
-        ensures keeps { Keeps is_honest holds may_leave failed
+        ensures keeps { Keeps has_clean_disk holds may_leave failed
             (CountsFailure result) self.old self.new };
 
     /// The job under the number of the reservation's act.
     fn job(&mut self, alloc: Global, number: u32) -> Result<Option<Job>, BookFault>
-        ensures row { is_honest self.new → (m : Content) → holds self.old m
+        ensures row { has_clean_disk self.new → (m : Content) → holds self.old m
             → IfOk result (λ row. row ≡ job_at m number) }
-        ensures keeps { Keeps is_honest holds may_leave failed
+        ensures keeps { Keeps has_clean_disk holds may_leave failed
             (CountsFailure result) self.old self.new };
 
     /// The job under the number of the reservation's act, with its part and that one's material.
     fn found_job(&mut self, alloc: Global, number: u32) -> Result<FoundJob, BookFault>
-        ensures rows { is_honest self.new → (m : Content) → holds self.old m
+        ensures rows { has_clean_disk self.new → (m : Content) → holds self.old m
             → IfOk result (IsFoundJob m number) }
-        ensures keeps { Keeps is_honest holds may_leave failed
+        ensures keeps { Keeps has_clean_disk holds may_leave failed
             (CountsFailure result) self.old self.new };
 
     /// The job under the number of the reservation's act, as lists tell it.
     fn job_head(&mut self, number: u32) -> Result<Option<JobHead>, BookFault>
-        ensures row { is_honest self.new → (m : Content) → holds self.old m
+        ensures row { has_clean_disk self.new → (m : Content) → holds self.old m
             → IfOk result (λ head. head ≡ option_map head_of (job_at m number)) }
-        ensures keeps { Keeps is_honest holds may_leave failed
+        ensures keeps { Keeps has_clean_disk holds may_leave failed
             (CountsFailure result) self.old self.new };
 
     /// Whether there is an order of this code.
     fn order(&mut self, code: Code) -> Result<bool, BookFault>
-        ensures row { is_honest self.new → (m : Content) → holds self.old m
+        ensures row { has_clean_disk self.new → (m : Content) → holds self.old m
             → IfOk result (λ there. there ≡ has_order m code) }
-        ensures keeps { Keeps is_honest holds may_leave failed
+        ensures keeps { Keeps has_clean_disk holds may_leave failed
             (CountsFailure result) self.old self.new };
 
     /// The demand of a number.
     fn demand(&mut self, number: u32) -> Result<Option<Demand>, BookFault>
-        ensures row { is_honest self.new → (m : Content) → holds self.old m
+        ensures row { has_clean_disk self.new → (m : Content) → holds self.old m
             → IfOk result (λ row. row ≡ demand_at m number) }
         ensures key { IfOk result (λ row. IfSome row (λ demand. demand.number ≡ number)) }
-        ensures keeps { Keeps is_honest holds may_leave failed
+        ensures keeps { Keeps has_clean_disk holds may_leave failed
             (CountsFailure result) self.old self.new };
 
     /// What is kept of the accepted message with this pair.
     fn kept(&mut self, alloc: Global, terminal: u32, number: u32) -> Result<Option<Kept>, BookFault>
-        ensures row { is_honest self.new → (m : Content) → holds self.old m
+        ensures row { has_clean_disk self.new → (m : Content) → holds self.old m
             → IfOk result (λ row. row
             ≡ kept_at m (record { terminal = terminal; number = number })) }
-        ensures keeps { Keeps is_honest holds may_leave failed
+        ensures keeps { Keeps has_clean_disk holds may_leave failed
             (CountsFailure result) self.old self.new };
 
     /// What is kept of the import that the order of this code came by.
     fn import(&mut self, alloc: Global, order: Code) -> Result<Option<ImportRow>, BookFault>
-        ensures row { is_honest self.new → (m : Content) → holds self.old m
+        ensures row { has_clean_disk self.new → (m : Content) → holds self.old m
             → IfOk result (λ row. row ≡ import_at m order) }
-        ensures keeps { Keeps is_honest holds may_leave failed
+        ensures keeps { Keeps has_clean_disk holds may_leave failed
             (CountsFailure result) self.old self.new };
 
     /// The number of the next act, 1 on a fresh book.
     fn next_act(&mut self) -> Result<u32, BookFault>
-        ensures number { is_honest self.new → (m : Content) → holds self.old m
+        ensures number { has_clean_disk self.new → (m : Content) → holds self.old m
             → IfOk result (λ act. act ≡ m.last_act + 1) }
         ensures least { IfOk result (λ act. 1 ≤ act) }
-        ensures keeps { Keeps is_honest holds may_leave failed
+        ensures keeps { Keeps has_clean_disk holds may_leave failed
             (CountsFailure result) self.old self.new };
 
     /// The number of the next demand, 1 on a fresh book.
     fn next_demand(&mut self) -> Result<u32, BookFault>
-        ensures number { is_honest self.new → (m : Content) → holds self.old m
+        ensures number { has_clean_disk self.new → (m : Content) → holds self.old m
             → IfOk result (λ demand. demand ≡ m.last_demand + 1) }
         ensures least { IfOk result (λ demand. 1 ≤ demand) }
-        ensures keeps { Keeps is_honest holds may_leave failed
+        ensures keeps { Keeps has_clean_disk holds may_leave failed
             (CountsFailure result) self.old self.new };
 
     /// The cells of a material, received and by what became of them.
     fn totals(&mut self, material: Code) -> Result<Totals, BookFault>
-        ensures sums { is_honest self.new → (m : Content) → holds self.old m
+        ensures sums { has_clean_disk self.new → (m : Content) → holds self.old m
             → IfOk result (λ totals. totals ≡ totals_of m material) }
-        ensures keeps { Keeps is_honest holds may_leave failed
+        ensures keeps { Keeps has_clean_disk holds may_leave failed
             (CountsFailure result) self.old self.new };
 
     /// The standing and the reserved parts of a material, by rising act and then node.
     fn parts_of(&mut self, alloc: Global, material: Code) -> Result<PartList, BookFault>
-        ensures rows { is_honest self.new → (m : Content) → holds self.old m
+        ensures rows { has_clean_disk self.new → (m : Content) → holds self.old m
             → IfOk result (λ rows. rows ≡ listed_parts m material) }
-        ensures keeps { Keeps is_honest holds may_leave failed
+        ensures keeps { Keeps has_clean_disk holds may_leave failed
             (CountsFailure result) self.old self.new };
 
     /// Hands out the list of `parts_of` in order, one part at a time, for as long as the visitor answers true. The answer is
@@ -220,19 +220,19 @@ pub trait Book {
         visitor: &mut V,
     ) -> Result<bool, BookFault>
         ensures visit { IsVisit V.looks
-            (λ what. is_honest self.new → (m : Content) → holds self.old m
+            (λ what. has_clean_disk self.new → (m : Content) → holds self.old m
             → what (listed_parts m material)) visitor.old result visitor.new }
-        ensures keeps { Keeps is_honest holds may_leave failed
+        ensures keeps { Keeps has_clean_disk holds may_leave failed
             (CountsFailure result) self.old self.new };
 
     /// All materials, by rising code.
     fn materials(&mut self, alloc: Global) -> Result<MaterialList, BookFault>
-        ensures rows { is_honest self.new → (m : Content) → holds self.old m
+        ensures rows { has_clean_disk self.new → (m : Content) → holds self.old m
             → IfOk result (λ rows. rows ≡ materials_of m) }
-        ensures keeps { Keeps is_honest holds may_leave failed
+        ensures keeps { Keeps has_clean_disk holds may_leave failed
             (CountsFailure result) self.old self.new };
 
-    /// The first standing and reserved parts of a material behind a name, or from the first on, by rising act and then
+    /// The first standing and reserved parts of a material after a name, or from the first on, by rising act and then
     /// node: at most so many.
     fn first_parts(
         &mut self,
@@ -241,9 +241,9 @@ pub trait Book {
         after: Option<PartName>,
         most: usize,
     ) -> Result<PartList, BookFault>
-        ensures rows { is_honest self.new → (m : Content) → holds self.old m
-            → IfOk result (λ rows. rows ≡ take most (parts_behind m material after)) }
-        ensures keeps { Keeps is_honest holds may_leave failed
+        ensures rows { has_clean_disk self.new → (m : Content) → holds self.old m
+            → IfOk result (λ rows. rows ≡ take most (parts_after m material after)) }
+        ensures keeps { Keeps has_clean_disk holds may_leave failed
             (CountsFailure result) self.old self.new };
 
     /// The first open demands with greater numbers, of one material or of all, by rising number: at most so many.
@@ -254,28 +254,28 @@ pub trait Book {
         material: Option<Code>,
         most: usize,
     ) -> Result<DemandList, BookFault>
-        ensures rows { is_honest self.new → (m : Content) → holds self.old m
+        ensures rows { has_clean_disk self.new → (m : Content) → holds self.old m
             → IfOk result (λ rows. rows ≡ take most (open_demands m after material)) }
-        ensures keeps { Keeps is_honest holds may_leave failed
+        ensures keeps { Keeps has_clean_disk holds may_leave failed
             (CountsFailure result) self.old self.new };
 
     /// The lines of an order, by rising line: all of them, whatever became of them.
     fn lines_of(&mut self, alloc: Global, order: Code) -> Result<DemandList, BookFault>
-        ensures rows { is_honest self.new → (m : Content) → holds self.old m
+        ensures rows { has_clean_disk self.new → (m : Content) → holds self.old m
             → IfOk result (λ rows. AreLines m order rows) }
-        ensures keeps { Keeps is_honest holds may_leave failed
+        ensures keeps { Keeps has_clean_disk holds may_leave failed
             (CountsFailure result) self.old self.new };
 
-    /// The codes of the first orders behind a code, or from the first on, rising: at most so many.
+    /// The codes of the first orders after a code, or from the first on, rising: at most so many.
     fn first_orders(
         &mut self,
         alloc: Global,
         after: Option<Code>,
         most: usize,
     ) -> Result<CodeList, BookFault>
-        ensures rows { is_honest self.new → (m : Content) → holds self.old m
-            → IfOk result (λ codes. codes ≡ take most (orders_behind m after)) }
-        ensures keeps { Keeps is_honest holds may_leave failed
+        ensures rows { has_clean_disk self.new → (m : Content) → holds self.old m
+            → IfOk result (λ codes. codes ≡ take most (orders_after m after)) }
+        ensures keeps { Keeps has_clean_disk holds may_leave failed
             (CountsFailure result) self.old self.new };
 
     /// The numbers of the first waiting jobs with greater numbers, rising: at most so many.
@@ -285,33 +285,33 @@ pub trait Book {
         after: u32,
         most: usize,
     ) -> Result<NumberList, BookFault>
-        ensures rows { is_honest self.new → (m : Content) → holds self.old m
+        ensures rows { has_clean_disk self.new → (m : Content) → holds self.old m
             → IfOk result (λ numbers. numbers
             ≡ take most (map (λ (job : JobOf). job.act) (waiting_jobs m after))) }
-        ensures keeps { Keeps is_honest holds may_leave failed
+        ensures keeps { Keeps has_clean_disk holds may_leave failed
             (CountsFailure result) self.old self.new };
 
     /// The greatest number under which a message of a terminal is kept, 0 where none is.
     fn last_number(&mut self, terminal: u32) -> Result<u32, BookFault>
-        ensures number { is_honest self.new → (m : Content) → holds self.old m
+        ensures number { has_clean_disk self.new → (m : Content) → holds self.old m
             → IfOk result (λ last. IsLastNumber m terminal last) }
-        ensures keeps { Keeps is_honest holds may_leave failed
+        ensures keeps { Keeps has_clean_disk holds may_leave failed
             (CountsFailure result) self.old self.new };
 
     /// Makes a change that fits the content as a whole, or not at all. After an `Err` the content is what it was, whatever
     /// the change.
     fn commit(&mut self, change: Change) -> Result<(), BookFault>
-        ensures ok { is_honest self.new → (m : Content) → holds self.old m → Fits m change
+        ensures ok { has_clean_disk self.new → (m : Content) → holds self.old m → Fits m change
             → OnOk result (holds self.new (changed m change)) }
-        ensures err { is_honest self.new → (m : Content) → holds self.old m
+        ensures err { has_clean_disk self.new → (m : Content) → holds self.old m
             → OnErr result (holds self.new m) }
-        ensures crash { is_honest self.new → (m : Content) → holds self.old m → Fits m change
+        ensures crash { has_clean_disk self.new → (m : Content) → holds self.old m → Fits m change
             → (left : Left) → may_leave self.new left → may_leave self.old left
             ⊎ stands left (changed m change) }
-        ensures lasts { is_honest self.new → (m : Content) → holds self.old m → Fits m change
+        ensures lasts { has_clean_disk self.new → (m : Content) → holds self.old m → Fits m change
             → OnOk result ((left : Left) → may_leave self.new left
             → stands left (changed m change)) }
-        ensures honest { is_honest self.new → is_honest self.old }
+        ensures clean_disk { has_clean_disk self.new → has_clean_disk self.old }
         ensures failures { CountsFailure result (failed self.old) (failed self.new) };
 
     /// How often the store failed, up to `MOST_FAILURES`.

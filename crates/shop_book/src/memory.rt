@@ -2,7 +2,7 @@
 
 ghost use Rattle.std.specs.Prelude.{◌≡◌, ◌+◌, ◌<◌, ◌^◌, ⊤, IfOk, IfErr, IfSome, IsOk, OnOk, OnErr, ◌-◌, map, option_map, take};
 ghost use Rattle.shop_records.specs.Content.{Content, material_at, part_at, job_at, has_order, demand_at, kept_at, import_at, totals_of, parts_of as listed_parts, changed};
-ghost use Rattle.shop_records.specs.Lists.{AreLines, IsLastNumber, materials_of, open_demands, orders_behind, parts_behind, waiting_jobs};
+ghost use Rattle.shop_records.specs.Lists.{AreLines, IsLastNumber, materials_of, open_demands, orders_after, parts_after, waiting_jobs};
 ghost use Rattle.shop_records.specs.declared.records.Job.{Job as JobOf};
 ghost use Rattle.shop_records.specs.Soundness.{AreDifferent, IsInRange};
 ghost use Rattle.shop_records.specs.Visits.{IsVisit};
@@ -25,7 +25,7 @@ use shop_records::{
     Pair, Part, PartList, PartVisitor, RowList, Totals,
 };
 use shop_rows::{
-    OpenRows, PartRows, Sums, copy_rows, find, first_rows, names_behind, numbers_behind, put_some,
+    OpenRows, PartRows, Sums, copy_rows, find, first_rows, names_after, numbers_after, put_some,
     reserve_names, totals_in,
 };
 use std::alloc::{AllocError, Global};
@@ -261,7 +261,7 @@ impl Book for MemBook {
 
     ghost holds = { λ book m. book.content ≡ m };
 
-    ghost is_honest = { λ book. ⊤ };
+    ghost has_clean_disk = { λ book. ⊤ };
 
     ghost failed = { λ book. book.failures };
 
@@ -386,7 +386,7 @@ impl Book for MemBook {
         ensures memory { IfErr result (λ fault. fault ≡ NoMemory) }
         ensures same { self.new ≡ self.old }
     {
-        let names = names_behind(&self.lists.parts, material, None);
+        let names = names_after(&self.lists.parts, material, None);
         let rows = listed(alloc, &self.parts, names)?;
         Ok(rows)
     }
@@ -401,7 +401,7 @@ impl Book for MemBook {
         ensures sure { IsOk result }
         ensures same { self.new ≡ self.old }
     {
-        let names = names_behind(&self.lists.parts, material, None);
+        let names = names_after(&self.lists.parts, material, None);
         let on = visit(&self.parts, names, visitor);
         Ok(on)
     }
@@ -423,11 +423,11 @@ impl Book for MemBook {
         most: usize,
     ) -> Result<PartList, BookFault>
         ensures rows { IfOk result
-            (λ rows. rows ≡ take most (parts_behind self.old.content material after)) }
+            (λ rows. rows ≡ take most (parts_after self.old.content material after)) }
         ensures memory { IfErr result (λ fault. fault ≡ NoMemory) }
         ensures same { self.new ≡ self.old }
     {
-        let names = names_behind(&self.lists.parts, material, after);
+        let names = names_after(&self.lists.parts, material, after);
         let rows = listed(alloc, &self.parts, first_rows(names, most))?;
         Ok(rows)
     }
@@ -444,7 +444,7 @@ impl Book for MemBook {
         ensures memory { IfErr result (λ fault. fault ≡ NoMemory) }
         ensures same { self.new ≡ self.old }
     {
-        let keys = numbers_behind(&self.lists.demands, after);
+        let keys = numbers_after(&self.lists.demands, after);
         let rows = first_asked(alloc, &self.demands, keys, &material, most)?;
         Ok(rows)
     }
@@ -469,7 +469,7 @@ impl Book for MemBook {
         most: usize,
     ) -> Result<CodeList, BookFault>
         ensures rows { IfOk result
-            (λ codes. codes ≡ take most (orders_behind self.old.content after)) }
+            (λ codes. codes ≡ take most (orders_after self.old.content after)) }
         ensures memory { IfErr result (λ fault. fault ≡ NoMemory) }
         ensures same { self.new ≡ self.old }
     {
@@ -489,7 +489,7 @@ impl Book for MemBook {
         ensures memory { IfErr result (λ fault. fault ≡ NoMemory) }
         ensures same { self.new ≡ self.old }
     {
-        let keys = numbers_behind(&self.lists.jobs, after);
+        let keys = numbers_after(&self.lists.jobs, after);
         let rows = copy_rows(alloc, first_rows(keys, most))?;
         Ok(rows)
     }

@@ -8,7 +8,7 @@ ghost use Rattle.shop_records.specs.Visits.{HasSeen, IsVisit};
 ghost use Rattle.shop_records.specs.declared.records.Part.{Part as PartOf};
 ghost use Rattle.shop_rows.specs.Keys.{part_key};
 ghost use Rattle.shop_rows.specs.Open.{parts_named};
-ghost use Rattle.shop_rows.specs.PartRows.{parts_in, AreKnown, HasRoom};
+ghost use Rattle.shop_rows.specs.PartRows.{parts_in, AreKnown, HasCapacity};
 ghost use Rattle.shop_rows.specs.Rows.{rise, map_of, IsPut};
 ghost use Rattle.shop_book.specs.Tallies.{HaveRooms, Tallies};
 ghost use Rattle.shop_book.specs.declared.books.BookFault.{BookFault as Fault};
@@ -30,7 +30,7 @@ pub(crate) fn reserve_parts(
     ensures known { AreKnown parts.old → AreKnown parts.new }
     ensures totals { totals.new.items ≡ totals.old.items }
     ensures room { OnOk result
-        (HasRoom count parts.new × (vec_len totals.new + count ≤ vec_capacity totals.new)) }
+        (HasCapacity count parts.new × (vec_len totals.new + count ≤ vec_capacity totals.new)) }
 {
     parts.reserve(count)?;
     totals.reserve(count)
@@ -205,7 +205,7 @@ fn put_moved(
     }
 }
 
-/// Puts a part that moves, if there is one, and parts behind it, as one after another.
+/// Puts a part that moves, if there is one, and parts after it, as one after another.
 pub(crate) fn put_stock(
     parts: &mut PartRows,
     totals: &mut Vec<Sums>,

@@ -6,7 +6,7 @@ ghost use Rattle.std.specs.Option.{option_to_list};
 ghost use Rattle.std.specs.Ordering.{nat_cmp};
 ghost use Rattle.cut_measure.specs.Codes.{code_cmp};
 ghost use Rattle.shop_records.specs.Elements.{IsIn};
-ghost use Rattle.shop_records.specs.Lists.{is_code_behind};
+ghost use Rattle.shop_records.specs.Lists.{is_code_after};
 ghost use Rattle.shop_records.specs.declared.records.Demand.{Demand as DemandOf};
 ghost use Rattle.shop_book.specs.Memory.{order_key, put_kept};
 ghost use Rattle.std.specs.BTreeMap.Range.{is_from_start};
@@ -198,10 +198,10 @@ pub(crate) fn order_lines(
     Ok(found)
 }
 
-// Where the orders behind a code begin, or all.
-fn start_behind(after: Option<Code>) -> Bound<KnownOrder>
+// Where the orders after a code begin, or all.
+fn start_after(after: Option<Code>) -> Bound<KnownOrder>
     ensures { (order : Known) → is_from_start order_cmp result order
-        ≡ is_code_behind after order.code }
+        ≡ is_code_after after order.code }
 {
     match after {
         Some(code) => Bound::Excluded(KnownOrder::of(code, &[])),
@@ -209,7 +209,7 @@ fn start_behind(after: Option<Code>) -> Bound<KnownOrder>
     }
 }
 
-/// The codes of the first orders behind one, or from the first on.
+/// The codes of the first orders after one, or from the first on.
 pub(crate) fn first_codes(
     alloc: Global,
     orders: &BTreeSet<KnownOrder>,
@@ -217,10 +217,10 @@ pub(crate) fn first_codes(
     most: usize,
 ) -> Result<CodeList, AllocError>
     ensures { IfOk result (λ codes. codes
-        ≡ take most (filter (is_code_behind after) (codes_in orders.now.keys))) }
+        ≡ take most (filter (is_code_after after) (codes_in orders.now.keys))) }
 {
     let mut codes = CodeList::new(alloc);
-    for order in orders.range((start_behind(after), Bound::Unbounded)) {
+    for order in orders.range((start_after(after), Bound::Unbounded)) {
         if most <= codes.as_slice().len() {
             return Ok(codes);
         }

@@ -16,7 +16,7 @@ use Rattle.shop_records.specs.declared.records.Part.{Part}
 use Rattle.shop_records.specs.declared.refusals.Refusal.TheVariants.{NoDemand, NotStanding, WrongMaterial}
 use Rattle.shop_records.specs.Columns.{is_free, is_there}
 use Rattle.shop_records.specs.Content.{Content, demand_at, part_at, is_listed, parts_of}
-use Rattle.shop_records.specs.Lists.{open_demands, parts_behind, is_behind, is_asked_for, is_open}
+use Rattle.shop_records.specs.Lists.{open_demands, parts_after, is_after, is_asked_for, is_open}
 use Rattle.shop_records.specs.Messages.{Texts}
 use Rattle.shop_records.specs.Same.{same_code}
 use Rattle.shop_records.specs.Soundness.{IsSound}
@@ -166,10 +166,10 @@ module _ (m : Content) (code : List ℕ) (kind : Kind) where
     abbrev IsHere : Part → Type 0
     IsHere p = (part_at m p.name ≡ Some p) × (same_code p.material code ≡ true)
 
-    listed_used : All IsHere (parts_behind m code None)
+    listed_used : All IsHere (parts_after m code None)
     listed_used =
         let Kept = λ (p : Part). part_at m p.name ≡ Some p in
-        All-filter (λ (p : Part). is_behind None p.name) IsHere (parts_of m code)
+        All-filter (λ (p : Part). is_after None p.name) IsHere (parts_of m code)
         (all_both Kept (λ (p : Part). is_listed code p ≡ true) IsHere
         (λ p found is. (found, (and_parts (same_code p.material code) (is_there p.state) is).0))
         (parts_of m code)
@@ -178,12 +178,12 @@ module _ (m : Content) (code : List ℕ) (kind : Kind) where
 
     first_used : AllByRecursion (IsUsed m code) (parts_for m code kind None)
     first_used =
-        let rows = take MOST_NUMBERS (parts_behind m code None) in
+        let rows = take MOST_NUMBERS (parts_after m code None) in
         let Q = λ (p : Part). IsUsed m code (Some p) in
         let all = all_both IsHere (λ (p : Part). can_be_planned kind p ≡ true) Q
         (λ p here is. record { part = p; is = refl; found = here.0; free = (and_parts (is_free p.state) (not (is_long kind p)) is).0; of = here.1 })
         (filter (can_be_planned kind) rows)
-        (All-filter (can_be_planned kind) IsHere rows (All-take IsHere MOST_NUMBERS (parts_behind m code None) listed_used))
+        (All-filter (can_be_planned kind) IsHere rows (All-take IsHere MOST_NUMBERS (parts_after m code None) listed_used))
         (filter_passes (can_be_planned kind) rows) in
         recursion_from_All (IsUsed m code) (parts_for m code kind None)
         (All-map (IsUsed m code) Some (take MOST_PARTS (filter (can_be_planned kind) rows)) (All-take Q MOST_PARTS (filter (can_be_planned kind) rows) all))

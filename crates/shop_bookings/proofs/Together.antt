@@ -80,16 +80,16 @@ module _ (row : Part) (material : Material) (plan : Pattern) (at : ℕ → Optio
   abbrev last : Option Refusal
   last = first_of ((nat_lt MOST_NUMBERS act, NumbersSpent) ∷ [])
 
-  abbrev behind : Option Refusal
-  behind = option_or (leaves_refusal at row.material (plan_leaves plan)) (first_of ((is_too_many at plan, TooMany) ∷ (nat_lt MOST_NUMBERS act, NumbersSpent) ∷ []))
+  abbrev following : Option Refusal
+  following = option_or (leaves_refusal at row.material (plan_leaves plan)) (first_of ((is_too_many at plan, TooMany) ∷ (nat_lt MOST_NUMBERS act, NumbersSpent) ∷ []))
 
-  by_leaves : behind ≡ last
+  by_leaves : following ≡ last
   by_leaves =
       ap (λ o. option_or o (first_of ((is_too_many at plan, TooMany) ∷ (nat_lt MOST_NUMBERS act, NumbersSpent) ∷ []))) taken
       ∙ ap (λ b. first_of ((b, TooMany) ∷ (nat_lt MOST_NUMBERS act, NumbersSpent) ∷ [])) few
 
   by_plan : plan_refusal row (Some plan) at act ≡ last
-  by_plan = ap (λ b. option_or (first_of ((b, BadTree) ∷ [])) behind) (positive (length (plan_leaves plan)) some) ∙ by_leaves
+  by_plan = ap (λ b. option_or (first_of ((b, BadTree) ∷ [])) following) (positive (length (plan_leaves plan)) some) ∙ by_leaves
 
   by_part : reserve_refusal (Some row) (Some material) (Some plan) at act ≡ last
   by_part = ap (λ b. option_or (first_of ((not b, NotStanding) ∷ (false, StoreFault) ∷ [])) (plan_refusal row (Some plan) at act)) free ∙ by_plan

@@ -6,7 +6,7 @@ use Rattle.std.proofs.Math.Seq.{drop-cons}
 use Rattle.std.proofs.lemmas.Bool.{eq-eqb, ne_eqb}
 use Rattle.shop_words.specs.declared.words.ImportAs.{ImportAs}
 use Rattle.shop_commands.specs.Orders.{first_line_has, IsOrdersLine, IsOrdersStopped}
-use Rattle.shop_commands.specs.Sinks.{SinkChange, AddsFront, SinkFailed}
+use Rattle.shop_commands.specs.Sinks.{SinkChange, AddsPrefix, SinkFailed}
 use Rattle.shop_commands.specs.declared.faults.Fault.{Fault}
 use Rattle.shop_commands.specs.declared.faults.Fault.TheVariants.{Write}
 
@@ -56,7 +56,7 @@ module _ (wanted : ℕ) (text : List ℕ) (i d : ℕ) (within : i < length text)
 
 -- ---- a line that isn't written to its end
 
-pub unwritten : {X : Type 0} (told : Option ImportAs) (bytes line : List ℕ) (out : SinkChange) → IsOrdersLine told bytes line → AddsFront out line
+pub unwritten : {X : Type 0} (told : Option ImportAs) (bytes line : List ℕ) (out : SinkChange) → IsOrdersLine told bytes line → AddsPrefix out line
     → (result : Result X Fault) → IfErr result (λ fault. (fault ≡ Write) × SinkFailed out) → IfErr result (λ fault. IsOrdersStopped told fault out)
-unwritten told bytes line out made front (Ok x) is = tt
-unwritten told bytes line out made front (Err fault) is = inr (inr (bytes, line, made, is.0, front, is.1))
+unwritten told bytes line out made prefix (Ok x) is = tt
+unwritten told bytes line out made prefix (Err fault) is = inr (inr (bytes, line, made, is.0, prefix, is.1))

@@ -1,4 +1,4 @@
--- Behind a fault's line stands one line.
+-- After a fault's line stands one line.
 use Rattle.std.proofs.Common.{◌≡◌, ◌++◌, ◌∙◌, ℕ, Bool, true, false, List, inl, inr, refl, sym, subst, ap₂}
 use Rattle.std.specs.Prelude.{◌==◌, ◌||◌, codes, string_bytes}
 use Rattle.std.proofs.lemmas.List.Folds.{list_any-append}
@@ -23,7 +23,7 @@ use Rattle.shop_commands.specs.declared.advice.Advice.{Advice}
 use Rattle.shop_commands.specs.declared.advice.Cause.{Cause}
 use Rattle.shop_commands.specs.declared.advice.Cause.TheVariants as cause
 use Rattle.shop_commands.specs.declared.faults.Fault.{Fault}
-use Rattle.shop_commands.specs.Advice.{IsPlain, IsAdviceOf, IsBehind, IsSecondLine, advice_line, is_order, no_memory_line, problem_text, refused_text, port_text, cause_text}
+use Rattle.shop_commands.specs.Advice.{IsPlain, IsAdviceOf, FollowsFault, IsSecondLine, advice_line, is_order, no_memory_line, problem_text, refused_text, port_text, cause_text}
 
 -- ---- no text of a cause has a line feed
 
@@ -50,7 +50,7 @@ of_store store.Failed = refl
 
 of_version : (c : VersionCause) → IsPlain (version_text c)
 of_version version.Newer = refl
-of_version version.Strange = refl
+of_version version.Foreign = refl
 of_version version.Contradicting = refl
 
 of_backup : (c : BackupCause) → IsPlain (backup_text c)
@@ -153,7 +153,7 @@ of_advice a fault of =
 no_memory : IsSecondLine no_memory_line
 no_memory = (codes "memory ran out; end other programs, or give this one more", refl, refl)
 
-pub second : (fault : Fault) (line : List ℕ) → is_order fault ≡ false → IsBehind fault line → IsSecondLine line
+pub second : (fault : Fault) (line : List ℕ) → is_order fault ≡ false → FollowsFault fault line → IsSecondLine line
 second fault line other (inl order) = absurd (cc (sym order.0 ∙ other))
 second fault line other (inr (_, inl is)) = subst IsSecondLine (sym is) no_memory
 second fault line other (inr (_, inr (a, of, is))) = subst IsSecondLine (sym is) (of_advice a fault of)

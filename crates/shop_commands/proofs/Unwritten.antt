@@ -5,14 +5,14 @@ use Rattle.std.proofs.lemmas.Result.{on_ok_weaker}
 use Rattle.shop_commands.specs.declared.faults.Fault.{Fault}
 use Rattle.shop_commands.specs.declared.faults.Fault.TheVariants.{Write}
 use Rattle.shop_commands.specs.Performs.{IsPlanDone, IsPlanStopped}
-use Rattle.shop_commands.specs.Sinks.{SinkChange, Adds, AddsFront, SinkFailed}
+use Rattle.shop_commands.specs.Sinks.{SinkChange, Adds, AddsPrefix, SinkFailed}
 
 pub unwritten : {X : Type 0} (made : List ℕ → List ℕ → Type 0) (stops : List ℕ → Fault → Type 0) (bytes plan : List ℕ) (out : SinkChange) → made bytes plan
-    → AddsFront out plan → (result : Result X Fault) → IfErr result (λ fault. (fault ≡ Write) × SinkFailed out)
+    → AddsPrefix out plan → (result : Result X Fault) → IfErr result (λ fault. (fault ≡ Write) × SinkFailed out)
     → IfErr result (λ fault. IsPlanStopped made stops fault out)
-unwritten made stops bytes plan out is front (Ok x) failed = tt
-unwritten made stops bytes plan out is front (Err fault) failed =
-    subst (λ f. IsPlanStopped made stops f out) (sym failed.0) (bytes, plan, is, front, failed.1)
+unwritten made stops bytes plan out is prefix (Ok x) failed = tt
+unwritten made stops bytes plan out is prefix (Err fault) failed =
+    subst (λ f. IsPlanStopped made stops f out) (sym failed.0) (bytes, plan, is, prefix, failed.1)
 
 pub written : {X : Type 0} (made : List ℕ → List ℕ → Type 0) (bytes plan : List ℕ) (out : SinkChange) → made bytes plan → (result : Result X Fault)
     → OnOk result (Adds out plan) → OnOk result (IsPlanDone made out)

@@ -58,24 +58,24 @@ cause_text (cause.Backup c) = backup_text c
 cause_text cause.Input = codes "it can't be read to its end"
 cause_text cause.Output = codes "it can't be written; is its disk full, or its reader gone?"
 
--- ---- which cause stands behind which line
+-- ---- which cause stands after which line
 
--- This cause may be told behind the line of this fault: `fault store` speaks of stores, and of the cause that the fault has.
-abbrev pub Fits : Fault → Cause → Type 0
-Fits File (cause.File c) = ⊤
-Fits (Text fault) (cause.Problem c) = c ≡ fault.cause
-Fits ShopText (cause.Shop c) = ⊤
-Fits (ShopEntry entry) (cause.Shop c) = ⊤
-Fits (Entry e) (cause.Refused r) = r ≡ e.refusal
-Fits (Refused r) (cause.Refused s) = s ≡ r
-Fits (Refused r) cause.Made = ⊤
-Fits Read cause.Input = ⊤
-Fits Write cause.Output = ⊤
-Fits (Store c) (cause.Store d) = d ≡ c
-Fits (Version c) (cause.Version d) = d ≡ c
-Fits (Port c) (cause.Port d) = d ≡ c
-Fits (Backup c) (cause.Backup d) = d ≡ c
-Fits fault c = ⊥
+-- This cause may be told after the line of this fault: `fault store` speaks of stores, and of the cause that the fault has.
+abbrev pub FitsFault : Fault → Cause → Type 0
+FitsFault File (cause.File c) = ⊤
+FitsFault (Text fault) (cause.Problem c) = c ≡ fault.cause
+FitsFault ShopText (cause.Shop c) = ⊤
+FitsFault (ShopEntry entry) (cause.Shop c) = ⊤
+FitsFault (Entry e) (cause.Refused r) = r ≡ e.refusal
+FitsFault (Refused r) (cause.Refused s) = s ≡ r
+FitsFault (Refused r) cause.Made = ⊤
+FitsFault Read cause.Input = ⊤
+FitsFault Write cause.Output = ⊤
+FitsFault (Store c) (cause.Store d) = d ≡ c
+FitsFault (Version c) (cause.Version d) = d ≡ c
+FitsFault (Port c) (cause.Port d) = d ≡ c
+FitsFault (Backup c) (cause.Backup d) = d ≡ c
+FitsFault fault c = ⊥
 
 abbrev pub has_line_feed : List ℕ → Bool
 has_line_feed words = list_any (λ b. b == 10) words
@@ -92,7 +92,7 @@ pub record IsOf (c : Cause) (a : Advice) : Type 0 where
 
 -- an advice for a fault, which is one line
 pub record IsAdviceOf (fault : Fault) (a : Advice) : Type 0 where
-  pub fits : Fits fault a.cause
+  pub fits : FitsFault fault a.cause
   pub about : IsPlain (string_bytes a.about)
   pub word : IsPlain (string_bytes a.word)
 
@@ -115,10 +115,10 @@ abbrev pub is_order : Fault → Bool
 is_order (Order fault) = true
 is_order fault = false
 
--- What stands behind a fault's line: nothing behind an order file's; else one line, which tells a cause that fits, or that memory
+-- What stands after a fault's line: nothing after an order file's; else one line, which tells a cause that fits, or that memory
 -- ran out.
-abbrev pub IsBehind : Fault → List ℕ → Type 0
-IsBehind fault line =
+abbrev pub FollowsFault : Fault → List ℕ → Type 0
+FollowsFault fault line =
     ((is_order fault ≡ true) × (line ≡ []))
     ⊎ ((is_order fault ≡ false) × ((line ≡ no_memory_line) ⊎ ((a : Advice) × IsAdviceOf fault a × (line ≡ advice_line a))))
 
@@ -126,6 +126,6 @@ IsBehind fault line =
 abbrev pub IsSecondLine : List ℕ → Type 0
 IsSecondLine line = (words : List ℕ) × IsPlain words × (line ≡ codes "  " ++ words ++ codes "\n")
 
--- a fault's line, and what stands behind it
-abbrev pub IsToldOf : Fault → List ℕ → Type 0
-IsToldOf fault told = (line : List ℕ) × IsBehind fault line × (told ≡ fault_line fault ++ line)
+-- a fault's line, and what stands after it
+abbrev pub IsFaultTold : Fault → List ℕ → Type 0
+IsFaultTold fault told = (line : List ℕ) × FollowsFault fault line × (told ≡ fault_line fault ++ line)

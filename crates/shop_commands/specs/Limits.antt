@@ -15,7 +15,7 @@ use Rattle.shop_request.specs.Heads.{most_head, most_fields, most_body}
 use Rattle.shop_wire.specs.declared.limits.TheConstants.{MOST_HELD}
 use Rattle.shop_wire.specs.Lines.{longest_line}
 use Rattle.shop_wire.specs.Streams.{most_reads}
-use Rattle.shop_serve.specs.declared.lines.TheConstants as connections
+use Rattle.shop_serve.specs.declared.clients.TheConstants as connections
 use Rattle.shop_serve.specs.declared.serving.TheConstants.{MOST_SERVED}
 use Rattle.shop_words.specs.declared.words.TheConstants.{LONGEST_STEP, MOST_CALLS, LAST_PORT, MOST_CONNECTIONS, MOST_PAIR, VERSION}
 use Rattle.shop_commands.specs.declared.files.TheConstants.{LONGEST_PAGE}
@@ -66,7 +66,7 @@ pub record AreRequests : Type 0 where
 -- connections that are open, the seconds that each has for its request, and then for its answer, and how many are served where no limit is
 -- said
 pub record AreConnections : Type 0 where
-  pub most : connections.MOST_LINES ≡ 256
+  pub most : connections.MOST_CLIENTS ≡ 256
   pub patience : connections.PATIENCE ≡ 10
   pub grace : connections.GRACE ≡ 200
   pub served : MOST_SERVED ≡ 18446744073709551615

@@ -16,7 +16,7 @@ use Rattle.shop_commands.specs.declared.faults.Fault.{Fault}
 use Rattle.shop_commands.specs.declared.faults.Fault.TheVariants.{File, Order, NoMemory, Write}
 use Rattle.shop_commands.specs.declared.faults.OrderCause.{OrderCause}
 use Rattle.shop_commands.specs.declared.faults.OrderCause.TheVariants as cause
-use Rattle.shop_commands.specs.Sinks.{SinkChange, Adds, AddsFront, AddsNone, SinkFailed}
+use Rattle.shop_commands.specs.Sinks.{SinkChange, Adds, AddsPrefix, AddsNone, SinkFailed}
 
 -- ---- what is wrong at the first fault
 
@@ -56,8 +56,8 @@ fault_in text orders.NoMemory = NoMemory
 -- ---- what is told
 
 -- a text spells so many lines
-abbrev pub HasLines : List ℕ → ℕ → Type 0
-HasLines text count = (lines : List OrderLine) × IsOrders text lines × (count ≡ length lines)
+abbrev pub SpellsLines : List ℕ → ℕ → Type 0
+SpellsLines text count = (lines : List OrderLine) × IsOrders text lines × (count ≡ length lines)
 
 -- a text has this first fault, or memory ran out
 abbrev pub IsUnordered : List ℕ → Fault → Type 0
@@ -77,15 +77,15 @@ orders_line (Some told) text count = import_line told text
 
 -- the line that is told of an order file's bytes
 abbrev pub IsOrdersLine : Option ImportAs → List ℕ → List ℕ → Type 0
-IsOrdersLine told text line = (count : ℕ) × HasLines text count × (line ≡ orders_line told text count)
+IsOrdersLine told text line = (count : ℕ) × SpellsLines text count × (line ≡ orders_line told text count)
 
 -- the line of good bytes can't be made: memory ran out, or they are no text
 abbrev pub IsUnsaid : List ℕ → Fault → Type 0
 IsUnsaid text fault = (fault ≡ NoMemory) ⊎ ((fault ≡ File) × (IsUtf8 text → ⊥))
 
 -- the bytes have this first fault; or they have lines, and memory ran out or they are no text
-abbrev pub IsOrdersFault : List ℕ → Fault → Type 0
-IsOrdersFault text fault = IsUnordered text fault ⊎ (((count : ℕ) × HasLines text count) × IsUnsaid text fault)
+abbrev pub IsOrderFileFault : List ℕ → Fault → Type 0
+IsOrderFileFault text fault = IsUnordered text fault ⊎ (((count : ℕ) × SpellsLines text count) × IsUnsaid text fault)
 
 -- the line of a file's bytes was written
 abbrev pub IsOrdersDone : Option ImportAs → (out : SinkChange) → Type 0
@@ -95,5 +95,5 @@ IsOrdersDone told out = (bytes line : List ℕ) × IsOrdersLine told bytes line 
 abbrev pub IsOrdersStopped : Option ImportAs → Fault → (out : SinkChange) → Type 0
 IsOrdersStopped told fault out =
     (((fault ≡ NoMemory) ⊎ (fault ≡ File)) × AddsNone out)
-    ⊎ ((((bytes : List ℕ) × IsOrdersFault bytes fault) × AddsNone out)
-    ⊎ ((bytes line : List ℕ) × IsOrdersLine told bytes line × (fault ≡ Write) × AddsFront out line × SinkFailed out))
+    ⊎ ((((bytes : List ℕ) × IsOrderFileFault bytes fault) × AddsNone out)
+    ⊎ ((bytes line : List ℕ) × IsOrdersLine told bytes line × (fault ≡ Write) × AddsPrefix out line × SinkFailed out))

@@ -16,12 +16,12 @@ use Rattle.shop_commands.specs.declared.faults.Fault.TheVariants.{File, Read, Wr
 use Rattle.shop_words.specs.declared.words.Request.{Request}
 use Rattle.shop_words.specs.declared.words.Request.TheVariants.{Replay, Plan, PlanOrder, Orders, Serve, Ticket, Yield}
 use Rattle.shop_words.specs.declared.words.TheConstants.{VERSION}
-use Rattle.shop_words.specs.CommandLine.{Asks, AsksNothing, shop_app}
-use Rattle.shop_commands.specs.Advice.{IsToldOf, fault_line, no_memory_line}
+use Rattle.shop_words.specs.CommandLine.{AsksFor, AsksNothing, shop_app}
+use Rattle.shop_commands.specs.Advice.{IsFaultTold, fault_line, no_memory_line}
 use Rattle.shop_commands.specs.Orders.{IsOrdersDone, IsOrdersStopped}
 use Rattle.shop_commands.specs.Plans.{IsFilePlan, IsFileFault, IsFileWhole, IsFileWholeFault}
 use Rattle.shop_commands.specs.Stored.{IsTextDone, IsTextStopped, IsServeDone, IsServeStopped}
-use Rattle.shop_commands.specs.Sinks.{SinkChange, Adds, AddsFront, AddsNone, AddsSome, IsWritten, SinkFailed}
+use Rattle.shop_commands.specs.Sinks.{SinkChange, Adds, AddsPrefix, AddsNone, AddsSome, IsWritten, SinkFailed}
 use Rattle.shop_commands.specs.Sources.{SourceChange, SourceFailed}
 
 -- each line of the input has its reply
@@ -44,18 +44,18 @@ IsReplayStopped fault input out =
 -- were written
 abbrev pub IsPlanStopped : (List ℕ → List ℕ → Type 0) → (List ℕ → Fault → Type 0) → Fault → (out : SinkChange) → Type 0
 IsPlanStopped made stops File out = AddsNone out
-IsPlanStopped made stops Write out = (bytes plan : List ℕ) × made bytes plan × AddsFront out plan × SinkFailed out
+IsPlanStopped made stops Write out = (bytes plan : List ℕ) × made bytes plan × AddsPrefix out plan × SinkFailed out
 IsPlanStopped made stops fault out = ((bytes : List ℕ) × stops bytes fault) × AddsNone out
 
 -- the line of the version
 abbrev pub version_line : List ℕ
 version_line = codes "cutshop " ++ VERSION.now ++ codes "\n"
 
--- The fault's line and what stands behind it were written, or where memory for them ran out, those of that; of either a first part
--- alone where the sink failed.
+-- The fault's line and what stands after it were written, or where memory for them ran out, those of that; of either a first
+-- part alone where the sink failed.
 abbrev pub TellsFault : Fault → (err : SinkChange) → Type 0
 TellsFault fault err =
-    ((told : List ℕ) × IsToldOf fault told × IsWritten err told) ⊎ IsWritten err (fault_line NoMemory ++ no_memory_line)
+    ((told : List ℕ) × IsFaultTold fault told × IsWritten err told) ⊎ IsWritten err (fault_line NoMemory ++ no_memory_line)
 
 -- what was done has status 0 and nothing is told, and what stopped has status 1 and is told
 abbrev pub Concludes : Result (Unit {0}) Fault → (err : SinkChange) → ℕ → Type 0
@@ -87,8 +87,8 @@ module _ {B : Type 0} (book : Ghosts B) (gives : List ℕ → Result B OpenFault
   IsStopped (Yield store material) fault input out = IsTextStopped book (gives store.now) (λ m. yield_of m material) fault out
 
   -- what was asked was done and nothing was told, with status 0; or a fault was told, with status 1
-  abbrev pub IsAnswered : (input : SourceChange) → (out err : SinkChange) → Request → ℕ → Type 0
-  IsAnswered input out err request status =
+  abbrev pub IsConcluded : (input : SourceChange) → (out err : SinkChange) → Request → ℕ → Type 0
+  IsConcluded input out err request status =
       ((status ≡ 0) × IsDone request input out × AddsNone err)
       ⊎ ((status ≡ 1) × ((fault : Fault) × IsStopped request fault input out × TellsFault fault err))
 
@@ -102,7 +102,7 @@ module _ (out err : SinkChange) where
   abbrev pub IsVersionTold : ℕ → Type 0
   IsVersionTold status =
       ((status ≡ 0) × Adds out version_line × AddsNone err)
-      ⊎ ((status ≡ 1) × AddsFront out version_line × SinkFailed out × TellsFault Write err)
+      ⊎ ((status ≡ 1) × AddsPrefix out version_line × SinkFailed out × TellsFault Write err)
 
   -- What `clap` said of this kind was told: help, the version, or a mistake, with status 2 and nothing as output; or that memory
   -- ran out.
@@ -121,6 +121,6 @@ faults_of words = clap.fault_of shop_app words
 -- ask for nothing.
 abbrev pub IsPerformed : {B : Type 0} → Ghosts B → (List ℕ → Result B OpenFault → Type 0) → List Text → (input : SourceChange) → (out err : SinkChange) → ℕ → Type 0
 IsPerformed book gives words input out err status =
-    ((request : Request) × (faults_of words ≡ []) × Asks (subcommand_of shop_app words) request × IsAnswered book gives input out err request status)
+    ((request : Request) × (faults_of words ≡ []) × AsksFor (subcommand_of shop_app words) request × IsConcluded book gives input out err request status)
     ⊎ ((kind : ErrorKind) × ((kind ≡ OutOfMemory) ⊎ IsAmong kind (faults_of words)) × IsTold out err kind status)
     ⊎ ((faults_of words ≡ []) × AsksNothing (subcommand_of shop_app words) × (status ≡ 2) × AddsNone out × AddsSome err)

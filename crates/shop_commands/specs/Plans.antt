@@ -7,7 +7,7 @@ use Rattle.cut_tree.specs.Spelling.{text_of}
 use Rattle.cut_plan.specs.declared.faults.PlanFault.{PlanFault}
 use Rattle.cut_plan.specs.declared.faults.PlanFault.TheVariants.{TableTooLarge}
 use Rattle.cut_plan.specs.declared.sheets.SheetProposal.{SheetProposal}
-use Rattle.cut_plan.specs.Faults.{fault_of}
+use Rattle.cut_plan.specs.Faults.{plan_fault}
 use Rattle.cut_plan.specs.Sheets.{IsSheetProposal, HasManyKept}
 use Rattle.shop_files.specs.declared.problems.Piece.{Piece}
 use Rattle.shop_files.specs.Problems.{IsProblem, IsProblemFault}
@@ -25,7 +25,7 @@ plan_lines p =
 
 -- The planner finds no fault in a problem, and these are the lines of a plan that it may propose.
 pub record IsPlanText (size : Extent) (pieces : List Piece) (kerf step : ℕ) (lines : List ℕ) : Type 0 where
-  pub faultless : fault_of Sheet size kerf step (wants_of pieces) ≡ None
+  pub faultless : plan_fault Sheet size kerf step (wants_of pieces) ≡ None
   pub proposal : SheetProposal
   pub proposed : IsSheetProposal size kerf step (wants_of pieces) proposal
   pub says : lines ≡ plan_lines proposal
@@ -33,7 +33,7 @@ pub record IsPlanText (size : Extent) (pieces : List Piece) (kerf step : ℕ) (l
 -- the planner has this fault for a problem
 abbrev pub HasPlanFault : Extent → List Piece → (kerf step : ℕ) → PlanFault → Type 0
 HasPlanFault size pieces kerf step fault =
-    (fault_of Sheet size kerf step (wants_of pieces) ≡ Some fault) ⊎ ((fault ≡ TableTooLarge) × HasManyKept size kerf step (wants_of pieces))
+    (plan_fault Sheet size kerf step (wants_of pieces) ≡ Some fault) ⊎ ((fault ≡ TableTooLarge) × HasManyKept size kerf step (wants_of pieces))
 
 -- memory ran out, or the planner has a fault, and it is told by its number and name
 abbrev pub IsPlanless : Extent → List Piece → (kerf step : ℕ) → Fault → Type 0

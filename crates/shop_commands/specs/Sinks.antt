@@ -29,8 +29,8 @@ abbrev pub AddsSome : SinkChange → Type 0
 AddsSome out = (bytes : List ℕ) × Adds out bytes
 
 -- the first bytes of a text were written, or all
-abbrev pub AddsFront : SinkChange → List ℕ → Type 0
-AddsFront out text = (done rest : List ℕ) × (done ++ rest ≡ text) × Adds out done
+abbrev pub AddsPrefix : SinkChange → List ℕ → Type 0
+AddsPrefix out text = (done rest : List ℕ) × (done ++ rest ≡ text) × Adds out done
 
 -- a write failed
 abbrev pub SinkFailed : SinkChange → Type 0
@@ -38,4 +38,4 @@ SinkFailed out = HasFailed out.failed_old out.failed_new
 
 -- a text was written; or the sink failed, and the first bytes of the text were
 abbrev pub IsWritten : SinkChange → List ℕ → Type 0
-IsWritten out text = Adds out text ⊎ (AddsFront out text × SinkFailed out)
+IsWritten out text = Adds out text ⊎ (AddsPrefix out text × SinkFailed out)

@@ -2,7 +2,7 @@
 -- a store was opened is said of some bytes and of what the store's opener may give: some book, or some fault.
 use Rattle.std.specs.Prelude.{◌≡◌, ◌<◌, ◌≤◌, ◌⊎◌, ⊤, None, Some, length, ℕ, List, ◌++◌, codes, is_some, Option, Result, Ok, Err, All}
 use Rattle.std.specs.Fmt.{decimal}
-use Rattle.shop_files.specs.Shops.{IsShop, IsShopFault}
+use Rattle.shop_files.specs.Shops.{IsShopFile, IsShopFault}
 use Rattle.shop_files.specs.declared.shops.MaterialEntry.{MaterialEntry}
 use Rattle.shop_files.specs.declared.shops.ShopFault.{ShopFault}
 use Rattle.shop_records.specs.Content.{Content}
@@ -29,15 +29,15 @@ use Rattle.shop_commands.specs.declared.faults.Fault.TheVariants.{File, Entry, R
 use Rattle.shop_commands.specs.declared.stored.StoreText.{StoreText}
 use Rattle.shop_commands.specs.declared.stored.StoreText.TheVariants.{Ticket, Yield}
 use Rattle.shop_commands.specs.Faults.{shop_fault, store_fault}
-use Rattle.shop_commands.specs.Sinks.{SinkChange, Adds, AddsFront, AddsNone, SinkFailed}
+use Rattle.shop_commands.specs.Sinks.{SinkChange, Adds, AddsPrefix, AddsNone, SinkFailed}
 
 -- a shop file's bytes spell these entries
 abbrev pub IsShopRead : List MaterialEntry → Type 0
-IsShopRead entries = (bytes : List ℕ) × IsShop bytes entries
+IsShopRead entries = (bytes : List ℕ) × IsShopFile bytes entries
 
 -- the shop file can't be read, or its bytes have this fault
-abbrev pub IsUnread : Fault → Type 0
-IsUnread fault = ((fault ≡ NoMemory) ⊎ (fault ≡ File)) ⊎ ((bytes : List ℕ) × (f : ShopFault) × IsShopFault bytes f × (fault ≡ shop_fault f))
+abbrev pub IsShopUnread : Fault → Type 0
+IsShopUnread fault = ((fault ≡ NoMemory) ⊎ (fault ≡ File)) ⊎ ((bytes : List ℕ) × (f : ShopFault) × IsShopFault bytes f × (fault ≡ shop_fault f))
 
 -- a page is asked for, and these are the bytes of one that isn't too long; or none is
 abbrev pub IsPageRead : (path page : Option (List ℕ)) → Type 0
@@ -67,7 +67,7 @@ listening_line port = codes "listening on 127.0.0.1:" ++ decimal port ++ codes "
 -- the port can't be listened to, or memory for its line is wanting, or the line can't be written
 abbrev pub IsUnannounced : ℕ → Fault → (out : SinkChange) → Type 0
 IsUnannounced port fault out =
-    ((((cause : PortCause) × (fault ≡ Port cause)) ⊎ (fault ≡ NoMemory)) × AddsNone out) ⊎ ((fault ≡ Write) × AddsFront out (listening_line port) × SinkFailed out)
+    ((((cause : PortCause) × (fault ≡ Port cause)) ⊎ (fault ≡ NoMemory)) × AddsNone out) ⊎ ((fault ≡ Write) × AddsPrefix out (listening_line port) × SinkFailed out)
 
 -- the text that is asked for of a content, or why there is none
 abbrev pub text_of : StoreText → Content → Result (List ℕ) Refusal
@@ -75,16 +75,16 @@ text_of (Ticket job) m = ticket_of m job
 text_of (Yield material) m = yield_of m material
 
 module _ {B : Type 0} (book : Ghosts B) where
-  -- What was to be said of a book was printed or not: so it is for each content that it held, if it is still honest; a refusal
-  -- writes nothing, and after `Write` a write had failed. The book is as it was, and a failure is counted only with 99.
+  -- What was to be said of a book was printed or not: so it is for each content that it held, if its disk is still clean; a
+  -- refusal writes nothing, and after `Write` a write had failed. The book is as it was, and a failure is counted only with 99.
   pub record Prints (before after : B) (said : Content → Result (List ℕ) Refusal) (out : SinkChange) (result : Result (Unit {0}) PrintFault) : Type 0 where
     pub printed : OnContent book before after (λ m. IsPrinted (book.failed before) (book.failed after) out.old out.new result (said m))
     pub refused : (refusal : Refusal) → result ≡ Err (print.Refused refusal) → AddsNone out
     pub write : result ≡ Err print.Write → SinkFailed out
     pub keeps : Unchanged book (CountsPrint result) before after
 
-  -- A book that the opener gave was printed from: on each content that it held, an honest one, this came of what there is to
-  -- say. It holds what it held, a crash leaves nothing that it couldn't before, and a failure is counted only with 99.
+  -- A book that the opener gave was printed from: on each content that it held, with a clean disk, this came of what there is
+  -- to say. It holds what it held, a crash leaves nothing that it couldn't before, and a failure is counted only with 99.
   pub record IsPrintedFrom (gives : Result B OpenFault → Type 0) (said : Content → Result (List ℕ) Refusal) (out : SinkChange) (result : Result (Unit {0}) PrintFault) : Type 0 where
     pub before : B
     pub after : B
@@ -147,7 +147,7 @@ module _ {B : Type 0} (book : Ghosts B) where
   -- store's, or what stopped the serving of its book
   abbrev pub IsServeStopped : (Result B OpenFault → Type 0) → (port : ℕ) → (limit : Option ℕ) → (page folder : Option (List ℕ)) → Fault → (out : SinkChange) → Type 0
   IsServeStopped gives port limit page folder fault out =
-      (IsUnread fault × AddsNone out)
+      (IsShopUnread fault × AddsNone out)
       ⊎ ((entries : List MaterialEntry) × IsShopRead entries
       × (((IsPageUnread fault ⊎ IsUnbacked fault) × AddsNone out)
       ⊎ ((site : Site) × IsSite port page folder site

@@ -21,7 +21,7 @@ use shop_words::Request;
 use std::alloc::{AllocError, Global};
 use std::fs::Files;
 
-/// What stands behind the line of a fault where memory ran out.
+/// What stands after the line of a fault where memory ran out.
 const NO_MEMORY: &str = "  memory ran out; end other programs, or give this one more\n";
 
 /// What is told where no memory is there to tell a fault.
@@ -55,7 +55,7 @@ pub enum Cause {
     Output,
 }
 
-/// What a second line says: of what, why, and a word behind that, or none.
+/// What a second line says: of what, why, and a word after that, or none.
 #[derive(Drop)]
 pub struct Advice {
     pub about: String,
@@ -435,7 +435,7 @@ pub(crate) fn fault_lines(
     advice: Option<Advice>,
 ) -> Result<String, AllocError>
     requires { IfSome advice (IsAdviceOf fault) }
-    ensures { IfOk result (λ text. spec.IsToldOf fault (string_bytes text)) }
+    ensures { IfOk result (λ text. spec.IsFaultTold fault (string_bytes text)) }
 {
     if is_order(fault) {
         return line_alone(alloc, fault);
@@ -446,8 +446,8 @@ pub(crate) fn fault_lines(
     }
 }
 
-/// Behind the line of a fault, an order file's aside, stands exactly one line, which begins with two spaces.
+/// After the line of a fault, an order file's aside, stands exactly one line, which begins with two spaces.
 pub fn second_lines_are_lines()
     ensures { (fault : FaultOf) (line : List ℕ) → spec.is_order fault ≡ false
-        → spec.IsBehind fault line → spec.IsSecondLine line }
+        → spec.FollowsFault fault line → spec.IsSecondLine line }
 {}

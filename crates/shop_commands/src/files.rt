@@ -3,7 +3,7 @@
 ghost use Rattle.std.specs.Prelude.{◌≡◌, ◌⊎◌, ◌≤◌, IfOk, IfErr, OnOk, length};
 ghost use Rattle.shop_commands.specs.declared.faults.Fault.TheVariants as fault;
 ghost use Rattle.shop_commands.specs.declared.files.TheConstants.{LONGEST_PAGE};
-ghost use Rattle.shop_commands.specs.Sinks.{Adds, AddsFront, IsWritten, SinkFailed, change_of};
+ghost use Rattle.shop_commands.specs.Sinks.{Adds, AddsPrefix, IsWritten, SinkFailed, change_of};
 
 use crate::faults::Fault;
 use shop_files::LONGEST_TEXT;
@@ -58,7 +58,7 @@ pub fn read_page<R: Files>(rt: &R, alloc: Global, path: &str) -> Result<Vec<u8>,
 /// Writes a text, if the sink takes it to the last byte.
 pub fn write_text<W: Sink>(sink: &mut W, text: &str) -> Result<(), Fault>
     ensures ok { OnOk result (Adds (change_of W.Sink sink.old sink.new) text.now) }
-    ensures front { AddsFront (change_of W.Sink sink.old sink.new) text.now }
+    ensures prefix { AddsPrefix (change_of W.Sink sink.old sink.new) text.now }
     ensures written { IsWritten (change_of W.Sink sink.old sink.new) text.now }
     ensures err { IfErr result
         (λ f. (f ≡ fault.Write) × SinkFailed (change_of W.Sink sink.old sink.new)) }

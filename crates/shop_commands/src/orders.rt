@@ -96,7 +96,7 @@ fn fault_in(text: &[u8], fault: OrdersFault) -> Fault
 
 // How many lines a text has.
 fn line_count(alloc: Global, text: &[u8]) -> Result<usize, Fault>
-    ensures ok { IfOk result (λ count. spec.HasLines text.now count) }
+    ensures ok { IfOk result (λ count. spec.SpellsLines text.now count) }
     ensures err { IfErr result (spec.IsUnordered text.now) }
 {
     match read_orders(alloc, text) {
@@ -155,7 +155,7 @@ fn line_of(
 /// first fault, or want of memory; `File` for a text that is no UTF-8 and has no fault.
 pub fn orders_line(alloc: Global, told: Option<ImportAs>, text: &[u8]) -> Result<String, Fault>
     ensures ok { IfOk result (λ line. spec.IsOrdersLine told text.now (string_bytes line)) }
-    ensures err { IfErr result (spec.IsOrdersFault text.now) }
+    ensures err { IfErr result (spec.IsOrderFileFault text.now) }
 {
     let count = line_count(alloc, text)?;
     line_of(alloc, told, text, count)

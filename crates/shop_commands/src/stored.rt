@@ -5,8 +5,8 @@ ghost use Rattle.shop_files.specs.declared.limits.TheConstants.{MOST_ENTRIES};
 ghost use Rattle.shop_commands.specs.declared.faults.Fault.TheVariants as fault;
 ghost use Rattle.shop_commands.specs.Faults.{shop_fault};
 ghost use Rattle.shop_commands.specs.Stored as spec;
-ghost use Rattle.shop_commands.specs.Stored.{Prints, text_of, IsTextDone, IsTextStopped, IsShopRead, IsUnread, IsUnopened, IsShopped, AddFailed, IsUnannounced, IsUnaccepted, IsBookServed, IsBookUnserved, IsPageRead, IsPageUnread, IsServeDone, IsServeStopped, IsSite, IsUnbacked};
-ghost use Rattle.shop_files.specs.Shops.{IsShop, IsShopFault};
+ghost use Rattle.shop_commands.specs.Stored.{Prints, text_of, IsTextDone, IsTextStopped, IsShopRead, IsShopUnread, IsUnopened, IsShopped, AddFailed, IsUnannounced, IsUnaccepted, IsBookServed, IsBookUnserved, IsPageRead, IsPageUnread, IsServeDone, IsServeStopped, IsSite, IsUnbacked};
+ghost use Rattle.shop_files.specs.Shops.{IsShopFile, IsShopFault};
 ghost use Rattle.shop_files.specs.declared.shops.ShopFault.{ShopFault as ShopFaultOf};
 ghost use Rattle.shop_serve.specs.Serving.{HasServed, most_served};
 ghost use Rattle.shop_serve.specs.declared.ports.PortCause.{PortCause as PortCauseOf};
@@ -93,7 +93,7 @@ pub fn print_stored<B: Book + Drop, O: Opens<B>, W: Sink>(
 
 // The entries that bytes spell.
 fn entries_in(alloc: Global, bytes: &[u8]) -> Result<RowList<MaterialEntry>, Fault>
-    ensures ok { IfOk result (λ entries. IsShop bytes.now entries
+    ensures ok { IfOk result (λ entries. IsShopFile bytes.now entries
         × (length entries ≤ MOST_ENTRIES)) }
     ensures err { IfErr result
         (λ f. (g : ShopFaultOf) × IsShopFault bytes.now g × (f ≡ shop_fault g)) }
@@ -111,7 +111,7 @@ fn shop_entries<R: Files>(
     path: &str,
 ) -> Result<RowList<MaterialEntry>, Fault>
     ensures ok { IfOk result (λ entries. IsShopRead entries × (length entries ≤ MOST_ENTRIES)) }
-    ensures err { IfErr result IsUnread }
+    ensures err { IfErr result IsShopUnread }
 {
     let bytes = read_file(rt, alloc, path)?;
     let entries = entries_in(alloc, &bytes)?;

@@ -44,7 +44,7 @@ impl Book for StorelessBook {
 
     ghost holds = { λ book m. book.book.content ≡ m };
 
-    ghost is_honest = { λ book. ⊤ };
+    ghost has_clean_disk = { λ book. ⊤ };
 
     ghost failed = { λ book. 0 };
 

@@ -35,12 +35,12 @@ module _ {B : Type 0} (texts : Texts) (book : Ghosts B) where
   handled_more before mid after messages answers message answer so_far handled =
       one_by_one (HandlesMessage texts book) before mid after messages (message ∷ []) answers (answer ∷ []) so_far (after, handled, refl)
 
-  -- a book that is honest in the end was so all along
-  pub handled_honest : (before after : B) (messages : List Message) (answers : List Reply) → AreHandled texts book before messages answers after → book.is_honest after → book.is_honest before
-  handled_honest before after [] [] same honest = subst book.is_honest same honest
-  handled_honest before after [] (r ∷ rs) handled honest = absurd handled
-  handled_honest before after (m ∷ ms) [] handled honest = absurd handled
-  handled_honest before after (m ∷ ms) (r ∷ rs) handled honest = handled.1.honest (handled_honest handled.0 after ms rs handled.2 honest)
+  -- a book whose disk is clean in the end had a clean one all along
+  pub handled_clean_disk : (before after : B) (messages : List Message) (answers : List Reply) → AreHandled texts book before messages answers after → book.has_clean_disk after → book.has_clean_disk before
+  handled_clean_disk before after [] [] same clean_disk = subst book.has_clean_disk same clean_disk
+  handled_clean_disk before after [] (r ∷ rs) handled clean_disk = absurd handled
+  handled_clean_disk before after (m ∷ ms) [] handled clean_disk = absurd handled
+  handled_clean_disk before after (m ∷ ms) (r ∷ rs) handled clean_disk = handled.1.clean_disk (handled_clean_disk handled.0 after ms rs handled.2 clean_disk)
 
   pub handled_up : (before after : B) (messages : List Message) (answers : List Reply) → AreHandled texts book before messages answers after → CountsUp (book.failed before) (book.failed after)
   handled_up before after [] [] same = up_same (book.failed before) (book.failed after) (ap book.failed same)
@@ -56,9 +56,9 @@ module _ {B : Type 0} (texts : Texts) (book : Ghosts B) where
   are_messages before after (m ∷ ms) (r ∷ rs) handled = (handled.1.is_message, are_messages handled.0 after ms rs handled.2)
 
   -- a content that the first book held was run through the machine
-  pub handled_run : (before after : B) (messages : List Message) (answers : List Reply) → AreHandled texts book before messages answers after → book.is_honest after
+  pub handled_run : (before after : B) (messages : List Message) (answers : List Reply) → AreHandled texts book before messages answers after → book.has_clean_disk after
       → (m : Content) → book.holds before m → IsSound texts m → HasRun texts book before after m messages answers
-  handled_run before after [] [] same honest m held sound =
+  handled_run before after [] [] same clean_disk m held sound =
       record {
         next = m;
         run = refl;
@@ -68,13 +68,13 @@ module _ {B : Type 0} (texts : Texts) (book : Ghosts B) where
         blame = λ none. absurd none;
         account = account_after texts m m [] [] tt refl;
       }
-  handled_run before after [] (r ∷ rs) handled honest m held sound = absurd handled
-  handled_run before after (message ∷ ms) [] handled honest m held sound = absurd handled
-  handled_run before after (message ∷ ms) (answer ∷ rs) handled honest m held sound =
+  handled_run before after [] (r ∷ rs) handled clean_disk m held sound = absurd handled
+  handled_run before after (message ∷ ms) [] handled clean_disk m held sound = absurd handled
+  handled_run before after (message ∷ ms) (answer ∷ rs) handled clean_disk m held sound =
       let mid = handled.0 in
-      let at_mid = handled_honest mid after ms rs handled.2 honest in
+      let at_mid = handled_clean_disk mid after ms rs handled.2 clean_disk in
       let one = handled.1.step at_mid m held sound in
-      let more = handled_run mid after ms rs handled.2 honest one.next one.held one.sound in
+      let more = handled_run mid after ms rs handled.2 clean_disk one.next one.held one.sound in
       let run : Run texts m (message ∷ ms) (answer ∷ rs) more.next = (one.next, one.step, more.run) in
       record {
         next = more.next;

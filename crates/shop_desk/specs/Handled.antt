@@ -43,7 +43,7 @@ module _ (texts : Texts) {Left : Type 0} (stands : Left → Content → Type 0) 
   Leads before old [] (answer ∷ answers) new after = ⊥
   Leads before old (message ∷ messages) [] new after = ⊥
 
--- each sound content that an honest book held led to one a step of the machine later, which it holds
+-- each sound content that a book with a clean disk held led to one a step of the machine later, which it holds
 abbrev pub Handles : {B : Type 0} → Texts → Ghosts B → B → B → Message → Reply → Type 0
 Handles texts book before after message answer =
     OnContent book before after (λ m. IsSound texts m
@@ -54,7 +54,7 @@ abbrev pub BlamesStore : {B : Type 0} → Texts → Ghosts B → B → B → Rep
 BlamesStore texts book before after answer =
     OnContent book before after (λ m. IsSound texts m → answer ≡ Refused StoreFault → StoreFailed (book.failed before) (book.failed after))
 
--- a refusal leaves each content that an honest book held, whether a history gives it or not
+-- a refusal leaves each content that a book with a clean disk held, whether a history gives it or not
 abbrev pub RefusalKeeps : {B : Type 0} → Ghosts B → B → B → Reply → Type 0
 RefusalKeeps book before after answer = OnContent book before after (λ m. IfSome (refusal_in answer) (λ refusal. book.holds after m))
 
@@ -63,7 +63,7 @@ pub record HandlesMessage {B : Type 0} (texts : Texts) (book : Ghosts B) (before
   pub step : Handles texts book before after message answer
   pub refused : RefusalKeeps book before after answer
   pub is_message : IsMessage message
-  pub honest : book.is_honest after → book.is_honest before
+  pub clean_disk : book.has_clean_disk after → book.has_clean_disk before
   pub failures : CountsOrContradicts answer (book.failed before) (book.failed after)
   pub store_fault : BlamesStore texts book before after answer
 

@@ -62,15 +62,15 @@ fn handle_new<B: Book>(
     text: Text,
 ) -> (Reply, Option<Text>)
     ensures step { text ≡ json_texts.of_message message.now → IsMessage message.now
-        → B.is_honest book.new → (m : Content) → B.holds book.old m
+        → B.has_clean_disk book.new → (m : Content) → B.holds book.old m
         → IsSound json_texts m → kept_at m (pair_of message.now) ≡ None
         → IsHandled json_texts B.stands (B.may_leave book.old) (B.may_leave book.new)
         (B.holds book.new) m message.now result.0 }
     ensures refused { RefusalKeeps B.Book book.old book.new result.0 }
     ensures told { IfSome result.1 (λ text. text ≡ json_texts.of_reply result.0) }
-    ensures honest { B.is_honest book.new → B.is_honest book.old }
+    ensures clean_disk { B.has_clean_disk book.new → B.has_clean_disk book.old }
     ensures failures { CountsOrContradicts result.0 (B.failed book.old) (B.failed book.new) }
-    ensures store_fault { IsMessage message.now → B.is_honest book.new → (m : Content)
+    ensures store_fault { IsMessage message.now → B.has_clean_disk book.new → (m : Content)
         → B.holds book.old m → IsSound json_texts m
         → result.0 ≡ Refused StoreFault → StoreFailed (B.failed book.old) (B.failed book.new) }
 {
@@ -111,7 +111,7 @@ pub fn handle_with_text<B: Book>(
     ensures refused { RefusalKeeps B.Book book.old book.new result.0 }
     ensures told { IfSome result.1 (λ text. text ≡ json_texts.of_reply result.0) }
     ensures message { IsMessage message.now }
-    ensures honest { B.is_honest book.new → B.is_honest book.old }
+    ensures clean_disk { B.has_clean_disk book.new → B.has_clean_disk book.old }
     ensures failures { CountsOrContradicts result.0 (B.failed book.old) (B.failed book.new) }
     ensures store_fault { BlamesStore json_texts B.Book book.old book.new result.0 }
 {
@@ -130,7 +130,7 @@ pub fn handle<B: Book>(alloc: Global, book: &mut B, message: &Message) -> Reply
     ensures step { Handles json_texts B.Book book.old book.new message.now result }
     ensures refused { RefusalKeeps B.Book book.old book.new result }
     ensures message { IsMessage message.now }
-    ensures honest { B.is_honest book.new → B.is_honest book.old }
+    ensures clean_disk { B.has_clean_disk book.new → B.has_clean_disk book.old }
     ensures failures { CountsOrContradicts result (B.failed book.old) (B.failed book.new) }
     ensures store_fault { BlamesStore json_texts B.Book book.old book.new result }
 {
@@ -380,7 +380,7 @@ pub fn run<B: Book>(
     ensures handled { IfOk result
         (λ replies. AreHandled json_texts B.Book book.old messages.now replies.items book.new) }
     ensures err { OnErr result (book.new ≡ book.old) }
-    ensures honest { B.is_honest book.new → B.is_honest book.old }
+    ensures clean_disk { B.has_clean_disk book.new → B.has_clean_disk book.old }
     ensures failures { CountsUp (B.failed book.old) (B.failed book.new) }
 {
     let mut replies = Vec::with_capacity(alloc, messages.len())?;

@@ -125,7 +125,7 @@ fn push_line(
     Ok(())
 }
 
-// The row of a leaf's demand, behind leaves with theirs: that of the first of them which names it, or else the book's.
+// The row of a leaf's demand, after leaves with theirs: that of the first of them which names it, or else the book's.
 fn demand_for<B: Book>(
     book: &mut B,
     found: &[FoundLeaf],
@@ -207,7 +207,7 @@ pub fn demands_for<B: Book>(
     Ok(Some(found))
 }
 
-// The row of a line's material, behind lines with theirs: that of the first of them which names it, or else the book's.
+// The row of a line's material, after lines with theirs: that of the first of them which names it, or else the book's.
 fn material_of_line<B: Book>(
     book: &mut B,
     found: &[FoundLine],

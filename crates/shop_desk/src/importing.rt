@@ -13,7 +13,7 @@ ghost use Rattle.shop_records.specs.declared.messages.Reply.{Reply as ReplyOf};
 ghost use Rattle.shop_records.specs.Messages.{IsMade, is_accepted};
 ghost use Rattle.shop_records.specs.Content.{Content, import_at};
 ghost use Rattle.shop_machine.specs.Importing.{IsRepeat};
-ghost use Rattle.shop_records.specs.Keeping.{Tells};
+ghost use Rattle.shop_records.specs.Keeping.{TellsKept};
 ghost use Rattle.shop_records.specs.Soundness.{IsSound};
 ghost use Rattle.shop_forms.specs.Forms.{json_texts};
 ghost use Rattle.shop_book.specs.Failures.{CountsFailure};

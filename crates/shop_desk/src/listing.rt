@@ -7,7 +7,7 @@ ghost use Rattle.shop_records.specs.declared.messages.Reply.TheVariants.{Refused
 ghost use Rattle.shop_records.specs.declared.refusals.Refusal.TheVariants.{NoMemory, StoreFault};
 ghost use Rattle.shop_answers.specs.declared.listing.TheConstants.{MOST_TOLD};
 ghost use Rattle.shop_answers.specs.Listing.{AreOrderRows, IsLinesAnswer, IsOrderRow, are_more, first_told, job_row_at, job_with_part};
-ghost use Rattle.shop_records.specs.Lists.{job_numbers, open_demands, orders_behind, parts_behind, waiting_jobs};
+ghost use Rattle.shop_records.specs.Lists.{job_numbers, open_demands, orders_after, parts_after, waiting_jobs};
 ghost use Rattle.shop_book.specs.Failures.{CountsFailure};
 ghost use Rattle.shop_book.specs.Kept.{Unchanged, OnContent};
 ghost use Rattle.shop_desk.specs.Faults.{CountsReply};
@@ -33,7 +33,7 @@ pub fn materials<B: Book>(alloc: Global, book: &mut B) -> Reply
     }
 }
 
-// The parts behind a name of a material that is there.
+// The parts after a name of a material that is there.
 fn known_parts<B: Book>(
     alloc: Global,
     book: &mut B,
@@ -42,8 +42,8 @@ fn known_parts<B: Book>(
 ) -> Reply
     ensures answer { OnContent B.Book book.old book.new
         (λ m. result ≢ Refused NoMemory → result ≢ Refused StoreFault
-        → result ≡ Parts material (are_more (parts_behind m material after))
-        (first_told (parts_behind m material after))) }
+        → result ≡ Parts material (are_more (parts_after m material after))
+        (first_told (parts_after m material after))) }
     ensures keeps { Unchanged B.Book (CountsReply result) book.old book.new }
 {
     match book.first_parts(alloc, material, after, MOST_TOLD + 1) {
@@ -52,7 +52,7 @@ fn known_parts<B: Book>(
     }
 }
 
-/// The standing and reserved parts of a material behind a name.
+/// The standing and reserved parts of a material after a name.
 pub fn parts<B: Book>(alloc: Global, book: &mut B, material: Code, after: Option<PartName>) -> Reply
     ensures answer { OnContent B.Book book.old book.new
         (λ m. Answers m (query.Parts material after) result) }
@@ -67,7 +67,7 @@ pub fn parts<B: Book>(alloc: Global, book: &mut B, material: Code, after: Option
     }
 }
 
-// The open demands behind a number, of a material that is there or of all.
+// The open demands after a number, of a material that is there or of all.
 fn known_demands<B: Book>(alloc: Global, book: &mut B, after: u32, material: Option<Code>) -> Reply
     ensures answer { OnContent B.Book book.old book.new
         (λ m. result ≢ Refused NoMemory → result ≢ Refused StoreFault
@@ -81,7 +81,7 @@ fn known_demands<B: Book>(alloc: Global, book: &mut B, after: u32, material: Opt
     }
 }
 
-// The open demands of a material behind a number.
+// The open demands of a material after a number.
 fn material_demands<B: Book>(alloc: Global, book: &mut B, after: u32, material: Code) -> Reply
     ensures answer { OnContent B.Book book.old book.new
         (λ m. Answers m (query.Demands after (Some material)) result) }
@@ -96,7 +96,7 @@ fn material_demands<B: Book>(alloc: Global, book: &mut B, after: u32, material: 
     }
 }
 
-/// The open demands behind a number, of one material or of all.
+/// The open demands after a number, of one material or of all.
 pub fn demands<B: Book>(alloc: Global, book: &mut B, after: u32, material: Option<Code>) -> Reply
     ensures answer { OnContent B.Book book.old book.new
         (λ m. Answers m (query.Demands after material) result) }
@@ -147,7 +147,7 @@ fn head_with_part<B: Book>(book: &mut B, number: u32) -> Result<Option<(JobHead,
     }
 }
 
-// Puts a job's row behind others, where the job is there with its part.
+// Puts a job's row after others, where the job is there with its part.
 fn push_job(rows: &mut JobList, found: Option<(JobHead, Part)>) -> Result<(), AllocError>
     ensures { OnOk result (rows.new ≡ rows.old ++ filter_map told_row (found ∷ [])) }
 {
@@ -171,7 +171,7 @@ fn job_rows<B: Book>(alloc: Global, book: &mut B, numbers: &[u32]) -> Result<Job
     Ok(rows)
 }
 
-// The first waiting jobs behind a number, and whether others follow them.
+// The first waiting jobs after a number, and whether others follow them.
 fn first_jobs<B: Book>(
     alloc: Global,
     book: &mut B,
@@ -187,7 +187,7 @@ fn first_jobs<B: Book>(
     Ok((rows, are_more(numbers.as_slice())))
 }
 
-/// The waiting jobs behind a number.
+/// The waiting jobs after a number.
 pub fn jobs<B: Book>(alloc: Global, book: &mut B, after: u32) -> Reply
     ensures answer { OnContent B.Book book.old book.new (λ m. Answers m (query.Jobs after) result) }
     ensures keeps { Unchanged B.Book (CountsReply result) book.old book.new }
@@ -233,14 +233,14 @@ fn order_rows<B: Book>(alloc: Global, book: &mut B, orders: &[Code]) -> Result<O
     Ok(rows)
 }
 
-// The codes of the first orders behind a code, one more than are told, and the rows of those that are.
+// The codes of the first orders after a code, one more than are told, and the rows of those that are.
 fn first_orders<B: Book>(
     alloc: Global,
     book: &mut B,
     after: Option<Code>,
 ) -> Result<(CodeList, OrderList), BookFault>
     ensures orders { OnContent B.Book book.old book.new (λ m. IfOk result (λ found.
-        (found.0 ≡ take (MOST_TOLD + 1) (orders_behind m after))
+        (found.0 ≡ take (MOST_TOLD + 1) (orders_after m after))
         × AreOrderRows m (first_told found.0) found.1)) }
     ensures keeps { Unchanged B.Book (CountsFailure result) book.old book.new }
 {
@@ -249,7 +249,7 @@ fn first_orders<B: Book>(
     Ok((codes, rows))
 }
 
-/// The first orders behind a code, or from the first on.
+/// The first orders after a code, or from the first on.
 pub fn orders<B: Book>(alloc: Global, book: &mut B, after: Option<Code>) -> Reply
     ensures answer { OnContent B.Book book.old book.new
         (λ m. Answers m (query.Orders after) result) }

@@ -125,8 +125,8 @@ fn imported_told(alloc: Global, steel: Code, received: u64, act: u32, first: u32
     number_of(decided)
 }
 
-/// The refusals, or 0, of receipts and of problems at the last cell of a material, one behind it, and at the last numbers of an
-/// act and of a demand, and one behind them.
+/// The refusals, or 0, of receipts and of problems at the last cell of a material, one after it, and at the last numbers of an
+/// act and of a demand, and one after them.
 pub fn last_cells(alloc: Global) -> Result<String> {
     let Some(steel) = Code::read("STEEL") else {
         return Err(Error::msg("no code"));

@@ -1,5 +1,5 @@
-//! What no run of the program from outside can show. The file `stdin` names a check a line, behind a space what it is done
-//! with; `stdout` has each with what came of it. Lines that begin with `#` say what the checks behind them show.
+//! What no run of the program from outside can show. The file `stdin` names a check a line, after a space what it is done
+//! with; `stdout` has each with what came of it. Lines that begin with `#` say what the checks after them show.
 #![tactic(auto)]
 
 mod books;

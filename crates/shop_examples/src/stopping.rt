@@ -1,4 +1,4 @@
-//! A file stops at one of its calls, and each call behind it fails; what a crash leaves is opened, and goes on.
+//! A file stops at one of its calls, and each call after it fails; what a crash leaves is opened, and goes on.
 
 use crate::lines::answered;
 use crate::messages::{MESSAGES, QUESTIONS, STORE_FAULT, accepted, all_answers, come_to_the_end};
@@ -18,9 +18,9 @@ struct Trial {
     start: Start,
     /// Whether the messages are sent to the book, once it is adopted.
     sends: bool,
-    /// So many runs in which nothing was wanting are followed by others, since a file may still be written behind the last
+    /// So many runs in which nothing was wanting are followed by others, since a file may still be written after the last
     /// reply.
-    behind: u64,
+    after: u64,
     /// The answers before the messages and after each of them.
     answers: Vec<String>,
 }
@@ -72,7 +72,7 @@ impl Work for Run<'_> {
     }
 }
 
-// The content is that before the message that was cut or that behind it, and all messages lead to the end.
+// The content is that before the message that was cut or that after it, and all messages lead to the end.
 fn go_on<B: Book>(alloc: Global, book: &mut B, count: usize, answers: &[String]) -> Result<()> {
     let told = answered(alloc, book, QUESTIONS)?;
     if !answers
@@ -153,8 +153,8 @@ fn sweep(alloc: Global, trial: &Trial, in_log: bool) -> Result<()> {
         if is_whole(alloc, trial.start.files(alloc, in_log, calls)?, trial)? {
             whole = whole.saturating_add(1);
         }
-        if whole > trial.behind {
-            return if calls > trial.behind {
+        if whole > trial.after {
+            return if calls > trial.after {
                 Ok(())
             } else {
                 Err(Error::msg("no call was wanting"))
@@ -165,11 +165,11 @@ fn sweep(alloc: Global, trial: &Trial, in_log: bool) -> Result<()> {
 }
 
 // The log stops, and then the database.
-fn sweep_both(alloc: Global, start: Start, sends: bool, behind: u64) -> Result<()> {
+fn sweep_both(alloc: Global, start: Start, sends: bool, after: u64) -> Result<()> {
     let trial = Trial {
         start,
         sends,
-        behind,
+        after,
         answers: all_answers(alloc)?,
     };
     sweep(alloc, &trial, true)?;

@@ -19,7 +19,7 @@ use Rattle.shop_files.specs.declared.shops.ShopFault.TheVariants as shop
 use Rattle.shop_files.specs.Runs.{DigitRun, runs_of}
 use Rattle.shop_files.specs.Problems.{AllFit, AreFew, IsBadByte, IsBadNumber, IsNumbers, IsOneTooMany, IsProblemFault, fits, is_problem_byte, wanted}
 use Rattle.shop_files.specs.Orders.{AllRecords, AreLineRecords, Fields, FirstRecords, IsBad, IsBadHeader, IsBadLine, IsHeaderFault, IsLineFault, IsLineRecord, IsOrdersFault, header}
-use Rattle.shop_files.specs.Shops.{AreEntries, IsBadEntry, IsEntry, IsShop, IsShopFault}
+use Rattle.shop_files.specs.Shops.{AreEntries, IsBadEntry, IsEntry, IsShopFile, IsShopFault}
 use Rattle.shop_files.proofs.OneOrder.{first_rows, header_not_bad, line_not_bad, one_of}
 use Rattle.shop_files.proofs.Entries.{only_shop, same_list}
 
@@ -50,25 +50,25 @@ no_byte text m numbers bad = not_both numbers.1 (list_all_at is_problem_byte tex
 abbrev blank : DigitRun
 blank = record { place = 0; digits = [] }
 
-fit_in : (i : ℕ) (front : List DigitRun) → AllFit i front → (j : ℕ) → j < length front → fits (i + j) (get_or front j blank) ≡ true
+fit_in : (i : ℕ) (prefix : List DigitRun) → AllFit i prefix → (j : ℕ) → j < length prefix → fits (i + j) (get_or prefix j blank) ≡ true
 fit_in i [] fit j l = absurd (omega arith)
-fit_in i (run ∷ front) fit zero l = let e : i ≡ i + 0 = omega arith in subst (λ n. fits n run ≡ true) e fit.0
-fit_in i (run ∷ front) fit (suc j) l =
-    let e : suc i + j ≡ i + suc j = omega arith in subst (λ n. fits n (get_or front j blank) ≡ true) e (fit_in (suc i) front fit.1 j (omega arith))
+fit_in i (run ∷ prefix) fit zero l = let e : i ≡ i + 0 = omega arith in subst (λ n. fits n run ≡ true) e fit.0
+fit_in i (run ∷ prefix) fit (suc j) l =
+    let e : suc i + j ≡ i + suc j = omega arith in subst (λ n. fits n (get_or prefix j blank) ≡ true) e (fit_in (suc i) prefix fit.1 j (omega arith))
 
 -- the first runs are in range
 abbrev FitBelow : List DigitRun → ℕ → Type 0
 FitBelow runs n = (j : ℕ) → j < n → fits j (get_or runs j blank) ≡ true
 
-fit_below : (runs front : List DigitRun) (run : DigitRun) (more : List DigitRun) → runs ≡ front ++ run ∷ more → AllFit 0 front → FitBelow runs (length front)
-fit_below runs front run more is fit j l =
-    subst (λ (r : DigitRun). fits j r ≡ true) (sym (ap (λ rs. get_or rs j blank) is ∙ get_or_append_left front (run ∷ more) blank j l)) (let e : 0 + j ≡ j = omega arith in subst (λ n. fits n (get_or front j blank) ≡ true) e (fit_in 0 front fit j l))
+fit_below : (runs prefix : List DigitRun) (run : DigitRun) (more : List DigitRun) → runs ≡ prefix ++ run ∷ more → AllFit 0 prefix → FitBelow runs (length prefix)
+fit_below runs prefix run more is fit j l =
+    subst (λ (r : DigitRun). fits j r ≡ true) (sym (ap (λ rs. get_or rs j blank) is ∙ get_or_append_left prefix (run ∷ more) blank j l)) (let e : 0 + j ≡ j = omega arith in subst (λ n. fits n (get_or prefix j blank) ≡ true) e (fit_in 0 prefix fit j l))
 
-run_there : (runs front : List DigitRun) (run : DigitRun) (more : List DigitRun) → runs ≡ front ++ run ∷ more → get_or runs (length front) blank ≡ run
-run_there runs front run more is = ap (λ rs. get_or rs (length front) blank) is ∙ get_or-append_seam front run more blank
+run_there : (runs prefix : List DigitRun) (run : DigitRun) (more : List DigitRun) → runs ≡ prefix ++ run ∷ more → get_or runs (length prefix) blank ≡ run
+run_there runs prefix run more is = ap (λ rs. get_or rs (length prefix) blank) is ∙ get_or-append_seam prefix run more blank
 
-inside : (runs front : List DigitRun) (run : DigitRun) (more : List DigitRun) → runs ≡ front ++ run ∷ more → length front < length runs
-inside runs front run more is = omega (arith, ap length is, length-append front (run ∷ more))
+inside : (runs prefix : List DigitRun) (run : DigitRun) (more : List DigitRun) → runs ≡ prefix ++ run ∷ more → length prefix < length runs
+inside runs prefix run more is = omega (arith, ap length is, length-append prefix (run ∷ more))
 
 -- a number out of range, by its index
 record OutOfRange (runs : List DigitRun) (most place : ℕ) : Type 0 where
@@ -152,8 +152,8 @@ only_long text n NoMemory other long h = absurd (other refl)
 turned : {m n : ℕ} {a b : TextCause} → (m ≡ n) × (a ≡ b) → (n ≡ m) × (b ≡ a)
 turned h = (sym h.0, sym h.1)
 
-behind_long : (text : List ℕ) (m n : ℕ) (b : TextCause) → (b ≡ NoMemory → ⊥) → IsProblemFault text m Long → IsProblemFault text n b → (m ≡ n) × (Long ≡ b)
-behind_long text m n b other f g =
+after_long : (text : List ℕ) (m n : ℕ) (b : TextCause) → (b ≡ NoMemory → ⊥) → IsProblemFault text m Long → IsProblemFault text n b → (m ≡ n) × (Long ≡ b)
+after_long text m n b other f g =
     elim f [
       | inl l ↦ (let only = only_long text n b other l.0 g in (l.1 ∙ only.0, only.1))
       | inr l ↦ only_many text m n b other l.0 l.1 g
@@ -161,10 +161,10 @@ behind_long text m n b other f g =
 
 -- Want of memory aside, a problem's text has one first fault.
 pub one_problem_fault : (text : List ℕ) (m n : ℕ) (a b : TextCause) → (a ≡ NoMemory → ⊥) → (b ≡ NoMemory → ⊥) → IsProblemFault text m a → IsProblemFault text n b → (m ≡ n) × (a ≡ b)
-one_problem_fault text m n Long b no_a no_b f g = behind_long text m n b no_b f g
-one_problem_fault text m n Byte Long no_a no_b f g = turned (behind_long text n m Byte no_a g f)
-one_problem_fault text m n Number Long no_a no_b f g = turned (behind_long text n m Number no_a g f)
-one_problem_fault text m n Short Long no_a no_b f g = turned (behind_long text n m Short no_a g f)
+one_problem_fault text m n Long b no_a no_b f g = after_long text m n b no_b f g
+one_problem_fault text m n Byte Long no_a no_b f g = turned (after_long text n m Byte no_a g f)
+one_problem_fault text m n Number Long no_a no_b f g = turned (after_long text n m Number no_a g f)
+one_problem_fault text m n Short Long no_a no_b f g = turned (after_long text n m Short no_a g f)
 one_problem_fault text m n Byte Byte no_a no_b f g = (one_byte text m n f.1 g.1, refl)
 one_problem_fault text m n Byte Number no_a no_b f g = absurd (no_byte text m g.0 f.1)
 one_problem_fault text m n Byte Short no_a no_b f g = absurd (no_byte text m g.0 f.1)
@@ -330,20 +330,20 @@ one_orders_fault text row field other place f g =
 
 -- Shop files.
 
-entry_at : (front : List Data) (entries : List MaterialEntry) → AreEntries front entries → (k : ℕ) (d : Data) → k < length front → (entry : MaterialEntry) × IsEntry (get_or front k d) entry
+entry_at : (prefix : List Data) (entries : List MaterialEntry) → AreEntries prefix entries → (k : ℕ) (d : Data) → k < length prefix → (entry : MaterialEntry) × IsEntry (get_or prefix k d) entry
 entry_at [] entries h k d l = absurd (omega arith)
-entry_at (x ∷ front) [] h k d l = absurd h
-entry_at (x ∷ front) (e ∷ entries) h zero d l = (e, h.0)
-entry_at (x ∷ front) (e ∷ entries) h (suc k) d l = entry_at front entries h.1 k d (omega arith)
+entry_at (x ∷ prefix) [] h k d l = absurd h
+entry_at (x ∷ prefix) (e ∷ entries) h zero d l = (e, h.0)
+entry_at (x ∷ prefix) (e ∷ entries) h (suc k) d l = entry_at prefix entries h.1 k d (omega arith)
 
 no_earlier_entry : (text : List ℕ) (m n : ℕ) → IsBadEntry text m → IsBadEntry text n → m < n → ⊥
 no_earlier_entry text m n a b l =
-    let inner : m < length b.front = omega (arith, l, b.number) in
-    let same = same_list text (a.front ++ a.value ∷ a.more) (b.front ++ b.value ∷ b.more) a.has_list b.has_list in
-    let there : get_or (a.front ++ a.value ∷ a.more) m a.value ≡ a.value =
-    subst (λ k. get_or (a.front ++ a.value ∷ a.more) k a.value ≡ a.value) a.number (get_or-append_seam a.front a.value a.more a.value) in
-    let is : a.value ≡ get_or b.front m a.value = sym there ∙ ap (λ ds. get_or ds m a.value) same ∙ get_or_append_left b.front (b.value ∷ b.more) a.value m inner in
-    let entry = entry_at b.front b.entries b.are_entries m a.value inner in
+    let inner : m < length b.prefix = omega (arith, l, b.number) in
+    let same = same_list text (a.prefix ++ a.value ∷ a.more) (b.prefix ++ b.value ∷ b.more) a.has_list b.has_list in
+    let there : get_or (a.prefix ++ a.value ∷ a.more) m a.value ≡ a.value =
+    subst (λ k. get_or (a.prefix ++ a.value ∷ a.more) k a.value ≡ a.value) a.number (get_or-append_seam a.prefix a.value a.more a.value) in
+    let is : a.value ≡ get_or b.prefix m a.value = sym there ∙ ap (λ ds. get_or ds m a.value) same ∙ get_or_append_left b.prefix (b.value ∷ b.more) a.value m inner in
+    let entry = entry_at b.prefix b.entries b.are_entries m a.value inner in
     a.bad entry.0 (subst (λ (d : Data). IsEntry d entry.0) (sym is) entry.1)
 
 one_bad_entry : (text : List ℕ) (m n : ℕ) → IsBadEntry text m → IsBadEntry text n → m ≡ n
@@ -356,12 +356,12 @@ one_bad_entry text m n a b =
 -- Want of memory aside, a shop file's text has one first fault.
 pub one_shop_fault : (text : List ℕ) (a b : ShopFault) → (a ≡ shop.NoMemory → ⊥) → (b ≡ shop.NoMemory → ⊥) → IsShopFault text a → IsShopFault text b → a ≡ b
 one_shop_fault text shop.Text shop.Text no_a no_b f g = refl
-one_shop_fault text shop.Text (shop.Entry j) no_a no_b f g = absurd (f (g.2.front ++ g.2.value ∷ g.2.more) g.2.has_list)
+one_shop_fault text shop.Text (shop.Entry j) no_a no_b f g = absurd (f (g.2.prefix ++ g.2.value ∷ g.2.more) g.2.has_list)
 one_shop_fault text shop.Text shop.NoMemory no_a no_b f g = absurd (no_b refl)
-one_shop_fault text (shop.Entry i) shop.Text no_a no_b f g = absurd (g (f.2.front ++ f.2.value ∷ f.2.more) f.2.has_list)
+one_shop_fault text (shop.Entry i) shop.Text no_a no_b f g = absurd (g (f.2.prefix ++ f.2.value ∷ f.2.more) f.2.has_list)
 one_shop_fault text (shop.Entry i) (shop.Entry j) no_a no_b f g = ap shop.Entry (f.1 ∙ ap (λ n. n + 1) (one_bad_entry text f.0 g.0 f.2 g.2) ∙ sym g.1)
 one_shop_fault text (shop.Entry i) shop.NoMemory no_a no_b f g = absurd (no_b refl)
 one_shop_fault text shop.NoMemory b no_a no_b f g = absurd (no_a refl)
 
-pub no_shop_fault : (text : List ℕ) (entries : List MaterialEntry) → IsShop text entries → (fault : ShopFault) → IsShopFault text fault → fault ≡ shop.NoMemory
+pub no_shop_fault : (text : List ℕ) (entries : List MaterialEntry) → IsShopFile text entries → (fault : ShopFault) → IsShopFault text fault → fault ≡ shop.NoMemory
 no_shop_fault text entries is fault h = only_shop text (Err fault) tt h entries is

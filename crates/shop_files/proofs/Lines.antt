@@ -62,7 +62,7 @@ same_lists (x ∷ xs) (y ∷ ys) e h =
     let rest = same_lists xs ys (omega (arith, e)) (λ j l. h (suc j) (omega arith)) in
     λ i. first i ∷ rest i
 
--- a reader stands behind the header and n lines of a text
+-- a reader stands after the header and n lines of a text
 pub record HasLines {R : Type 0} (rem : R → Option (List ℕ)) (reader : Reader R) (text : List ℕ) (lines : List OrderLine) (n : ℕ) : Type 0 where
   pub rows : List Fields
   pub read : HasRead rem reader text (header ∷ rows)

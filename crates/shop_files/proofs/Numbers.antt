@@ -21,25 +21,25 @@ pub fit_append : (i : ℕ) (xs ys : List DigitRun) → AllFit i xs → AllFit (i
 fit_append i [] ys f g = at_index ys (omega arith) g
 fit_append i (x ∷ xs) ys f g = (f.0, fit_append (suc i) xs ys f.1 (at_index ys (omega arith) g))
 
-bad_behind : (i : ℕ) (runs front rest : List DigitRun) (most place : ℕ) → runs ≡ front ++ rest → AllFit i front → IsBadNumber (i + length front) rest most place → IsBadNumber i runs most place
-bad_behind i runs front rest most place parts fit (before, run, more, is, f, l, bad, p) =
-    let size : i + length front + length before ≡ i + length (front ++ before) = omega (arith, length-append front before) in
-    (front ++ before, run, more, parts ∙ ap (λ l. front ++ l) is ∙ sym (append_assoc front before (run ∷ more)), fit_append i front before fit f, subst (λ n. n < most) size l, subst (λ n. fits n run ≡ false) size bad, p)
+bad_after : (i : ℕ) (runs prefix rest : List DigitRun) (most place : ℕ) → runs ≡ prefix ++ rest → AllFit i prefix → IsBadNumber (i + length prefix) rest most place → IsBadNumber i runs most place
+bad_after i runs prefix rest most place parts fit (before, run, more, is, f, l, bad, p) =
+    let size : i + length prefix + length before ≡ i + length (prefix ++ before) = omega (arith, length-append prefix before) in
+    (prefix ++ before, run, more, parts ∙ ap (λ l. prefix ++ l) is ∙ sym (append_assoc prefix before (run ∷ more)), fit_append i prefix before fit f, subst (λ n. n < most) size l, subst (λ n. fits n run ≡ false) size bad, p)
 
--- what is wrong behind numbers that were read is wrong with all
-pub stops_behind : (i : ℕ) (runs front rest : List DigitRun) (len most offset : ℕ) (cause : TextCause) → runs ≡ front ++ rest → AllFit i front
-    → Stops (i + length front) rest len most offset cause → Stops i runs len most offset cause
-stops_behind i runs front rest len most offset Number parts fit h = bad_behind i runs front rest most offset parts fit h
-stops_behind i runs front rest len most offset Short parts fit h =
-    ((subst (AllFit i) (sym parts) (fit_append i front rest fit h.0.0), omega (arith, ap length parts, length-append front rest, h.0.1)), h.1)
-stops_behind i runs front rest len most offset Long parts fit h = h
-stops_behind i runs front rest len most offset Byte parts fit h = h
-stops_behind i runs front rest len most offset NoMemory parts fit h = h
+-- what is wrong after numbers that were read is wrong with all
+pub stops_after : (i : ℕ) (runs prefix rest : List DigitRun) (len most offset : ℕ) (cause : TextCause) → runs ≡ prefix ++ rest → AllFit i prefix
+    → Stops (i + length prefix) rest len most offset cause → Stops i runs len most offset cause
+stops_after i runs prefix rest len most offset Number parts fit h = bad_after i runs prefix rest most offset parts fit h
+stops_after i runs prefix rest len most offset Short parts fit h =
+    ((subst (AllFit i) (sym parts) (fit_append i prefix rest fit h.0.0), omega (arith, ap length parts, length-append prefix rest, h.0.1)), h.1)
+stops_after i runs prefix rest len most offset Long parts fit h = h
+stops_after i runs prefix rest len most offset Byte parts fit h = h
+stops_after i runs prefix rest len most offset NoMemory parts fit h = h
 
-pub reads_on : (i : ℕ) (text : List ℕ) (at : ℕ) (front : List DigitRun) (mid : ℕ) (more : List DigitRun) (next : ℕ) → ReadsRuns i text at front mid → ReadsRuns (i + length front) text mid more next → ReadsRuns i text at (front ++ more) next
-reads_on i text at front mid more next a b = record {
-  runs = a.runs ∙ ap (λ l. front ++ l) b.runs ∙ sym (append_assoc front more (runs_at text next));
-  fit = fit_append i front more a.fit b.fit;
+pub reads_on : (i : ℕ) (text : List ℕ) (at : ℕ) (prefix : List DigitRun) (mid : ℕ) (more : List DigitRun) (next : ℕ) → ReadsRuns i text at prefix mid → ReadsRuns (i + length prefix) text mid more next → ReadsRuns i text at (prefix ++ more) next
+reads_on i text at prefix mid more next a b = record {
+  runs = a.runs ∙ ap (λ l. prefix ++ l) b.runs ∙ sym (append_assoc prefix more (runs_at text next));
+  fit = fit_append i prefix more a.fit b.fit;
   within = b.within;
 }
 
@@ -59,14 +59,14 @@ module _ (i : ℕ) (third : i % 4 ≡ 3) where
   most_worth =
       rw (ne_eqb (i + 3) 0 (λ e. omega arith), ne_eqb (i + 3) 1 (λ e. omega arith), ne_eqb (i + 3) 2 (λ e. omega arith), ne_eqb ((i + 3) % 4) 3 (λ e. omega arith), ne_eqb ((i + 3) % 4) 0 (λ e. omega arith), ne_eqb ((i + 3) % 4) 1 (λ e. omega arith)) refl
 
--- what is wrong behind a number is wrong from it on
-pub behind_number : (text : List ℕ) (at most value next : ℕ) → HasNumber text at most value next → (i len count offset : ℕ) (cause : TextCause) → most_at i ≡ most
+-- what is wrong after a number is wrong from it on
+pub after_number : (text : List ℕ) (at most value next : ℕ) → HasNumber text at most value next → (i len count offset : ℕ) (cause : TextCause) → most_at i ≡ most
     → Stops (i + 1) (runs_at text next) len count offset cause → Stops i (runs_at text at) len count offset cause
-behind_number text at most value next h i len count offset cause is s =
-    stops_behind i (runs_at text at) (h.0 ∷ []) (runs_at text next) len count offset cause (h.2 i is).runs (h.2 i is).fit s
+after_number text at most value next h i len count offset cause is s =
+    stops_after i (runs_at text at) (h.0 ∷ []) (runs_at text next) len count offset cause (h.2 i is).runs (h.2 i is).fit s
 
 pub four_numbers : (text : List ℕ) (a b c d e w h count worth : ℕ) → HasNumber text a 200000 w b → HasNumber text b 60000 h c → HasNumber text c 1000000 count d → HasNumber text d 1000000000 worth e
-    → (front : List DigitRun) × (map value_of front ≡ w ∷ h ∷ count ∷ worth ∷ []) × ((i : ℕ) → i % 4 ≡ 3 → ReadsRuns i text a front e)
+    → (prefix : List DigitRun) × (map value_of prefix ≡ w ∷ h ∷ count ∷ worth ∷ []) × ((i : ℕ) → i % 4 ≡ 3 → ReadsRuns i text a prefix e)
 four_numbers text a b c d e w h count worth p q r s = (
   p.0 ∷ q.0 ∷ r.0 ∷ s.0 ∷ [],
   rw (p.1, q.1, r.1, s.1) refl,
@@ -99,11 +99,11 @@ pub met : (text digits rest : List ℕ) (at place : ℕ) → rest ≡ drop place
     → (0 < length digits) × (length digits ≤ length rest) × (digits ≡ take (length digits) rest)
     → ((i : ℕ) → i < length digits → is_digit (get_or rest i 0) ≡ true) → (length digits < length rest → is_digit (get_or rest (length digits) 0) ≡ false)
     → Meets text at place digits
-met text digits rest at place is same inside some all behind = record {
+met text digits rest at place is same inside some all after = record {
   runs =
       same ∙ run_text (length digits) text place some.0 (subst (λ (l : List ℕ). length digits ≤ length l) is some.1)
       (subst (λ (l : List ℕ). (i : ℕ) → i < length digits → is_digit (get_or l i 0) ≡ true) is all)
-      (subst (λ (l : List ℕ). length digits < length l → is_digit (get_or l (length digits) 0) ≡ false) is behind)
+      (subst (λ (l : List ℕ). length digits < length l → is_digit (get_or l (length digits) 0) ≡ false) is after)
       ∙ ap (λ ds. record { place = place; digits = ds } ∷ runs_at text (place + length digits)) (sym (some.2 ∙ ap (take (length digits)) is));
   within = omega (arith, some.1, ap length is, length-drop place text, inside);
 }
@@ -147,4 +147,4 @@ pub stops_in_piece : (text : List ℕ) (at n count : ℕ) (pieces : List Piece) 
     → ((i most : ℕ) → i % 4 ≡ 3 → i + 3 < most → Stops i (runs_at text mid) (length text) most offset cause)
     → Stops 3 (runs_at text at) (length text) (3 + 4 * count) offset cause
 stops_in_piece text at n count pieces mid offset cause h l s =
-    stops_behind 3 (runs_at text at) h.0 (runs_at text mid) (length text) (3 + 4 * count) offset cause h.4.runs h.4.fit (s (3 + length h.0) (3 + 4 * count) (omega (arith, h.3)) (omega (arith, h.3, l)))
+    stops_after 3 (runs_at text at) h.0 (runs_at text mid) (length text) (3 + 4 * count) offset cause h.4.runs h.4.fit (s (3 + length h.0) (3 + 4 * count) (omega (arith, h.3)) (omega (arith, h.3, l)))

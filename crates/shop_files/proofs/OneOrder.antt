@@ -18,14 +18,14 @@ none-of {A} {o} {x} p q = none-some x (sym p ∙ q)
 pub one_of : {o : Option Read} (p q : Read) → o ≡ Some p → o ≡ Some q → p ≡ q
 one_of p q a b = ap (λ r. unwrap_or r p) (sym a ∙ b)
 
-pub first_rows : (cfg : Config) (s : State) (xs : List ℕ) (front rows : List Fields) (s1 : State) (y1 : List ℕ) → Reached cfg s xs front s1 y1 → AreRecords cfg s xs rows → (more : List Fields) × (rows ≡ front ++ more)
+pub first_rows : (cfg : Config) (s : State) (xs : List ℕ) (prefix rows : List Fields) (s1 : State) (y1 : List ℕ) → Reached cfg s xs prefix s1 y1 → AreRecords cfg s xs rows → (more : List Fields) × (rows ≡ prefix ++ more)
 unfolding Reached
 first_rows cfg s xs [] rows s1 y1 h all = (rows, refl)
-first_rows cfg s xs (r ∷ front) [] s1 y1 h all =
+first_rows cfg s xs (r ∷ prefix) [] s1 y1 h all =
     absurd (none-of (ap (λ a. next_record cfg a [] [] xs) all.2.0 ∙ ap (next_record cfg all.0 [] []) all.2.1 ∙ all.3) h.1)
-first_rows cfg s xs (r ∷ front) (q ∷ rows) s1 y1 h all =
+first_rows cfg s xs (r ∷ prefix) (q ∷ rows) s1 y1 h all =
     let same = one_of h.0 all.2.0 h.1 all.2.1 in
-    let rest = first_rows cfg h.0.1 h.0.2 front rows s1 y1 h.3
+    let rest = first_rows cfg h.0.1 h.0.2 prefix rows s1 y1 h.3
     (all.0, all.1, subst (λ (p : Read). Reached cfg p.1 p.2 rows all.0 all.1) (sym same) all.2.3, all.3) in
     let first : q ≡ r = all.2.2 ∙ ap (λ (p : Read). p.0) (sym same) ∙ sym h.2 in
     (rest.0, λ i. first i ∷ rest.1 i)
@@ -93,11 +93,11 @@ one_order text xs ys a b =
     same_lines b.rows xs ys (subst (λ rows. AreLineRecords rows xs) e a.are_lines) b.are_lines
 
 -- of rows that are lines, each one is a line
-line_behind : (front : List Fields) (fields : Fields) (more : List Fields) (lines : List OrderLine) → AreLineRecords (front ++ fields ∷ more) lines → (line : OrderLine) × IsLineRecord fields line
-line_behind [] fields more [] h = absurd h
-line_behind [] fields more (line ∷ lines) h = (line, h.0)
-line_behind (f ∷ front) fields more [] h = absurd h
-line_behind (f ∷ front) fields more (line ∷ lines) h = line_behind front fields more lines h.1
+line_after : (prefix : List Fields) (fields : Fields) (more : List Fields) (lines : List OrderLine) → AreLineRecords (prefix ++ fields ∷ more) lines → (line : OrderLine) × IsLineRecord fields line
+line_after [] fields more [] h = absurd h
+line_after [] fields more (line ∷ lines) h = (line, h.0)
+line_after (f ∷ prefix) fields more [] h = absurd h
+line_after (f ∷ prefix) fields more (line ∷ lines) h = line_after prefix fields more lines h.1
 
 pub line_not_bad : (fields : Fields) (line : OrderLine) → IsLineRecord fields line → (i : ℕ) → IsBadLine fields i → ⊥
 line_not_bad fields line is i bad =
@@ -139,7 +139,7 @@ no_orders_fault text lines is row field fault =
           let rows : is.rows ≡ f.rows ++ f.fields ∷ p.0 = rows_tail p.1 ∙ append_assoc f.rows (f.fields ∷ []) p.0 in
           elim f.bad [
             | inl b ↦
-                let l = line_behind f.rows f.fields p.0 lines (subst (λ r. AreLineRecords r lines) rows is.are_lines) in
+                let l = line_after f.rows f.fields p.0 lines (subst (λ r. AreLineRecords r lines) rows is.are_lines) in
                 line_not_bad f.fields l.0 l.1 field b.1
             | inr b ↦ omega (arith, ap length rows, length-append f.rows (f.fields ∷ p.0), f.number, b.0, is.few)
           ]

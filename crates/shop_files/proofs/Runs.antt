@@ -9,7 +9,7 @@ use Rattle.std.specs.Char.{digit_value}
 use Rattle.std.proofs.lemmas.Bool.Decides.{nat_tests}
 use Rattle.shop_files.specs.Runs.{DigitRun, is_digit, with_digit, runs_from}
 
--- the first run, if there is one, stands at this place or behind it
+-- the first run, if there is one, stands at this place or after it
 abbrev pub BeginsFrom : ℕ → List DigitRun → Type 0
 BeginsFrom place [] = Unit {0}
 BeginsFrom place (run ∷ more) = place ≤ run.place
@@ -33,10 +33,10 @@ begins_from (b ∷ bs) place =
     either (BeginsFrom place) (is_digit b) _ _ (begins_with (runs_from (suc place) bs) place b)
     (begins_before (runs_from (suc place) bs) place (suc place) (omega arith) (begins_from bs (suc place)))
 
-begins_behind_gap : (bs : List ℕ) (place : ℕ) → (0 < length bs → is_digit (get_or bs 0 0) ≡ false) → BeginsFrom (suc place) (runs_from place bs)
+begins_after_gap : (bs : List ℕ) (place : ℕ) → (0 < length bs → is_digit (get_or bs 0 0) ≡ false) → BeginsFrom (suc place) (runs_from place bs)
 unfolding runs_from
-begins_behind_gap [] place gap = tt
-begins_behind_gap (b ∷ bs) place gap = rw (gap (omega arith)) (begins_from bs (suc place))
+begins_after_gap [] place gap = tt
+begins_after_gap (b ∷ bs) place gap = rw (gap (omega arith)) (begins_from bs (suc place))
 
 alone : (rs : List DigitRun) (place b : ℕ) → BeginsFrom (suc (suc place)) rs → with_digit place b rs ≡ record { place = place; digits = b ∷ [] } ∷ rs
 alone [] place b far = refl
@@ -53,19 +53,19 @@ skips (suc n) [] place le gap = absurd (omega arith)
 skips (suc n) (b ∷ bs) place le gap =
     rw (gap 0 (omega arith)) (skips n bs (suc place) (omega arith) (λ i l. gap (suc i) (omega arith)) ∙ ap (λ p. runs_from p (drop n bs)) (omega arith))
 
--- digits with none behind them are a run
+-- digits with none after them are a run
 pub run_here : (k : ℕ) (bs : List ℕ) (place : ℕ) → suc k ≤ length bs → ((i : ℕ) → i < suc k → is_digit (get_or bs i 0) ≡ true)
     → (suc k < length bs → is_digit (get_or bs (suc k) 0) ≡ false)
     → runs_from place bs ≡ record { place = place; digits = take (suc k) bs } ∷ runs_from (place + suc k) (drop (suc k) bs)
 unfolding runs_from
-run_here k [] place le digits behind = absurd (omega arith)
-run_here zero (b ∷ bs) place le digits behind =
+run_here k [] place le digits after = absurd (omega arith)
+run_here zero (b ∷ bs) place le digits after =
     rw (digits 0 (lit< tt))
-    (alone (runs_from (suc place) bs) place b (begins_behind_gap bs (suc place) (λ l. behind (omega arith)))
+    (alone (runs_from (suc place) bs) place b (begins_after_gap bs (suc place) (λ l. after (omega arith)))
     ∙ ap (λ p. record { place = place; digits = b ∷ [] } ∷ runs_from p bs) (omega arith))
-run_here (suc k) (b ∷ bs) place le digits behind =
+run_here (suc k) (b ∷ bs) place le digits after =
     rw (digits 0 (omega arith))
-    (ap (with_digit place b) (run_here k bs (suc place) (omega arith) (λ i l. digits (suc i) (omega arith)) (λ l. behind (omega arith)))
+    (ap (with_digit place b) (run_here k bs (suc place) (omega arith) (λ i l. digits (suc i) (omega arith)) (λ l. after (omega arith)))
     ∙ joined place b (take (suc k) bs) (runs_from (suc place + suc k) (drop (suc k) bs))
     ∙ ap (λ p. record { place = place; digits = b ∷ take (suc k) bs } ∷ runs_from p (drop (suc k) bs)) (omega arith))
 
@@ -77,7 +77,7 @@ first_digit : (place b : ℕ) (rs : List DigitRun) → (run : DigitRun) × (more
 first_digit place b [] = (record { place = place; digits = b ∷ [] }, [], refl, refl)
 first_digit place b (r ∷ rs) = either (λ l. (run : DigitRun) × (more : List DigitRun) × (l ≡ run ∷ more) × (run.place ≡ place)) (r.place == suc place) _ _ (_, _, refl, refl) (_, _, refl, refl)
 
--- a run begins where a digit stands behind what isn't read
+-- a run begins where a digit stands after what isn't read
 pub run_first : (bs : List ℕ) (place : ℕ) → 0 < length bs → is_digit (get_or bs 0 0) ≡ true → (run : DigitRun) × (more : List DigitRun) × (runs_from place bs ≡ run ∷ more) × (run.place ≡ place)
 unfolding runs_from
 run_first [] place some digit = absurd (omega arith)
@@ -94,16 +94,16 @@ pub all_digits : (ds : List ℕ) → ((i : ℕ) → i < length ds → is_digit (
 all_digits [] h = tt
 all_digits (d ∷ ds) h = (digit_below d (h 0 (omega arith)), all_digits ds (λ i l. h (suc i) (omega arith)))
 
--- the same of the front of a text's bytes
-pub front_digits : (n : ℕ) (bs : List ℕ) → n ≤ length bs → ((i : ℕ) → i < n → is_digit (get_or bs i 0) ≡ true) → AllDigits 10 (take n bs)
-front_digits zero bs le h = tt
-front_digits (suc n) [] le h = absurd (omega arith)
-front_digits (suc n) (b ∷ bs) le h = (digit_below b (h 0 (omega arith)), front_digits n bs (omega arith) (λ i l. h (suc i) (omega arith)))
+-- the same of the prefix of a text's bytes
+pub prefix_digits : (n : ℕ) (bs : List ℕ) → n ≤ length bs → ((i : ℕ) → i < n → is_digit (get_or bs i 0) ≡ true) → AllDigits 10 (take n bs)
+prefix_digits zero bs le h = tt
+prefix_digits (suc n) [] le h = absurd (omega arith)
+prefix_digits (suc n) (b ∷ bs) le h = (digit_below b (h 0 (omega arith)), prefix_digits n bs (omega arith) (λ i l. h (suc i) (omega arith)))
 
 pub run_text : (n : ℕ) (text : List ℕ) (place : ℕ) → 0 < n → n ≤ length (drop place text) → ((i : ℕ) → i < n → is_digit (get_or (drop place text) i 0) ≡ true)
     → (n < length (drop place text) → is_digit (get_or (drop place text) n 0) ≡ false)
     → runs_from place (drop place text) ≡ record { place = place; digits = take n (drop place text) } ∷ runs_from (place + n) (drop (place + n) text)
-run_text zero text place some le digits behind = absurd (omega arith)
-run_text (suc k) text place some le digits behind =
-    run_here k (drop place text) place le digits behind
+run_text zero text place some le digits after = absurd (omega arith)
+run_text (suc k) text place some le digits after =
+    run_here k (drop place text) place le digits after
     ∙ ap (λ l. record { place = place; digits = take (suc k) (drop place text) } ∷ runs_from (place + suc k) l) (drop-drop (suc k) place text)

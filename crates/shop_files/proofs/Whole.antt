@@ -16,7 +16,7 @@ use Rattle.shop_files.specs.declared.problems.TextCause.{TextCause}
 use Rattle.shop_files.specs.declared.problems.TextCause.TheVariants.{Long, Byte, Number, Short, NoMemory}
 use Rattle.shop_files.specs.Runs.{DigitRun, value_of, runs_of}
 use Rattle.shop_files.specs.Problems.{IsPiece, ArePieces, fits, most_at, AllFit, wanted, IsNumbers, IsOneTooMany, IsProblem, IsProblemFault, Stops, ReadsRuns, HasNumber, HasPieces, runs_at, piece_numbers, numbers_of, is_problem_byte}
-use Rattle.shop_files.proofs.Numbers.{reads_on, stops_behind, most_w, most_h, most_count, most_worth}
+use Rattle.shop_files.proofs.Numbers.{reads_on, stops_after, most_w, most_h, most_count, most_worth}
 
 pub wanted_some : (runs : List DigitRun) → 3 ≤ wanted runs
 wanted_some [] = omega arith
@@ -28,12 +28,12 @@ wanted_some (run ∷ more) = least (fits 0 run) (value_of run) where
 wanted_is : (runs : List DigitRun) (run : DigitRun) (more : List DigitRun) → runs ≡ run ∷ more → fits 0 run ≡ true → wanted runs ≡ 3 + 4 * value_of run
 wanted_is runs run more is fit = ap wanted is ∙ rw fit refl
 
-pub fault_of : (text : List ℕ) (offset : ℕ) (cause : TextCause) → IsNumbers text → Stops 0 (runs_of text) (length text) (wanted (runs_of text)) offset cause → IsProblemFault text offset cause
-fault_of text offset Number numbers h = (numbers, h)
-fault_of text offset Short numbers h = (numbers, h.0, h.1)
-fault_of text offset Long numbers h = absurd h
-fault_of text offset Byte numbers h = absurd h
-fault_of text offset NoMemory numbers h = absurd h
+pub number_fault : (text : List ℕ) (offset : ℕ) (cause : TextCause) → IsNumbers text → Stops 0 (runs_of text) (length text) (wanted (runs_of text)) offset cause → IsProblemFault text offset cause
+number_fault text offset Number numbers h = (numbers, h)
+number_fault text offset Short numbers h = (numbers, h.0, h.1)
+number_fault text offset Long numbers h = absurd h
+number_fault text offset Byte numbers h = absurd h
+number_fault text offset NoMemory numbers h = absurd h
 
 in_range : (i most : ℕ) (run : DigitRun) → fits i run ≡ true → most_at i ≡ most → (1 ≤ value_of run) × (value_of run ≤ most)
 in_range i most run fit is =
@@ -42,9 +42,9 @@ in_range i most run fit is =
 
 -- the count and the sides were read
 pub record Head (text : List ℕ) (count w h next : ℕ) : Type 0 where
-  pub front : List DigitRun
-  pub values : map value_of front ≡ count ∷ w ∷ h ∷ []
-  pub reads : ReadsRuns 0 text 0 front next
+  pub prefix : List DigitRun
+  pub values : map value_of prefix ≡ count ∷ w ∷ h ∷ []
+  pub reads : ReadsRuns 0 text 0 prefix next
   pub most : wanted (runs_of text) ≡ 3 + 4 * count
   pub width : (1 ≤ w) × (w ≤ 200000)
   pub height : (1 ≤ h) × (h ≤ 60000)
@@ -57,7 +57,7 @@ head_read text count w h a b c p q r =
     let width = in_range 1 200000 q.0 second.fit.0 refl in
     let height = in_range 2 60000 r.0 third.fit.0 refl in
     record {
-      front = p.0 ∷ q.0 ∷ r.0 ∷ [];
+      prefix = p.0 ∷ q.0 ∷ r.0 ∷ [];
       values = rw (p.1, q.1, r.1) refl;
       reads = reads_on 0 text 0 (p.0 ∷ []) a (q.0 ∷ r.0 ∷ []) c first (reads_on 1 text a (q.0 ∷ []) b (r.0 ∷ []) c second third);
       most = wanted_is (runs_of text) p.0 (runs_at text a) first.runs first.fit.0 ∙ ap (λ n. 3 + 4 * n) p.1;
@@ -66,36 +66,36 @@ head_read text count w h a b c p q r =
     }
 
 module _ (text : List ℕ) (count w h mid : ℕ) (head : Head text count w h mid) where
-  three : 0 + length head.front ≡ 3
-  three = omega (arith, length-map head.front value_of, ap length head.values)
+  three : 0 + length head.prefix ≡ 3
+  three = omega (arith, length-map head.prefix value_of, ap length head.values)
 
   pub stops_in_pieces : (offset : ℕ) (cause : TextCause) → Stops 3 (runs_at text mid) (length text) (3 + 4 * count) offset cause → Stops 0 (runs_of text) (length text) (wanted (runs_of text)) offset cause
   stops_in_pieces offset cause s =
-      stops_behind 0 (runs_of text) head.front (runs_at text mid) (length text) (wanted (runs_of text)) offset cause head.reads.runs head.reads.fit
+      stops_after 0 (runs_of text) head.prefix (runs_at text mid) (length text) (wanted (runs_of text)) offset cause head.reads.runs head.reads.fit
       (subst (λ i. Stops i (runs_at text mid) (length text) (wanted (runs_of text)) offset cause) (sym three)
       (subst (λ n. Stops 3 (runs_at text mid) (length text) n offset cause) (sym head.most) s))
 
   module _ (pieces : List Piece) (end : ℕ) (rest : HasPieces text mid count pieces end) where
-    all_read : ReadsRuns 0 text 0 (head.front ++ rest.0) end
-    all_read = reads_on 0 text 0 head.front mid rest.0 end head.reads (subst (λ i. ReadsRuns i text mid rest.0 end) (sym three) rest.4)
+    all_read : ReadsRuns 0 text 0 (head.prefix ++ rest.0) end
+    all_read = reads_on 0 text 0 head.prefix mid rest.0 end head.reads (subst (λ i. ReadsRuns i text mid rest.0 end) (sym three) rest.4)
 
-    all_values : map value_of (head.front ++ rest.0) ≡ count ∷ w ∷ h ∷ flat_map piece_numbers pieces
-    all_values = map-append value_of head.front rest.0 ∙ ap (λ l. l ++ map value_of rest.0) head.values ∙ ap (λ l. count ∷ w ∷ h ∷ l) rest.1
+    all_values : map value_of (head.prefix ++ rest.0) ≡ count ∷ w ∷ h ∷ flat_map piece_numbers pieces
+    all_values = map-append value_of head.prefix rest.0 ∙ ap (λ l. l ++ map value_of rest.0) head.values ∙ ap (λ l. count ∷ w ∷ h ∷ l) rest.1
 
     pub too_many : (place : ℕ) (run : DigitRun) (more : List DigitRun) → runs_at text end ≡ run ∷ more → run.place ≡ place → IsOneTooMany (runs_of text) (wanted (runs_of text)) place
     too_many place run more is at = (
-      head.front ++ rest.0,
+      head.prefix ++ rest.0,
       run,
       more,
-      all_read.runs ∙ ap (λ l. (head.front ++ rest.0) ++ l) is,
+      all_read.runs ∙ ap (λ l. (head.prefix ++ rest.0) ++ l) is,
       all_read.fit,
-      omega (arith, length-append head.front rest.0, three, rest.3, head.most),
+      omega (arith, length-append head.prefix rest.0, three, rest.3, head.most),
       at,
     )
 
     pub whole : IsNumbers text → runs_at text end ≡ [] → IsProblem text (record { w = w; h = h }) pieces
     whole numbers none =
-        let runs : runs_of text ≡ head.front ++ rest.0 = all_read.runs ∙ ap (λ l. (head.front ++ rest.0) ++ l) none ∙ append-nil (head.front ++ rest.0) in
+        let runs : runs_of text ≡ head.prefix ++ rest.0 = all_read.runs ∙ ap (λ l. (head.prefix ++ rest.0) ++ l) none ∙ append-nil (head.prefix ++ rest.0) in
         record {
           short = numbers.0;
           bytes = numbers.1;
@@ -148,11 +148,11 @@ one_problem text s t ps qs a b =
     let e = sym a.numbers ∙ b.numbers in
     (same_size s t (head_of (tail_of e)) (head_of (tail_of (tail_of e))), same_pieces ps qs (tail_of (tail_of (tail_of e))))
 
-fit_at : (i : ℕ) (front : List DigitRun) (run : DigitRun) (more : List DigitRun) → AllFit i (front ++ run ∷ more) → fits (i + length front) run ≡ true
+fit_at : (i : ℕ) (prefix : List DigitRun) (run : DigitRun) (more : List DigitRun) → AllFit i (prefix ++ run ∷ more) → fits (i + length prefix) run ≡ true
 fit_at i [] run more h = let e : i ≡ i + 0 = omega arith in subst (λ n. fits n run ≡ true) e h.0
-fit_at i (x ∷ front) run more h =
-    let e : suc i + length front ≡ i + suc (length front) = omega arith in
-    subst (λ n. fits n run ≡ true) e (fit_at (suc i) front run more h.1)
+fit_at i (x ∷ prefix) run more h =
+    let e : suc i + length prefix ≡ i + suc (length prefix) = omega arith in
+    subst (λ n. fits n run ≡ true) e (fit_at (suc i) prefix run more h.1)
 
 flat_length : (ps : List Piece) → length (flat_map piece_numbers ps) ≡ 4 * length ps
 flat_length [] = refl

@@ -97,7 +97,7 @@ IsHeaderFault text i =
     ⊎ ((length text ≤ LONGEST_TEXT) × AllRecords text [] × (i ≡ 7))
     ⊎ ((length text ≤ LONGEST_TEXT) × ((fields : Fields) × FirstRecords text (fields ∷ []) × IsBadHeader fields i))
 
--- behind n good records the next is bad, at field i
+-- after n good records the next is bad, at field i
 pub record IsLineFault (text : List ℕ) (n i : ℕ) : Type 0 where
   pub short : length text ≤ LONGEST_TEXT
   pub rows : List Fields

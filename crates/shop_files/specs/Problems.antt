@@ -55,15 +55,15 @@ IsPiece p = (1 ≤ p.w) × (p.w ≤ MOST_WIDTH) × (1 ≤ p.h) × (p.h ≤ MOST_
 abbrev pub ArePieces : List Piece → Type 0
 ArePieces pieces = (1 ≤ length pieces) × (length pieces ≤ MOST_PIECES) × AllByRecursion IsPiece pieces
 
--- the runs, of which the first has index i, go on with `front`, which is in range, and then with a run at this place
+-- the runs, of which the first has index i, go on with `prefix`, which is in range, and then with a run at this place
 abbrev pub ComesTo : ℕ → List DigitRun → List DigitRun → ℕ → Type 0
-ComesTo i runs front place = AllFit i front × ((run : DigitRun) × (more : List DigitRun) × (runs ≡ front ++ run ∷ more) × (run.place ≡ place))
+ComesTo i runs prefix place = AllFit i prefix × ((run : DigitRun) × (more : List DigitRun) × (runs ≡ prefix ++ run ∷ more) × (run.place ≡ place))
 
 -- a number before the `most`th is out of range, the first of them at this place
 abbrev pub IsBadNumber : ℕ → List DigitRun → ℕ → ℕ → Type 0
 IsBadNumber i runs most place =
-    (front : List DigitRun) × (run : DigitRun) × (more : List DigitRun) × (runs ≡ front ++ run ∷ more)
-    × AllFit i front × (i + length front < most) × (fits (i + length front) run ≡ false) × (run.place ≡ place)
+    (prefix : List DigitRun) × (run : DigitRun) × (more : List DigitRun) × (runs ≡ prefix ++ run ∷ more)
+    × AllFit i prefix × (i + length prefix < most) × (fits (i + length prefix) run ≡ false) × (run.place ≡ place)
 
 -- the runs are in range and fewer
 abbrev pub AreFew : ℕ → List DigitRun → ℕ → Type 0
@@ -72,8 +72,8 @@ AreFew i runs most = AllFit i runs × (i + length runs < most)
 -- so many numbers are in range, and one more follows, at this place
 abbrev pub IsOneTooMany : List DigitRun → ℕ → ℕ → Type 0
 IsOneTooMany runs most place =
-    (front : List DigitRun) × (run : DigitRun) × (more : List DigitRun) × (runs ≡ front ++ run ∷ more)
-    × AllFit 0 front × (length front ≡ most) × (run.place ≡ place)
+    (prefix : List DigitRun) × (run : DigitRun) × (more : List DigitRun) × (runs ≡ prefix ++ run ∷ more)
+    × AllFit 0 prefix × (length prefix ≡ most) × (run.place ≡ place)
 
 -- each byte before this place is one of a problem's, and the one there isn't
 abbrev pub IsBadByte : List ℕ → ℕ → Type 0
@@ -98,9 +98,9 @@ abbrev pub runs_at : List ℕ → ℕ → List DigitRun
 runs_at text at = runs_from at (drop at text)
 
 -- the runs from a place on are these, in range from an index on, and those from another place on
-pub record ReadsRuns (i : ℕ) (text : List ℕ) (at : ℕ) (front : List DigitRun) (next : ℕ) : Type 0 where
-  pub runs : runs_at text at ≡ front ++ runs_at text next
-  pub fit : AllFit i front
+pub record ReadsRuns (i : ℕ) (text : List ℕ) (at : ℕ) (prefix : List DigitRun) (next : ℕ) : Type 0 where
+  pub runs : runs_at text at ≡ prefix ++ runs_at text next
+  pub fit : AllFit i prefix
   pub within : next ≤ length text
 
 -- what is wrong with the runs from index i on, of a text of this length that has so many numbers
@@ -122,9 +122,9 @@ HasNumber text at most value next = (run : DigitRun) × (value_of run ≡ value)
 -- a piece's numbers were read
 abbrev pub HasPiece : List ℕ → (at : ℕ) → Piece → (next : ℕ) → Type 0
 HasPiece text at piece next =
-    (front : List DigitRun) × (map value_of front ≡ piece_numbers piece) × ((i : ℕ) → i % 4 ≡ 3 → ReadsRuns i text at front next)
+    (prefix : List DigitRun) × (map value_of prefix ≡ piece_numbers piece) × ((i : ℕ) → i % 4 ≡ 3 → ReadsRuns i text at prefix next)
 
 -- so many pieces' numbers were read
 abbrev pub HasPieces : List ℕ → (at count : ℕ) → List Piece → (next : ℕ) → Type 0
 HasPieces text at count pieces next =
-    (front : List DigitRun) × (map value_of front ≡ flat_map piece_numbers pieces) × (length pieces ≡ count) × (length front ≡ 4 * count) × ReadsRuns 3 text at front next
+    (prefix : List DigitRun) × (map value_of prefix ≡ flat_map piece_numbers pieces) × (length pieces ≡ count) × (length prefix ≡ 4 * count) × ReadsRuns 3 text at prefix next

@@ -13,7 +13,7 @@ pub record DigitRun : Type 0 where
 abbrev pub value_of : DigitRun → ℕ
 value_of run = digits_value 10 run.digits
 
--- the runs with a digit before them, at this place: it begins the first run where that stands right behind it
+-- the runs with a digit before them, at this place: it begins the first run where that stands right after it
 abbrev pub with_digit : ℕ → ℕ → List DigitRun → List DigitRun
 with_digit place b [] = record { place = place; digits = b ∷ [] } ∷ []
 with_digit place b (run ∷ more) =

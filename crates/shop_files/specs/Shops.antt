@@ -71,20 +71,20 @@ pub record HasList (text : List ℕ) (list : List Data) : Type 0 where
   pub few : length list ≤ MOST_ENTRIES
 
 -- the text spells the entries
-pub record IsShop (text : List ℕ) (entries : List MaterialEntry) : Type 0 where
+pub record IsShopFile (text : List ℕ) (entries : List MaterialEntry) : Type 0 where
   pub list : List Data
   pub has_list : HasList text list
   pub are_entries : AreEntries list entries
 
 -- the value at place n is no entry, and those before it are
 pub record IsBadEntry (text : List ℕ) (n : ℕ) : Type 0 where
-  pub front : List Data
+  pub prefix : List Data
   pub entries : List MaterialEntry
   pub value : Data
   pub more : List Data
-  pub has_list : HasList text (front ++ value ∷ more)
-  pub are_entries : AreEntries front entries
-  pub number : length front ≡ n
+  pub has_list : HasList text (prefix ++ value ∷ more)
+  pub are_entries : AreEntries prefix entries
+  pub number : length prefix ≡ n
   pub bad : (entry : MaterialEntry) → IsEntry value entry → ⊥
 
 -- the text's first fault, or that memory ran out

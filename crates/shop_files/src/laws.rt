@@ -4,7 +4,7 @@ ghost use Rattle.std.specs.Prelude.{◌≡◌, ℕ, List};
 ghost use Rattle.cut_measure.specs.Measures.{Extent};
 ghost use Rattle.shop_files.specs.Problems.{IsProblem, IsProblemFault};
 ghost use Rattle.shop_files.specs.Orders.{IsOrders, IsOrdersFault};
-ghost use Rattle.shop_files.specs.Shops.{IsShop, IsShopFault};
+ghost use Rattle.shop_files.specs.Shops.{IsShopFile, IsShopFault};
 ghost use Rattle.shop_files.specs.declared.problems.Piece.{Piece};
 ghost use Rattle.shop_files.specs.declared.problems.TextCause.{TextCause};
 ghost use Rattle.shop_files.specs.declared.problems.TextCause.TheVariants as problem;
@@ -31,5 +31,5 @@ pub fn one_first_fault()
         → (b ≡ shop.NoMemory → ⊥)
         → IsShopFault text a → IsShopFault text b → a ≡ b }
     ensures spelled_shop { (text : List ℕ) (entries : List MaterialEntry) (fault : ShopFault)
-        → IsShop text entries → IsShopFault text fault → fault ≡ shop.NoMemory }
+        → IsShopFile text entries → IsShopFault text fault → fault ≡ shop.NoMemory }
 {}

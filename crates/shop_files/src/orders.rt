@@ -1,4 +1,4 @@
-//! Order files: records in CSV behind a header, each a line of an order.
+//! Order files: records in CSV after a header, each a line of an order.
 
 ghost use Rattle.std.specs.Prelude.{◌≡◌, ◌≢◌, ◌≤◌, ◌<◌, ◌+◌, ◌^◌, ◌⊎◌, ℕ, List, [], ◌∷◌, ◌++◌, IfOk, IfErr, MatchOption, MatchResult, IsTrue, ◌↔◌, Bool, Some, true, false, codes, get_or, length};
 ghost use Rattle.csv.specs.Records.{fields_of, field_at};
@@ -185,7 +185,7 @@ fn next_row(reader: &mut Reader<&[u8]>, record: &mut ByteRecord) -> Result<bool,
     Ok(found)
 }
 
-// Reads the lines behind the header.
+// Reads the lines after the header.
 fn read_lines(
     alloc: Global,
     reader: &mut Reader<&[u8]>,
@@ -254,7 +254,7 @@ fn orders_of(alloc: Global, text: &[u8]) -> Result<RowList<OrderLine>, OrdersFau
     read_lines(alloc, &mut reader, &mut record)
 }
 
-/// The order lines of a text: at most 200 records behind the header `line,material,length,width,turn,count,worth`.
+/// The order lines of a text: at most 200 records after the header `line,material,length,width,turn,count,worth`.
 /// `line`, `count` and `worth` are one to ten digits of a number of 32 bits, `material` is a code, `length` and `width`
 /// are lengths in millimetres, and `turn` is `yes` or `no`.
 pub fn read_orders(alloc: Global, text: &[u8]) -> Result<RowList<OrderLine>, OrdersFault>

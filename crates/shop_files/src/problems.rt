@@ -74,7 +74,7 @@ fn gap_len(bytes: &[u8]) -> usize
 fn digits_len(bytes: &[u8]) -> usize
     ensures within { result ≤ length bytes.now }
     ensures digits { (i : ℕ) → i < result → is_digit (get_or bytes.now i 0) ≡ true }
-    ensures behind { result < length bytes.now → is_digit (get_or bytes.now result 0) ≡ false }
+    ensures after { result < length bytes.now → is_digit (get_or bytes.now result 0) ≡ false }
 {
     match bytes.iter().position(|b| !b.is_ascii_digit()) {
         Some(n) => n,
@@ -96,7 +96,7 @@ fn digits_of(bytes: &[u8]) -> &[u8]
         × (result.now ≡ take (length result.now) bytes.now) }
     ensures digits { (i : ℕ) → i < length result.now → is_digit (get_or bytes.now i 0) ≡ true }
     ensures all { AllDigits 10 result.now }
-    ensures behind { length result.now < length bytes.now
+    ensures after { length result.now < length bytes.now
         → is_digit (get_or bytes.now (length result.now) 0) ≡ false }
 {
     bytes.split_at(digits_len(bytes)).0
@@ -141,7 +141,7 @@ fn number_within(digits: &[u8], most: u32) -> Option<u32>
     }
 }
 
-// The next number from a place on, of at most so much, and the place behind it.
+// The next number from a place on, of at most so much, and the place after it.
 fn number_at(text: &[u8], at: usize, most: u32) -> Result<(u32, usize), TextFault>
     requires { at ≤ length text.now }
     ensures within { IfOk result (λ r. r.1 ≤ length text.now) }
@@ -166,7 +166,7 @@ fn number_at(text: &[u8], at: usize, most: u32) -> Result<(u32, usize), TextFaul
     }
 }
 
-// The numbers of a piece from a place on, and the place behind them.
+// The numbers of a piece from a place on, and the place after them.
 fn piece_at(text: &[u8], at: usize) -> Result<(Piece, usize), TextFault>
     requires { at ≤ length text.now }
     ensures within { IfOk result (λ r. r.1 ≤ length text.now) }
@@ -174,15 +174,15 @@ fn piece_at(text: &[u8], at: usize) -> Result<(Piece, usize), TextFault>
     ensures err { IfErr result (λ f. (i wanted : ℕ) → i % 4 ≡ 3 → i + 3 < wanted
         → Stops i (runs_at text.now at) (length text.now) wanted f.offset f.cause) }
 {
-    let (w, behind_w) = number_at(text, at, MOST_WIDTH)?;
-    let (h, behind_h) = number_at(text, behind_w, MOST_HEIGHT)?;
-    let (most, behind_most) = number_at(text, behind_h, MOST_COUNT)?;
-    let (worth, next) = number_at(text, behind_most, MOST_WORTH)?;
+    let (w, after_w) = number_at(text, at, MOST_WIDTH)?;
+    let (h, after_h) = number_at(text, after_w, MOST_HEIGHT)?;
+    let (most, after_most) = number_at(text, after_h, MOST_COUNT)?;
+    let (worth, next) = number_at(text, after_most, MOST_WORTH)?;
     let piece = Piece { w, h, most, worth };
     Ok((piece, next))
 }
 
-// The pieces of so many from a place on, and the place behind them.
+// The pieces of so many from a place on, and the place after them.
 fn pieces_at(
     alloc: Global,
     text: &[u8],
@@ -198,14 +198,14 @@ fn pieces_at(
     let mut pieces = RowList::new(alloc);
     let mut next = at;
     for _ in 0..count {
-        let (piece, behind) = piece_at(text, next)?;
+        let (piece, after) = piece_at(text, next)?;
         if pieces.push(piece).is_err() {
             return Err(TextFault {
                 offset: 0,
                 cause: TextCause::NoMemory,
             });
         }
-        next = behind;
+        next = after;
     }
     Ok((pieces, next))
 }
@@ -216,10 +216,10 @@ fn problem_in(alloc: Global, text: &[u8]) -> Result<Problem, TextFault>
     ensures ok { IfOk result (λ p. IsProblem text.now p.size p.pieces) }
     ensures err { IfErr result (λ f. IsProblemFault text.now f.offset f.cause) }
 {
-    let (count, behind_count) = number_at(text, 0, MOST_PIECES)?;
-    let (w, behind_w) = number_at(text, behind_count, MOST_WIDTH)?;
-    let (h, behind_h) = number_at(text, behind_w, MOST_HEIGHT)?;
-    let (pieces, end) = pieces_at(alloc, text, behind_h, count)?;
+    let (count, after_count) = number_at(text, 0, MOST_PIECES)?;
+    let (w, after_w) = number_at(text, after_count, MOST_WIDTH)?;
+    let (h, after_h) = number_at(text, after_w, MOST_HEIGHT)?;
+    let (pieces, end) = pieces_at(alloc, text, after_h, count)?;
     if let Some(place) = next_place(text, end) {
         return Err(TextFault {
             offset: place,

@@ -3,7 +3,7 @@
 ghost use Rattle.std.specs.Prelude.{◌≡◌, ◌≤◌, ◌<◌, ◌+◌, ◌⊎◌, ◌↔◌, IsTrue, ℕ, List, [], ◌∷◌, ◌++◌, IfOk, IfErr, IfSome, IsNone, MatchOption, MatchResult, Some, true, false, codes, length, map, option_map, option_and_then, IsUtf8};
 ghost use Rattle.toml.specs.Data.{Data, Items, Members, array, as_str, get_member};
 ghost use Rattle.toml.specs.View.{view, items_view, table_view};
-ghost use Rattle.shop_files.specs.Shops.{IsDocument, IsList, HasList, HasLength, kind_word, IsEntry, IsEntryTable, AreEntries, IsShop, IsShopFault, count};
+ghost use Rattle.shop_files.specs.Shops.{IsDocument, IsList, HasList, HasLength, kind_word, IsEntry, IsEntryTable, AreEntries, IsShopFile, IsShopFault, count};
 ghost use Rattle.shop_files.specs.declared.shops.ShopFault.TheVariants.{Text, NoMemory};
 
 use crate::limits::{LONGEST_TEXT, MOST_ENTRIES};
@@ -181,7 +181,7 @@ fn document_of(alloc: Global, text: &[u8]) -> Result<Table, ShopFault>
 
 // The entries or the first fault.
 fn shop_of(alloc: Global, text: &[u8]) -> Result<RowList<MaterialEntry>, ShopFault>
-    ensures ok { IfOk result (λ entries. IsShop text.now entries) }
+    ensures ok { IfOk result (λ entries. IsShopFile text.now entries) }
     ensures err { IfErr result (λ f. IsShopFault text.now f) }
 {
     if text.len() > LONGEST_TEXT {
@@ -201,9 +201,9 @@ fn shop_of(alloc: Global, text: &[u8]) -> Result<RowList<MaterialEntry>, ShopFau
 /// tables. Each has the five keys `code`, `kind` (`bar` or `sheet`), `kerf`, `min_long` and `min_short`, the last three
 /// being lengths in millimetres.
 pub fn read_shop(alloc: Global, text: &[u8]) -> Result<RowList<MaterialEntry>, ShopFault>
-    ensures spelled { IfOk result (λ entries. IsShop text.now entries) }
+    ensures spelled { IfOk result (λ entries. IsShopFile text.now entries) }
     ensures fault { IfErr result (λ f. IsShopFault text.now f) }
-    ensures only { (entries : List MaterialEntry) → IsShop text.now entries
+    ensures only { (entries : List MaterialEntry) → IsShopFile text.now entries
         → MatchResult result (λ e. e ≡ entries) (λ f. f ≡ NoMemory) }
 {
     shop_of(alloc, text)

@@ -206,7 +206,7 @@ orders_json os h = rows_json order_row_data HasWideOrder order_json os h
 
 -- ---- how deep their replies are
 
--- an object with a list of objects first, and so many members behind it
+-- an object with a list of objects first, and so many members after it
 pub shallow_first_of_two : (n : ℕ) → n ≤ 1 → suc (max (suc n) (max 0 0)) ≤ 127
 shallow_first_of_two n h = let e : max (suc n) (max 0 0) ≤ 126 = max-le (omega (arith, h)) (omega arith) in omega (arith, e)
 

@@ -43,18 +43,18 @@ abbrev pub name_at : List ℕ → Data → Option Name
 name_at key d = option_and_then spelled_name (text_at key d)
 
 -- the name of a part that a text spells, and none in an empty text
-abbrev pub behind_of : List ℕ → Option (Option Name)
-behind_of text = if bytes_eq text (codes "") then Some None else option_map Some (spelled_name text)
+abbrev pub after_of : List ℕ → Option (Option Name)
+after_of text = if bytes_eq text (codes "") then Some None else option_map Some (spelled_name text)
 
-abbrev pub behind_at : List ℕ → Data → Option (Option Name)
-behind_at key d = option_and_then behind_of (text_at key d)
+abbrev pub after_at : List ℕ → Data → Option (Option Name)
+after_at key d = option_and_then after_of (text_at key d)
 
 -- the code that a text is, and none in an empty text
-abbrev pub code_behind_of : List ℕ → Option (Option (List ℕ))
-code_behind_of text = if bytes_eq text (codes "") then Some None else option_map Some (code_of text)
+abbrev pub code_after_of : List ℕ → Option (Option (List ℕ))
+code_after_of text = if bytes_eq text (codes "") then Some None else option_map Some (code_of text)
 
-abbrev pub code_behind_at : List ℕ → Data → Option (Option (List ℕ))
-code_behind_at key d = option_and_then code_behind_of (text_at key d)
+abbrev pub code_after_at : List ℕ → Data → Option (Option (List ℕ))
+code_after_at key d = option_and_then code_after_of (text_at key d)
 
 abbrev pub kind_of : List ℕ → Option Kind
 kind_of text = if bytes_eq text (codes "bar") then Some Bar else (if bytes_eq text (codes "sheet") then Some Sheet else None)

@@ -31,7 +31,7 @@ use Rattle.serde_json.specs.Read.{read}
 use Rattle.serde_json.specs.View.{items_of}
 use Rattle.serde_json.specs.Written.{compact_text}
 use Rattle.shop_forms.specs.Told.{HasWideSides, HasWideLimits, HasWidePart, HasWideDemand, HasWideJob, HasWideOrder}
-use Rattle.shop_forms.specs.Fields.{number_at, wide_at, numbers_at, flag_at, text_at, code_at, name_at, kind_at, behind_at, code_behind_at, has_keys, word_at, elements_at, all_of, row, kind_text, state_text, job_state_text, text_member, number_member, name_member, flag_member}
+use Rattle.shop_forms.specs.Fields.{number_at, wide_at, numbers_at, flag_at, text_at, code_at, name_at, kind_at, after_at, code_after_at, has_keys, word_at, elements_at, all_of, row, kind_text, state_text, job_state_text, text_member, number_member, name_member, flag_member}
 
 -- A command has a row of keys that is read, the keys that are printed but `terminal` and `number`, in byte order, and the same
 -- of the reply to it.
@@ -377,7 +377,7 @@ bound_told best units =
 
 abbrev pub parts_query : Data → Option Query
 parts_query d =
-    option_and_then (λ material. option_map (λ after. query.Parts material after) (behind_at (codes "after") d)) (code_at (codes "material") d)
+    option_and_then (λ material. option_map (λ after. query.Parts material after) (after_at (codes "after") d)) (code_at (codes "material") d)
 
 abbrev pub all_demands : Data → Option Query
 all_demands d = option_map (λ after. query.Demands after None) (number_at (codes "after") d)
@@ -400,7 +400,7 @@ abbrev pub terminal_query : Data → Option Query
 terminal_query d = option_map query.Terminal (number_at (codes "terminal") d)
 
 abbrev pub orders_query : Data → Option Query
-orders_query d = option_map query.Orders (code_behind_at (codes "after") d)
+orders_query d = option_map query.Orders (code_after_at (codes "after") d)
 
 abbrev pub lines_query : Data → Option Query
 lines_query d = option_map query.Lines (code_at (codes "order") d)
@@ -443,9 +443,9 @@ job_row_data j =
     object (number_member (codes "cuts") j.cuts (number_member (codes "h") j.h (number_member (codes "job") j.job
     (text_member (codes "material") j.material (name_member (codes "part") j.part (number_member (codes "w") j.w no_members))))))
 
--- what is told of rows behind a number: the list at its word, and whether others follow
-abbrev pub behind_told : {T : Type 0} → List ℕ → (T → Data) → List T → Bool → Data
-behind_told word said rows more =
+-- what is told of rows after a number: the list at its word, and whether others follow
+abbrev pub after_told : {T : Type 0} → List ℕ → (T → Data) → List T → Bool → Data
+after_told word said rows more =
     object (member word (rows_data said rows) (flag_member (codes "more") more (text_member (codes "ok") word no_members)))
 
 -- an order as an object, its keys in byte order
@@ -607,8 +607,8 @@ reply_data (reply.Plan ceiling dropped tree worth) = plan_told ceiling dropped t
 reply_data (reply.Bound best units) = bound_told best units
 reply_data (reply.Materials materials) = materials_told materials
 reply_data (reply.Parts material more parts) = parts_told material more parts
-reply_data (reply.Demands demands more) = behind_told (codes "demands") demand_row_data demands more
-reply_data (reply.Jobs jobs more) = behind_told (codes "jobs") job_row_data jobs more
+reply_data (reply.Demands demands more) = after_told (codes "demands") demand_row_data demands more
+reply_data (reply.Jobs jobs more) = after_told (codes "jobs") job_row_data jobs more
 reply_data (reply.Job cuts h job kerf material part state tree w) = job_told cuts h job kerf material part state tree w
 reply_data (reply.Terminal last terminal) = terminal_told last terminal
 reply_data (reply.Orders more orders) = orders_told more orders

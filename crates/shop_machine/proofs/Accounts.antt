@@ -11,18 +11,18 @@ use Rattle.shop_records.specs.declared.records.State.TheVariants.{Standing}
 use Rattle.shop_records.specs.declared.records.Job.{Job}
 use Rattle.shop_records.specs.Columns.{is_free}
 use Rattle.shop_records.specs.Content.{Content, material_at, part_at, job_at, in_state}
-use Rattle.shop_machine.specs.Machine.{Deed, Receives}
+use Rattle.shop_machine.specs.Machine.{Effect, Receives}
 use Rattle.shop_machine.specs.History.{ReceivedUnit, acts_in, acts_of, units_in, units_of, material_by, unit_material, material_rule, Reservation, job_of, Owner, stands_as, EachCellIsOwned, ordered_lines}
 use Rattle.shop_records.specs.Elements.{IsIn}
 use Rattle.shop_records.proofs.Basics.{nat_cases, name_cases, in_append, in_later, in_map}
 use Rattle.shop_machine.proofs.OrderedLines.{AskFor}
 
--- ---- what deeds say
+-- ---- what effects say
 
 -- a part came from a received unit and lies inside it
-pub record IsRow (deeds : List Deed) (p : Part) : Type 0 where
+pub record IsRow (effects : List Effect) (p : Part) : Type 0 where
   pub unit : ReceivedUnit
-  pub received : IsIn unit (units_of deeds)
+  pub received : IsIn unit (units_of effects)
   pub root : unit.name ≡ p.root
   pub material : unit.material ≡ p.material
   pub across : p.x + p.size.w ≤ unit.size.w
@@ -40,23 +40,23 @@ pub record IsWhole (parts : FinMap name_cmp Part) (unit : ReceivedUnit) : Type 0
 abbrev pub reservation : Job → Reservation
 reservation job = record { part = job.part; tree = job.plan.tree }
 
--- the content's rows are what the deeds says of them
-pub record Follows (deeds : List Deed) (content : Content) : Type 0 where
-  pub acts : content.last_act ≡ acts_of deeds
-  pub numbers : content.last_demand ≡ length (ordered_lines deeds)
-  pub lines : AskFor (ordered_lines deeds) content.demands
-  pub rules : (code : List ℕ) (m : Material) → material_at content code ≡ Some m → material_rule deeds code ≡ Some m.limits
-  pub rows : (n : Name) (p : Part) → part_at content n ≡ Some p → IsRow deeds p
-  pub jobs : (number : ℕ) (job : Job) → job_at content number ≡ Some job → job_of deeds number ≡ Some (reservation job)
-  pub wholes : (unit : ReceivedUnit) → IsIn unit (units_of deeds) → IsWhole content.parts unit
-  pub cells : EachCellIsOwned deeds content
+-- the content's rows are what the effects say of them
+pub record Follows (effects : List Effect) (content : Content) : Type 0 where
+  pub acts : content.last_act ≡ acts_of effects
+  pub numbers : content.last_demand ≡ length (ordered_lines effects)
+  pub lines : AskFor (ordered_lines effects) content.demands
+  pub rules : (code : List ℕ) (m : Material) → material_at content code ≡ Some m → material_rule effects code ≡ Some m.limits
+  pub rows : (n : Name) (p : Part) → part_at content n ≡ Some p → IsRow effects p
+  pub jobs : (number : ℕ) (job : Job) → job_at content number ≡ Some job → job_of effects number ≡ Some (reservation job)
+  pub wholes : (unit : ReceivedUnit) → IsIn unit (units_of effects) → IsWhole content.parts unit
+  pub cells : EachCellIsOwned effects content
 
 -- ---- units
 
 abbrev pub unit_of : List ℕ → List ℕ → Extent → ℕ → ℕ → ReceivedUnit
 unit_of material batch size act i = record { name = record { act = act; node = i }; material = material; batch = batch; size = size }
 
-unit_acts_by : (earlier : List Deed) (done : Deed) → ((u : ReceivedUnit) → IsIn u (units_of earlier) → u.name.act ≤ acts_of earlier)
+unit_acts_by : (earlier : List Effect) (done : Effect) → ((u : ReceivedUnit) → IsIn u (units_of earlier) → u.name.act ≤ acts_of earlier)
     → (u : ReceivedUnit) → IsIn u (units_in (acts_of earlier + 1) done ++ units_of earlier) → u.name.act ≤ acts_of earlier + acts_in done
 unit_acts_by earlier (Receives material batch size count) before u i =
     elim (in_append u (map (unit_of material batch size (acts_of earlier + 1)) (below count)) (units_of earlier) i) [
@@ -67,7 +67,7 @@ unit_acts_by earlier (Receives material batch size count) before u i =
     ]
 unit_acts_by earlier _ before u i = let h : u.name.act ≤ acts_of earlier = before u i in omega arith
 
-pub unit_acts : (deeds : List Deed) (u : ReceivedUnit) → IsIn u (units_of deeds) → u.name.act ≤ acts_of deeds
+pub unit_acts : (effects : List Effect) (u : ReceivedUnit) → IsIn u (units_of effects) → u.name.act ≤ acts_of effects
 unit_acts [] u i = absurd i
 unit_acts (done ∷ earlier) u i = unit_acts_by earlier done (unit_acts earlier) u i
 
@@ -77,7 +77,7 @@ if_yes m n a b e = elim (nat_cases m n) [ inl y ↦ ap (λ t. if t then a else b
 pub if_no : {X : Type 0} (m n : ℕ) (a b : X) → (m ≡ n → ⊥) → (if nat_eq m n then a else b) ≡ b
 if_no m n a b e = elim (nat_cases m n) [ inl y ↦ absurd (e y.0) | inr off ↦ ap (λ t. if t then a else b) off.1 ]
 
-unit_material_by : (earlier : List Deed) (done : Deed) → ((u : ReceivedUnit) → IsIn u (units_of earlier) → unit_material earlier u.name ≡ u.material)
+unit_material_by : (earlier : List Effect) (done : Effect) → ((u : ReceivedUnit) → IsIn u (units_of earlier) → unit_material earlier u.name ≡ u.material)
     → (u : ReceivedUnit) → IsIn u (units_in (acts_of earlier + 1) done ++ units_of earlier)
     → material_by done (acts_of earlier + 1) u.name (unit_material earlier u.name) ≡ u.material
 unit_material_by earlier (Receives material batch size count) before u i =
@@ -91,11 +91,11 @@ unit_material_by earlier (Receives material batch size count) before u i =
     ]
 unit_material_by earlier _ before u i = before u i
 
-pub material_is : (deeds : List Deed) (u : ReceivedUnit) → IsIn u (units_of deeds) → unit_material deeds u.name ≡ u.material
+pub material_is : (effects : List Effect) (u : ReceivedUnit) → IsIn u (units_of effects) → unit_material effects u.name ≡ u.material
 material_is [] u i = absurd i
 material_is (done ∷ earlier) u i = unit_material_by earlier done (material_is earlier) u i
 
-pub row_later : (done : Deed) (earlier : List Deed) (p : Part) → IsRow earlier p → IsRow (done ∷ earlier) p
+pub row_later : (done : Effect) (earlier : List Effect) (p : Part) → IsRow earlier p → IsRow (done ∷ earlier) p
 row_later done earlier p r = record {
   unit = r.unit;
   received = in_later r.unit (units_in (acts_of earlier + 1) done) (units_of earlier) r.received;
@@ -105,8 +105,8 @@ row_later done earlier p r = record {
   down = r.down;
 }
 
-pub row_restated : (deeds : List Deed) (p : Part) (s : State) → IsRow deeds p → IsRow deeds (in_state s p)
-row_restated deeds p s r = record { unit = r.unit; received = r.received; root = r.root; material = r.material; across = r.across; down = r.down }
+pub row_restated : (effects : List Effect) (p : Part) (s : State) → IsRow effects p → IsRow effects (in_state s p)
+row_restated effects p s r = record { unit = r.unit; received = r.received; root = r.root; material = r.material; across = r.across; down = r.down }
 
 pub stands_yes : (p : Name) (w : Owner) → w.name ≡ p → w.state ≡ Standing → stands_as p w ≡ true
 stands_yes p w e s =

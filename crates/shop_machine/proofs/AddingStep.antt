@@ -24,7 +24,7 @@ use Rattle.shop_records.specs.Soundness.{IsKnown, Fits, with_totals, IsSound}
 use Rattle.shop_records.specs.declared.changes.Change.{Change}
 use Rattle.shop_records.specs.Same.{same_kind}
 use Rattle.shop_machine.specs.Adding.{material_refusal, material_change, is_other, same_rule}
-use Rattle.shop_machine.specs.Machine.{keeping, Deed, Rules}
+use Rattle.shop_machine.specs.Machine.{keeping, Effect, Rules}
 use Rattle.shop_machine.specs.History.{acts_of, material_rule}
 use Rattle.shop_records.proofs.Basics.{codes_total, codes_same, names_total, names_same, key_cases, same_some, get_same, get_other}
 use Rattle.shop_records.proofs.Puts.{found_one, still_there, equal, not_both, some_known, sum_no_rows}
@@ -139,8 +139,8 @@ known_rule m kind rule e =
     let same = not-false (same_kind m.kind kind && same_rule m.limits rule) known.0 in
     same_rules m.limits rule (and_parts (same_kind m.kind kind) (same_rule m.limits rule) same).1
 
-module _ (texts : Texts) (message : Message) (earlier : List Deed) (old : Content) (sound : IsSound texts old) (f : Follows earlier old) where
-  abbrev Next : Deed → Change → Type 0
+module _ (texts : Texts) (message : Message) (earlier : List Effect) (old : Content) (sound : IsSound texts old) (f : Follows earlier old) where
+  abbrev Next : Effect → Change → Type 0
   Next = After texts message earlier old sound f
 
   module _ (material : List ℕ) (kind : Kind) (kerf min_long min_short : ℕ) where

@@ -15,7 +15,7 @@ either (Some r) p f g e = f e
 pub nothing : NoFault None
 nothing e = cc
 
--- a refusal of another kind, or what comes behind it
+-- a refusal of another kind, or what comes after it
 pub other : (b : Bool) (r : Refusal) (o : Option Refusal) → NoFault (Some r) → NoFault o → NoFault (if b then Some r else o)
 other true r o f g e = f e
 other false r o f g e = g e

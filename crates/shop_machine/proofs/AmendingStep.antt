@@ -20,7 +20,7 @@ use Rattle.shop_records.specs.declared.changes.Change.{Change}
 use Rattle.shop_records.specs.declared.messages.Command.TheVariants.{Amend}
 use Rattle.shop_records.specs.Readings.{Reading}
 use Rattle.shop_machine.specs.Amending.{amend_refusal, amended, amend_change}
-use Rattle.shop_machine.specs.Machine.{keeping, Deed, Amends, deeds}
+use Rattle.shop_machine.specs.Machine.{keeping, Effect, Amends, effects}
 use Rattle.shop_machine.specs.History.{acts_of, ordered_lines}
 use Rattle.shop_records.proofs.Basics.{nat_cases, get_same, get_other}
 use Rattle.shop_records.proofs.Puts.{all_from, pairs_from, found_one, is_known}
@@ -128,7 +128,7 @@ module _ (m : Content) (stock : IsStock m) (number : ℕ) (row : Demand) (found 
 
 -- ---- what is done to cells
 
-module _ (texts : Texts) (message : Message) (earlier : List Deed) (old : Content) (sound : IsSound texts old) (f : Follows earlier old) where
+module _ (texts : Texts) (message : Message) (earlier : List Effect) (old : Content) (sound : IsSound texts old) (f : Follows earlier old) where
   by_amendment : (row : Demand) (wanted : ℕ) → demand_at old row.number ≡ Some row
       → After texts message earlier old sound f (Amends row.number wanted) (amend_change row wanted)
   by_amendment row wanted found = record {
@@ -143,9 +143,9 @@ module _ (texts : Texts) (message : Message) (earlier : List Deed) (old : Conten
   }
 
   pub amends : (demand wanted : ℕ) (read : Reading) (change : Change) (row : Demand) → demand_at old demand ≡ Some row → change ≡ amend_change row wanted
-      → AfterAll texts message earlier old sound f (deeds (Amend demand wanted) read) change
+      → AfterAll texts message earlier old sound f (effects (Amend demand wanted) read) change
   amends demand wanted read change row found is =
       let same : row.number ≡ demand = (sound.demands demand row found).numbered in
-      subst (λ n. AfterAll texts message earlier old sound f (deeds (Amend n wanted) read) change) same
-      (subst (AfterAll texts message earlier old sound f (deeds (Amend row.number wanted) read)) (sym is)
+      subst (λ n. AfterAll texts message earlier old sound f (effects (Amend n wanted) read) change) same
+      (subst (AfterAll texts message earlier old sound f (effects (Amend row.number wanted) read)) (sym is)
       (by_amendment row wanted (ap (demand_at old) same ∙ found)))

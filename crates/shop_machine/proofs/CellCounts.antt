@@ -20,7 +20,7 @@ use Rattle.shop_records.specs.Columns.{is_whole, is_there, is_piece, is_kerf, is
 use Rattle.shop_records.specs.Messages.{Texts}
 use Rattle.shop_records.specs.Content.{Content, cells_in}
 use Rattle.shop_records.specs.Soundness.{IsSound}
-use Rattle.shop_machine.specs.Machine.{Deed, Receives}
+use Rattle.shop_machine.specs.Machine.{Effect, Receives}
 use Rattle.shop_machine.specs.History.{acts_of, ReceivedUnit, units_in, units_of, Owner, owner_of, is_cut, standing_as, IsOwner, OneOwner, counts_cell, cells_of_column, TotalsAreCounts}
 use Rattle.shop_records.specs.Elements.{IsIn}
 use Rattle.shop_records.proofs.Basics.{name_cases, in_append, in_map}
@@ -57,7 +57,7 @@ new_apart material batch size act (suc n) =
       | inr z ↦ z
     ]))
 
-apart_by : (earlier : List Deed) (done : Deed) → Apart unit_name (units_of earlier) → Apart unit_name (units_in (acts_of earlier + 1) done ++ units_of earlier)
+apart_by : (earlier : List Effect) (done : Effect) → Apart unit_name (units_of earlier) → Apart unit_name (units_in (acts_of earlier + 1) done ++ units_of earlier)
 apart_by earlier (Receives material batch size count) before =
     apart_append unit_name (map (unit_of material batch size (acts_of earlier + 1)) (below count)) (units_of earlier) (new_apart material batch size (acts_of earlier + 1) count) before
     (λ x y i j e.
@@ -67,7 +67,7 @@ apart_by earlier (Receives material batch size count) before =
     absurd (omega arith))
 apart_by earlier _ before = before
 
-units_apart : (deeds : List Deed) → Apart unit_name (units_of deeds)
+units_apart : (effects : List Effect) → Apart unit_name (units_of effects)
 units_apart [] = tt
 units_apart (done ∷ earlier) = apart_by earlier done (units_apart earlier)
 
@@ -293,14 +293,14 @@ and_yes : (a b : Bool) → b ≡ true → a && b ≡ a
 and_yes true b e = e
 and_yes false b e = refl
 
-module _ (texts : Texts) (deeds : List Deed) (content : Content) (sound : IsSound texts content) (s : Follows deeds content) where
-  has_unit : (v : Part) → IsIn v (values content.parts) → HasUnit (units_of deeds) v
-  has_unit = each_value content.parts (HasUnit (units_of deeds)) (λ k v g.
-      let r : IsRow deeds v = s.rows k v g in
+module _ (texts : Texts) (effects : List Effect) (content : Content) (sound : IsSound texts content) (s : Follows effects content) where
+  has_unit : (v : Part) → IsIn v (values content.parts) → HasUnit (units_of effects) v
+  has_unit = each_value content.parts (HasUnit (units_of effects)) (λ k v g.
+      let r : IsRow effects v = s.rows k v g in
       record { unit = r.unit; received = r.received; root = r.root; material = r.material; across = r.across; down = r.down })
 
-  cell_counted : (c : Column) → IsByOwner c → (u : ReceivedUnit) (x y : ℕ) → OneOwner deeds content u.name x y
-      → sum_by (λ v. marked (is_counted c) [] (units_of deeds) (units_apart deeds) v u.name x y) (values content.parts) ≡ bit (counts_cell c u.name (owner_of deeds u.name x y))
+  cell_counted : (c : Column) → IsByOwner c → (u : ReceivedUnit) (x y : ℕ) → OneOwner effects content u.name x y
+      → sum_by (λ v. marked (is_counted c) [] (units_of effects) (units_apart effects) v u.name x y) (values content.parts) ≡ bit (counts_cell c u.name (owner_of effects u.name x y))
   cell_counted c by u x y o =
       let p : Part = o.part in
       sum_values-one content.parts (λ v. mark (is_counted c v && same_name v.root u.name) v x y) p.name p o.kept
@@ -311,8 +311,8 @@ module _ (texts : Texts) (deeds : List Deed) (content : Content) (sound : IsSoun
       ∙ mark_in (is_counted c p && same_name p.root u.name) p.x p.y p.size.w p.size.h x y o.holds.right o.holds.left o.holds.below o.holds.above
       ∙ ap bit (and_yes (is_counted c p) (same_name p.root u.name) (same_yes p.root u.name o.holds.root) ∙ by.as_owner u.name x y o.owner p o.holds.root o.same ∙ ap (counts_cell c u.name) (sym o.owned))
 
-  cell_received : (u : ReceivedUnit) → IsIn u (units_of deeds) → (x y : ℕ) → x < u.size.w → y < u.size.h
-      → sum_by (λ v. marked (is_counted column.Received) [] (units_of deeds) (units_apart deeds) v u.name x y) (values content.parts) ≡ bit (counts_cell column.Received u.name (owner_of deeds u.name x y))
+  cell_received : (u : ReceivedUnit) → IsIn u (units_of effects) → (x y : ℕ) → x < u.size.w → y < u.size.h
+      → sum_by (λ v. marked (is_counted column.Received) [] (units_of effects) (units_apart effects) v u.name x y) (values content.parts) ≡ bit (counts_cell column.Received u.name (owner_of effects u.name x y))
   cell_received u i x y xw yh =
       let whole : IsWhole content.parts u = s.wholes u i in
       let p : Part = whole.row in
@@ -326,21 +326,21 @@ module _ (texts : Texts) (deeds : List Deed) (content : Content) (sound : IsSoun
       ∙ mark_in (is_whole p && same_name p.root u.name) p.x p.y p.size.w p.size.h x y (omega arith) (omega arith) (omega arith) (omega arith)
       ∙ ap bit (and_yes (is_whole p) (same_name p.root u.name) (same_yes p.root u.name whole.root) ∙ same_yes p.name p.root (name ∙ sym whole.root))
 
-  one_by_one : (c : Column) (code : List ℕ) → cells_of_column c deeds code ≡ sum_units (λ n x y. bit (counts_cell c n (owner_of deeds n x y))) code (units_of deeds)
-  one_by_one c code = sum_by-units (λ (e : Name × (ℕ × ℕ)). bit (counts_cell c e.0 (owner_of deeds e.0 e.1.0 e.1.1))) (is_of code) (units_of deeds)
+  one_by_one : (c : Column) (code : List ℕ) → cells_of_column c effects code ≡ sum_units (λ n x y. bit (counts_cell c n (owner_of effects n x y))) code (units_of effects)
+  one_by_one c code = sum_by-units (λ (e : Name × (ℕ × ℕ)). bit (counts_cell c e.0 (owner_of effects e.0 e.1.0 e.1.1))) (is_of code) (units_of effects)
 
-  all_counted : (c : Column) → ((u : ReceivedUnit) → IsIn u (units_of deeds) → (x y : ℕ) → x < u.size.w → y < u.size.h
-      → sum_by (λ v. marked (is_counted c) [] (units_of deeds) (units_apart deeds) v u.name x y) (values content.parts) ≡ bit (counts_cell c u.name (owner_of deeds u.name x y)))
-      → (code : List ℕ) → cells_in c code (values content.parts) ≡ cells_of_column c deeds code
+  all_counted : (c : Column) → ((u : ReceivedUnit) → IsIn u (units_of effects) → (x y : ℕ) → x < u.size.w → y < u.size.h
+      → sum_by (λ v. marked (is_counted c) [] (units_of effects) (units_apart effects) v u.name x y) (values content.parts) ≡ bit (counts_cell c u.name (owner_of effects u.name x y)))
+      → (code : List ℕ) → cells_in c code (values content.parts) ≡ cells_of_column c effects code
   all_counted c cell code =
-      swapped (is_counted c) code (units_of deeds) (units_apart deeds) (values content.parts) has_unit
-      ∙ sum_units-same (λ n x y. sum_by (λ v. mark (is_counted c v && same_name v.root n) v x y) (values content.parts)) (λ n x y. bit (counts_cell c n (owner_of deeds n x y))) code (units_of deeds) cell
+      swapped (is_counted c) code (units_of effects) (units_apart effects) (values content.parts) has_unit
+      ∙ sum_units-same (λ n x y. sum_by (λ v. mark (is_counted c v && same_name v.root n) v x y) (values content.parts)) (λ n x y. bit (counts_cell c n (owner_of effects n x y))) code (units_of effects) cell
       ∙ sym (one_by_one c code)
 
-  by_owner : (c : Column) → IsByOwner c → (code : List ℕ) → cells_in c code (values content.parts) ≡ cells_of_column c deeds code
+  by_owner : (c : Column) → IsByOwner c → (code : List ℕ) → cells_in c code (values content.parts) ≡ cells_of_column c effects code
   by_owner c by code = all_counted c (λ u i x y xw yh. cell_counted c by u x y (s.cells u i x y xw yh)) code
 
-  pub counted : (code : List ℕ) (c : Column) → cells_in c code (values content.parts) ≡ cells_of_column c deeds code
+  pub counted : (code : List ℕ) (c : Column) → cells_in c code (values content.parts) ≡ cells_of_column c effects code
   counted code column.Received = all_counted column.Received cell_received code
   counted code column.Stock = by_owner column.Stock stock_by code
   counted code column.Rack = by_owner column.Rack rack_by code
@@ -350,7 +350,7 @@ module _ (texts : Texts) (deeds : List Deed) (content : Content) (sound : IsSoun
   counted code column.Returned = by_owner column.Returned returned_by code
 
   -- the totals of the content are the counts of cells
-  pub totals_counted : TotalsAreCounts deeds content
+  pub totals_counted : TotalsAreCounts effects content
   totals_counted code = λ i. record {
     received = counted code column.Received i;
     stock = counted code column.Stock i;

@@ -17,7 +17,7 @@ use Rattle.shop_records.specs.declared.records.State.TheVariants.{Standing, Cut,
 use Rattle.shop_records.specs.Content.{with_parts, in_state}
 use Rattle.shop_machine.specs.Ending.{row_part, fate}
 use Rattle.shop_machine.specs.Receiving.{unit_part, unit_parts}
-use Rattle.shop_machine.specs.History.{Owner, owner_at, is_cut, standing_as, Holds, IsOwner, HasOwner}
+use Rattle.shop_machine.specs.History.{Owner, owner_at, is_cut, standing_as, HasCellOf, IsOwner, HasOwner}
 use Rattle.shop_records.specs.Elements.{IsIn}
 use Rattle.shop_records.proofs.Basics.{names_total, names_same, names_equal, name_cases, same_some, none_some, get_same, get_other, all_in, any_in, pair_in, in_map, map_in, put_cases}
 
@@ -44,7 +44,7 @@ module _ (m : FinMap name_cmp Part) (named : Named m) (p : Name) (row : Part) (k
       elim (name_cases o.part.name p) [
         | inl e ↦ (
             let is : o.part ≡ row = in_part found u x y o e.0 in
-            let h : Holds u x y row = subst (Holds u x y) is o.holds in
+            let h : HasCellOf u x y row = subst (HasCellOf u x y) is o.holds in
             let w : IsOwner o.owner x y row = subst (IsOwner o.owner x y) is o.same in
             record {
               part = in_state s row;
@@ -71,7 +71,7 @@ module _ (m : FinMap name_cmp Part) (named : Named m) (p : Name) (row : Part) (k
           alone = λ n q k g. elim (name_cases n p) [
             | inl f ↦ (
                 let is : q ≡ in_state s row = same_some q (in_state s row) (sym k ∙ ap (get new) f.0 ∙ here) in
-                let h : Holds u x y (in_state s row) = subst (Holds u x y) is g in
+                let h : HasCellOf u x y (in_state s row) = subst (HasCellOf u x y) is g in
                 let before : row ≡ o.part = o.alone p row kept (record { root = h.root; whole = whole; right = h.right; left = h.left; below = h.below; above = h.above }) in
                 absurd (e.0 (ap (λ (r : Part). r.name) (sym before) ∙ named p row kept)))
             | inr f ↦ o.alone n q (sym (other n f.0) ∙ k) g
@@ -91,7 +91,7 @@ module _ (m : FinMap name_cmp Part) (named : Named m) (p : Name) (row : Part) (k
       elim (name_cases o.part.name p) [
         | inl e ↦ (
             let is : o.part ≡ row = in_part found u x y o e.0 in
-            let h : Holds u x y row = subst (Holds u x y) is o.holds in
+            let h : HasCellOf u x y row = subst (HasCellOf u x y) is o.holds in
             let w : IsOwner o.owner x y row = subst (IsOwner o.owner x y) is o.same in
             record {
               part = in_state s row;
@@ -118,7 +118,7 @@ module _ (m : FinMap name_cmp Part) (named : Named m) (p : Name) (row : Part) (k
           alone = λ n q k g. elim (name_cases n p) [
             | inl f ↦ (
                 let is : q ≡ in_state s row = same_some q (in_state s row) (sym k ∙ ap (get new) f.0 ∙ here) in
-                let h : Holds u x y (in_state s row) = subst (Holds u x y) is g in
+                let h : HasCellOf u x y (in_state s row) = subst (HasCellOf u x y) is g in
                 let before : row ≡ o.part = o.alone p row kept (record { root = h.root; whole = whole; right = h.right; left = h.left; below = h.below; above = h.above }) in
                 absurd (e.0 (ap (λ (r : Part). r.name) (sym before) ∙ named p row kept)))
             | inr f ↦ o.alone n q (sym (other n f.0) ∙ k) g
@@ -211,7 +211,7 @@ module _ (m : FinMap name_cmp Part) (named : Named m) (p : Name) (row : Part) (k
       ]
 
   -- a cell of a new part was one of the part that was cut
-  pub was_in : (u : Name) (x y : ℕ) (r : Row) → IsIn r rows → Holds u x y (row_part row rule job r) → lay.CoversCell r (x - row.x) (y - row.y) × Holds u x y row
+  pub was_in : (u : Name) (x y : ℕ) (r : Row) → IsIn r rows → HasCellOf u x y (row_part row rule job r) → lay.CoversCell r (x - row.x) (y - row.y) × HasCellOf u x y row
   was_in u x y r i h =
       let a : row.x + r.x ≤ x = h.right in let b : x < (row.x + r.x) + r.w = h.left in
       let c : row.y + r.y ≤ y = h.below in let d : y < (row.y + r.y) + r.h = h.above in
@@ -221,7 +221,7 @@ module _ (m : FinMap name_cmp Part) (named : Named m) (p : Name) (row : Part) (k
       let wide : x - row.x < row.size.w = owns.inside_width in let high : y - row.y < row.size.h = owns.inside_height in
       (held, record { root = h.root; whole = whole; right = omega arith; left = omega arith; below = omega arith; above = omega arith })
 
-  no_cell : (u : Name) (x y : ℕ) (q : Part) → q ≡ in_state (Cut job) row → Holds u x y q → ⊥
+  no_cell : (u : Name) (x y : ℕ) (q : Part) → q ≡ in_state (Cut job) row → HasCellOf u x y q → ⊥
   no_cell u x y q e h = true≢false (ap (λ (v : Part). is_cut v.state) (sym e) ∙ h.whole)
 
   abbrev spot_at : ℕ → ℕ → Spot
@@ -249,7 +249,7 @@ module _ (m : FinMap name_cmp Part) (named : Named m) (p : Name) (row : Part) (k
   same_place : (r t : Row) → IsIn r rows → IsIn t rows → (i j : ℕ) → lay.CoversCell r i j → lay.CoversCell t i j → t ≡ r
   same_place r t a b i j p q = one_row t r b a (sym (placed t b i j q).node ∙ (placed r a i j p).node)
 
-  here : (u : Name) (x y : ℕ) (r : Row) (i : ℕ) (j : ℕ) → lay.CoversCell r i j → row.x + i ≡ x → row.y + j ≡ y → Holds u x y row → Holds u x y (row_part row rule job r)
+  here : (u : Name) (x y : ℕ) (r : Row) (i : ℕ) (j : ℕ) → lay.CoversCell r i j → row.x + i ≡ x → row.y + j ≡ y → HasCellOf u x y row → HasCellOf u x y (row_part row rule job r)
   here u x y r i j held across down h =
       let a : r.x ≤ i = held.left in let b : i < r.x + r.w = held.right in
       let c : r.y ≤ j = held.top in let d : j < r.y + r.h = held.bottom in
@@ -261,8 +261,8 @@ module _ (m : FinMap name_cmp Part) (named : Named m) (p : Name) (row : Part) (k
       subst (λ b. lay.CoversCell t i b) ey (subst (λ a. lay.CoversCell t a (y - row.y)) ex held)
 
   -- a cell of the part that is cut belongs to the row that has it
-  in_new : (w : Owner) (after : Option Owner) (u : Name) (x y : ℕ) (r : Row) → IsIn r rows → lay.CoversCell r w.x w.y → row.x + w.x ≡ x → row.y + w.y ≡ y → Holds u x y row
-      → after ≡ Some (owner_at rule job (spot_at w.x w.y)) → ((n : Name) (q : Part) → get m n ≡ Some q → Holds u x y q → n ≡ p) → HasOwner after_cuts after u x y
+  in_new : (w : Owner) (after : Option Owner) (u : Name) (x y : ℕ) (r : Row) → IsIn r rows → lay.CoversCell r w.x w.y → row.x + w.x ≡ x → row.y + w.y ≡ y → HasCellOf u x y row
+      → after ≡ Some (owner_at rule job (spot_at w.x w.y)) → ((n : Name) (q : Part) → get m n ≡ Some q → HasCellOf u x y q → n ≡ p) → HasOwner after_cuts after u x y
   in_new w after u x y r i held across down h owned only = record {
     part = row_part row rule job r;
     owner = owner_at rule job (spot_at w.x w.y);
@@ -271,7 +271,7 @@ module _ (m : FinMap name_cmp Part) (named : Named m) (p : Name) (row : Part) (k
     owned = owned;
     same = row_owner r (spot_at w.x w.y) w.x w.y x y (placed r i w.x w.y held) across down;
     alone = λ n q k g. elim (found_cases n q k) [
-      | inl f ↦ f.2 ∙ ap (row_part row rule job) (same_place r f.0 i f.1 w.x w.y held (moved f.0 w.x w.y x y across down (was_in u x y f.0 f.1 (subst (Holds u x y) f.2 g)).0))
+      | inl f ↦ f.2 ∙ ap (row_part row rule job) (same_place r f.0 i f.1 w.x w.y held (moved f.0 w.x w.y x y across down (was_in u x y f.0 f.1 (subst (HasCellOf u x y) f.2 g)).0))
       | inr f ↦ elim f [
         | inl c ↦ absurd (no_cell u x y q c.1 g)
         | inr c ↦ absurd (c.0 (only n q c.1 g))
@@ -279,7 +279,7 @@ module _ (m : FinMap name_cmp Part) (named : Named m) (p : Name) (row : Part) (k
     ];
   }
 
-  held_row : (u : Name) (x y i j : ℕ) → row.x + i ≡ x → row.y + j ≡ y → Holds u x y row → (r : Row) × IsIn r rows × lay.CoversCell r i j
+  held_row : (u : Name) (x y i j : ℕ) → row.x + i ≡ x → row.y + j ≡ y → HasCellOf u x y row → (r : Row) × IsIn r rows × lay.CoversCell r i j
   held_row u x y i j across down h =
       let right : x < row.x + row.size.w = h.left in let bottom : y < row.y + row.size.h = h.above in
       any_in (λ (r : Row). lay.CoversCell r i j) rows (laid.each_cell i j (omega arith) (omega arith))
@@ -293,7 +293,7 @@ module _ (m : FinMap name_cmp Part) (named : Named m) (p : Name) (row : Part) (k
       elim (name_cases o.part.name p) [
         | inl e ↦ (
             let is : o.part ≡ row = same_some o.part row (sym o.kept ∙ ap (get m) e.0 ∙ kept) in
-            let h : Holds u x y row = subst (Holds u x y) is o.holds in
+            let h : HasCellOf u x y row = subst (HasCellOf u x y) is o.holds in
             let ws : IsOwner o.owner x y row = subst (IsOwner o.owner x y) is o.same in
             let row' = held_row u x y o.owner.x o.owner.y ws.across ws.down h in
             in_new o.owner after u x y row'.0 row'.1 row'.2 ws.across ws.down h
@@ -309,7 +309,7 @@ module _ (m : FinMap name_cmp Part) (named : Named m) (p : Name) (row : Part) (k
           same = o.same;
           alone = λ n q k g. elim (found_cases n q k) [
             | inl f ↦ (
-                let h : Holds u x y row = (was_in u x y f.0 f.1 (subst (Holds u x y) f.2 g)).1 in
+                let h : HasCellOf u x y row = (was_in u x y f.0 f.1 (subst (HasCellOf u x y) f.2 g)).1 in
                 absurd (e.0 (ap (λ (v : Part). v.name) (sym (o.alone p row kept h)) ∙ named p row kept)))
             | inr f ↦ elim f [
               | inl c ↦ absurd (no_cell u x y q c.1 g)

@@ -19,7 +19,7 @@ use Rattle.shop_records.specs.Readings.{unread, Plan}
 use Rattle.shop_machine.specs.Receiving.{receive_refusal, received_totals}
 use Rattle.shop_machine.specs.Adding.{material_refusal}
 use Rattle.shop_machine.specs.Amending.{amend_refusal}
-use Rattle.shop_machine.specs.History.{Entry, deeds_of, Owner, acts_of, owner_of, cells_of_column, ordered_lines, nth_line, IsAccountOf}
+use Rattle.shop_machine.specs.History.{Entry, effects_of, Owner, acts_of, owner_of, cells_of_column, ordered_lines, nth_line, IsAccountOf}
 use Rattle.shop_records.specs.Messages.{Texts}
 use Rattle.shop_records.specs.Content.{Content, demand_at, no_totals}
 use Rattle.shop_records.specs.declared.records.Totals.{Totals}
@@ -95,19 +95,19 @@ two_bars =
     record { message = record { terminal = 1; number = 2; command = Receive (codes "STEEL") (codes "B-1") 3 1 2 }; read = unread }
     ∷ record { message = record { terminal = 1; number = 1; command = AddMaterial (codes "STEEL") Bar 3 20 1 }; read = unread } ∷ []
 
-one_act : acts_of (deeds_of two_bars) ≡ 1
+one_act : acts_of (effects_of two_bars) ≡ 1
 unfolding two_bars
 one_act = refl
 
-six_received : cells_of_column column.Received (deeds_of two_bars) (codes "STEEL") ≡ 6
+six_received : cells_of_column column.Received (effects_of two_bars) (codes "STEEL") ≡ 6
 unfolding two_bars cells_of
 six_received = refl
 
-all_in_stock : cells_of_column column.Stock (deeds_of two_bars) (codes "STEEL") ≡ 6
+all_in_stock : cells_of_column column.Stock (effects_of two_bars) (codes "STEEL") ≡ 6
 unfolding two_bars cells_of
 all_in_stock = refl
 
-none_on_the_rack : cells_of_column column.Rack (deeds_of two_bars) (codes "STEEL") ≡ 0
+none_on_the_rack : cells_of_column column.Rack (effects_of two_bars) (codes "STEEL") ≡ 0
 unfolding two_bars cells_of
 none_on_the_rack = refl
 
@@ -121,15 +121,15 @@ two_orders =
     ∷ record { message = record { terminal = 1; number = 2; command = AddOrder (codes "A-1") (bar_line 4 10 ∷ []) }; read = unread }
     ∷ record { message = record { terminal = 1; number = 1; command = AddMaterial (codes "STEEL") Bar 3 20 1 }; read = unread } ∷ []
 
-no_act : acts_of (deeds_of two_orders) ≡ 0
+no_act : acts_of (effects_of two_orders) ≡ 0
 unfolding two_orders
 no_act = refl
 
-first_line : nth_line 1 (ordered_lines (deeds_of two_orders)) ≡ Some (record { order = codes "A-1"; line = bar_line 4 10 })
+first_line : nth_line 1 (ordered_lines (effects_of two_orders)) ≡ Some (record { order = codes "A-1"; line = bar_line 4 10 })
 unfolding two_orders
 first_line = refl
 
-second_line : nth_line 2 (ordered_lines (deeds_of two_orders)) ≡ Some (record { order = codes "A-2"; line = bar_line 1 20 })
+second_line : nth_line 2 (ordered_lines (effects_of two_orders)) ≡ Some (record { order = codes "A-2"; line = bar_line 1 20 })
 unfolding two_orders
 second_line = refl
 
@@ -139,17 +139,17 @@ amended_twice =
     record { message = record { terminal = 1; number = 5; command = Amend 2 0 }; read = unread }
     ∷ record { message = record { terminal = 1; number = 4; command = Amend 2 9 }; read = unread } ∷ two_orders
 
-amended_line : nth_line 2 (ordered_lines (deeds_of amended_twice)) ≡ Some (record { order = codes "A-2"; line = record (bar_line 1 20) { count = 0 } })
+amended_line : nth_line 2 (ordered_lines (effects_of amended_twice)) ≡ Some (record { order = codes "A-2"; line = record (bar_line 1 20) { count = 0 } })
 unfolding amended_twice two_orders
 amended_line = refl
 
-line_before_it : nth_line 1 (ordered_lines (deeds_of amended_twice)) ≡ nth_line 1 (ordered_lines (deeds_of two_orders))
+line_before_it : nth_line 1 (ordered_lines (effects_of amended_twice)) ≡ nth_line 1 (ordered_lines (effects_of two_orders))
 unfolding amended_twice two_orders
 line_before_it = refl
 
-line_behind_it : nth_line 3 (ordered_lines (deeds_of amended_twice)) ≡ nth_line 3 (ordered_lines (deeds_of two_orders))
+line_after_it : nth_line 3 (ordered_lines (effects_of amended_twice)) ≡ nth_line 3 (ordered_lines (effects_of two_orders))
 unfolding amended_twice two_orders
-line_behind_it = refl
+line_after_it = refl
 
 -- as many as are reserved and made may be wanted, and as many as a line may ask for
 abbrev half_made : Demand
@@ -228,29 +228,29 @@ sheet = record { act = 1; node = 0 }
 abbrev is_there : State → ℕ → ℕ → ℕ → ℕ → ℕ → ℕ → Option Owner
 is_there state act node w h x y = Some (record { state = state; name = record { act = act; node = node }; size = record { w = w; h = h }; x = x; y = y })
 
-first_piece : owner_of (deeds_of two_pieces) sheet 3 2 ≡ is_there (state.Piece 1) 2 2 4 3 3 2
+first_piece : owner_of (effects_of two_pieces) sheet 3 2 ≡ is_there (state.Piece 1) 2 2 4 3 3 2
 unfolding two_pieces sheet_tree spot_of
 first_piece = refl
 
-upright_kerf : owner_of (deeds_of two_pieces) sheet 4 7 ≡ is_there state.Kerf 2 0 1 8 0 7
+upright_kerf : owner_of (effects_of two_pieces) sheet 4 7 ≡ is_there state.Kerf 2 0 1 8 0 7
 unfolding two_pieces sheet_tree spot_of
 upright_kerf = refl
 
 -- its short side is over the limit, and its long side too
-kept_rest : owner_of (deeds_of two_pieces) sheet 6 1 ≡ is_there state.Standing 2 4 5 8 1 1
+kept_rest : owner_of (effects_of two_pieces) sheet 6 1 ≡ is_there state.Standing 2 4 5 8 1 1
 unfolding two_pieces sheet_tree spot_of
 kept_rest = refl
 
-piece_of_the_remnant : owner_of (deeds_of remnant_cut) sheet 6 1 ≡ is_there (state.Piece 3) 3 1 5 3 1 1
+piece_of_the_remnant : owner_of (effects_of remnant_cut) sheet 6 1 ≡ is_there (state.Piece 3) 3 1 5 3 1 1
 unfolding remnant_cut two_pieces sheet_tree rest_tree spot_of
 piece_of_the_remnant = refl
 
 -- sides that equal the limits are kept
-rest_of_the_remnant : owner_of (deeds_of remnant_cut) sheet 5 4 ≡ is_there state.Standing 3 2 5 4 0 0
+rest_of_the_remnant : owner_of (effects_of remnant_cut) sheet 5 4 ≡ is_there state.Standing 3 2 5 4 0 0
 unfolding remnant_cut two_pieces sheet_tree rest_tree spot_of
 rest_of_the_remnant = refl
 
 -- what the first job made stays
-still_a_piece : owner_of (deeds_of remnant_cut) sheet 3 2 ≡ is_there (state.Piece 1) 2 2 4 3 3 2
+still_a_piece : owner_of (effects_of remnant_cut) sheet 3 2 ≡ is_there (state.Piece 1) 2 2 4 3 3 2
 unfolding remnant_cut two_pieces sheet_tree rest_tree spot_of
 still_a_piece = refl

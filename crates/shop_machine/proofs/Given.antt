@@ -12,17 +12,17 @@ use Rattle.shop_records.specs.declared.messages.Command.{Command}
 use Rattle.shop_records.specs.Messages.{Texts}
 use Rattle.shop_records.specs.Readings.{Reading}
 use Rattle.shop_records.specs.Content.{Content, fresh, changed}
-use Rattle.shop_machine.specs.Machine.{Reads, refusal_of, Makes, keeping, Deed, deeds}
+use Rattle.shop_machine.specs.Machine.{Reads, refusal_of, Makes, keeping, Effect, effects}
 use Rattle.shop_records.specs.Soundness.{IsSound}
-use Rattle.shop_machine.specs.History.{Entry, deeds_of, Gives, nth_line}
+use Rattle.shop_machine.specs.History.{Entry, effects_of, Gives, nth_line}
 use Rattle.shop_records.proofs.Basics.{none_some}
 use Rattle.shop_machine.proofs.OrderedLines.{ordered_as}
 use Rattle.shop_machine.proofs.Accounts.{Follows}
 use Rattle.shop_machine.proofs.Sound.{by_message}
 
-module _ (texts : Texts) (message : Message) (earlier : List Deed) (old : Content) (sound : IsSound texts old) (f : Follows earlier old) where
+module _ (texts : Texts) (message : Message) (earlier : List Effect) (old : Content) (sound : IsSound texts old) (f : Follows earlier old) where
   pub by_entry : (read : Reading) (change : Change) (command : Command) → Reads texts old command read → refusal_of old command read ≡ None → Makes old command read change
-      → Follows (deeds command read ++ earlier) (changed old (keeping texts message change))
+      → Follows (effects command read ++ earlier) (changed old (keeping texts message change))
   by_entry read change command reads allowed makes = by_message texts message earlier old sound f command read change reads allowed makes
 
 no_line : (number : ℕ) → nth_line number [] ≡ None
@@ -43,9 +43,9 @@ from_start = record {
 
 -- where each content that a history gives is sound
 module _ (texts : Texts) (sound : (history : List Entry) (content : Content) → Gives texts history content → IsSound texts content) where
-  pub follows : (history : List Entry) (content : Content) → Gives texts history content → Follows (deeds_of history) content
+  pub follows : (history : List Entry) (content : Content) → Gives texts history content → Follows (effects_of history) content
   follows [] content given = subst (Follows []) (sym given) from_start
   follows (entry ∷ earlier) content (before, answer, given, is_message, new, accepts) =
-      subst (Follows (deeds_of (entry ∷ earlier))) (sym accepts.becomes)
-      (by_entry texts entry.message (deeds_of earlier) before (sound earlier before given) (follows earlier before given)
+      subst (Follows (effects_of (entry ∷ earlier))) (sym accepts.becomes)
+      (by_entry texts entry.message (effects_of earlier) before (sound earlier before given) (follows earlier before given)
       entry.read accepts.change entry.message.command accepts.reads accepts.allowed accepts.makes)

@@ -20,8 +20,8 @@ use Rattle.shop_machine.specs.Decisions.{first_of, no_change}
 use Rattle.shop_machine.specs.Receiving.{receive_refusal, receive_change}
 use Rattle.shop_machine.specs.Ordering.{lines_refusal}
 use Rattle.shop_machine.specs.Importing.{IsRepeat, IsImportReading, problem_lines, unit_refusal, problem_refusal, import_refusal, unread_refusal, lines_change, problem_change, ImportMakes}
-use Rattle.shop_records.specs.Keeping.{Tells}
-use Rattle.shop_machine.specs.Machine.{keeping, nothing, Orders, Receives, import_deeds}
+use Rattle.shop_records.specs.Keeping.{TellsKept}
+use Rattle.shop_machine.specs.Machine.{keeping, nothing, Orders, Receives, import_effects}
 use Rattle.shop_records.specs.Soundness.{Fits}
 use Rattle.shop_records.proofs.Basics.{none_at}
 use Rattle.shop_machine.proofs.Agreeing.{NoFault, either, other, nothing as none}
@@ -37,14 +37,14 @@ module _ (texts : Texts) (m : Content) (order : List ℕ) where
   pub record IsAgain (form : Form) (text : List ℕ) (read : Reading) (change : Change) : Type 0 where
     pub answer : Reply
     pub made : IsMade answer
-    pub done : import_deeds order form read ≡ nothing ∷ []
+    pub done : import_effects order form read ≡ nothing ∷ []
     pub is : change ≡ no_change answer
 
   -- it is of an order file
   pub record IsOfLines (form : Form) (text : List ℕ) (read : Reading) (change : Change) : Type 0 where
     pub lines : List OrderLine
     pub ordered : IsOrder (has_order m order) (material_at m) lines (m.last_demand + 1)
-    pub done : import_deeds order form read ≡ Orders order lines ∷ []
+    pub done : import_effects order form read ≡ Orders order lines ∷ []
     pub is : change ≡ lines_change order text lines (m.last_demand + 1)
 
   -- it is of a problem
@@ -54,7 +54,7 @@ module _ (texts : Texts) (m : Content) (order : List ℕ) where
     pub lines : List OrderLine
     pub ordered : IsOrder (has_order m order) (material_at m) lines (m.last_demand + 1)
     pub receipt : IsReceipt (material_at m material) (totals_of m material) (m.last_act + 1) size.w size.h 1
-    pub done : import_deeds order form read ≡ Orders order lines ∷ Receives material order size 1 ∷ []
+    pub done : import_effects order form read ≡ Orders order lines ∷ Receives material order size 1 ∷ []
     pub is : change ≡ problem_change order material text size lines (totals_of m material) (m.last_act + 1) (m.last_demand + 1)
 
   abbrev pub IsAccepted : Form → List ℕ → Reading → Change → Type 0
@@ -67,7 +67,7 @@ module _ (texts : Texts) (m : Content) (order : List ℕ) where
   Made form text read change = ImportMakes order form text (totals_of m) (m.last_act + 1) (m.last_demand + 1) read change
 
   made_before : (form : Form) (text : List ℕ) (answer : Reply) (found : Option ImportRow)
-      → MatchOption found ⊥ (λ row. IsRepeat form text row × Tells texts row (Some answer)) → IsMade answer
+      → MatchOption found ⊥ (λ row. IsRepeat form text row × TellsKept texts row (Some answer)) → IsMade answer
   made_before form text answer None h = absurd h
   made_before form text answer (Some row) h = h.1.0
 
@@ -189,8 +189,8 @@ module _ (texts : Texts) (m : Content) (order : List ℕ) where
 
   -- ---- its refusals
 
-  tells_one : (form : Form) (text : List ℕ) (found : Option ImportRow) → ((row : ImportRow) → found ≡ Some row → (answer : Reply) × Tells texts row (Some answer))
-      → MatchOption found ⊥ (λ row. IsRepeat form text row × Tells texts row None) → ⊥
+  tells_one : (form : Form) (text : List ℕ) (found : Option ImportRow) → ((row : ImportRow) → found ≡ Some row → (answer : Reply) × TellsKept texts row (Some answer))
+      → MatchOption found ⊥ (λ row. IsRepeat form text row × TellsKept texts row None) → ⊥
   tells_one form text None one h = absurd h
   tells_one form text (Some row) one h = let it = one row refl in h.1 it.0 it.1.0 it.1.1
 
@@ -211,7 +211,7 @@ module _ (texts : Texts) (m : Content) (order : List ℕ) where
   unread_agrees true = λ e. cc
   unread_agrees false = λ e. cc
 
-  pub import_agrees : IsStock m → ((row : ImportRow) → import_at m order ≡ Some row → (answer : Reply) × Tells texts row (Some answer))
+  pub import_agrees : IsStock m → ((row : ImportRow) → import_at m order ≡ Some row → (answer : Reply) × TellsKept texts row (Some answer))
       → (form : Form) (text : List ℕ) (read : Reading) → IsImportReading texts (import_at m order) form text read
       → NoFault (import_refusal (has_order m order) (material_at m) (totals_of m) (m.last_act + 1) (m.last_demand + 1) form read)
   import_agrees stock one form text (Again None) reads = absurd (tells_one form text (import_at m order) one reads)

@@ -23,22 +23,22 @@ pub mod AddingStep
 -- receiving units
 pub mod ReceivingDecision
 pub mod ReceivingStep
-pub mod ReceivingDeed
+pub mod ReceivingEffect
 -- adding an order
 pub mod OrderingDecision
 pub mod OrderingStep
 -- importing an order
 pub mod ImportingDecision
 pub mod ImportingStep
-pub mod ImportingDeed
+pub mod ImportingEffect
 -- reserving a part
 pub mod ReservingDecision
 pub mod ReservingStep
-pub mod ReservingDeed
+pub mod ReservingEffect
 -- the end of a job
 pub mod EndingDecision
 pub mod EndingStep
-pub mod EndingDeed
+pub mod EndingEffect
 -- a standing part as a whole gets another state
 pub mod RetiringStep
 -- amending a demand

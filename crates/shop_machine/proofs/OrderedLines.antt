@@ -13,8 +13,8 @@ use Rattle.shop_records.specs.Content.{Content, demand_at, with_demands}
 use Rattle.shop_machine.specs.Recounts.{AreRecounted}
 use Rattle.shop_machine.specs.Ordering.{new_demand, new_demands}
 use Rattle.shop_machine.specs.Amending.{amended}
-use Rattle.shop_machine.specs.Machine.{Deed}
-use Rattle.shop_machine.specs.History.{OrderedLine, with_count, amended_behind, amended_lines, ordered_lines, nth_line, demand_of, DemandsAreLines}
+use Rattle.shop_machine.specs.Machine.{Effect}
+use Rattle.shop_machine.specs.History.{OrderedLine, with_count, amended_after, amended_lines, ordered_lines, nth_line, demand_of, DemandsAreLines}
 use Rattle.shop_records.specs.Soundness.{IsDemand, reserved_in, made_in}
 use Rattle.shop_records.proofs.Basics.{nat_cases, get_same, get_other, demand_cases}
 use Rattle.shop_machine.proofs.Moved.{LeavesOthers, row_recount}
@@ -96,7 +96,7 @@ lines_recounted lines demands recount tree rows recounted none same before numbe
 
 -- ---- an amendment
 
-amended_length : (n count : ℕ) (lines : List OrderedLine) → length (amended_behind n count lines) ≡ length lines
+amended_length : (n count : ℕ) (lines : List OrderedLine) → length (amended_after n count lines) ≡ length lines
 amended_length n count [] = refl
 amended_length zero count (l ∷ lines) = refl
 amended_length (suc n) count (l ∷ lines) = ap suc (amended_length n count lines)
@@ -105,26 +105,26 @@ pub lines_amended : (number count : ℕ) (lines : List OrderedLine) → length (
 lines_amended zero count lines = refl
 lines_amended (suc n) count lines = amended_length n count lines
 
-behind-same : (n count : ℕ) (lines : List OrderedLine) → slice_get (amended_behind n count lines) n ≡ option_map (with_count count) (slice_get lines n)
-behind-same n count [] = refl
-behind-same zero count (l ∷ lines) = refl
-behind-same (suc n) count (l ∷ lines) = behind-same n count lines
+after-same : (n count : ℕ) (lines : List OrderedLine) → slice_get (amended_after n count lines) n ≡ option_map (with_count count) (slice_get lines n)
+after-same n count [] = refl
+after-same zero count (l ∷ lines) = refl
+after-same (suc n) count (l ∷ lines) = after-same n count lines
 
-behind-other : (n count : ℕ) (lines : List OrderedLine) (i : ℕ) → (i ≡ n → ⊥) → slice_get (amended_behind n count lines) i ≡ slice_get lines i
-behind-other n count [] i other = refl
-behind-other zero count (l ∷ lines) zero other = absurd (other refl)
-behind-other zero count (l ∷ lines) (suc i) other = refl
-behind-other (suc n) count (l ∷ lines) zero other = refl
-behind-other (suc n) count (l ∷ lines) (suc i) other = behind-other n count lines i (λ e. other (ap suc e))
+after-other : (n count : ℕ) (lines : List OrderedLine) (i : ℕ) → (i ≡ n → ⊥) → slice_get (amended_after n count lines) i ≡ slice_get lines i
+after-other n count [] i other = refl
+after-other zero count (l ∷ lines) zero other = absurd (other refl)
+after-other zero count (l ∷ lines) (suc i) other = refl
+after-other (suc n) count (l ∷ lines) zero other = refl
+after-other (suc n) count (l ∷ lines) (suc i) other = after-other n count lines i (λ e. other (ap suc e))
 
 nth-amended : (number count : ℕ) (lines : List OrderedLine) → nth_line number (amended_lines number count lines) ≡ option_map (with_count count) (nth_line number lines)
 nth-amended zero count lines = refl
-nth-amended (suc n) count lines = behind-same n count lines
+nth-amended (suc n) count lines = after-same n count lines
 
 nth-unamended : (number count : ℕ) (lines : List OrderedLine) (i : ℕ) → (i ≡ number → ⊥) → nth_line i (amended_lines number count lines) ≡ nth_line i lines
 nth-unamended zero count lines i other = refl
 nth-unamended (suc n) count lines zero other = refl
-nth-unamended (suc n) count lines (suc i) other = behind-other n count lines i (λ e. other (ap suc e))
+nth-unamended (suc n) count lines (suc i) other = after-other n count lines i (λ e. other (ap suc e))
 
 -- where a demand is amended, so is its line, and no other one
 pub line_amended : (lines : List OrderedLine) (demands : FinMap nat_cmp Demand) (row : Demand) (wanted : ℕ) → get demands row.number ≡ Some row → AskFor lines demands
@@ -144,9 +144,9 @@ line_amended lines demands row wanted found before number =
 -- ---- every demand
 
 -- where the demands ask for the lines, and each is counted and under its own number, they are those of the lines
-pub demands_are_lines : (deeds : List Deed) (content : Content) → ((number : ℕ) (d : Demand) → demand_at content number ≡ Some d → IsDemand content number d)
-    → AskFor (ordered_lines deeds) content.demands → DemandsAreLines deeds content
-demands_are_lines deeds content each asks number =
+pub demands_are_lines : (effects : List Effect) (content : Content) → ((number : ℕ) (d : Demand) → demand_at content number ≡ Some d → IsDemand content number d)
+    → AskFor (ordered_lines effects) content.demands → DemandsAreLines effects content
+demands_are_lines effects content each asks number =
     by (demand_at content number) refl ∙ ap (option_map (λ ordered. demand_of number ordered (reserved_in number content) (made_in number content))) (asks number)
   where
     row : (d : Demand) → IsDemand content number d → d ≡ demand_of number (ordered_as d) (reserved_in number content) (made_in number content)

@@ -26,7 +26,7 @@ use Rattle.shop_records.specs.Content.{Content, pair_cmp, material_at, has_order
 use Rattle.shop_records.specs.Elements.{IsIn}
 use Rattle.shop_records.specs.Soundness.{IsDemand, IsNewDemand, AreDifferent, Fits, reserved_in, made_in}
 use Rattle.shop_machine.specs.Ordering.{new_demand, new_demands, order_change, order_refusal, line_refusal, lines_refusal, is_good_line}
-use Rattle.shop_machine.specs.Machine.{keeping, Deed, Orders}
+use Rattle.shop_machine.specs.Machine.{keeping, Effect, Orders}
 use Rattle.shop_machine.specs.Decisions.{first_of}
 use Rattle.shop_machine.specs.History.{acts_of, ordered_lines}
 use Rattle.shop_records.proofs.Basics.{names_total, names_same, same_some, none_at, pair_in, demand_cases}
@@ -60,27 +60,27 @@ lines_known at last (l ∷ lines) e line (inl s) =
 lines_known at last (l ∷ lines) e line (inr i) =
     lines_known at l.line lines (or_none (line_refusal last l (at l.material)) (lines_refusal at l.line lines) e).1 line i
 
-line_behind : (last : ℕ) (line : OrderLine) (o : Option Material) → line_refusal last line o ≡ None → last < line.line
-line_behind last line None e = cc
-line_behind last line (Some m) e =
+line_after : (last : ℕ) (line : OrderLine) (o : Option Material) → line_refusal last line o ≡ None → last < line.line
+line_after last line None e = cc
+line_after last line (Some m) e =
     let good = not-false (is_good_line last line m.kind) (none_of (not (is_good_line last line m.kind)) BadLine None e).0 in
     ltb-true last line.line (and_parts _ _ (and_parts _ _ (and_parts _ _ (and_parts _ _ (and_parts _ _ (and_parts _ _ good).0).0).0).0).0).0
 
-lines_behind : (at : List ℕ → Option Material) (last : ℕ) (lines : List OrderLine) → lines_refusal at last lines ≡ None → (line : OrderLine) → IsIn line lines → last < line.line
-lines_behind at last [] e line i = absurd i
-lines_behind at last (l ∷ lines) e line i =
+lines_after : (at : List ℕ → Option Material) (last : ℕ) (lines : List OrderLine) → lines_refusal at last lines ≡ None → (line : OrderLine) → IsIn line lines → last < line.line
+lines_after at last [] e line i = absurd i
+lines_after at last (l ∷ lines) e line i =
     let here = or_none (line_refusal last l (at l.material)) (lines_refusal at l.line lines) e in
-    let first : last < l.line = line_behind last l (at l.material) here.0 in
+    let first : last < l.line = line_after last l (at l.material) here.0 in
     elim i [
       | inl s ↦ let same : line.line ≡ l.line = ap (λ (x : OrderLine). x.line) s in omega (arith, first, same)
-      | inr j ↦ let later : l.line < line.line = lines_behind at l.line lines here.1 line j in omega (arith, first, later)
+      | inr j ↦ let later : l.line < line.line = lines_after at l.line lines here.1 line j in omega (arith, first, later)
     ]
 
 lines_rise : (at : List ℕ → Option Material) (last : ℕ) (lines : List OrderLine) → lines_refusal at last lines ≡ None → Pairwise (λ (a b : OrderLine). a.line < b.line) lines
 lines_rise at last [] e = tt
 lines_rise at last (l ∷ lines) e =
     let more = (or_none (line_refusal last l (at l.material)) (lines_refusal at l.line lines) e).1 in
-    (lines_behind at l.line lines more, lines_rise at l.line lines more)
+    (lines_after at l.line lines more, lines_rise at l.line lines more)
 
 pub order_of : (used : Bool) (at : List ℕ → Option Material) (lines : List OrderLine) (first : ℕ) → order_refusal used at lines first ≡ None → IsOrder used at lines first
 order_of used at lines first e =
@@ -336,7 +336,7 @@ order_agrees used at lines first =
 
 -- ---- what is done to cells
 
-module _ (earlier : List Deed) (old : Content) (f : Follows earlier old) (kept : FinMap pair_cmp Kept) (imports : FinMap code_cmp ImportRow) where
+module _ (earlier : List Effect) (old : Content) (f : Follows earlier old) (kept : FinMap pair_cmp Kept) (imports : FinMap code_cmp ImportRow) where
   pub by_order : (order : List ℕ) (lines : List OrderLine)
       → Follows (Orders order lines ∷ earlier) (with_messages kept imports (changed old (order_change order lines (old.last_demand + 1))))
   by_order order lines = record {

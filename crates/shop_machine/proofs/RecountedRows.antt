@@ -14,7 +14,7 @@ use Rattle.shop_records.specs.declared.records.Demand.{Demand}
 use Rattle.shop_machine.specs.declared.recounts.FoundLeaf.{FoundLeaf}
 use Rattle.shop_machine.specs.declared.recounts.Recount.{Recount}
 use Rattle.shop_machine.specs.declared.recounts.Recount.TheVariants.{Reserved, Laid, Freed}
-use Rattle.shop_machine.specs.Recounts.{AreRecounted, plan_leaves, AreDemandsFound, leaves_in, recount_by, HasRoom, HasRow, IsAddedOnce, IsAlike, IsNumbered}
+use Rattle.shop_machine.specs.Recounts.{AreRecounted, plan_leaves, AreDemandsFound, leaves_in, recount_by, CanRecount, HasRow, IsAddedOnce, IsAlike, IsNumbered}
 use Rattle.shop_machine.specs.Reserving.{is_over}
 use Rattle.shop_machine.specs.Ending.{has_reserved}
 use Rattle.shop_records.specs.Elements.{IsIn}
@@ -23,8 +23,8 @@ use Rattle.shop_machine.proofs.Allowed.{leaf_with, leaf_counts}
 
 -- ---- demands over their numbers
 
-all_behind : (f : FoundLeaf) (fs : List FoundLeaf) → take (length (f ∷ fs) - 1) fs ≡ fs
-all_behind f fs = ap (λ n. take n fs) (let e : length (f ∷ fs) - 1 ≡ length fs = omega arith in e) ∙ take-length fs
+all_after : (f : FoundLeaf) (fs : List FoundLeaf) → take (length (f ∷ fs) - 1) fs ≡ fs
+all_after f fs = ap (λ n. take n fs) (let e : length (f ∷ fs) - 1 ≡ length fs = omega arith in e) ∙ take-length fs
 
 -- a first leaf that isn't over, and the others
 pub over_more : (tree : Tree) (at : ℕ → Option Demand) (leaves : List FoundLeaf) (b : Bool) (d : FoundLeaf) → 1 ≤ length leaves → AreDemandsFound at leaves
@@ -33,7 +33,7 @@ pub over_more : (tree : Tree) (at : ℕ → Option Demand) (leaves : List FoundL
     → b ≡ list_any (λ (leaf : Leaf). is_over (count_of tree leaf.demand) (at leaf.demand)) (leaves_in leaves)
 over_more tree at [] b d some found within e = absurd (omega arith)
 over_more tree at (f ∷ fs) b d some found within e =
-    e ∙ ap (λ ls. list_any (λ (leaf : Leaf). is_over (count_of tree leaf.demand) (at leaf.demand)) (leaves_in ls)) (all_behind f fs)
+    e ∙ ap (λ ls. list_any (λ (leaf : Leaf). is_over (count_of tree leaf.demand) (at leaf.demand)) (leaves_in ls)) (all_after f fs)
     ∙ ap (λ o. o || list_any (λ (leaf : Leaf). is_over (count_of tree leaf.demand) (at leaf.demand)) (leaves_in fs))
     (sym (ap (is_over (count_of tree f.leaf.demand)) (sym (found 0 d (omega arith))) ∙ within))
 
@@ -44,7 +44,7 @@ pub reserved_more : (tree : Tree) (at : ℕ → Option Demand) (leaves : List Fo
     → b ≡ list_all (λ (leaf : Leaf). has_reserved (count_of tree leaf.demand) (at leaf.demand)) (leaves_in leaves)
 reserved_more tree at [] b d some found first e = absurd (omega arith)
 reserved_more tree at (f ∷ fs) b d some found first e =
-    e ∙ ap (λ ls. list_all (λ (leaf : Leaf). has_reserved (count_of tree leaf.demand) (at leaf.demand)) (leaves_in ls)) (all_behind f fs)
+    e ∙ ap (λ ls. list_all (λ (leaf : Leaf). has_reserved (count_of tree leaf.demand) (at leaf.demand)) (leaves_in ls)) (all_after f fs)
     ∙ ap (λ o. o && list_all (λ (leaf : Leaf). has_reserved (count_of tree leaf.demand) (at leaf.demand)) (leaves_in fs))
     (sym (ap (has_reserved (count_of tree f.leaf.demand)) (sym (found 0 d (omega arith))) ∙ first))
 
@@ -79,10 +79,10 @@ pub again_any : (test : ℕ → Bool) (leaves : List FoundLeaf) (b : Bool) (d : 
     → b ≡ list_any (λ (leaf : Leaf). test leaf.demand) (leaves_in leaves)
 again_any test [] b d some again e = absurd (omega arith)
 again_any test (f ∷ fs) b d some again e =
-    e ∙ ap (λ ls. list_any (λ (leaf : Leaf). test leaf.demand) (leaves_in ls)) (all_behind f fs) ∙ by (test f.leaf.demand) refl
+    e ∙ ap (λ ls. list_any (λ (leaf : Leaf). test leaf.demand) (leaves_in ls)) (all_after f fs) ∙ by (test f.leaf.demand) refl
   where
     later : Any (IsAlike f) fs
-    later = subst (Any (IsAlike f)) (all_behind f fs) again
+    later = subst (Any (IsAlike f)) (all_after f fs) again
 
     by : (p : Bool) → test f.leaf.demand ≡ p → list_any (λ (leaf : Leaf). test leaf.demand) (leaves_in fs) ≡ list_any (λ (leaf : Leaf). test leaf.demand) (leaves_in (f ∷ fs))
     by true is =
@@ -94,10 +94,10 @@ pub again_all : (test : ℕ → Bool) (leaves : List FoundLeaf) (b : Bool) (d : 
     → b ≡ list_all (λ (leaf : Leaf). test leaf.demand) (leaves_in leaves)
 again_all test [] b d some again e = absurd (omega arith)
 again_all test (f ∷ fs) b d some again e =
-    e ∙ ap (λ ls. list_all (λ (leaf : Leaf). test leaf.demand) (leaves_in ls)) (all_behind f fs) ∙ by (test f.leaf.demand) refl
+    e ∙ ap (λ ls. list_all (λ (leaf : Leaf). test leaf.demand) (leaves_in ls)) (all_after f fs) ∙ by (test f.leaf.demand) refl
   where
     later : Any (IsAlike f) fs
-    later = subst (Any (IsAlike f)) (all_behind f fs) again
+    later = subst (Any (IsAlike f)) (all_after f fs) again
 
     by : (p : Bool) → test f.leaf.demand ≡ p → list_all (λ (leaf : Leaf). test leaf.demand) (leaves_in fs) ≡ list_all (λ (leaf : Leaf). test leaf.demand) (leaves_in (f ∷ fs))
     by true is = sym (ap (λ b. b && list_all (λ (leaf : Leaf). test leaf.demand) (leaves_in fs)) is)
@@ -112,16 +112,16 @@ again_holds what [] d some again all = absurd (omega arith)
 again_holds what (f ∷ fs) d some again all = by
   where
     later : Any (IsAlike f) fs
-    later = subst (Any (IsAlike f)) (all_behind f fs) again
+    later = subst (Any (IsAlike f)) (all_after f fs) again
 
-    behind : All (λ (f : FoundLeaf). what f.leaf.demand f.demand) fs
-    behind = subst (All (λ (f : FoundLeaf). what f.leaf.demand f.demand)) (all_behind f fs) all
+    after : All (λ (f : FoundLeaf). what f.leaf.demand f.demand) fs
+    after = subst (All (λ (f : FoundLeaf). what f.leaf.demand f.demand)) (all_after f fs) all
 
     by : (k : ℕ) (e : FoundLeaf) → k < length (f ∷ fs) → what (get_or (f ∷ fs) k e).leaf.demand (get_or (f ∷ fs) k e).demand
     by zero e within =
         subst (λ (o : Option Demand). what f.leaf.demand o) later.4.1
-        (subst (λ n. what n later.1.demand) later.4.0 (subst (λ (g : FoundLeaf). what g.leaf.demand g.demand) later.3 (behind later.0 later.1 later.2)))
-    by (suc k) e within = behind k e (omega (arith, within))
+        (subst (λ n. what n later.1.demand) later.4.0 (subst (λ (g : FoundLeaf). what g.leaf.demand g.demand) later.3 (after later.0 later.1 later.2)))
+    by (suc k) e within = after k e (omega (arith, within))
 
 -- ---- rows of the leaves that were taken
 
@@ -248,14 +248,14 @@ pub row_of : (room : ℕ → Demand → Type 0) (tree : Tree) (found : FoundLeaf
 row_of room tree found demand has is =
     subst (λ (o : Option Demand). MatchOption o ⊥ (λ (d : Demand). (d.number ≡ found.leaf.demand) × room (count_of tree found.leaf.demand) d)) is has
 
-pub behind_fewer : (leaves : List FoundLeaf) → 1 ≤ length leaves → length (take (length leaves - 1) (drop 1 leaves)) < length leaves
-behind_fewer [] some = absurd (omega arith)
-behind_fewer (f ∷ fs) some = omega (arith, ap length (all_behind f fs))
+pub after_fewer : (leaves : List FoundLeaf) → 1 ≤ length leaves → length (take (length leaves - 1) (drop 1 leaves)) < length leaves
+after_fewer [] some = absurd (omega arith)
+after_fewer (f ∷ fs) some = omega (arith, ap length (all_after f fs))
 
-pub numbered_behind : (leaves : List FoundLeaf) → All IsNumbered leaves → All IsNumbered (take (length leaves - 1) (drop 1 leaves))
-numbered_behind [] all = all
-numbered_behind (f ∷ fs) all = subst (All IsNumbered) (sym (all_behind f fs)) (λ k d within. all (suc k) d (omega (arith, within)))
+pub numbered_after : (leaves : List FoundLeaf) → All IsNumbered leaves → All IsNumbered (take (length leaves - 1) (drop 1 leaves))
+numbered_after [] all = all
+numbered_after (f ∷ fs) all = subst (All IsNumbered) (sym (all_after f fs)) (λ k d within. all (suc k) d (omega (arith, within)))
 
-pub found_behind : (at : ℕ → Option Demand) (leaves : List FoundLeaf) → AreDemandsFound at leaves → AreDemandsFound at (take (length leaves - 1) (drop 1 leaves))
-found_behind at [] found = found
-found_behind at (f ∷ fs) found = subst (AreDemandsFound at) (sym (all_behind f fs)) (λ k d within. found (suc k) d (omega (arith, within)))
+pub found_after : (at : ℕ → Option Demand) (leaves : List FoundLeaf) → AreDemandsFound at leaves → AreDemandsFound at (take (length leaves - 1) (drop 1 leaves))
+found_after at [] found = found
+found_after at (f ∷ fs) found = subst (AreDemandsFound at) (sym (all_after f fs)) (λ k d within. found (suc k) d (omega (arith, within)))

@@ -49,7 +49,7 @@ use Rattle.shop_machine.proofs.Agreeing.{NoFault, either, nothing, other, no_suc
 -- ---- what is known of a reservation that isn't refused
 
 -- a demand with room for so many more, of this material
-pub record HasRoom (code : List ℕ) (n : ℕ) (o : Option Demand) : Type 0 where
+pub record HasOpenPieces (code : List ℕ) (n : ℕ) (o : Option Demand) : Type 0 where
   pub demand : Demand
   pub found : o ≡ Some demand
   pub of : same_code demand.material code ≡ true
@@ -58,10 +58,10 @@ pub record HasRoom (code : List ℕ) (n : ℕ) (o : Option Demand) : Type 0 wher
 pub record IsFitting (row : Part) (material : Option Material) (plan : Pattern) (at : ℕ → Option Demand) (act : ℕ) : Type 0 where
   pub free : is_free row.state ≡ true
   pub known : IsSome material
-  pub demands : (number : ℕ) → 1 ≤ count_of plan.tree number → HasRoom row.material (count_of plan.tree number) (at number)
+  pub demands : (number : ℕ) → 1 ≤ count_of plan.tree number → HasOpenPieces row.material (count_of plan.tree number) (at number)
   pub number : act ≤ MOST_NUMBERS
 
-has_room : (code : List ℕ) (leaf : Leaf) (n : ℕ) (o : Option Demand) → leaf_refusal code leaf o ≡ None → is_over n o ≡ false → HasRoom code n o
+has_room : (code : List ℕ) (leaf : Leaf) (n : ℕ) (o : Option Demand) → leaf_refusal code leaf o ≡ None → is_over n o ≡ false → HasOpenPieces code n o
 has_room code leaf n None e f = cc
 has_room code leaf n (Some d) e f =
     let head = none_of (not (same_code d.material code)) WrongMaterial _ e in
@@ -88,7 +88,7 @@ fitting_of row material plan at act e =
       known = not-false (is_some material) known.0;
       demands = λ number h.
           let r = leaf_with plan number h in
-          subst (λ n. HasRoom row.material (count_of plan.tree n) (at n)) r.2
+          subst (λ n. HasOpenPieces row.material (count_of plan.tree n) (at n)) r.2
           (has_room row.material r.0 (count_of plan.tree r.0.demand) (at r.0.demand) (leaf_allowed at row.material (plan_leaves plan) leaves.0 r.0 r.1)
           (any_none (λ (leaf : Leaf). is_over (count_of plan.tree leaf.demand) (at leaf.demand)) (plan_leaves plan) few.0 r.0 r.1));
       number = ltb-false MOST_NUMBERS act last.0;

@@ -27,7 +27,7 @@ use Rattle.shop_records.specs.declared.messages.Reply.TheVariants as reply
 use Rattle.shop_records.specs.Readings.{Reading}
 use Rattle.shop_machine.specs.Moving.{has_cells, tally}
 use Rattle.shop_machine.specs.Retiring.{scrap_refusal, return_refusal, turn_change}
-use Rattle.shop_machine.specs.Machine.{keeping, Deed, deeds, Turns}
+use Rattle.shop_machine.specs.Machine.{keeping, Effect, effects, Turns}
 use Rattle.shop_machine.specs.History.{turned_owner, acts_of, owner_of, is_cut, standing_as}
 use Rattle.shop_records.proofs.Basics.{same_some}
 use Rattle.shop_records.proofs.Puts.{not_both}
@@ -175,7 +175,7 @@ module _ (m : Content) (stock : IsStock m) (name : Name) (row : Part) (found : p
 
 -- ---- what is done to cells
 
-module _ (texts : Texts) (message : Message) (earlier : List Deed) (old : Content) (sound : IsSound texts old) (f : Follows earlier old) where
+module _ (texts : Texts) (message : Message) (earlier : List Effect) (old : Content) (sound : IsSound texts old) (f : Follows earlier old) where
   -- a standing part as a whole gets a state that stays
   by_turn : (s : State) (row : Part) (answer : Reply) → is_cut s ≡ false → standing_as s ≡ s → part_at old row.name ≡ Some row → row.state ≡ Standing
       → After texts message earlier old sound f (Turns row.name s) (turn_change s row (totals_of old row.material) answer)
@@ -195,7 +195,7 @@ module _ (texts : Texts) (message : Message) (earlier : List Deed) (old : Conten
   }
 
   abbrev Then : Command → Reading → Change → Type 0
-  Then command read change = AfterAll texts message earlier old sound f (deeds command read) change
+  Then command read change = AfterAll texts message earlier old sound f (effects command read) change
 
   pub scraps : (part : Name) (read : Reading) (change : Change) (row : Part) → scrap_refusal (part_at old part) (totals_for old (part_at old part)) ≡ None → part_at old part ≡ Some row
       → change ≡ turn_change state.Scrap row (totals_of old row.material) (reply.Scrap row.name) → Then (Scrap part) read change

@@ -25,7 +25,7 @@ use Rattle.shop_records.specs.Messages.{Texts, IsMessage, IsMade, pair_of, IsNum
 use Rattle.shop_records.specs.Readings.{Reading, plan_in}
 use Rattle.shop_records.specs.Content.{Content, fresh, pair_cmp, material_at, totals_in, AddsUp, has_order, kept_at, import_at, with_order, with_import, changed, part_at, demand_at, material_of, totals_of, totals_for}
 use Rattle.shop_machine.specs.Adding.{material_change}
-use Rattle.shop_machine.specs.Machine.{Reads, refusal_of, Makes, keeping, Deed, deeds}
+use Rattle.shop_machine.specs.Machine.{Reads, refusal_of, Makes, keeping, Effect, effects}
 use Rattle.shop_machine.specs.History.{Entry, Gives}
 use Rattle.shop_records.specs.Soundness.{IsSound, Fits, IsKept, IsImport}
 use Rattle.shop_records.proofs.Basics.{codes_total, codes_same}
@@ -40,10 +40,10 @@ use Rattle.shop_machine.proofs.RetiringStep.{scrap_stands, returned_stands, turn
 use Rattle.shop_machine.proofs.AmendingStep.{amend_room, amend_stock, amend_fits, amend_agrees, amends}
 use Rattle.shop_machine.proofs.Accounts.{Follows}
 use Rattle.shop_machine.proofs.Steps.{AfterAll}
-use Rattle.shop_machine.proofs.ReceivingDeed.{by_receipt}
-use Rattle.shop_machine.proofs.ImportingDeed.{by_import}
-use Rattle.shop_machine.proofs.ReservingDeed.{reserves}
-use Rattle.shop_machine.proofs.EndingDeed.{ends, breaks, releases}
+use Rattle.shop_machine.proofs.ReceivingEffect.{by_receipt}
+use Rattle.shop_machine.proofs.ImportingEffect.{by_import}
+use Rattle.shop_machine.proofs.ReservingEffect.{reserves}
+use Rattle.shop_machine.proofs.EndingEffect.{ends, breaks, releases}
 use Rattle.shop_machine.proofs.Grown.{IsStock, stock_of}
 use Rattle.shop_machine.proofs.AddingStep.{material_stock, material_fits, material_agrees, made_material, by_material}
 
@@ -202,9 +202,9 @@ agrees_by texts m sound stock (Import order form text) read reads = import_agree
 agrees_by texts m sound stock (Amend demand wanted) read reads = amend_agrees (demand_at m demand) wanted
 
 -- what it does is an account of the content that it leaves
-module _ (texts : Texts) (message : Message) (earlier : List Deed) (old : Content) (sound : IsSound texts old) (f : Follows earlier old) where
+module _ (texts : Texts) (message : Message) (earlier : List Effect) (old : Content) (sound : IsSound texts old) (f : Follows earlier old) where
   abbrev Then : Command → Reading → Change → Type 0
-  Then command read change = AfterAll texts message earlier old sound f (deeds command read) change
+  Then command read change = AfterAll texts message earlier old sound f (effects command read) change
 
   pub by_message : (command : Command) (read : Reading) (change : Change) → Reads texts old command read → refusal_of old command read ≡ None → Makes old command read change → Then command read change
   by_message (AddMaterial material kind kerf min_long min_short) read change reads allowed makes =

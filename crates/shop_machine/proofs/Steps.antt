@@ -12,19 +12,19 @@ use Rattle.shop_records.specs.declared.changes.Change.{Change}
 use Rattle.shop_records.specs.declared.messages.Message.{Message}
 use Rattle.shop_records.specs.Messages.{Texts}
 use Rattle.shop_records.specs.Content.{Content, part_at, job_at, changed, in_state}
-use Rattle.shop_machine.specs.Machine.{keeping, Deed}
+use Rattle.shop_machine.specs.Machine.{keeping, Effect}
 use Rattle.shop_records.specs.Soundness.{IsSound}
 use Rattle.shop_machine.specs.History.{ReceivedUnit, job_of}
 use Rattle.shop_records.proofs.Basics.{names_total, names_same, nat_cases, name_cases, same_some, get_same, get_other}
 use Rattle.shop_machine.proofs.Cells.{Named}
 use Rattle.shop_machine.proofs.Accounts.{IsRow, IsWhole, reservation, Follows, row_later, row_restated}
 
-module _ (texts : Texts) (message : Message) (earlier : List Deed) (old : Content) (sound : IsSound texts old) (f : Follows earlier old) where
-  abbrev pub After : Deed → Change → Type 0
+module _ (texts : Texts) (message : Message) (earlier : List Effect) (old : Content) (sound : IsSound texts old) (f : Follows earlier old) where
+  abbrev pub After : Effect → Change → Type 0
   After done change = Follows (done ∷ earlier) (changed old (keeping texts message change))
 
   -- the same of all that a command does
-  abbrev pub AfterAll : List Deed → Change → Type 0
+  abbrev pub AfterAll : List Effect → Change → Type 0
   AfterAll done change = Follows (done ++ earlier) (changed old (keeping texts message change))
 
   pub named : Named old.parts
@@ -36,7 +36,7 @@ module _ (texts : Texts) (message : Message) (earlier : List Deed) (old : Conten
     abbrev after_state : FinMap name_cmp Part
     after_state = insert old.parts row.name (in_state s row)
 
-    pub rows_restated : (done : Deed) (n : Name) (q : Part) → get after_state n ≡ Some q → IsRow (done ∷ earlier) q
+    pub rows_restated : (done : Effect) (n : Name) (q : Part) → get after_state n ≡ Some q → IsRow (done ∷ earlier) q
     rows_restated done n q k =
         elim (name_cases n row.name) [
           | inl y ↦ (

@@ -25,7 +25,7 @@ use Rattle.shop_records.specs.Elements.{IsIn}
 use Rattle.shop_records.specs.Messages.{Texts, IsMessage, is_accepted, pair_of}
 use Rattle.shop_records.specs.Readings.{Reading}
 use Rattle.shop_records.specs.Content.{Content, fresh, part_at, demand_at, kept_at, totals_of, AddsUp}
-use Rattle.shop_machine.specs.Machine.{Accepts, Deed, Rules, Receives, Orders, Reserves, Ends, Turns, Amends, deeds}
+use Rattle.shop_machine.specs.Machine.{Accepts, Effect, Rules, Receives, Orders, Reserves, Ends, Turns, Amends, effects}
 use Rattle.shop_machine.specs.Ending.{fate}
 use Rattle.shop_records.specs.Soundness.{IsCounted, reserved_in, made_in}
 
@@ -66,28 +66,28 @@ pub record ReceivedUnit : Type 0 where
   pub size : Extent
 
 -- what was done, the newest first
-abbrev pub deeds_of : List Entry → List Deed
-deeds_of [] = []
-deeds_of (entry ∷ earlier) = deeds entry.message.command entry.read ++ deeds_of earlier
+abbrev pub effects_of : List Entry → List Effect
+effects_of [] = []
+effects_of (entry ∷ earlier) = effects entry.message.command entry.read ++ effects_of earlier
 
-abbrev pub acts_in : Deed → ℕ
+abbrev pub acts_in : Effect → ℕ
 acts_in (Receives material batch size count) = 1
 acts_in (Reserves part tree) = 1
 acts_in _ = 0
 
 -- how many acts there were
-abbrev pub acts_of : List Deed → ℕ
+abbrev pub acts_of : List Effect → ℕ
 acts_of [] = 0
 acts_of (done ∷ earlier) = acts_of earlier + acts_in done
 
 -- the units that are received as the act of this number
-abbrev pub units_in : ℕ → Deed → List ReceivedUnit
+abbrev pub units_in : ℕ → Effect → List ReceivedUnit
 units_in act (Receives material batch size count) =
     map (λ i. record { name = record { act = act; node = i }; material = material; batch = batch; size = size }) (below count)
 units_in act _ = []
 
 -- the units that were received, the newest first
-abbrev pub units_of : List Deed → List ReceivedUnit
+abbrev pub units_of : List Effect → List ReceivedUnit
 units_of [] = []
 units_of (done ∷ earlier) = units_in (acts_of earlier + 1) done ++ units_of earlier
 
@@ -102,24 +102,24 @@ pub record OrderedLine : Type 0 where
 abbrev pub with_count : ℕ → OrderedLine → OrderedLine
 with_count count ordered = record { order = ordered.order; line = record ordered.line { count = count } }
 
--- the lines, where so many pieces are wanted of the one behind n others
-abbrev pub amended_behind : (n count : ℕ) → List OrderedLine → List OrderedLine
-amended_behind n count [] = []
-amended_behind zero count (ordered ∷ lines) = with_count count ordered ∷ lines
-amended_behind (suc n) count (ordered ∷ lines) = ordered ∷ amended_behind n count lines
+-- the lines, where so many pieces are wanted of the one after n others
+abbrev pub amended_after : (n count : ℕ) → List OrderedLine → List OrderedLine
+amended_after n count [] = []
+amended_after zero count (ordered ∷ lines) = with_count count ordered ∷ lines
+amended_after (suc n) count (ordered ∷ lines) = ordered ∷ amended_after n count lines
 
 -- the lines, where so many pieces are wanted of the n-th one, the first one being that of 1
 abbrev pub amended_lines : (n count : ℕ) → List OrderedLine → List OrderedLine
 amended_lines zero count lines = lines
-amended_lines (suc n) count lines = amended_behind n count lines
+amended_lines (suc n) count lines = amended_after n count lines
 
-abbrev pub lines_by : Deed → List OrderedLine → List OrderedLine
+abbrev pub lines_by : Effect → List OrderedLine → List OrderedLine
 lines_by (Orders order lines) before = before ++ map (λ line. record { order = order; line = line }) lines
 lines_by (Amends demand wanted) before = amended_lines demand wanted before
 lines_by _ before = before
 
 -- the lines that were ordered, the oldest first, each with the number of pieces that was said last
-abbrev pub ordered_lines : List Deed → List OrderedLine
+abbrev pub ordered_lines : List Effect → List OrderedLine
 ordered_lines [] = []
 ordered_lines (done ∷ earlier) = lines_by done (ordered_lines earlier)
 
@@ -130,21 +130,21 @@ nth_line (suc n) lines = slice_get lines n
 
 -- ---- what a job was made of
 
-abbrev pub material_by : Deed → ℕ → Name → List ℕ → List ℕ
+abbrev pub material_by : Effect → ℕ → Name → List ℕ → List ℕ
 material_by (Receives material batch size count) act unit before = if unit.act == act then material else before
 material_by _ act unit before = before
 
 -- the material of a received unit
-abbrev pub unit_material : List Deed → Name → List ℕ
+abbrev pub unit_material : List Effect → Name → List ℕ
 unit_material [] unit = []
 unit_material (done ∷ earlier) unit = material_by done (acts_of earlier + 1) unit (unit_material earlier unit)
 
-abbrev pub rule_by : Deed → List ℕ → Option Rule → Option Rule
+abbrev pub rule_by : Effect → List ℕ → Option Rule → Option Rule
 rule_by (Rules material rule) code before = if same_code code material then Some rule else before
 rule_by _ code before = before
 
 -- how a material is cut
-abbrev pub material_rule : List Deed → List ℕ → Option Rule
+abbrev pub material_rule : List Effect → List ℕ → Option Rule
 material_rule [] code = None
 material_rule (done ∷ earlier) code = rule_by done code (material_rule earlier code)
 
@@ -153,11 +153,11 @@ pub record Reservation : Type 0 where
   pub part : Name
   pub tree : Tree
 
-abbrev pub job_by : Deed → (act number : ℕ) → Option Reservation → Option Reservation
+abbrev pub job_by : Effect → (act number : ℕ) → Option Reservation → Option Reservation
 job_by (Reserves part tree) act number before = if number == act then Some (record { part = part; tree = tree }) else before
 job_by _ act number before = before
 
-abbrev pub job_of : List Deed → ℕ → Option Reservation
+abbrev pub job_of : List Effect → ℕ → Option Reservation
 job_of [] number = None
 job_of (done ∷ earlier) number = job_by done (acts_of earlier + 1) number (job_of earlier number)
 
@@ -198,7 +198,7 @@ turned_owner part into None = None
 turned_owner part into (Some before) = if stands_as part before then Some (record before { state = into }) else Some before
 
 -- by cases on what was done; a reserved part stands
-abbrev pub owner_by : Deed → List Deed → Name → ℕ → ℕ → Option Owner → Option Owner
+abbrev pub owner_by : Effect → List Effect → Name → ℕ → ℕ → Option Owner → Option Owner
 owner_by (Receives material batch size count) earlier unit x y before =
     if unit.act == acts_of earlier + 1 then Some (record { state = state.Standing; name = unit; size = size; x = x; y = y }) else before
 owner_by (Ends job outcome) earlier unit x y before =
@@ -207,7 +207,7 @@ owner_by (Turns part into) earlier unit x y before = turned_owner part into befo
 owner_by _ earlier unit x y before = before
 
 -- the owner of the cell (x, y) of a unit, by cases on the newest message
-abbrev pub owner_of : List Deed → Name → ℕ → ℕ → Option Owner
+abbrev pub owner_of : List Effect → Name → ℕ → ℕ → Option Owner
 owner_of [] unit x y = None
 owner_of (done ∷ earlier) unit x y = owner_by done earlier unit x y (owner_of earlier unit x y)
 
@@ -231,7 +231,7 @@ standing_as state.Scrap = state.Scrap
 standing_as state.Returned = state.Returned
 
 -- a part that isn't cut has this cell of the unit
-pub record Holds (unit : Name) (x y : ℕ) (part : Part) : Type 0 where
+pub record HasCellOf (unit : Name) (x y : ℕ) (part : Part) : Type 0 where
   pub root : part.root ≡ unit
   pub whole : is_cut part.state ≡ false
   pub right : part.x ≤ x
@@ -252,24 +252,24 @@ pub record HasOwner (parts : maps.FinMap name_cmp Part) (found : Option Owner) (
   pub part : Part
   pub owner : Owner
   pub kept : maps.get parts part.name ≡ Some part
-  pub holds : Holds unit x y part
+  pub holds : HasCellOf unit x y part
   pub owned : found ≡ Some owner
   pub same : IsOwner owner x y part
-  pub alone : (name : Name) (other : Part) → maps.get parts name ≡ Some other → Holds unit x y other → other ≡ part
+  pub alone : (name : Name) (other : Part) → maps.get parts name ≡ Some other → HasCellOf unit x y other → other ≡ part
 
-abbrev pub OneOwner : List Deed → Content → Name → ℕ → ℕ → Type 0
-OneOwner deeds content unit x y = HasOwner content.parts (owner_of deeds unit x y) unit x y
+abbrev pub OneOwner : List Effect → Content → Name → ℕ → ℕ → Type 0
+OneOwner effects content unit x y = HasOwner content.parts (owner_of effects unit x y) unit x y
 
 -- each cell of each received unit has exactly one owner
-abbrev pub EachCellIsOwned : List Deed → Content → Type 0
-EachCellIsOwned deeds content =
-    (unit : ReceivedUnit) → IsIn unit (units_of deeds) → (x y : ℕ) → x < unit.size.w → y < unit.size.h → OneOwner deeds content unit.name x y
+abbrev pub EachCellIsOwned : List Effect → Content → Type 0
+EachCellIsOwned effects content =
+    (unit : ReceivedUnit) → IsIn unit (units_of effects) → (x y : ℕ) → x < unit.size.w → y < unit.size.h → OneOwner effects content unit.name x y
 
 -- a part that isn't cut is the owner of each of its cells, in the state, at the place and with the sides that its row says
-abbrev pub EachPartOwnsItsCells : List Deed → Content → Type 0
-EachPartOwnsItsCells deeds content =
-    (name : Name) (part : Part) → part_at content name ≡ Some part → (x y : ℕ) → Holds part.root x y part
-    → (owner : Owner) × (owner_of deeds part.root x y ≡ Some owner) × IsOwner owner x y part
+abbrev pub EachPartOwnsItsCells : List Effect → Content → Type 0
+EachPartOwnsItsCells effects content =
+    (name : Name) (part : Part) → part_at content name ≡ Some part → (x y : ℕ) → HasCellOf part.root x y part
+    → (owner : Owner) × (owner_of effects part.root x y ≡ Some owner) × IsOwner owner x y part
 
 -- ---- counts
 
@@ -289,20 +289,20 @@ abbrev pub cells_of_units : List ℕ → List ReceivedUnit → List (Name × (�
 cells_of_units code units = flat_map (λ unit. if is_eq (code_cmp unit.material code) then map (λ cell. (unit.name, cell)) (cells_of unit.size) else []) units
 
 -- how many of them are counted in a column
-abbrev pub cells_of_column : Column → List Deed → List ℕ → ℕ
-cells_of_column column deeds code = count_by (λ c. counts_cell column c.0 (owner_of deeds c.0 c.1.0 c.1.1)) (cells_of_units code (units_of deeds))
+abbrev pub cells_of_column : Column → List Effect → List ℕ → ℕ
+cells_of_column column effects code = count_by (λ c. counts_cell column c.0 (owner_of effects c.0 c.1.0 c.1.1)) (cells_of_units code (units_of effects))
 
 -- the totals of the content are the counts of cells
-abbrev pub TotalsAreCounts : List Deed → Content → Type 0
-TotalsAreCounts deeds content = (code : List ℕ) →
+abbrev pub TotalsAreCounts : List Effect → Content → Type 0
+TotalsAreCounts effects content = (code : List ℕ) →
     totals_of content code ≡ record {
-      received = cells_of_column Received deeds code;
-      stock = cells_of_column Stock deeds code;
-      rack = cells_of_column Rack deeds code;
-      pieces = cells_of_column Pieces deeds code;
-      kerf = cells_of_column Kerf deeds code;
-      scrap = cells_of_column Scrap deeds code;
-      returned = cells_of_column Returned deeds code;
+      received = cells_of_column Received effects code;
+      stock = cells_of_column Stock effects code;
+      rack = cells_of_column Rack effects code;
+      pieces = cells_of_column Pieces effects code;
+      kerf = cells_of_column Kerf effects code;
+      scrap = cells_of_column Scrap effects code;
+      returned = cells_of_column Returned effects code;
     }
 
 -- ---- demands
@@ -326,18 +326,18 @@ demand_of number ordered reserved made =
 
 -- The demand of number n is that of the n-th ordered line, with what is reserved of it in the plans of waiting jobs and
 -- what is made of it; where no n-th line was ordered, there is none.
-abbrev pub DemandsAreLines : List Deed → Content → Type 0
-DemandsAreLines deeds content = (number : ℕ) →
-    demand_at content number ≡ option_map (λ ordered. demand_of number ordered (reserved_in number content) (made_in number content)) (nth_line number (ordered_lines deeds))
+abbrev pub DemandsAreLines : List Effect → Content → Type 0
+DemandsAreLines effects content = (number : ℕ) →
+    demand_at content number ≡ option_map (λ ordered. demand_of number ordered (reserved_in number content) (made_in number content)) (nth_line number (ordered_lines effects))
 
 -- the whole account of a history and the content that it gives
 pub record IsAccountOf (texts : Texts) (history : List Entry) (content : Content) : Type 0 where
   pub given : Gives texts history content
-  pub owners : EachCellIsOwned (deeds_of history) content
-  pub parts : EachPartOwnsItsCells (deeds_of history) content
-  pub totals : TotalsAreCounts (deeds_of history) content
+  pub owners : EachCellIsOwned (effects_of history) content
+  pub parts : EachPartOwnsItsCells (effects_of history) content
+  pub totals : TotalsAreCounts (effects_of history) content
   pub adds_up : (code : List ℕ) → AddsUp (totals_of content code)
   pub demands : (number : ℕ) (demand : Demand) → demand_at content number ≡ Some demand → IsCounted content number demand
-  pub last_act : content.last_act ≡ acts_of (deeds_of history)
-  pub last_demand : content.last_demand ≡ length (ordered_lines (deeds_of history))
-  pub lines : DemandsAreLines (deeds_of history) content
+  pub last_act : content.last_act ≡ acts_of (effects_of history)
+  pub last_demand : content.last_demand ≡ length (ordered_lines (effects_of history))
+  pub lines : DemandsAreLines (effects_of history) content

@@ -108,46 +108,46 @@ Makes old (Amend demand wanted) read change = (row : Demand) × (demand_at old d
 -- ---- what commands do to cells
 
 -- what a command does to units, to rules of cutting, to orders and to cells
-pub data Deed : Type 0 where
+pub data Effect : Type 0 where
   -- to none of them
-  nothing : Deed
+  nothing : Effect
   -- a material is cut by this rule
-  Rules : (material : List ℕ) (rule : Rule) → Deed
+  Rules : (material : List ℕ) (rule : Rule) → Effect
   -- an act: units of one size are received
-  Receives : (material batch : List ℕ) (size : Extent) (count : ℕ) → Deed
+  Receives : (material batch : List ℕ) (size : Extent) (count : ℕ) → Effect
   -- the lines of an order are asked for
-  Orders : (order : List ℕ) (lines : List OrderLine) → Deed
+  Orders : (order : List ℕ) (lines : List OrderLine) → Effect
   -- an act: a part is to be cut by this tree
-  Reserves : (part : Name) (tree : Tree) → Deed
+  Reserves : (part : Name) (tree : Tree) → Effect
   -- the cuts of a job are made as its outcome says
-  Ends : (job : ℕ) (outcome : ℕ → Outcome) → Deed
+  Ends : (job : ℕ) (outcome : ℕ → Outcome) → Effect
   -- a standing part as a whole is in this state from now on
-  Turns : (part : Name) (into : State) → Deed
+  Turns : (part : Name) (into : State) → Effect
   -- so many pieces of a demand are wanted from now on
-  Amends : (demand wanted : ℕ) → Deed
+  Amends : (demand wanted : ℕ) → Effect
 
 -- what an import does, the newest first: the lines of an order file are asked for; a unit of a problem's rectangle is
 -- received, and then its lines are asked for; and the same again does nothing
-abbrev pub import_deeds : List ℕ → Form → Reading → List Deed
-import_deeds order form (Lines lines) = Orders order lines ∷ []
-import_deeds order (Cgcut material) (Problem size pieces) = Orders order (problem_lines material pieces) ∷ Receives material order size 1 ∷ []
-import_deeds order form _ = nothing ∷ []
+abbrev pub import_effects : List ℕ → Form → Reading → List Effect
+import_effects order form (Lines lines) = Orders order lines ∷ []
+import_effects order (Cgcut material) (Problem size pieces) = Orders order (problem_lines material pieces) ∷ Receives material order size 1 ∷ []
+import_effects order form _ = nothing ∷ []
 
 -- by cases on a command, and on what its text was read as, the newest first
-abbrev pub deeds : Command → Reading → List Deed
-deeds (AddMaterial material kind kerf min_long min_short) read =
+abbrev pub effects : Command → Reading → List Effect
+effects (AddMaterial material kind kerf min_long min_short) read =
     Rules material (record { kerf = kerf; min_long = min_long; min_short = min_short }) ∷ []
-deeds (Receive material batch w h count) read = Receives material batch (record { w = w; h = h }) count ∷ []
-deeds (AddOrder order lines) read = Orders order lines ∷ []
-deeds (Reserve part text) (Plan plan) = Reserves part plan.tree ∷ []
-deeds (Reserve part text) _ = nothing ∷ []
-deeds (Done job) read = Ends job all_made ∷ []
-deeds (Break job halt) read = Ends job (outcome_after halt) ∷ []
-deeds (Release job) read = nothing ∷ []
-deeds (Scrap part) read = Turns part state.Scrap ∷ []
-deeds (GiveBack part) read = Turns part state.Returned ∷ []
-deeds (Import order form text) read = import_deeds order form read
-deeds (Amend demand wanted) read = Amends demand wanted ∷ []
+effects (Receive material batch w h count) read = Receives material batch (record { w = w; h = h }) count ∷ []
+effects (AddOrder order lines) read = Orders order lines ∷ []
+effects (Reserve part text) (Plan plan) = Reserves part plan.tree ∷ []
+effects (Reserve part text) _ = nothing ∷ []
+effects (Done job) read = Ends job all_made ∷ []
+effects (Break job halt) read = Ends job (outcome_after halt) ∷ []
+effects (Release job) read = nothing ∷ []
+effects (Scrap part) read = Turns part state.Scrap ∷ []
+effects (GiveBack part) read = Turns part state.Returned ∷ []
+effects (Import order form text) read = import_effects order form read
+effects (Amend demand wanted) read = Amends demand wanted ∷ []
 
 -- ---- steps and runs
 

@@ -20,7 +20,7 @@ abbrev pub is_bar : Kind → Bool
 is_bar Bar = true
 is_bar Sheet = false
 
--- A line is good behind the line of this number: its own is greater, its size is one of the material's kind, its count and
+-- A line is good after the line of this number: its own is greater, its size is one of the material's kind, its count and
 -- its worth are in range, and a bar's pieces don't turn.
 abbrev pub is_good_line : ℕ → OrderLine → Kind → Bool
 is_good_line last line kind =
@@ -31,7 +31,7 @@ abbrev pub line_refusal : ℕ → OrderLine → Option Material → Option Refus
 line_refusal last line None = Some NoMaterial
 line_refusal last line (Some m) = first_of ((not (is_good_line last line m.kind), BadLine) ∷ [])
 
--- line by line, behind the line of this number; a function finds the materials
+-- line by line, after the line of this number; a function finds the materials
 abbrev pub lines_refusal : (List ℕ → Option Material) → ℕ → List OrderLine → Option Refusal
 lines_refusal at last [] = None
 lines_refusal at last (line ∷ lines) = option_or (line_refusal last line (at line.material)) (lines_refusal at line.line lines)

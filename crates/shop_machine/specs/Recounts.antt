@@ -54,10 +54,10 @@ recount_by (Laid laid) n demand = with_laid laid.now n demand
 recount_by Freed n demand = with_freed n demand
 
 -- the counts stay in range
-abbrev pub HasRoom : Recount → ℕ → Demand → Type 0
-HasRoom Reserved n demand = demand.reserved + n < 2 ^ 32
-HasRoom (Laid laid) n demand = (n ≤ demand.reserved) × (demand.made + pieces_in demand.number laid.now < 2 ^ 32)
-HasRoom Freed n demand = n ≤ demand.reserved
+abbrev pub CanRecount : Recount → ℕ → Demand → Type 0
+CanRecount Reserved n demand = demand.reserved + n < 2 ^ 32
+CanRecount (Laid laid) n demand = (n ≤ demand.reserved) × (demand.made + pieces_in demand.number laid.now < 2 ^ 32)
+CanRecount Freed n demand = n ≤ demand.reserved
 
 -- so many are reserved, and can be made
 abbrev pub CanBeMade : ℕ → Demand → Type 0
@@ -76,7 +76,7 @@ IsNumbered found = IfSome found.demand (λ demand. demand.number ≡ found.leaf.
 abbrev pub IsAlike : FoundLeaf → FoundLeaf → Type 0
 IsAlike found other = (other.leaf.demand ≡ found.leaf.demand) × (other.demand ≡ found.demand)
 
--- the row stands behind the others, unless one of its number is there
+-- the row stands after the others, unless one of its number is there
 abbrev pub IsAddedOnce : List Demand → Demand → List Demand → Type 0
 IsAddedOnce old row new =
     (Any (λ other. other.number ≡ row.number) old × (new ≡ old))

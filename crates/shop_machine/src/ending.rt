@@ -13,7 +13,7 @@ ghost use Rattle.shop_machine.specs.declared.recounts.Recount.TheVariants.{Freed
 ghost use Rattle.shop_records.specs.declared.records.State.TheVariants.{Cut};
 ghost use Rattle.shop_records.specs.Messages.{is_accepted};
 ghost use Rattle.shop_machine.specs.Decisions.{Decides};
-ghost use Rattle.shop_machine.specs.Recounts.{plan_leaves, AreDemandsFound, AreRecounted, leaves_in, HasRoom, HasRow, CanBeMade, IsNumbered, pieces_in, with_laid};
+ghost use Rattle.shop_machine.specs.Recounts.{plan_leaves, AreDemandsFound, AreRecounted, leaves_in, CanRecount, HasRow, CanBeMade, IsNumbered, pieces_in, with_laid};
 ghost use Rattle.shop_machine.specs.Ending.{has_reserved, IsEnd, IsDone, IsBroken, IsRelease, ended_reply, ended_state, fate, has_begun, can_end, is_part_of, is_held, job_refusal, rests, row_part};
 ghost use Rattle.shop_machine.specs.Moving.{has_cells, tally, AreFew};
 ghost use Rattle.shop_records.specs.Content.{in_state};

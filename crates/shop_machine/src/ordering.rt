@@ -54,7 +54,7 @@ fn line_refusal(last: u32, found: &FoundLine) -> Option<Refusal>
     }
 }
 
-/// Why lines are refused behind the line of this number, if they are.
+/// Why lines are refused after the line of this number, if they are.
 pub(crate) fn lines_refusal(last: u32, lines: &[FoundLine]) -> Option<Refusal>
     ensures refusal { (at : List ℕ → Option MaterialOf) → AreMaterialsFound at lines.now
         → result ≡ lines_refusal at last (lines_in lines.now) }

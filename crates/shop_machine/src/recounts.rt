@@ -4,7 +4,7 @@ ghost use Rattle.std.specs.Prelude.{◌≡◌, ◌≢◌, IfOk, IsTrue, ℕ, Opt
 ghost use Rattle.cut_tree.specs.Counting.{is_demand_piece};
 ghost use Rattle.cut_tree.specs.Tree.{count_of};
 ghost use Rattle.shop_records.specs.declared.records.Demand.{Demand as DemandOf};
-ghost use Rattle.shop_machine.specs.Recounts.{AreRecounted, plan_leaves, AreDemandsFound, leaves_in, recount_by, HasRoom, HasRow, IsAddedOnce, IsAlike, pieces_in};
+ghost use Rattle.shop_machine.specs.Recounts.{AreRecounted, plan_leaves, AreDemandsFound, leaves_in, recount_by, CanRecount, HasRow, IsAddedOnce, IsAlike, pieces_in};
 
 use cut_tree::{Leaf, Owner, Plan, Row};
 use shop_records::{Demand, DemandList};
@@ -62,7 +62,7 @@ fn pieces_in(rows: &[Row], demand: u32) -> usize
 }
 
 fn recounted(how: Recount, count: u32, demand: &Demand) -> Demand
-    requires { HasRoom how count demand.now }
+    requires { CanRecount how count demand.now }
     ensures { result ≡ recount_by how.entry count demand.now }
 {
     match how {
@@ -90,7 +90,7 @@ fn has_number(rows: &[Demand], number: u32) -> bool
     rows.iter().any(|row| row.number == number)
 }
 
-// Puts the row of a demand behind the others, recounted by its pieces in a plan, unless one of its number is there.
+// Puts the row of a demand after the others, recounted by its pieces in a plan, unless one of its number is there.
 fn add_once(
     rows: &mut DemandList,
     how: Recount,
@@ -98,7 +98,7 @@ fn add_once(
     of: u32,
     demand: &Demand,
 ) -> Result<(), AllocError>
-    requires { HasRoom how (count_of plan.now.tree of) demand.now }
+    requires { CanRecount how (count_of plan.now.tree of) demand.now }
     ensures { OnOk result (IsAddedOnce rows.old
         (recount_by how.entry (count_of plan.now.tree of) demand.now) rows.new) }
 {
@@ -117,7 +117,7 @@ pub fn recounted_rows(
     leaves: &[FoundLeaf],
 ) -> Result<DemandList, AllocError>
     requires leaves { leaves_in leaves.now ≡ plan_leaves plan.now }
-    requires found { All (HasRow (HasRoom how) plan.now.tree) leaves.now }
+    requires found { All (HasRow (CanRecount how) plan.now.tree) leaves.now }
     ensures { IfOk result (λ rows. (at : ℕ → Option DemandOf) → AreDemandsFound at leaves.now
         → AreRecounted at (recount_by how.entry) plan.now.tree rows) }
 {

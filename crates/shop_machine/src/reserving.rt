@@ -7,7 +7,7 @@ ghost use Rattle.shop_records.specs.declared.records.Demand.{Demand as DemandOf}
 ghost use Rattle.shop_machine.specs.declared.recounts.Recount.TheVariants.{Reserved};
 ghost use Rattle.shop_records.specs.Messages.{is_accepted};
 ghost use Rattle.shop_machine.specs.Decisions.{Decides};
-ghost use Rattle.shop_machine.specs.Recounts.{plan_leaves, AreDemandsFound, leaves_in, HasRoom, HasRow, IsNumbered};
+ghost use Rattle.shop_machine.specs.Recounts.{plan_leaves, AreDemandsFound, leaves_in, CanRecount, HasRow, IsNumbered};
 ghost use Rattle.shop_machine.specs.Reserving.{IsReservation, fits_demand, is_over, leaf_refusal, leaves_refusal, plan_refusal, reserve_refusal};
 
 use crate::decisions::no_change;
@@ -64,7 +64,7 @@ fn leaves_refusal(material: &Code, leaves: &[FoundLeaf]) -> Option<Refusal>
 
 fn is_over(count: u32, demand: &Option<Demand>) -> bool
     ensures test { result ≡ is_over count demand.now }
-    ensures room { result ≡ false → IfSome demand.now (HasRoom Reserved count) }
+    ensures room { result ≡ false → IfSome demand.now (CanRecount Reserved count) }
 {
     match demand {
         None => false,
@@ -80,7 +80,7 @@ fn is_too_many(plan: &Plan, leaves: &[FoundLeaf]) -> bool
         → result ≡ list_any (λ leaf. is_over (count_of plan.now.tree leaf.demand) (at leaf.demand))
         (leaves_in leaves.now) }
     ensures room { result ≡ false
-        → All (λ f. IfSome f.demand (HasRoom Reserved (count_of plan.now.tree f.leaf.demand)))
+        → All (λ f. IfSome f.demand (CanRecount Reserved (count_of plan.now.tree f.leaf.demand)))
         leaves.now }
 {
     let [found, more @ ..] = leaves else {
@@ -104,7 +104,7 @@ fn reservation(
     act: u32,
 ) -> Result<Change, AllocError>
     requires leaves { leaves_in leaves.now ≡ plan_leaves plan }
-    requires found { All (HasRow (HasRoom Reserved) plan.tree) leaves.now }
+    requires found { All (HasRow (CanRecount Reserved) plan.tree) leaves.now }
     ensures change { IfOk result
         (λ change. (at : ℕ → Option DemandOf) → AreDemandsFound at leaves.now
         → IsReservation part plan at act change) }
@@ -138,7 +138,7 @@ fn plan_refusal(part: &Part, plan: &Plan, leaves: &[FoundLeaf], act: u32) -> Opt
         → result ≡ plan_refusal part.now (Some plan.now) at act }
     ensures found { IfNone result (All (λ f. IsTrue (is_some f.demand)) leaves.now) }
     ensures room { IfNone result
-        (All (λ f. IfSome f.demand (HasRoom Reserved (count_of plan.now.tree f.leaf.demand)))
+        (All (λ f. IfSome f.demand (CanRecount Reserved (count_of plan.now.tree f.leaf.demand)))
         leaves.now) }
 {
     if leaves.is_empty() {

@@ -2,7 +2,7 @@
 
 ghost use Rattle.std.specs.Prelude.{◌≡◌, codes};
 ghost use Rattle.serde_json.specs.View.{view};
-ghost use Rattle.shop_forms.specs.Fields.{behind_at, code_behind_at};
+ghost use Rattle.shop_forms.specs.Fields.{after_at, code_after_at};
 ghost use Rattle.shop_forms.specs.Forms as form;
 
 use cut_measure::{Code, PartName};
@@ -10,9 +10,9 @@ use serde_json::Value;
 use shop_forms::{code_at, has_keys, number_at, text_at};
 use shop_records::Query;
 
-// The name behind which parts are asked for: none in an empty text.
-fn behind(value: &Value) -> Option<Option<PartName>>
-    ensures { result ≡ behind_at (codes "after") (view value.now) }
+// The name after which parts are asked for: none in an empty text.
+fn name_after(value: &Value) -> Option<Option<PartName>>
+    ensures { result ≡ after_at (codes "after") (view value.now) }
 {
     let text = text_at(value, "after")?;
     if text == "" {
@@ -22,12 +22,12 @@ fn behind(value: &Value) -> Option<Option<PartName>>
     Some(Some(name))
 }
 
-// The query for a material's parts behind a name.
+// The query for a material's parts after a name.
 fn parts_query(value: &Value) -> Option<Query>
     ensures { result ≡ form.parts_query (view value.now) }
 {
     let material = code_at(value, "material")?;
-    let after = behind(value)?;
+    let after = name_after(value)?;
     Some(Query::Parts { material, after })
 }
 
@@ -91,9 +91,9 @@ pub(crate) fn terminal_query(value: &Value) -> Option<Query>
     Some(Query::Terminal { terminal })
 }
 
-// The code behind which orders are asked for: none in an empty text.
-fn code_behind(value: &Value) -> Option<Option<Code>>
-    ensures { result ≡ code_behind_at (codes "after") (view value.now) }
+// The code after which orders are asked for: none in an empty text.
+fn code_after(value: &Value) -> Option<Option<Code>>
+    ensures { result ≡ code_after_at (codes "after") (view value.now) }
 {
     let text = text_at(value, "after")?;
     if text == "" {
@@ -103,11 +103,11 @@ fn code_behind(value: &Value) -> Option<Option<Code>>
     Some(Some(code))
 }
 
-// The query for orders behind a code.
+// The query for orders after a code.
 pub(crate) fn orders_query(value: &Value) -> Option<Query>
     ensures { result ≡ form.orders_query (view value.now) }
 {
-    let after = code_behind(value)?;
+    let after = code_after(value)?;
     Some(Query::Orders { after })
 }
 
@@ -119,7 +119,7 @@ pub(crate) fn lines_query(value: &Value) -> Option<Query>
     Some(Query::Lines { order })
 }
 
-// The query for a list of what is there, open or listed behind a name.
+// The query for a list of what is there, open or listed after a name.
 pub(crate) fn list_query(value: &Value, word: &str) -> Option<Query>
     ensures { result ≡ form.list_query word.now (view value.now) }
 {

@@ -18,8 +18,8 @@ use Rattle.shop_store.proofs.Commits.{settled_leaves}
 use Rattle.shop_desk.specs.Handled.{Leads}
 use Rattle.shop_forms.specs.Forms.{json_texts}
 use Rattle.shop_opening.specs.Openings.{LeavesShown, ShowsContent, ShowsIn}
-use Rattle.shop_opening.specs.Stops.{IsBehind, IsLeftOf, WasRefused}
-use Rattle.shop_opening.proofs.Behind.{StandsBehind, stands_behind}
+use Rattle.shop_opening.specs.Stops.{IsAfter, IsLeftOf, WasRefused}
+use Rattle.shop_opening.proofs.After.{StandsAfter, stands_after}
 
 module _ {D : Type 0} {g : Ghosts D} (last : Held (FileStore D g)) (image : Image) (left : IsLeftOf last image) where
   -- the image holds a database that may be left
@@ -39,15 +39,15 @@ module _ {D : Type 0} {g : Ghosts D} (last : Held (FileStore D g)) (image : Imag
       let at : IsSettledAt (file_state last) m = record { lines = was.lines; totals = was.totals; sums = was.sums; settled = was.holds clean up } in
       only_left m clean (settled_leaves last m stays up at)
 
-  pub behind_left : (old next : Content) (messages : List Message) (answers : List Reply) (before : Trees → Type 0) → ((db : Trees) → before db → StandsFor db old) → Leads json_texts StandsFor before old messages answers next (file_state last).may_leave
-      → ∥ ((found : Content) × IsBehind (WasRefused messages answers) next found × ShowsContent image found) ∥₁
-  behind_left old next messages answers before was leads =
-      let start = λ (db : Trees) (may : before db). let r : StandsBehind StandsFor (λ _. ⊥) old db = record { found = old; behind = inl refl; left_stands = was db may } in r in
-      ∥∥₁_map (holds (StandsBehind StandsFor (λ m. ⊥ ⊎ WasRefused messages answers m) next) (stands_behind StandsFor messages answers before (file_state last).may_leave (λ _. ⊥) old next start leads)) (λ x.
+  pub after_left : (old next : Content) (messages : List Message) (answers : List Reply) (before : Trees → Type 0) → ((db : Trees) → before db → StandsFor db old) → Leads json_texts StandsFor before old messages answers next (file_state last).may_leave
+      → ∥ ((found : Content) × IsAfter (WasRefused messages answers) next found × ShowsContent image found) ∥₁
+  after_left old next messages answers before was leads =
+      let start = λ (db : Trees) (may : before db). let r : StandsAfter StandsFor (λ _. ⊥) old db = record { found = old; after = inl refl; left_stands = was db may } in r in
+      ∥∥₁_map (holds (StandsAfter StandsFor (λ m. ⊥ ⊎ WasRefused messages answers m) next) (stands_after StandsFor messages answers before (file_state last).may_leave (λ _. ⊥) old next start leads)) (λ x.
       let b = x.2 in
-      let r : (found : Content) × IsBehind (WasRefused messages answers) next found × ShowsContent image found = (
+      let r : (found : Content) × IsAfter (WasRefused messages answers) next found × ShowsContent image found = (
         b.found,
-        elim b.behind [
+        elim b.after [
           | inl is ↦ inl is
           | inr more ↦ inr (record { message = more.message; was = elim more.was [ inl none ↦ absurd none | inr was ↦ was ]; other = more.other; step = more.step })
         ],

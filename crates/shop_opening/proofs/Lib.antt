@@ -4,7 +4,7 @@ pub mod Nothing
 pub mod Found
 -- which fault each refusal is
 pub mod Faults
--- what may be left behind messages that were answered
-pub mod Behind
+-- what may be left after messages that were answered
+pub mod After
 -- an image that a stop left
 pub mod Left

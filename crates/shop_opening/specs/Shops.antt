@@ -38,8 +38,8 @@ pub record IsFirstRefused (replies : List Reply) (e : EntryRefused) : Type 0 whe
   pub refused : (d : Reply) → refusal_in (get_or replies at d) ≡ Some e.refusal
   pub before : All IsAccepted (take at replies)
 
--- The shop's messages were handled, and this holds of the replies: each sound content that an honest book held led to one that
--- it holds now by a run of the machine.
+-- The shop's messages were handled, and this holds of the replies: each sound content that a book with a clean disk held led to
+-- one that it holds now by a run of the machine.
 abbrev pub HasShop : {B : Type 0} → Ghosts B → B → B → List MaterialEntry → (List Reply → Type 0) → Type 0
 HasShop book before after entries replied =
     (replies : List Reply) × replied replies × OnContent book before after (λ m. IsSound json_texts m → HasRun json_texts book before after m (shop_messages entries) replies)

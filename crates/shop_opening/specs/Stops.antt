@@ -1,4 +1,4 @@
--- What a stop leaves of an open store, behind messages that were answered.
+-- What a stop leaves of an open store, after messages that were answered.
 use Rattle.std.specs.Prelude.{◌≡◌, ◌⊎◌, IsTrue, List, [], ◌∷◌, Some}
 use Rattle.sqlite_disk.specs.declared.Disk.{Ghosts as DiskGhosts}
 use Rattle.sqlite_store.specs.FileStore as store
@@ -38,6 +38,6 @@ pub record IsOneMore (refused : Message → Type 0) (next found : Content) : Typ
   pub other : Reply
   pub step : StepNew json_texts next message other found
 
--- it is the content behind the last answer, or one step further
-abbrev pub IsBehind : (Message → Type 0) → Content → Content → Type 0
-IsBehind refused next found = (found ≡ next) ⊎ IsOneMore refused next found
+-- it is the content after the last answer, or one step further
+abbrev pub IsAfter : (Message → Type 0) → Content → Content → Type 0
+IsAfter refused next found = (found ≡ next) ⊎ IsOneMore refused next found

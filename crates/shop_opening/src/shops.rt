@@ -114,7 +114,7 @@ pub fn add_shop<B: Book>(
     requires { length entries.now ≤ MOST_ENTRIES }
     ensures ok { OnOk result (HasShop B.Book book.old book.new entries.now (All IsAccepted)) }
     ensures err { IfErr result (ShopFailed B.Book book.old book.new entries.now) }
-    ensures honest { B.is_honest book.new → B.is_honest book.old }
+    ensures clean_disk { B.has_clean_disk book.new → B.has_clean_disk book.old }
     ensures failures { CountsUp (B.failed book.old) (B.failed book.new) }
 {
     let messages = messages_of(alloc, entries)?;

@@ -15,18 +15,18 @@ ghost use Rattle.shop_forms.specs.Forms.{json_texts};
 ghost use Rattle.shop_store.specs.OpenWork.{HoldsListed};
 ghost use Rattle.shop_store.specs.declared.listed_work.OpenWork.{OpenWork as OpenWorkOf};
 ghost use Rattle.shop_opening.specs.Openings.{IsOpenedOn, LeavesShown, ShowsContent};
-ghost use Rattle.shop_opening.specs.Stops.{IsBehind, IsLeftOf, WasRefused};
+ghost use Rattle.shop_opening.specs.Stops.{IsAfter, IsLeftOf, WasRefused};
 
 use sqlite_disk::Disk;
 
-/// What a stop leaves of an open store shows the content behind each answer that was given, and the book that the next opening
+/// What a stop leaves of an open store shows the content after each answer that was given, and the book that the next opening
 /// of those files gives (`open_file`) holds it.
 ///
 /// - `only`: a connection that leaves a content alone, as one of a book that was just opened: the files show that content.
 /// - `held`: so of one that holds a content, as long as no fault of the disk has shut it.
 /// - `refused`: so where the tables of opened files weren't taken over.
-/// - `behind`: a book that left a content alone had messages handled, whatever came of its disk (`Leads`, of `run`, of `replay`
-///   and of what is served): the files show the content behind the last answer, or one step further, by a message that was
+/// - `after`: a book that left a content alone had messages handled, whatever came of its disk (`Leads`, of `run`, of `replay`
+///   and of what is served): the files show the content after the last answer, or one step further, by a message that was
 ///   refused.
 /// - `again`: files that show a content were opened as a book, be it in another run of the program: it holds that content.
 pub fn stopped_stores_are_found<D: Disk>()
@@ -39,13 +39,13 @@ pub fn stopped_stores_are_found<D: Disk>()
     ensures refused { (last : Held (StoreOf D D.Disk)) (m : Content) → HasCleanDisk (file_state last)
         → LeavesShown (file_state last) m → (image : Image) → IsLeftOf last image
         → ∥ ShowsContent image m ∥₁ }
-    ensures behind { (first last : Held (StoreOf D D.Disk)) (old next : Content)
+    ensures after { (first last : Held (StoreOf D D.Disk)) (old next : Content)
         (messages : List MessageOf) (answers : List ReplyOf) → HasCleanDisk (file_state first)
         → LeavesOnly (file_state first) old
         → Leads json_texts StandsFor (file_state first).may_leave old messages answers next
         (file_state last).may_leave
         → (image : Image) → IsLeftOf last image
-        → ∥ ((found : Content) × IsBehind (WasRefused messages answers) next found
+        → ∥ ((found : Content) × IsAfter (WasRefused messages answers) next found
         × ShowsContent image found) ∥₁ }
     ensures again { (image : Image) (m : Content) → ∥ ShowsContent image m ∥₁
         → (next : Held (StoreOf D D.Disk)) (work : OpenWorkOf) (failures : ℕ)

@@ -135,11 +135,11 @@ fn version_of<S: Start>(conn: &mut Connection<FileStore<FileFrom<S>>>) -> Option
 }
 
 // Why a database isn't taken over.
-fn strange_cause<S: Start>(conn: &mut Connection<FileStore<FileFrom<S>>>) -> VersionCause {
+fn foreign_cause<S: Start>(conn: &mut Connection<FileStore<FileFrom<S>>>) -> VersionCause {
     match version_of(conn) {
         Some(version) if version > 2 => VersionCause::Newer,
         Some(1 | 2) => VersionCause::Contradicting,
-        _ => VersionCause::Strange,
+        _ => VersionCause::Foreign,
     }
 }
 
@@ -164,7 +164,7 @@ fn adopt_fault<S: Start>(
     match fault {
         BookFault::NoMemory => OpenFault::NoMemory,
         BookFault::Store => OpenFault::Store(failure_of(conn)),
-        BookFault::WrongVersion => OpenFault::Version(strange_cause(&mut conn)),
+        BookFault::WrongVersion => OpenFault::Version(foreign_cause(&mut conn)),
     }
 }
 

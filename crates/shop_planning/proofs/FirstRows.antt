@@ -15,11 +15,11 @@ use Rattle.shop_planning.specs.Asked.{can_be_planned, first_left, first_planned,
 -- where as many as are wanted stand among the first k rows, more rows don't matter
 pub first_of_more : {A : Type 0} (p : A → Bool) (n k m : ℕ) (xs : List A) → k ≤ m → length (take n (filter p (take k xs))) ≡ n → take n (filter p (take k xs)) ≡ take n (filter p (take m xs))
 first_of_more p n k m xs le full =
-    let front = filter p (take k (take m xs)) in
+    let prefix = filter p (take k (take m xs)) in
     let same : take k (take m xs) ≡ take k xs = take-take k m xs le in
-    let enough : n ≤ length front = omega (arith, full, length-take n (filter p (take k xs)), ap (λ l. length (filter p l)) same) in
+    let enough : n ≤ length prefix = omega (arith, full, length-take n (filter p (take k xs)), ap (λ l. length (filter p l)) same) in
     ap (λ l. take n (filter p l)) (sym same)
-    ∙ sym (take-append-le n front (filter p (drop k (take m xs))) enough)
+    ∙ sym (take-append-le n prefix (filter p (drop k (take m xs))) enough)
     ∙ ap (take n) (sym (filter-append p (take k (take m xs)) (drop k (take m xs))))
     ∙ ap (λ l. take n (filter p l)) (take-append-drop k (take m xs))
 

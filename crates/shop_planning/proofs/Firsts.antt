@@ -14,8 +14,8 @@ module _ {A B : Type 0} (alike : A → A → Bool) (f : A → B) (xs : List A) (
   here : drop i xs ≡ x ∷ drop (i + 1) xs
   here = drop_more xs i x within ∙ ap (λ y. y ∷ drop (i + 1) xs) (sym is)
 
-  behind : take (i + 1) xs ≡ take i xs ++ x ∷ []
-  behind = take_more xs i x within ∙ ap (λ y. take i xs ++ y ∷ []) (sym is)
+  after : take (i + 1) xs ≡ take i xs ++ x ∷ []
+  after = take_more xs i x within ∙ ap (λ y. take i xs ++ y ∷ []) (sym is)
 
   by_test : (b : Bool) → list_any (alike x) (take i xs) ≡ b
       → rest i ≡ map f (if b then firsts alike (take i xs ++ x ∷ []) (drop (i + 1) xs) else x ∷ firsts alike (take i xs ++ x ∷ []) (drop (i + 1) xs))
@@ -24,7 +24,7 @@ module _ {A B : Type 0} (alike : A → A → Bool) (f : A → B) (xs : List A) (
       ∙ ap (λ t. map f (if t then firsts alike (take i xs ++ x ∷ []) (drop (i + 1) xs) else x ∷ firsts alike (take i xs ++ x ∷ []) (drop (i + 1) xs))) test
 
   next : map f (firsts alike (take i xs ++ x ∷ []) (drop (i + 1) xs)) ≡ rest (i + 1)
-  next = ap (λ l. map f (firsts alike l (drop (i + 1) xs))) (sym behind)
+  next = ap (λ l. map f (firsts alike l (drop (i + 1) xs))) (sym after)
 
   -- one that is alike to an earlier one is passed over
   pub passed : (list all : List B) → list_any (alike x) (take i xs) ≡ true → list ++ rest i ≡ all → list ++ rest (i + 1) ≡ all

@@ -106,16 +106,16 @@ module _ {A : Type 0} (alike : A → A → Bool) (likeness : IsLikeness alike) w
         zero [] = refl
         zero (x ∷ xs) = omega (arith, sum_by-cons (λ y. if list_any (alike y) [] then w y else 0) x xs, zero xs)
 
-    all_seen : (front back : List A) → all ≡ front ++ back → sum_by (λ x. if list_any (alike x) all then w x else 0) back ≡ sum_by w back
-    all_seen front [] is = refl
-    all_seen front (x ∷ xs) is =
-        let here : list_any (alike x) all ≡ true = ap (list_any (alike x)) is ∙ any_itself x front xs in
+    all_seen : (prefix back : List A) → all ≡ prefix ++ back → sum_by (λ x. if list_any (alike x) all then w x else 0) back ≡ sum_by w back
+    all_seen prefix [] is = refl
+    all_seen prefix (x ∷ xs) is =
+        let here : list_any (alike x) all ≡ true = ap (list_any (alike x)) is ∙ any_itself x prefix xs in
         omega (
           arith,
           sum_by-cons (λ y. if list_any (alike y) all then w y else 0) x xs,
           sum_by-cons w x xs,
           ap (λ b. if b then w x else 0) here,
-          all_seen (front ++ x ∷ []) xs (is ∙ sym (append_assoc front (x ∷ []) xs)),
+          all_seen (prefix ++ x ∷ []) xs (is ∙ sym (append_assoc prefix (x ∷ []) xs)),
         )
 
     -- together the groups of the first ones are all

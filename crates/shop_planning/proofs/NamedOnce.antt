@@ -46,8 +46,8 @@ module _ (ranked : List StockPart) (name : Name) where
 
   more_taken : (k t : ℕ) (parts : List StockPart) → sum_by one (take (k + t) parts) ≡ sum_by one (take k parts) + sum_by one (take t (drop k parts))
   more_taken k t parts =
-      let front : take k (take (k + t) parts) ≡ take k parts = take-take k (k + t) parts (omega arith) in
-      omega (arith, sum_by-take-drop one (take (k + t) parts) k, ap (sum_by one) front, ap (sum_by one) (drop-take k t parts))
+      let prefix : take k (take (k + t) parts) ≡ take k parts = take-take k (k + t) parts (omega arith) in
+      omega (arith, sum_by-take-drop one (take (k + t) parts) k, ap (sum_by one) prefix, ap (sum_by one) (drop-take k t parts))
 
   -- how often it is among the first parts of a size, where that is limited
   abbrev among_first : Option ℕ → ℕ → StockSize → ℕ

@@ -10,7 +10,7 @@ use Rattle.shop_records.specs.declared.records.Demand.{Demand}
 use Rattle.shop_records.specs.declared.records.Part.{Part}
 use Rattle.shop_records.specs.Columns.{is_free}
 use Rattle.shop_records.specs.Content.{Content, demand_at, part_at}
-use Rattle.shop_records.specs.Lists.{open_demands, parts_behind}
+use Rattle.shop_records.specs.Lists.{open_demands, parts_after}
 use Rattle.shop_answers.specs.declared.planning.FoundDemand.{FoundDemand}
 use Rattle.shop_answers.specs.Planning.{left_of}
 use Rattle.shop_plans.specs.declared.questions.PlansQuery.{PlansQuery}
@@ -57,7 +57,7 @@ first_planned kind rows = map Some (take MOST_PARTS (filter (can_be_planned kind
 -- The parts that are named, as far as they are there; or else the first 1000 of the material, by rising act and then node,
 -- that can be planned, of the first 2147483647 that stand.
 abbrev pub parts_for : Content → List ℕ → Kind → Option (List Name) → List (Option Part)
-parts_for content code kind None = first_planned kind (take MOST_NUMBERS (parts_behind content code None))
+parts_for content code kind None = first_planned kind (take MOST_NUMBERS (parts_after content code None))
 parts_for content code kind (Some names) = map (part_at content) names
 
 -- at most 1000 parts are named

@@ -35,7 +35,7 @@ is_of s part = part.size.w == s.size.w && part.size.h == s.size.h && part.cost =
 abbrev pub first_place : List StockPart → ℕ
 first_place parts = fold (λ first part. min first part.place) MOST_PARTS parts
 
--- so many parts of a size, by rising name, behind those that other plans took
+-- so many parts of a size, by rising name, after those that other plans took
 abbrev pub taken : List StockPart → (before : ℕ) → PlannedUnit → StockSize → List StockPart
 taken ranked before u s = take u.times (drop before (filter (is_of s) ranked))
 
@@ -47,7 +47,7 @@ part_entry ranked before u s =
       told = record { buy = 0; h = s.size.h; parts = map (λ (part : StockPart). part.name) (taken ranked before u s); tree = text_of u.plan.tree; w = s.size.w };
     }
 
--- a plan by which bought units of a size are cut: behind all parts, by the place of the size
+-- a plan by which bought units of a size are cut: after all parts, by the place of the size
 abbrev pub bought_entry : PlannedUnit → StockSize → Entry
 bought_entry u s =
     record {

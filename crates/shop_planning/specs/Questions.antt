@@ -128,7 +128,7 @@ pub record IsPosed (content : Content) (q : PlansQuery) (posed : Posed) : Type 0
 -- ---- what is answered
 
 -- the text of an answer to what is asked
-pub record IsAnswered (content : Content) (q : PlansQuery) (result : Result (List ℕ) Refusal) : Type 0 where
+pub record IsQuestionAnswered (content : Content) (q : PlansQuery) (result : Result (List ℕ) Refusal) : Type 0 where
   pub posed : Posed
   pub asks : IsPosed content q posed
   pub text : List ℕ
@@ -138,4 +138,4 @@ pub record IsAnswered (content : Content) (q : PlansQuery) (result : Result (Lis
 -- an answer, or the first refusal that holds; memory and the store aside
 abbrev pub AnswersPlans : Content → PlansQuery → Result (List ℕ) Refusal → Type 0
 AnswersPlans content q result =
-    result ≢ Err NoMemory → result ≢ Err StoreFault → MatchOption (plans_refusal content q) (IsAnswered content q result) (λ refusal. result ≡ Err refusal)
+    result ≢ Err NoMemory → result ≢ Err StoreFault → MatchOption (plans_refusal content q) (IsQuestionAnswered content q result) (λ refusal. result ≡ Err refusal)

@@ -3,7 +3,7 @@
 ghost use Rattle.std.specs.Prelude.{◌≡◌, ◌≤◌, ◌++◌, ◌∷◌, [], IfOk, OnOk, length, map, take, Some, None};
 ghost use Rattle.cut_bound.specs.declared.limits.TheConstants.{MOST_PARTS};
 ghost use Rattle.shop_records.specs.Content.{part_at};
-ghost use Rattle.shop_records.specs.Lists.{open_demands, parts_behind};
+ghost use Rattle.shop_records.specs.Lists.{open_demands, parts_after};
 ghost use Rattle.shop_book.specs.Failures.{CountsFailure};
 ghost use Rattle.shop_book.specs.Kept.{Unchanged, OnContent};
 ghost use Rattle.shop_answers.specs.Planning.{left_of};
@@ -180,7 +180,7 @@ fn first_standing<B: Book>(
     most: usize,
 ) -> Result<Vec<Option<Part>>, BookFault>
     ensures found { OnContent B.Book book.old book.new (λ m. IfOk result (λ found. found.items
-        ≡ asked.first_planned kind (take most (parts_behind m material None)))) }
+        ≡ asked.first_planned kind (take most (parts_after m material None)))) }
     ensures few { IfOk result (λ found. length found.items ≤ MOST_PARTS) }
     ensures keeps { Unchanged B.Book (CountsFailure result) book.old book.new }
 {

@@ -20,7 +20,7 @@ use shop_records::{RowList, Text};
 use std::alloc::{AllocError, Global};
 
 /// A plan as it is told, and its place among the others: that in the stock's list of the part that stands there first, or
-/// behind all parts that of its size.
+/// after all parts that of its size.
 #[derive(Drop)]
 pub struct Entry {
     pub place: usize,
@@ -58,7 +58,7 @@ fn parts_of(
         .collect(alloc)
 }
 
-// So many parts, behind those that were taken before.
+// So many parts, after those that were taken before.
 fn taken(parts: &[StockPart], before: u128, times: u32) -> &[StockPart]
     ensures { result.now ≡ take times (drop before parts.now) }
 {

@@ -1,4 +1,4 @@
--- What lists there are of a content: its materials, its orders with their lines, and what stands, is open or waits behind a
+-- What lists there are of a content: its materials, its orders with their lines, and what stands, is open or waits after a
 -- name or a number; and the last number of a terminal.
 use Rattle.std.specs.Prelude.{◌≡◌, ◌⊎◌, ◌≤◌, ◌<◌, ℕ, ◌&&◌, List, All, AllPairs, filter, length, map as map_list, sum_by, Bool, true, nat_lt, Option, Some, None, IsSome}
 use Rattle.std.specs.Ordering.{is_lt}
@@ -20,14 +20,14 @@ use Rattle.shop_records.specs.Content.{Content, demand_at, kept_at, parts_of}
 abbrev pub materials_of : Content → List Material
 materials_of content = map.values content.materials
 
--- whether a name comes behind another one, or there is no other
-abbrev pub is_behind : Option Name → Name → Bool
-is_behind None name = true
-is_behind (Some after) name = is_lt (name_cmp after name)
+-- whether a name comes after another one, or there is no other
+abbrev pub is_after : Option Name → Name → Bool
+is_after None name = true
+is_after (Some after) name = is_lt (name_cmp after name)
 
--- the parts of a material that stand and come behind a name, by rising act and then node
-abbrev pub parts_behind : Content → List ℕ → Option Name → List Part
-parts_behind content code after = filter (λ part. is_behind after part.name) (parts_of content code)
+-- the parts of a material that stand and come after a name, by rising act and then node
+abbrev pub parts_after : Content → List ℕ → Option Name → List Part
+parts_after content code after = filter (λ part. is_after after part.name) (parts_of content code)
 
 -- whether a row is of the material that is asked for, or of any
 abbrev pub is_asked_for : Option (List ℕ) → List ℕ → Bool
@@ -50,18 +50,18 @@ waiting_jobs content after = filter (λ job. nat_lt after job.act && is_waiting 
 abbrev pub job_numbers : List Job → List ℕ
 job_numbers jobs = map_list (λ (job : Job). job.act) jobs
 
--- whether a code comes behind another one, or there is no other
-abbrev pub is_code_behind : Option (List ℕ) → List ℕ → Bool
-is_code_behind None code = true
-is_code_behind (Some after) code = is_lt (code_cmp after code)
+-- whether a code comes after another one, or there is no other
+abbrev pub is_code_after : Option (List ℕ) → List ℕ → Bool
+is_code_after None code = true
+is_code_after (Some after) code = is_lt (code_cmp after code)
 
 -- the codes of all orders, rising, as a map has its keys
 abbrev pub order_codes : Content → List (List ℕ)
 order_codes content = map.keys (map.from_entries {R = code_cmp} (map_list (λ (code : List ℕ). (code, tt {0})) (set.items content.orders)))
 
--- the codes of the orders behind a code, or from the first on, rising
-abbrev pub orders_behind : Content → Option (List ℕ) → List (List ℕ)
-orders_behind content after = filter (is_code_behind after) (order_codes content)
+-- the codes of the orders after a code, or from the first on, rising
+abbrev pub orders_after : Content → Option (List ℕ) → List (List ℕ)
+orders_after content after = filter (is_code_after after) (order_codes content)
 
 -- These are the lines of an order: its demands, each of them, by rising line.
 pub record AreLines (content : Content) (order : List ℕ) (rows : List Demand) : Type 0 where

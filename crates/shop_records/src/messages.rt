@@ -124,7 +124,7 @@ pub enum Query {
     },
     /// All materials.
     Materials,
-    /// The first standing and reserved parts of a material behind a name, or from the first on.
+    /// The first standing and reserved parts of a material after a name, or from the first on.
     Parts {
         material: Code,
         after: Option<PartName>,
@@ -146,7 +146,7 @@ pub enum Query {
     Terminal {
         terminal: u32,
     },
-    /// The first orders behind a code, or from the first on.
+    /// The first orders after a code, or from the first on.
     Orders {
         after: Option<Code>,
     },

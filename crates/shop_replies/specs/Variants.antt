@@ -36,7 +36,7 @@ TellsDemand reply =
 abbrev pub TellsPlan : Reply → Type 0
 TellsPlan reply = (ceiling dropped : ℕ) × (tree : List ℕ) × (worth : ℕ) × (reply ≡ answer.Plan ceiling dropped tree worth)
 
--- parts behind a name
+-- parts after a name
 abbrev pub TellsParts : Reply → Type 0
 TellsParts reply = (material : List ℕ) × (more : Bool) × (parts : List Part) × (reply ≡ answer.Parts material more parts)
 

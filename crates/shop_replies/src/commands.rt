@@ -12,7 +12,7 @@ ghost use Rattle.shop_replies.specs.Variants.{TellsOrder, TellsImport};
 
 use crate::asking::{tell_bound, tell_demand, tell_plan, tell_rack, tell_totals, tell_trace};
 use crate::listing::{
-    tell_behind, tell_job, tell_lines, tell_materials, tell_orders, tell_parts, tell_terminal,
+    tell_after, tell_job, tell_lines, tell_materials, tell_orders, tell_parts, tell_terminal,
 };
 use cut_measure::{Code, PartName};
 use json::Writer;
@@ -97,9 +97,9 @@ pub(crate) fn write_reply(
         Reply::Materials { materials } => tell_materials(alloc, writer, materials.as_slice()),
         Reply::Parts { .. } => tell_parts(alloc, writer, reply),
         Reply::Demands { demands, more } => {
-            tell_behind(alloc, writer, "demands", demands.as_slice(), *more)
+            tell_after(alloc, writer, "demands", demands.as_slice(), *more)
         }
-        Reply::Jobs { jobs, more } => tell_behind(alloc, writer, "jobs", jobs.as_slice(), *more),
+        Reply::Jobs { jobs, more } => tell_after(alloc, writer, "jobs", jobs.as_slice(), *more),
         Reply::Job { .. } => tell_job(alloc, writer, reply),
         Reply::Terminal { last, terminal } => tell_terminal(writer, *last, *terminal),
         Reply::Orders { more, orders } => tell_orders(alloc, writer, *more, orders.as_slice()),

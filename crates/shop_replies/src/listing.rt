@@ -33,7 +33,7 @@ pub(crate) fn tell_materials(
     Ok(())
 }
 
-// Writes the reply about parts behind a name.
+// Writes the reply about parts after a name.
 pub(crate) fn tell_parts(
     alloc: Global,
     writer: &mut Writer,
@@ -61,8 +61,8 @@ pub(crate) fn tell_parts(
     Ok(())
 }
 
-// Writes the reply about rows behind a number: the list at its word.
-pub(crate) fn tell_behind<T: Listed>(
+// Writes the reply about rows after a number: the list at its word.
+pub(crate) fn tell_after<T: Listed>(
     alloc: Global,
     writer: &mut Writer,
     word: &str,
@@ -70,7 +70,7 @@ pub(crate) fn tell_behind<T: Listed>(
     more: bool,
 ) -> Result<(), AllocError>
     ensures value { OnOk result
-        (AddsValue writer.old writer.new (form.behind_told word.now T.said rows.now more)) }
+        (AddsValue writer.old writer.new (form.after_told word.now T.said rows.now more)) }
     ensures wide { OnOk result (All T.is_wide rows.now) }
 {
     writer.begin_object()?;
@@ -135,7 +135,7 @@ pub(crate) fn tell_terminal(writer: &mut Writer, last: u32, terminal: u32) -> Re
     )
 }
 
-// Writes the reply about orders behind a code.
+// Writes the reply about orders after a code.
 pub(crate) fn tell_orders(
     alloc: Global,
     writer: &mut Writer,

@@ -5,16 +5,16 @@ use Rattle.std.proofs.lemmas.Bool.{leb-true}
 use Rattle.httparse.specs.Grammar.{RequestHead}
 use Rattle.httparse.specs.declared.spans.HeaderSpan.{HeaderSpan}
 use Rattle.httparse.specs.declared.spans.RequestSpans.{RequestSpans}
-use Rattle.shop_request.specs.declared.faults.Fault.{Fault}
-use Rattle.shop_request.specs.declared.faults.Fault.TheVariants.{BadRequest, NoLength, LargeBody, OnlyGet, OnlyPost}
+use Rattle.shop_request.specs.declared.faults.RequestFault.{RequestFault}
+use Rattle.shop_request.specs.declared.faults.RequestFault.TheVariants.{BadRequest, NoLength, LargeBody, OnlyGet, OnlyPost}
 use Rattle.shop_request.specs.declared.routes.Route.{Route}
 use Rattle.shop_request.specs.Routes.{takes_body, part_of, path_of, route_of}
-use Rattle.shop_request.specs.Heads.{Plea, body_length, by_method, judged, most_body, on_length, on_route, with_length}
-use Rattle.shop_request.proofs.Behind.{IsJudged}
+use Rattle.shop_request.specs.Heads.{ParsedHead, body_length, by_method, judged, most_body, on_length, on_route, with_length}
+use Rattle.shop_request.proofs.After.{IsJudged}
 
--- ---- a plea is for a short body
+-- ---- a parsed head is for a short body
 
-module _ (p : Plea) where
+module _ (p : ParsedHead) where
   short_length : (route : Route) (part : List ℕ) (n : ℕ) (t : Bool) → nat_le n most_body ≡ t → with_length route part (if t then Ok n else Err LargeBody) ≡ Ok p → p.length ≤ most_body
   short_length route part n true e is = let same : n ≡ p.length = cc in omega (arith, same, leb-true n most_body e)
   short_length route part n false e is = absurd (cc is)
@@ -39,20 +39,20 @@ module _ (p : Plea) where
   short_route method path said None is = absurd (cc is)
   short_route method path said (Some route) is = short_method (takes_body route) route (part_of route path) method said is
 
-  short_on : (method path : List ℕ) (r : Result (Option ℕ) Fault) → on_length method path r ≡ Ok p → p.length ≤ most_body
+  short_on : (method path : List ℕ) (r : Result (Option ℕ) RequestFault) → on_length method path r ≡ Ok p → p.length ≤ most_body
   short_on method path (Ok said) is = short_route method path said (route_of path) is
   short_on method path (Err f) is = absurd (cc is)
 
-  short_parts : (hosts coded : Bool) (method path : List ℕ) (r : Result (Option ℕ) Fault)
+  short_parts : (hosts coded : Bool) (method path : List ℕ) (r : Result (Option ℕ) RequestFault)
       → (if not hosts then Err BadRequest else if coded then Err NoLength else on_length method path r) ≡ Ok p → p.length ≤ most_body
   short_parts true true method path r is = absurd (cc is)
   short_parts true false method path r is = short_on method path r is
   short_parts false coded method path r is = absurd (cc is)
 
-  short_plea : (h : RequestHead) → judged h ≡ Ok p → p.length ≤ most_body
+  short_parsed_head : (h : RequestHead) → judged h ≡ Ok p → p.length ≤ most_body
   unfolding judged
-  short_plea h is = short_parts _ _ h.method (path_of h.target) _ is
+  short_parsed_head h is = short_parts _ _ h.method (path_of h.target) _ is
 
 -- what is pleaded for is short
-pub short_body : {came : List ℕ} {headers : List HeaderSpan} {spans : RequestSpans} {answer : Result Plea Fault} → IsJudged came headers spans answer → (plea : Plea) → answer ≡ Ok plea → plea.length ≤ most_body
-short_body j plea e = short_plea plea j.head (j.said ∙ e)
+pub short_body : {received : List ℕ} {headers : List HeaderSpan} {spans : RequestSpans} {answer : Result ParsedHead RequestFault} → IsJudged received headers spans answer → (parsed_head : ParsedHead) → answer ≡ Ok parsed_head → parsed_head.length ≤ most_body
+short_body j parsed_head e = short_parsed_head parsed_head j.head (j.said ∙ e)

@@ -7,12 +7,12 @@ use Rattle.httparse.specs.declared.spans.HeaderSpan.{HeaderSpan}
 use Rattle.httparse.specs.declared.spans.RequestSpans.{RequestSpans}
 use Rattle.httparse.specs.Grammar.{RequestHead, HasNoRequest, MayBecomeRequest}
 use Rattle.httparse.specs.Spans.{IsRequestAt, header_bytes, name_and_value, span_bytes}
-use Rattle.shop_request.specs.declared.faults.Fault.{Fault}
-use Rattle.shop_request.specs.declared.faults.Fault.TheVariants.{BadRequest, NotFound, OnlyGet, OnlyPost, NoLength, LargeBody, LargeHead}
+use Rattle.shop_request.specs.declared.faults.RequestFault.{RequestFault}
+use Rattle.shop_request.specs.declared.faults.RequestFault.TheVariants.{BadRequest, NotFound, OnlyGet, OnlyPost, NoLength, LargeBody, LargeHead}
 use Rattle.shop_request.specs.declared.guards.Ruling.{Ruling}
 use Rattle.shop_request.specs.declared.guards.Ruling.TheVariants.{Routed}
 use Rattle.shop_request.specs.Guards.{HasRuling, ruled, ruled_head, ruled_parts}
-use Rattle.shop_request.specs.Heads.{front, BeginsWith, HasHead}
+use Rattle.shop_request.specs.Heads.{prefix, BeginsWith, HasHead}
 use Rattle.shop_request.specs.Reading.{IsRefused}
 use Rattle.shop_request.proofs.Uniqueness.{not_bad, not_large}
 use Rattle.httparse.proofs.GrammarLemmas.{request_unique}
@@ -21,55 +21,55 @@ use Rattle.httparse.proofs.GrammarLemmas.{request_unique}
 pub any_first : (test : List ℕ → Bool) (v : List ℕ) (vs all : List (List ℕ)) (b others : Bool) → all ≡ v ∷ vs → b ≡ test v → others ≡ list_any test vs → (b || others) ≡ list_any test all
 any_first test v vs all b others is e o = ap₂ (λ x y. x || y) e o ∙ sym (ap (list_any test) is)
 
-module _ (port : ℕ) (has_page has_backups : Bool) (came : List ℕ) where
-  refused_head : (fault : Fault) → IsRefused (front came) fault → HasHead came (Err fault)
-  refused_head fault (inl large) = subst (λ f. HasHead came (Err f)) (sym large.0) (inl (large.1, large.2))
-  refused_head fault (inr bad) = subst (λ f. HasHead came (Err f)) (sym bad.0) (inl bad.1)
+module _ (port : ℕ) (has_page has_backups : Bool) (received : List ℕ) where
+  refused_head : (fault : RequestFault) → IsRefused (prefix received) fault → HasHead received (Err fault)
+  refused_head fault (inl large) = subst (λ f. HasHead received (Err f)) (sym large.0) (inl (large.1, large.2))
+  refused_head fault (inr bad) = subst (λ f. HasHead received (Err f)) (sym bad.0) (inl bad.1)
 
-  pub refused_ruling : (fault : Fault) → IsRefused (front came) fault → HasRuling port has_page has_backups came Routed
+  pub refused_ruling : (fault : RequestFault) → IsRefused (prefix received) fault → HasRuling port has_page has_backups received Routed
   refused_ruling fault is = (Err fault, refused_head fault is, refl)
 
-  unfinished : (b : Bool) → nat_le 8192 (length came) ≡ b → HasNoRequest (front came) → MayBecomeRequest (front came) → HasRuling port has_page has_backups came Routed
-  unfinished true long none may = (Err LargeHead, inr (leb-true 8192 (length came) long, none, may), refl)
+  unfinished : (b : Bool) → nat_le 8192 (length received) ≡ b → HasNoRequest (prefix received) → MayBecomeRequest (prefix received) → HasRuling port has_page has_backups received Routed
+  unfinished true long none may = (Err LargeHead, inr (leb-true 8192 (length received) long, none, may), refl)
   unfinished false short none may =
-      let few : length came < 8192 = leb-false 8192 (length came) short in
-      (Err BadRequest, inr (few, subst HasNoRequest (take_all 8192 came (omega (arith, few))) none), refl)
+      let few : length received < 8192 = leb-false 8192 (length received) short in
+      (Err BadRequest, inr (few, subst HasNoRequest (take_all 8192 received (omega (arith, few))) none), refl)
 
-  pub unfinished_ruling : HasNoRequest (front came) → MayBecomeRequest (front came) → HasRuling port has_page has_backups came Routed
-  unfinished_ruling = unfinished (nat_le 8192 (length came)) refl
+  pub unfinished_ruling : HasNoRequest (prefix received) → MayBecomeRequest (prefix received) → HasRuling port has_page has_backups received Routed
+  unfinished_ruling = unfinished (nat_le 8192 (length received)) refl
 
-  module _ (headers : List HeaderSpan) (spans : RequestSpans) (h : RequestHead) (room : length headers ≡ 64) (at : IsRequestAt (front came) headers spans h) where
+  module _ (headers : List HeaderSpan) (spans : RequestSpans) (h : RequestHead) (room : length headers ≡ 64) (at : IsRequestAt (prefix received) headers spans h) where
     few : length h.fields ≤ 64
     few =
         omega (
           arith,
           room,
           ap length at.fields,
-          length-map (take spans.headers headers) (header_bytes (front came)),
+          length-map (take spans.headers headers) (header_bytes (prefix received)),
           length-map h.fields name_and_value,
           length-take spans.headers headers,
         )
 
-    begins : BeginsWith came h
+    begins : BeginsWith received h
     begins = record { rest = _; reads = at.reads; few = few }
 
-    by_parts : (method target : List ℕ) → method ≡ span_bytes (front came) spans.method → target ≡ span_bytes (front came) spans.path
-        → ruled_parts port has_page has_backups method target spans.version (map (header_bytes (front came)) (take spans.headers headers)) ≡ ruled_head port has_page has_backups h
+    by_parts : (method target : List ℕ) → method ≡ span_bytes (prefix received) spans.method → target ≡ span_bytes (prefix received) spans.path
+        → ruled_parts port has_page has_backups method target spans.version (map (header_bytes (prefix received)) (take spans.headers headers)) ≡ ruled_head port has_page has_backups h
     unfolding ruled_head
     by_parts method target m t =
-        ap (λ x. ruled_parts port has_page has_backups x target spans.version (map (header_bytes (front came)) (take spans.headers headers))) (m ∙ at.method)
-        ∙ ap (λ x. ruled_parts port has_page has_backups h.method x spans.version (map (header_bytes (front came)) (take spans.headers headers))) (t ∙ at.path)
-        ∙ ap (λ x. ruled_parts port has_page has_backups h.method h.target x (map (header_bytes (front came)) (take spans.headers headers))) at.version
+        ap (λ x. ruled_parts port has_page has_backups x target spans.version (map (header_bytes (prefix received)) (take spans.headers headers))) (m ∙ at.method)
+        ∙ ap (λ x. ruled_parts port has_page has_backups h.method x spans.version (map (header_bytes (prefix received)) (take spans.headers headers))) (t ∙ at.path)
+        ∙ ap (λ x. ruled_parts port has_page has_backups h.method h.target x (map (header_bytes (prefix received)) (take spans.headers headers))) at.version
         ∙ ap (λ x. ruled_parts port has_page has_backups h.method h.target h.minor x) at.fields
 
-    pub whole_ruling : (method target : List ℕ) → method ≡ span_bytes (front came) spans.method → target ≡ span_bytes (front came) spans.path
-        → HasRuling port has_page has_backups came (ruled_parts port has_page has_backups method target spans.version (map (header_bytes (front came)) (take spans.headers headers)))
+    pub whole_ruling : (method target : List ℕ) → method ≡ span_bytes (prefix received) spans.method → target ≡ span_bytes (prefix received) spans.path
+        → HasRuling port has_page has_backups received (ruled_parts port has_page has_backups method target spans.version (map (header_bytes (prefix received)) (take spans.headers headers)))
     whole_ruling method target m t = (Ok h, begins, by_parts method target m t)
 
 -- ---- an input has one ruling
 
 -- a head that is there isn't faulty
-no_fault : (input : List ℕ) (h : RequestHead) (f : Fault) → BeginsWith input h → HasHead input (Err f) → ⊥
+no_fault : (input : List ℕ) (h : RequestHead) (f : RequestFault) → BeginsWith input h → HasHead input (Err f) → ⊥
 no_fault input h BadRequest begins is = not_bad input h begins is
 no_fault input h LargeHead begins is = not_large input h begins is
 no_fault input h NotFound begins is = is
@@ -78,8 +78,8 @@ no_fault input h OnlyPost begins is = is
 no_fault input h NoLength begins is = is
 no_fault input h LargeBody begins is = is
 
-ruled_as : (port : ℕ) (has_page has_backups : Bool) (input : List ℕ) (a b : Result RequestHead Fault) → HasHead input a → HasHead input b → ruled port has_page has_backups a ≡ ruled port has_page has_backups b
-ruled_as port has_page has_backups input (Ok h) (Ok k) x y = ap (ruled_head port has_page has_backups) (request_unique (front input) h k x.rest y.rest x.reads y.reads).0
+ruled_as : (port : ℕ) (has_page has_backups : Bool) (input : List ℕ) (a b : Result RequestHead RequestFault) → HasHead input a → HasHead input b → ruled port has_page has_backups a ≡ ruled port has_page has_backups b
+ruled_as port has_page has_backups input (Ok h) (Ok k) x y = ap (ruled_head port has_page has_backups) (request_unique (prefix input) h k x.rest y.rest x.reads y.reads).0
 ruled_as port has_page has_backups input (Ok h) (Err f) x y = absurd (no_fault input h f x y)
 ruled_as port has_page has_backups input (Err f) (Ok k) x y = absurd (no_fault input k f y x)
 ruled_as port has_page has_backups input (Err f) (Err g) x y = refl

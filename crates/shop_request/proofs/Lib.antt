@@ -1,11 +1,11 @@
 pub mod Numbers
-pub mod Front
+pub mod Prefix
 pub mod Named
 pub mod Routing
-pub mod Behind
+pub mod After
 pub mod Uniqueness
 pub mod Guarding
 pub mod Counting
-pub mod Settled
+pub mod Determined
 pub mod Waiting
 pub mod Open

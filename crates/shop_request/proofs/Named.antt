@@ -7,7 +7,7 @@ use Rattle.httparse.specs.declared.spans.HeaderSpan.{HeaderSpan}
 use Rattle.httparse.specs.declared.spans.RequestSpans.{RequestSpans}
 use Rattle.httparse.specs.Grammar.{RequestHead}
 use Rattle.httparse.specs.Spans.{IsRequestAt, header_bytes, span_bytes}
-use Rattle.shop_request.specs.declared.faults.Fault.TheVariants.{BadRequest}
+use Rattle.shop_request.specs.declared.faults.RequestFault.TheVariants.{BadRequest}
 use Rattle.shop_request.specs.declared.fields.Values.{Values}
 use Rattle.shop_request.specs.declared.fields.Values.TheVariants as values
 use Rattle.shop_request.specs.declared.fields.Said.TheVariants.{Large}

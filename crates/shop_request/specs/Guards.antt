@@ -4,7 +4,7 @@ use Rattle.std.specs.Prelude.{◌≡◌, ℕ, ◌&&◌, ◌||◌, not, Bool, tru
 use Rattle.std.specs.List.{list_any}
 use Rattle.httparse.specs.Grammar.{RequestHead}
 use Rattle.httparse.specs.Spans.{name_and_value}
-use Rattle.shop_request.specs.declared.faults.Fault.{Fault}
+use Rattle.shop_request.specs.declared.faults.RequestFault.{RequestFault}
 use Rattle.shop_request.specs.declared.guards.Mark.{Mark}
 use Rattle.shop_request.specs.declared.guards.Mark.TheVariants.{Site, Origin, Host}
 use Rattle.shop_request.specs.declared.guards.Ruling.{Ruling}
@@ -28,20 +28,20 @@ mark_name Origin = codes "origin"
 mark_name Host = codes "host"
 
 -- a value of such a field that no browser sends for a page of this server
-abbrev pub is_strange_as : ℕ → Mark → List ℕ → Bool
-is_strange_as port Site value = not (bytes_eq value (codes "same-origin")) && not (bytes_eq value (codes "none"))
-is_strange_as port Origin value = not (bytes_eq value (origin_of (local_number port))) && not (bytes_eq value (origin_of (local_name port)))
-is_strange_as port Host value =
+abbrev pub is_cross_site_as : ℕ → Mark → List ℕ → Bool
+is_cross_site_as port Site value = not (bytes_eq value (codes "same-origin")) && not (bytes_eq value (codes "none"))
+is_cross_site_as port Origin value = not (bytes_eq value (origin_of (local_number port))) && not (bytes_eq value (origin_of (local_name port)))
+is_cross_site_as port Host value =
     not (bytes_eq value (codes "127.0.0.1")) && not (bytes_eq value (codes "localhost"))
     && not (bytes_eq value (local_number port)) && not (bytes_eq value (local_name port))
 
 -- some field of that name has such a value
-abbrev pub has_strange : ℕ → Mark → List Pair → Bool
-has_strange port mark fields = list_any (is_strange_as port mark) (values_of (mark_name mark) fields)
+abbrev pub has_cross_site : ℕ → Mark → List Pair → Bool
+has_cross_site port mark fields = list_any (is_cross_site_as port mark) (values_of (mark_name mark) fields)
 
 -- a request that a browser sent for a page of another site, or where there is a page, under a name that isn't this machine's
-abbrev pub is_strange : (port : ℕ) (has_page : Bool) → List Pair → Bool
-is_strange port has_page fields = has_strange port Site fields || has_strange port Origin fields || has_page && has_strange port Host fields
+abbrev pub is_cross_site : (port : ℕ) (has_page : Bool) → List Pair → Bool
+is_cross_site port has_page fields = has_cross_site port Site fields || has_cross_site port Origin fields || has_page && has_cross_site port Host fields
 
 abbrev pub is_good : {X Y : Type 0} → Result X Y → Bool
 is_good (Ok x) = true
@@ -61,7 +61,7 @@ of_page method = if bytes_eq method (codes "GET") then Page else OnlyGet
 abbrev pub ruled_parts : (port : ℕ) (has_page has_backups : Bool) (method target : List ℕ) (minor : ℕ) → List Pair → Ruling
 ruled_parts port has_page has_backups method target minor fields =
     if not (has_good_fields minor fields) then Routed
-    else if is_strange port has_page fields then Forbidden
+    else if is_cross_site port has_page fields then Forbidden
     else if has_page && bytes_eq (path_of target) (codes "/") then of_page method
     else if not has_backups && bytes_eq (path_of target) (codes "/backup") then NoBackups
     else Routed
@@ -70,13 +70,13 @@ unfoldable pub ruled_head : (port : ℕ) (has_page has_backups : Bool) → Reque
 ruled_head port has_page has_backups h = ruled_parts port has_page has_backups h.method h.target h.minor (map name_and_value h.fields)
 
 -- a bad head goes where its fault is told
-abbrev pub ruled : (port : ℕ) (has_page has_backups : Bool) → Result RequestHead Fault → Ruling
+abbrev pub ruled : (port : ℕ) (has_page has_backups : Bool) → Result RequestHead RequestFault → Ruling
 ruled port has_page has_backups (Ok h) = ruled_head port has_page has_backups h
 ruled port has_page has_backups (Err f) = Routed
 
 -- what is done with an input
 abbrev pub HasRuling : (port : ℕ) (has_page has_backups : Bool) → List ℕ → Ruling → Type 0
-HasRuling port has_page has_backups input r = (head : Result RequestHead Fault) × HasHead input head × (r ≡ ruled port has_page has_backups head)
+HasRuling port has_page has_backups input r = (head : Result RequestHead RequestFault) × HasHead input head × (r ≡ ruled port has_page has_backups head)
 
 -- two rulings of an input are one
 abbrev pub OneRuling : Type 0

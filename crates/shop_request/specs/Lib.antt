@@ -3,4 +3,4 @@ pub mod Heads
 pub mod Guards
 pub mod Reading
 pub mod Requests
-pub mod Senses
+pub mod Parses

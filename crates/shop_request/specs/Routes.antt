@@ -8,7 +8,7 @@ use Rattle.matchit.specs.Router.{RouteOf, route_from}
 use Rattle.matchit.specs.Seek.{first}
 use Rattle.matchit.specs.declared.error.InsertError.{InsertError}
 use Rattle.shop_request.specs.declared.routes.Route.{Route}
-use Rattle.shop_request.specs.declared.routes.Route.TheVariants.{Message, Plan, Plans, Bound, Backup, Totals, Rack, Trace, Demand, Ticket, Yield, Materials, Parts, PartsBehind, Demands, DemandsOf, Orders, OrdersBehind, OrderLines, Jobs, Job, Terminal}
+use Rattle.shop_request.specs.declared.routes.Route.TheVariants.{Message, Plan, Plans, Bound, Backup, Totals, Rack, Trace, Demand, Ticket, Yield, Materials, Parts, PartsAfter, Demands, DemandsOf, Orders, OrdersAfter, OrderLines, Jobs, Job, Terminal}
 
 -- the text of each route
 abbrev pub route_text : Route → List ℕ
@@ -25,11 +25,11 @@ route_text Ticket = codes "/ticket/{job}"
 route_text Yield = codes "/yield/{material}"
 route_text Materials = codes "/materials"
 route_text Parts = codes "/parts/{material}"
-route_text PartsBehind = codes "/parts/{material}/{act}/{node}"
+route_text PartsAfter = codes "/parts/{material}/{act}/{node}"
 route_text Demands = codes "/demands/{after}"
 route_text DemandsOf = codes "/demands/{after}/{material}"
 route_text Orders = codes "/orders"
-route_text OrdersBehind = codes "/orders/{order}"
+route_text OrdersAfter = codes "/orders/{order}"
 route_text OrderLines = codes "/order/{order}"
 route_text Jobs = codes "/jobs/{after}"
 route_text Job = codes "/job/{job}"
@@ -50,11 +50,11 @@ route_start Ticket = codes "/ticket/"
 route_start Yield = codes "/yield/"
 route_start Materials = codes "/materials"
 route_start Parts = codes "/parts/"
-route_start PartsBehind = codes "/parts/"
+route_start PartsAfter = codes "/parts/"
 route_start Demands = codes "/demands/"
 route_start DemandsOf = codes "/demands/"
 route_start Orders = codes "/orders"
-route_start OrdersBehind = codes "/orders/"
+route_start OrdersAfter = codes "/orders/"
 route_start OrderLines = codes "/order/"
 route_start Jobs = codes "/jobs/"
 route_start Job = codes "/job/"
@@ -75,11 +75,11 @@ takes_body Ticket = false
 takes_body Yield = false
 takes_body Materials = false
 takes_body Parts = false
-takes_body PartsBehind = false
+takes_body PartsAfter = false
 takes_body Demands = false
 takes_body DemandsOf = false
 takes_body Orders = false
-takes_body OrdersBehind = false
+takes_body OrdersAfter = false
 takes_body OrderLines = false
 takes_body Jobs = false
 takes_body Job = false
@@ -104,8 +104,8 @@ with_routes (route ∷ more) rows = with_routes more (with_route route rows)
 -- all routes, as `matchit` keeps them
 unfoldable pub all_routes : RouteRows
 all_routes =
-    with_routes (Message ∷ Plan ∷ Plans ∷ Bound ∷ Backup ∷ Totals ∷ Rack ∷ Trace ∷ Demand ∷ Ticket ∷ Yield ∷ Materials ∷ Parts ∷ PartsBehind ∷ Demands
-    ∷ DemandsOf ∷ Orders ∷ OrdersBehind ∷ OrderLines ∷ Jobs ∷ Job ∷ Terminal ∷ []) []
+    with_routes (Message ∷ Plan ∷ Plans ∷ Bound ∷ Backup ∷ Totals ∷ Rack ∷ Trace ∷ Demand ∷ Ticket ∷ Yield ∷ Materials ∷ Parts ∷ PartsAfter ∷ Demands
+    ∷ DemandsOf ∷ Orders ∷ OrdersAfter ∷ OrderLines ∷ Jobs ∷ Job ∷ Terminal ∷ []) []
 
 -- the target up to its first `?`
 abbrev pub path_of : List ℕ → List ℕ

@@ -2,7 +2,7 @@
 
 /// What is wrong with a request: the first fault, in the order of `read_request`.
 #[derive(Clone, Copy, Debug, PartialEq, Eq)]
-pub enum Fault {
+pub enum RequestFault {
     /// No head, or a bad one; HTTP/1.1 without a host, or more than one; a length that is none, or said twice; or the
     /// input ended too early.
     BadRequest,

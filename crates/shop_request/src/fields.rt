@@ -8,7 +8,7 @@ ghost use Rattle.httparse.specs.Spans.{IsHeaderWithin, header_bytes};
 ghost use Rattle.shop_request.specs.Heads.{is_named, values_of, has_hosts, is_some_list, is_number, said_length, most_body};
 ghost use Rattle.shop_request.specs.Reading.{AreValues, IsSaid};
 
-use crate::faults::Fault;
+use crate::faults::RequestFault;
 use httparse::spans::HeaderSpan;
 
 const LONGEST_BODY: usize = 131_072;
@@ -112,16 +112,16 @@ fn short_number(digits: &[u8]) -> Option<usize>
 }
 
 /// The length of the body that the fields say.
-pub(crate) fn said_length(values: Values) -> Result<Said, Fault>
+pub(crate) fn said_length(values: Values) -> Result<Said, RequestFault>
     ensures { (all : List (List ℕ)) → AreValues values.entry all → IsSaid result (said_length all) }
 {
     let text = match values {
         Values::None => return Ok(Said::Nothing),
-        Values::Many => return Err(Fault::BadRequest),
+        Values::Many => return Err(RequestFault::BadRequest),
         Values::One(text) => text,
     };
     if !is_number(text) {
-        return Err(Fault::BadRequest);
+        return Err(RequestFault::BadRequest);
     }
     match short_number(text) {
         Some(length) => Ok(Said::Length(length)),

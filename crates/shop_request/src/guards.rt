@@ -3,12 +3,12 @@
 ghost use Rattle.std.specs.Prelude.{◌≡◌, length, map, All, IfOk, string_bytes};
 ghost use Rattle.std.specs.List.{list_any};
 ghost use Rattle.httparse.specs.Spans.{IsHeaderWithin, IsRequestOf, IsRequestWithin, header_bytes};
-ghost use Rattle.shop_request.specs.Guards.{HasRuling, local_name, local_number, has_good_fields, is_strange, is_strange_as, mark_name, of_page, origin_of, ruled_parts};
-ghost use Rattle.shop_request.specs.Heads.{front, values_of};
+ghost use Rattle.shop_request.specs.Guards.{HasRuling, local_name, local_number, has_good_fields, is_cross_site, is_cross_site_as, mark_name, of_page, origin_of, ruled_parts};
+ghost use Rattle.shop_request.specs.Heads.{prefix, values_of};
 ghost use Rattle.shop_request.specs.Reading.{IsHeadIn};
 
 use crate::fields::{has_hosts, is_name, is_there, said_length, values_named};
-use crate::heads::{Found, Head, front_of};
+use crate::heads::{Found, Head, prefix_of};
 use crate::judging::{path_in, target_text};
 use httparse::spans::{HeaderSpan, RequestSpans};
 use std::alloc::{AllocError, Global};
@@ -28,7 +28,7 @@ pub enum Ruling {
     NoBackups,
 }
 
-// The fields that tell a strange request.
+// The fields that tell a cross-site request.
 #[derive(Clone, Copy, Debug, PartialEq, Eq)]
 pub(crate) enum Mark {
     Site,
@@ -36,7 +36,7 @@ pub(crate) enum Mark {
     Host,
 }
 
-/// What tells a strange request: the port that is served, and whether a page is; and whether backups are made.
+/// What tells a cross-site request: the port that is served, and whether a page is; and whether backups are made.
 #[derive(Drop)]
 pub struct Guard {
     port: u32,
@@ -89,8 +89,8 @@ impl Guard {
     }
 
     // Whether a value of such a field is another than a browser sends for a page of this server.
-    fn is_strange(&self, mark: Mark, value: &[u8]) -> bool
-        ensures { result ≡ is_strange_as self.now.port mark value.now }
+    fn is_cross_site(&self, mark: Mark, value: &[u8]) -> bool
+        ensures { result ≡ is_cross_site_as self.now.port mark value.now }
     {
         match mark {
             Mark::Site => value != b"same-origin".as_slice() && value != b"none".as_slice(),
@@ -106,31 +106,31 @@ impl Guard {
         }
     }
 
-    // Whether some field of this name has a strange value.
-    fn has_strange(&self, mark: Mark, buf: &[u8], headers: &[HeaderSpan]) -> bool
+    // Whether some field of this name has a value of another site.
+    fn has_cross_site(&self, mark: Mark, buf: &[u8], headers: &[HeaderSpan]) -> bool
         requires { All (IsHeaderWithin (length buf.now)) headers.now }
-        ensures { result ≡ list_any (is_strange_as self.now.port mark)
+        ensures { result ≡ list_any (is_cross_site_as self.now.port mark)
             (values_of (mark_name mark) (map (header_bytes buf.now) headers.now)) }
     {
         let [first, rest @ ..] = headers else {
             return false;
         };
-        let others = self.has_strange(mark, buf, rest);
+        let others = self.has_cross_site(mark, buf, rest);
         if !is_name(first.name.of(buf), mark_name(mark)) {
             return others;
         }
-        self.is_strange(mark, first.value.of(buf)) || others
+        self.is_cross_site(mark, first.value.of(buf)) || others
     }
 
-    // Whether fields tell a strange request.
-    fn tells_strange(&self, buf: &[u8], headers: &[HeaderSpan]) -> bool
+    // Whether fields tell a cross-site request.
+    fn shows_cross_site(&self, buf: &[u8], headers: &[HeaderSpan]) -> bool
         requires { All (IsHeaderWithin (length buf.now)) headers.now }
-        ensures { result ≡ is_strange self.now.port self.now.has_page
+        ensures { result ≡ is_cross_site self.now.port self.now.has_page
             (map (header_bytes buf.now) headers.now) }
     {
-        self.has_strange(Mark::Site, buf, headers)
-            || self.has_strange(Mark::Origin, buf, headers)
-            || self.has_page && self.has_strange(Mark::Host, buf, headers)
+        self.has_cross_site(Mark::Site, buf, headers)
+            || self.has_cross_site(Mark::Origin, buf, headers)
+            || self.has_page && self.has_cross_site(Mark::Host, buf, headers)
     }
 
     // What is done by the parts of a head.
@@ -149,7 +149,7 @@ impl Guard {
         if !has_good_fields(minor, buf, headers) {
             return Ruling::Routed;
         }
-        if self.tells_strange(buf, headers) {
+        if self.shows_cross_site(buf, headers) {
             return Ruling::Forbidden;
         }
         if self.has_page && path_in(target) == "/" {
@@ -162,30 +162,30 @@ impl Guard {
     }
 
     // What is done by a whole head.
-    fn rule_whole(&self, headers: &[HeaderSpan], spans: &RequestSpans, came: &[u8]) -> Ruling
+    fn rule_whole(&self, headers: &[HeaderSpan], spans: &RequestSpans, received: &[u8]) -> Ruling
         requires room { length headers.now ≡ 64 }
-        requires within { IsRequestWithin (front came.now) headers.now spans.now }
-        requires head { IsRequestOf (front came.now) headers.now spans.now }
-        ensures { HasRuling self.now.port self.now.has_page self.now.has_backups came.now result }
+        requires within { IsRequestWithin (prefix received.now) headers.now spans.now }
+        requires head { IsRequestOf (prefix received.now) headers.now spans.now }
+        ensures { HasRuling self.now.port self.now.has_page self.now.has_backups received.now result }
     {
-        let front = front_of(came);
+        let prefix = prefix_of(received);
         self.rule_parts(
-            front,
+            prefix,
             &headers[..spans.headers],
-            spans.method.of(front),
-            target_text(spans.path.of(front)),
+            spans.method.of(prefix),
+            target_text(spans.path.of(prefix)),
             spans.version,
         )
     }
 
     /// What is done with the request that these bytes begin with, by its head alone.
-    pub fn rule(&self, head: &Head, came: &[u8]) -> Ruling
-        requires { IsHeadIn came.now head.now }
-        ensures { HasRuling self.now.port self.now.has_page self.now.has_backups came.now result }
+    pub fn rule(&self, head: &Head, received: &[u8]) -> Ruling
+        requires { IsHeadIn received.now head.now }
+        ensures { HasRuling self.now.port self.now.has_page self.now.has_backups received.now result }
     {
         match head.found {
-            Found::Asks(spans, _) => self.rule_whole(&head.headers, &spans, came),
-            Found::Faulty(spans, _) => self.rule_whole(&head.headers, &spans, came),
+            Found::Asks(spans, _) => self.rule_whole(&head.headers, &spans, received),
+            Found::Faulty(spans, _) => self.rule_whole(&head.headers, &spans, received),
             Found::Unfinished => Ruling::Routed,
             Found::Refused(_) => Ruling::Routed,
         }

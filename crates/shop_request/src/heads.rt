@@ -1,10 +1,10 @@
 //! The head of a request: where its method, its target and its fields stand, and what it asks for.
 
 ghost use Rattle.std.specs.Prelude.{◌≡◌, length};
-ghost use Rattle.shop_request.specs.Heads.{front};
+ghost use Rattle.shop_request.specs.Heads.{prefix};
 ghost use Rattle.shop_request.specs.Reading.{IsFaultOf, IsFound, IsHeadIn, IsParsed};
 
-use crate::faults::Fault;
+use crate::faults::RequestFault;
 use crate::judging::{Asked, judge};
 use crate::routes::Routes;
 use httparse::spans::{EMPTY_HEADER_SPAN, HeaderSpan, RequestSpans, parse_request};
@@ -14,21 +14,21 @@ pub(crate) const LONGEST_HEAD: usize = 8192;
 
 pub(crate) const MOST_FIELDS: usize = 64;
 
-// How a front was read.
+// How a prefix was read.
 #[derive(Clone, Copy)]
 pub(crate) enum Parsed {
     Whole(RequestSpans),
     Unfinished,
-    Refused(Fault),
+    Refused(RequestFault),
 }
 
 /// What stands where a head may stand: a whole one, with what it asks for, or with the first fault in it; a part of one; or none.
 #[derive(Clone, Copy)]
 pub(crate) enum Found {
     Asks(RequestSpans, Asked),
-    Faulty(RequestSpans, Fault),
+    Faulty(RequestSpans, RequestFault),
     Unfinished,
-    Refused(Fault),
+    Refused(RequestFault),
 }
 
 /// The head that some bytes begin with, or the first part of one, or what is wrong: read once, for the guard, the route and the
@@ -40,44 +40,44 @@ pub struct Head {
 }
 
 /// Where a head may stand.
-pub(crate) fn front_of(came: &[u8]) -> &[u8]
-    ensures { result.now ≡ front came.now }
+pub(crate) fn prefix_of(received: &[u8]) -> &[u8]
+    ensures { result.now ≡ prefix received.now }
 {
-    if came.len() > LONGEST_HEAD {
-        return &came[..LONGEST_HEAD];
+    if received.len() > LONGEST_HEAD {
+        return &received[..LONGEST_HEAD];
     }
-    came
+    received
 }
 
 // What is wrong where `httparse` refuses.
-fn fault_of(error: Error) -> Fault
+fn head_fault(error: Error) -> RequestFault
     ensures { IsFaultOf error result }
 {
     match error {
-        Error::TooManyHeaders => Fault::LargeHead,
-        _ => Fault::BadRequest,
+        Error::TooManyHeaders => RequestFault::LargeHead,
+        _ => RequestFault::BadRequest,
     }
 }
 
 /// Reads the head of a request where it may stand.
-pub(crate) fn parse_front(front: &[u8], headers: &mut [HeaderSpan]) -> Parsed
+pub(crate) fn parse_prefix(prefix: &[u8], headers: &mut [HeaderSpan]) -> Parsed
     requires { length headers.old ≡ 64 }
-    ensures { IsParsed front.now headers.new result }
+    ensures { IsParsed prefix.now headers.new result }
 {
-    match parse_request(front, headers) {
+    match parse_request(prefix, headers) {
         Ok(Status::Complete(spans)) => Parsed::Whole(spans),
         Ok(Status::Partial) => Parsed::Unfinished,
-        Err(error) => Parsed::Refused(fault_of(error)),
+        Err(error) => Parsed::Refused(head_fault(error)),
     }
 }
 
-// What was found, by how the front was read.
-fn found_in(routes: &Routes, front: &[u8], headers: &[HeaderSpan], parsed: Parsed) -> Found
-    requires { IsParsed front.now headers.now parsed }
-    ensures { IsFound front.now headers.now result }
+// What was found, by how the prefix was read.
+fn found_in(routes: &Routes, prefix: &[u8], headers: &[HeaderSpan], parsed: Parsed) -> Found
+    requires { IsParsed prefix.now headers.now parsed }
+    ensures { IsFound prefix.now headers.now result }
 {
     match parsed {
-        Parsed::Whole(spans) => match judge(routes, front, headers, &spans) {
+        Parsed::Whole(spans) => match judge(routes, prefix, headers, &spans) {
             Ok(asked) => Found::Asks(spans, asked),
             Err(fault) => Found::Faulty(spans, fault),
         },
@@ -96,13 +96,13 @@ impl Head {
     }
 
     /// The head of the bytes that came.
-    pub fn read(routes: &Routes, came: &[u8]) -> Head
-        ensures { IsHeadIn came.now result }
+    pub fn read(routes: &Routes, received: &[u8]) -> Head
+        ensures { IsHeadIn received.now result }
     {
         let mut headers = [EMPTY_HEADER_SPAN; MOST_FIELDS];
-        let front = front_of(came);
-        let parsed = parse_front(front, &mut headers);
-        let found = found_in(routes, front, &headers, parsed);
+        let prefix = prefix_of(received);
+        let parsed = parse_prefix(prefix, &mut headers);
+        let found = found_in(routes, prefix, &headers, parsed);
         Head { headers, found }
     }
 }

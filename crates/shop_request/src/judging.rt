@@ -5,10 +5,10 @@ ghost use Rattle.std.specs.Str.{IsUtf8};
 ghost use Rattle.httparse.specs.Grammar.{RequestHead};
 ghost use Rattle.httparse.specs.Spans.{IsHeaderWithin, IsRequestAt, IsRequestWithin, header_bytes, IsRequestOf};
 ghost use Rattle.shop_request.specs.Heads.{judged, judged_parts, on_route, on_length, most_body, by_method};
-ghost use Rattle.shop_request.specs.Reading.{IsSaid, pleas};
+ghost use Rattle.shop_request.specs.Reading.{IsSaid, parsed_heads};
 ghost use Rattle.shop_request.specs.Routes.{path_of, route_of, part_of, takes_body};
 
-use crate::faults::Fault;
+use crate::faults::RequestFault;
 use crate::fields::{Said, has_hosts, is_there, said_length, values_named};
 use crate::routes::{Route, Routes};
 use httparse::spans::{HeaderSpan, RequestSpans};
@@ -39,35 +39,35 @@ fn part_in(route: Route, path: &str) -> &[u8]
 }
 
 // What is asked for by a method at a route.
-fn at_route(route: Route, method: &[u8], said: Said) -> Result<Asked, Fault>
+fn at_route(route: Route, method: &[u8], said: Said) -> Result<Asked, RequestFault>
     ensures { (path : List ℕ) (length : Option ℕ) → IsSaid (Ok said) (Ok length)
-        → pleas path result ≡ by_method (takes_body route) route (part_of route path) method.now
+        → parsed_heads path result ≡ by_method (takes_body route) route (part_of route path) method.now
         length }
 {
     if !route.takes_body() {
         if method != b"GET".as_slice() {
-            return Err(Fault::OnlyGet);
+            return Err(RequestFault::OnlyGet);
         }
         return Ok(Asked { route, length: 0 });
     }
     if method != b"POST".as_slice() {
-        return Err(Fault::OnlyPost);
+        return Err(RequestFault::OnlyPost);
     }
     match said {
-        Said::Nothing => Err(Fault::NoLength),
-        Said::Large => Err(Fault::LargeBody),
+        Said::Nothing => Err(RequestFault::NoLength),
+        Said::Large => Err(RequestFault::LargeBody),
         Said::Length(length) => Ok(Asked { route, length }),
     }
 }
 
 // What is asked for by a method and a path.
-fn at_path(routes: &Routes, method: &[u8], path: &str, said: Said) -> Result<Asked, Fault>
+fn at_path(routes: &Routes, method: &[u8], path: &str, said: Said) -> Result<Asked, RequestFault>
     ensures { (length : Option ℕ) → IsSaid (Ok said) (Ok length)
-        → pleas path.now result ≡ on_route method.now path.now length (route_of path.now) }
+        → parsed_heads path.now result ≡ on_route method.now path.now length (route_of path.now) }
 {
     match routes.find(path) {
         Some(route) => at_route(route, method, said),
-        None => Err(Fault::NotFound),
+        None => Err(RequestFault::NotFound),
     }
 }
 
@@ -79,16 +79,16 @@ fn judge_parts(
     method: &[u8],
     target: &str,
     minor: u8,
-) -> Result<Asked, Fault>
+) -> Result<Asked, RequestFault>
     requires { All (IsHeaderWithin (length buf.now)) headers.now }
-    ensures { pleas (path_of target.now) result ≡ judged_parts method.now target.now minor
+    ensures { parsed_heads (path_of target.now) result ≡ judged_parts method.now target.now minor
         (map (header_bytes buf.now) headers.now) }
 {
     if !has_hosts(minor, values_named(buf, headers, b"host")) {
-        return Err(Fault::BadRequest);
+        return Err(RequestFault::BadRequest);
     }
     if is_there(values_named(buf, headers, b"transfer-encoding")) {
-        return Err(Fault::NoLength);
+        return Err(RequestFault::NoLength);
     }
     let said = said_length(values_named(buf, headers, b"content-length"))?;
     at_path(routes, method, path_in(target), said)
@@ -111,11 +111,11 @@ pub(crate) fn judge(
     buf: &[u8],
     headers: &[HeaderSpan],
     spans: &RequestSpans,
-) -> Result<Asked, Fault>
+) -> Result<Asked, RequestFault>
     requires within { IsRequestWithin buf.now headers.now spans.now }
     requires head { IsRequestOf buf.now headers.now spans.now }
     ensures { (h : RequestHead) → IsRequestAt buf.now headers.now spans.now h
-        → pleas (path_of h.target) result ≡ judged h }
+        → parsed_heads (path_of h.target) result ≡ judged h }
 {
     let method = spans.method.of(buf);
     let target = target_text(spans.path.of(buf));

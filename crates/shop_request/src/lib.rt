@@ -12,10 +12,10 @@ mod requests;
 mod routes;
 mod wholes;
 
-pub use faults::{Fault, StreamFault};
+pub use faults::{RequestFault, StreamFault};
 pub use guards::{Guard, Ruling};
 pub use heads::Head;
-pub use laws::{one_ruling, one_sense, unfinished_is_open};
+pub use laws::{one_parse, one_ruling, unfinished_is_open};
 pub use requests::{Inbound, inbound_of, read_request};
 pub use routes::{Route, Routes};
 pub use wholes::{is_whole, least_bytes};

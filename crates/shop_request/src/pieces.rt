@@ -8,15 +8,18 @@ ghost use Rattle.shop_request.specs.declared.faults.StreamFault.TheVariants.{Rea
 use crate::faults::StreamFault;
 use shop_streams::Source;
 
-const ROOM: usize = 8192;
+const BUFFER_SIZE: usize = 8192;
 
 /// Reads a piece more, and tells whether there was one.
-pub(crate) fn read_piece<S: Source>(source: &mut S, came: &mut Vec<u8>) -> Result<bool, StreamFault>
-    ensures kept { length came.old.items ≤ length came.new.items }
+pub(crate) fn read_piece<S: Source>(
+    source: &mut S,
+    received: &mut Vec<u8>,
+) -> Result<bool, StreamFault>
+    ensures kept { length received.old.items ≤ length received.new.items }
     ensures more { result ≡ Ok true → (piece : List ℕ) × (0 < length piece)
-        × (came.new.items ≡ came.old.items ++ piece)
+        × (received.new.items ≡ received.old.items ++ piece)
         × Consumes (S.left source.old) (S.left source.new) piece }
-    ensures none { result ≡ Ok false → (came.new.items ≡ came.old.items)
+    ensures none { result ≡ Ok false → (received.new.items ≡ received.old.items)
         × IsAtEnd (S.left source.new) × Consumes (S.left source.old) (S.left source.new) [] }
     ensures fault { IfErr result
         (λ fault. (fault ≡ NoMemory) ⊎ (fault ≡ Read)
@@ -25,14 +28,14 @@ pub(crate) fn read_piece<S: Source>(source: &mut S, came: &mut Vec<u8>) -> Resul
     ensures worked { OnOk result (S.failed source.new ≡ S.failed source.old) }
     ensures reads { S.reads source.new ≤ S.reads source.old + 1 }
 {
-    let mut piece = [0; ROOM];
+    let mut piece = [0; BUFFER_SIZE];
     let Ok(count) = source.read(&mut piece) else {
         return Err(StreamFault::Read);
     };
     if count == 0 {
         return Ok(false);
     }
-    match came.extend_from_slice(&piece[..count]) {
+    match received.extend_from_slice(&piece[..count]) {
         Ok(()) => Ok(true),
         Err(_) => Err(StreamFault::NoMemory),
     }

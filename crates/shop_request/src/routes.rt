@@ -35,16 +35,16 @@ pub enum Route {
     Materials,
     /// GET `/parts/{material}`.
     Parts,
-    /// GET `/parts/{material}/{act}/{node}`: behind that name.
-    PartsBehind,
+    /// GET `/parts/{material}/{act}/{node}`: after that name.
+    PartsAfter,
     /// GET `/demands/{after}`.
     Demands,
     /// GET `/demands/{after}/{material}`.
     DemandsOf,
     /// GET `/orders`.
     Orders,
-    /// GET `/orders/{order}`: behind that code.
-    OrdersBehind,
+    /// GET `/orders/{order}`: after that code.
+    OrdersAfter,
     /// GET `/order/{order}`: its lines.
     OrderLines,
     /// GET `/jobs/{after}`.
@@ -74,11 +74,11 @@ impl Route {
             Route::Yield => "/yield/{material}",
             Route::Materials => "/materials",
             Route::Parts => "/parts/{material}",
-            Route::PartsBehind => "/parts/{material}/{act}/{node}",
+            Route::PartsAfter => "/parts/{material}/{act}/{node}",
             Route::Demands => "/demands/{after}",
             Route::DemandsOf => "/demands/{after}/{material}",
             Route::Orders => "/orders",
-            Route::OrdersBehind => "/orders/{order}",
+            Route::OrdersAfter => "/orders/{order}",
             Route::OrderLines => "/order/{order}",
             Route::Jobs => "/jobs/{after}",
             Route::Job => "/job/{job}",
@@ -104,11 +104,11 @@ impl Route {
             Route::Yield => 7,
             Route::Materials => 10,
             Route::Parts => 7,
-            Route::PartsBehind => 7,
+            Route::PartsAfter => 7,
             Route::Demands => 9,
             Route::DemandsOf => 9,
             Route::Orders => 7,
-            Route::OrdersBehind => 8,
+            Route::OrdersAfter => 8,
             Route::OrderLines => 7,
             Route::Jobs => 6,
             Route::Job => 5,
@@ -166,11 +166,11 @@ const ROUTES: [Route; 22] = [
     Route::Yield,
     Route::Materials,
     Route::Parts,
-    Route::PartsBehind,
+    Route::PartsAfter,
     Route::Demands,
     Route::DemandsOf,
     Route::Orders,
-    Route::OrdersBehind,
+    Route::OrdersAfter,
     Route::OrderLines,
     Route::Jobs,
     Route::Job,

@@ -17,11 +17,11 @@ use Rattle.cut_measure.specs.Names.{Name, name_cmp}
 use Rattle.shop_records.specs.declared.records.Part.{Part}
 use Rattle.shop_records.specs.Columns.{is_there}
 use Rattle.shop_records.specs.Content.{is_listed}
-use Rattle.shop_records.specs.Lists.{is_behind}
+use Rattle.shop_records.specs.Lists.{is_after}
 use Rattle.shop_records.specs.Same.{same_code}
 use Rattle.shop_rows.specs.Keys.{part_key, names_total, names_exact}
-use Rattle.shop_rows.specs.Open.{own_key, open_cmp, open_exact, open_key, has, has_key, is_found, finds_with, finds_with_all, names_of, IsKeySettled, ListsNumbers, ListsParts, ListsOthers, KeepsMaterial, KeepMaterials}
-use Rattle.shop_rows.specs.Rows.{entries_of, put_each, rise, row_at, ArePut, IsPut, IsSettled}
+use Rattle.shop_rows.specs.Open.{own_key, open_cmp, open_exact, open_key, has, has_key, is_found, finds_with, finds_with_all, names_of, SetsKey, ListsNumbers, ListsParts, ListsOthers, KeepsMaterial, KeepMaterials}
+use Rattle.shop_rows.specs.Rows.{entries_of, put_each, rise, row_at, ArePut, IsPut, SetsRow}
 use Rattle.shop_rows.specs.declared.names.NameList.{NameList}
 use Rattle.shop_rows.specs.declared.names.OpenPart.{OpenPart}
 use Rattle.shop_rows.proofs.Places.{rising_at, tested, met}
@@ -75,7 +75,7 @@ module _ (part : Part) (find_part : Name → Option Part) (keys : List NameList)
       others keys (λ key e. refl) (λ key same code. found_at key (Some old) is same ∙ not_there key.material old (ap (same_code key.material) alike ∙ code))
 
   -- one of another material had it, and is taken from the list
-  pub unlisted_taken : (old : Part) (new : List NameList) → find_part part.name ≡ Some old → IsKeySettled (record { material = old.material; name = part.name }) false keys new
+  pub unlisted_taken : (old : Part) (new : List NameList) → find_part part.name ≡ Some old → SetsKey (record { material = old.material; name = part.name }) false keys new
       → ListsOthers part (finds_with name_cmp part.name part find_part) new
   unlisted_taken old new is taken =
       others new
@@ -98,7 +98,7 @@ module _ (part : Part) (find_part : Name → Option Part) (keys : List NameList)
 
 -- then the part's own key is in the list, or is not
 pub listed : (part : Part) (find_part : Name → Option Part) (mid new : List NameList) → ListsOthers part find_part mid → find_part part.name ≡ Some part
-    → IsKeySettled (open_key part) (is_listed part.material part) mid new → ListsParts find_part new
+    → SetsKey (open_key part) (is_listed part.material part) mid new → ListsParts find_part new
 listed part find_part mid new lists is settled key = settled key ∙ by_key (eq_by_cmp open_cmp key (open_key part)) refl
   where
     by_key : (b : Bool) → eq_by_cmp open_cmp key (open_key part) ≡ b → cond b (is_listed part.material part) (has_key key mid) ≡ is_found (is_listed key.material) (find_part key.name)
@@ -166,7 +166,7 @@ pub numbers_same : {X : Type 0} (test : X → Bool) (find_row other : ℕ → Op
 numbers_same test find_row other keys same lists number = lists number ∙ ap (is_found test) (same number)
 
 -- a row's own number is in the list, or is not
-pub numbers_settled : {X : Type 0} (test : X → Bool) (find_row : ℕ → Option X) (number : ℕ) (row : X) (keys new : List ℕ) → ListsNumbers test find_row keys → IsSettled own_key nat_cmp number (test row) keys new
+pub numbers_settled : {X : Type 0} (test : X → Bool) (find_row : ℕ → Option X) (number : ℕ) (row : X) (keys new : List ℕ) → ListsNumbers test find_row keys → SetsRow own_key nat_cmp number (test row) keys new
     → ListsNumbers test (finds_with nat_cmp number row find_row) new
 numbers_settled test find_row number row keys new lists settled other =
     settled other
@@ -175,15 +175,15 @@ numbers_settled test find_row number row keys new lists settled other =
 -- ---- runs
 
 module _ {X : Type 0} (p : X → Bool) where
-  pub point_front : (xs : List X) (i : ℕ) → i ≤ length xs → IsPartitionPoint (λ y. p y ≡ true) (λ y. p y ≡ false) xs i → filter p xs ≡ take i xs
-  point_front [] zero within point = refl
-  point_front [] (suc i) within point = refl
-  point_front (x ∷ xs) zero within point =
+  pub point_prefix : (xs : List X) (i : ℕ) → i ≤ length xs → IsPartitionPoint (λ y. p y ≡ true) (λ y. p y ≡ false) xs i → filter p xs ≡ take i xs
+  point_prefix [] zero within point = refl
+  point_prefix [] (suc i) within point = refl
+  point_prefix (x ∷ xs) zero within point =
       ap (λ b. cond b (x ∷ filter p xs) (filter p xs)) (point.1 0 x (omega arith) (omega arith))
-      ∙ point_front xs zero (omega arith) (λ k d le lt. absurd (omega arith), λ k d le lt. point.1 (suc k) d (omega arith) (omega arith))
-  point_front (x ∷ xs) (suc i) within point =
+      ∙ point_prefix xs zero (omega arith) (λ k d le lt. absurd (omega arith), λ k d le lt. point.1 (suc k) d (omega arith) (omega arith))
+  point_prefix (x ∷ xs) (suc i) within point =
       ap (λ b. cond b (x ∷ filter p xs) (filter p xs)) (point.0 0 x (omega arith) (omega arith))
-      ∙ ap (λ ys. x ∷ ys) (point_front xs i (omega arith) (λ k d le lt. point.0 (suc k) d (omega arith) (omega arith), λ k d le lt. point.1 (suc k) d (omega arith) (omega arith)))
+      ∙ ap (λ ys. x ∷ ys) (point_prefix xs i (omega arith) (λ k d le lt. point.0 (suc k) d (omega arith) (omega arith), λ k d le lt. point.1 (suc k) d (omega arith) (omega arith)))
 
   pub point_back : (xs : List X) (i : ℕ) → i ≤ length xs → IsPartitionPoint (λ y. p y ≡ true) (λ y. p y ≡ false) xs i → filter (λ y. not (p y)) xs ≡ drop i xs
   point_back [] zero within point = refl
@@ -215,7 +215,7 @@ module _ {X K : Type 0} (key_of : X → K) (cmp : K → K → Ordering) where
   pub rise-filter : (p : K → Bool) (rows : List X) → rise key_of cmp rows ≡ true → rise key_of cmp (filter (λ row. p (key_of row)) rows) ≡ true
   rise-filter p rows up = ap (is_sorted cmp) (entries_filter p rows) ∙ met _ (is_sorted-where_key cmp p (entries_of key_of cmp rows) (tested _ up))
 
-  -- a test that no key passes behind one that fails
+  -- a test that no key passes after one that fails
   pub parted : IsTotalOrder cmp → IsAntisymmetric cmp → (p : K → Bool) → ((a b : K) → cmp a b ≡ Less → p b ≡ true → p a ≡ true) → (rows : List X) → rise key_of cmp rows ≡ true → IsPartitionedBy (λ row. p (key_of row)) rows
   parted o exact p falls rows up i j d le within passes =
       elim (cases_lt i j) [
@@ -223,7 +223,7 @@ module _ {X K : Type 0} (key_of : X → K) (cmp : K → K → Ordering) where
         | inr ge ↦ let same : i ≡ j = omega arith in subst (λ n. p (key_of (get_or rows n d)) ≡ true) (sym same) passes
       ]
 
--- what comes before a name that is not behind another isn't behind it either
+-- what comes before a name that is not after another isn't after it either
 pub upto_name : (after b c : Name) → name_cmp b c ≡ Less → not (is_lt (name_cmp after c)) ≡ true → not (is_lt (name_cmp after b)) ≡ true
 upto_name after b c lt passes = by_order (name_cmp after b) refl
   where
@@ -232,13 +232,13 @@ upto_name after b c lt passes = by_order (name_cmp after b) refl
     by_order Equal e = refl
     by_order Greater e = refl
 
-pub all_behind : (names : List Name) → names ≡ filter (is_behind None) names
-all_behind [] = refl
-all_behind (n ∷ names) = ap (λ ns. n ∷ ns) (all_behind names)
+pub all_after : (names : List Name) → names ≡ filter (is_after None) names
+all_after [] = refl
+all_after (n ∷ names) = ap (λ ns. n ∷ ns) (all_after names)
 
-pub behind_names : (after : Name) (names : List Name) → filter (λ name. not (not (is_lt (name_cmp after name)))) names ≡ filter (is_behind (Some after)) names
-behind_names after [] = refl
-behind_names after (n ∷ names) = λ i. cond (twice (is_lt (name_cmp after n)) i) (n ∷ behind_names after names i) (behind_names after names i)
+pub after_names : (after : Name) (names : List Name) → filter (λ name. not (not (is_lt (name_cmp after name)))) names ≡ filter (is_after (Some after)) names
+after_names after [] = refl
+after_names after (n ∷ names) = λ i. cond (twice (is_lt (name_cmp after n)) i) (n ∷ after_names after names i) (after_names after names i)
   where
     twice : (b : Bool) → not (not b) ≡ b
     twice true = refl
@@ -262,10 +262,10 @@ not_below from n = by_tests (ltb n from) (leb from n) refl refl
 pub upto_number : (after a b : ℕ) → nat_cmp a b ≡ Less → leb b after ≡ true → leb a after ≡ true
 upto_number after a b lt passes = let less : a < b = ranked a b Less (sym lt) in let most = leb-true b after passes in le-leb a after (omega arith)
 
-pub behind_number : (after : ℕ) (keys : List ℕ) → filter (λ n. not (leb n after)) keys ≡ filter (nat_lt after) keys
-behind_number after [] = refl
-behind_number after (k ∷ keys) =
-    (λ i. cond (turned k i) (k ∷ behind_number after keys i) (behind_number after keys i))
+pub after_number : (after : ℕ) (keys : List ℕ) → filter (λ n. not (leb n after)) keys ≡ filter (nat_lt after) keys
+after_number after [] = refl
+after_number after (k ∷ keys) =
+    (λ i. cond (turned k i) (k ∷ after_number after keys i) (after_number after keys i))
   where
     above : (n : ℕ) (a b : Bool) → leb n after ≡ a → ltb after n ≡ b → not a ≡ b
     above n true true e f = absurd (let most = leb-true n after e in let more = ltb-true after n f in omega arith)

@@ -12,8 +12,8 @@ use Rattle.std.proofs.Math.ListN.{set}
 use Rattle.cut_measure.specs.Codes.{code_cmp}
 use Rattle.cut_measure.specs.Names.{Name, name_cmp}
 use Rattle.shop_rows.specs.Keys.{codes_exact}
-use Rattle.shop_rows.specs.Open.{own_key, open_cmp, open_exact, list_key, listed_names, names_of, has, has_key, room_in, room_of, AreInOrder, IsKeySettled}
-use Rattle.shop_rows.specs.Rows.{entries_of, rise, row_at, IsPut, IsSettled}
+use Rattle.shop_rows.specs.Open.{own_key, open_cmp, open_exact, list_key, listed_names, names_of, has, has_key, room_in, room_of, AreInOrder, SetsKey}
+use Rattle.shop_rows.specs.Rows.{entries_of, rise, row_at, IsPut, SetsRow}
 use Rattle.shop_rows.specs.declared.names.NameList.{NameList}
 use Rattle.shop_rows.specs.declared.names.OpenPart.{OpenPart}
 use Rattle.shop_rows.proofs.Listed.{tie}
@@ -64,8 +64,8 @@ module _ (list : NameList) (old new : List NameList) (is_put : IsPut list_key co
         by_code true e = subst (λ r. r ≤ room_in (Some list) + n) (ap room_in (sym was) ∙ ap (λ q. room_of q old) (sym (own_code code e))) more
         by_code false e = omega arith
 
-    pub settled_put : (name : Name) (is_there : Bool) → IsSettled own_key name_cmp name is_there (listed_names found) list.names.items
-        → IsKeySettled (record { material = list.material; name = name }) is_there old new
+    pub settled_put : (name : Name) (is_there : Bool) → SetsRow own_key name_cmp name is_there (listed_names found) list.names.items
+        → SetsKey (record { material = list.material; name = name }) is_there old new
     settled_put name is_there settled other = ap (λ row. has name_cmp other.name (listed_names row)) (row_new other.material) ∙ by_code (eq_by_cmp code_cmp other.material list.material) refl
       where
         key : OpenPart
@@ -145,15 +145,15 @@ module _ (xs : List NameList) (order : AreInOrder xs) (i : ℕ) (x : NameList) (
       more = λ code. let more = set_room 0 (omega (arith, wide)) code in omega (arith, more);
     }
 
-    pub set_settled : (name : Name) (is_there : Bool) → IsSettled own_key name_cmp name is_there x.names.items list.names.items
-        → IsKeySettled (record { material = key; name = name }) is_there xs (set xs i list)
+    pub set_settled : (name : Name) (is_there : Bool) → SetsRow own_key name_cmp name is_there x.names.items list.names.items
+        → SetsKey (record { material = key; name = name }) is_there xs (set xs i list)
     set_settled name is_there settled =
-        subst (λ (code : List ℕ). IsKeySettled (record { material = code; name = name }) is_there xs (set xs i list)) own_key_at
+        subst (λ (code : List ℕ). SetsKey (record { material = code; name = name }) is_there xs (set xs i list)) own_key_at
         (settled_put list xs (set xs i list) put_at (Some x) was_at name is_there settled)
 
 -- ---- a key of a material without a list
 
-pub unsettled : (key : OpenPart) (lists : List NameList) (is_there : Bool) → row_at list_key code_cmp key.material lists ≡ None → (is_there ≡ true → 1 ≤ room_of key.material lists) → IsKeySettled key is_there lists lists
+pub unsettled : (key : OpenPart) (lists : List NameList) (is_there : Bool) → row_at list_key code_cmp key.material lists ≡ None → (is_there ≡ true → 1 ≤ room_of key.material lists) → SetsKey key is_there lists lists
 unsettled key lists true none room = absurd (let one = room refl in let zero = ap room_in none in omega (arith, one, zero))
 unsettled key lists false none room = λ other. by_key other (eq_by_cmp open_cmp other key) refl
   where

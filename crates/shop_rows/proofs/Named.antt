@@ -11,7 +11,7 @@ use Rattle.std.specs.FinMap.Entries.{below_all, find-where_key}
 use Rattle.cut_measure.specs.Names.{Name, name_cmp}
 use Rattle.shop_records.specs.declared.records.Part.{Part}
 use Rattle.shop_records.specs.Content.{is_listed}
-use Rattle.shop_records.specs.Lists.{is_behind}
+use Rattle.shop_records.specs.Lists.{is_after}
 use Rattle.shop_records.proofs.Sums.{first, second, less, none_below}
 use Rattle.shop_rows.specs.Keys.{part_key, names_total, names_exact}
 use Rattle.shop_rows.specs.Open.{own_key, has, is_found, names_of, AreInOrder, ListsNumbers, ListsParts, parts_named}
@@ -104,18 +104,18 @@ module _ {X K : Type 0} (key_of : X → K) (cmp : K → K → Ordering) (o : IsT
           | false ↦ below_filter q xs (second _ _ h)
         ]
 
-    behind_first : (x : X) (xs ys : List X) → T (below_all cmp (key_of x) (entries_of key_of cmp ys))
+    after_first : (x : X) (xs ys : List X) → T (below_all cmp (key_of x) (entries_of key_of cmp ys))
         → map (λ key. row_at key_of cmp key (x ∷ xs)) (map key_of ys) ≡ map (λ key. row_at key_of cmp key xs) (map key_of ys)
-    behind_first x xs [] h = refl
-    behind_first x xs (y ∷ ys) h =
+    after_first x xs [] h = refl
+    after_first x xs (y ∷ ys) h =
         let apart : is_eq (cmp (key_of y) (key_of x)) ≡ false = ap is_eq (o.antisymm (key_of y) (key_of x) ∙ ap ordering_reverse (less _ (first _ _ h))) in
-        λ i. cond (apart i) (Some x) (row_at key_of cmp (key_of y) xs) ∷ behind_first x xs ys (second _ _ h) i
+        λ i. cond (apart i) (Some x) (row_at key_of cmp (key_of y) xs) ∷ after_first x xs ys (second _ _ h) i
 
     -- each row that passes is found by its key
     pub found_each : (rows : List X) → T (rise key_of cmp rows) → map (λ key. row_at key_of cmp key rows) (map key_of (filter test rows)) ≡ map (λ row. Some row) (filter test rows)
     found_each [] up = refl
     found_each (x ∷ xs) up =
-        let later = behind_first x xs (filter test xs) (below_filter (key_of x) xs (first _ _ up)) ∙ found_each xs (second _ _ up) in
+        let later = after_first x xs (filter test xs) (below_filter (key_of x) xs (first _ _ up)) ∙ found_each xs (second _ _ up) in
         elim (test x) as (λ b. map (λ key. row_at key_of cmp key (x ∷ xs)) (map key_of (cond b (x ∷ filter test xs) (filter test xs))) ≡ map (λ row. Some row) (cond b (x ∷ filter test xs) (filter test xs))) [
           | true ↦ λ i. cond (is_eq (tied_itself o (key_of x) i)) (Some x) (row_at key_of cmp (key_of x) xs) ∷ later i
           | false ↦ later
@@ -141,9 +141,9 @@ found_all at (a ∷ names) (x ∷ xs) e =
     let more : map at names ≡ map (λ y. Some y) xs = cc in
     ap (λ r. cons_option r (filter_map at names)) one ∙ ap (λ ys. x ∷ ys) (found_all at names xs more)
 
--- ---- numbers behind another
+-- ---- numbers after another
 
--- the numbers behind another are those of the rows behind it that pass
+-- the numbers after another are those of the rows after it that pass
 module _ {X : Type 0} (key_of : X → ℕ) (test : X → Bool) (after : ℕ) (keys : List ℕ) (rows : List X) (up : rise own_key nat_cmp keys ≡ true) (rises : rise key_of nat_cmp rows ≡ true)
     (lists : ListsNumbers test (λ number. row_at key_of nat_cmp number rows) keys) where
   abbrev passes : X → Bool
@@ -182,29 +182,29 @@ filter_map_in key_of p (x ∷ xs) =
 module _ (code : List ℕ) (after : Option Name) (lists : List NameList) (parts : List Part) (order : AreInOrder lists) (rises : rise part_key name_cmp parts ≡ true)
     (listed : ListsParts (λ name. row_at part_key name_cmp name parts) lists) where
   abbrev stands : Part → Bool
-  stands part = is_listed code part && is_behind after part.name
+  stands part = is_listed code part && is_after after part.name
 
   -- the names of the list are those of the material's standing parts
   names_are : names_of code lists ≡ map part_key (filter (is_listed code) parts)
   names_are =
       same_keys part_key name_cmp names_total names_exact (is_listed code) (names_of code lists) parts (tested _ (order.names code)) (tested _ rises) (λ name. listed (record { material = code; name = name }))
 
-  behind_are : filter (is_behind after) (names_of code lists) ≡ map part_key (filter stands parts)
-  behind_are =
-      ap (filter (is_behind after)) names_are ∙ filter_map_in part_key (is_behind after) (filter (is_listed code) parts)
-      ∙ ap (map part_key) (filter_filter (is_listed code) (λ part. is_behind after part.name) parts)
+  after_are : filter (is_after after) (names_of code lists) ≡ map part_key (filter stands parts)
+  after_are =
+      ap (filter (is_after after)) names_are ∙ filter_map_in part_key (is_after after) (filter (is_listed code) parts)
+      ∙ ap (map part_key) (filter_filter (is_listed code) (λ part. is_after after part.name) parts)
 
-  each_is : map (λ name. row_at part_key name_cmp name parts) (filter (is_behind after) (names_of code lists)) ≡ map (λ part. Some part) (filter (λ part. is_behind after part.name) (filter (is_listed code) parts))
+  each_is : map (λ name. row_at part_key name_cmp name parts) (filter (is_after after) (names_of code lists)) ≡ map (λ part. Some part) (filter (λ part. is_after after part.name) (filter (is_listed code) parts))
   each_is =
-      ap (map (λ name. row_at part_key name_cmp name parts)) behind_are ∙ found_each part_key name_cmp names_total names_exact stands parts (tested _ rises)
-      ∙ ap (map (λ part. Some part)) (sym (filter_filter (is_listed code) (λ part. is_behind after part.name) parts))
+      ap (map (λ name. row_at part_key name_cmp name parts)) after_are ∙ found_each part_key name_cmp names_total names_exact stands parts (tested _ rises)
+      ∙ ap (map (λ part. Some part)) (sym (filter_filter (is_listed code) (λ part. is_after after part.name) parts))
 
-  -- the parts of these names are those of the material that stand and come behind the name
-  pub named_are : parts_named (filter (is_behind after) (names_of code lists)) parts ≡ filter (λ part. is_behind after part.name) (filter (is_listed code) parts)
+  -- the parts of these names are those of the material that stand and come after the name
+  pub named_are : parts_named (filter (is_after after) (names_of code lists)) parts ≡ filter (λ part. is_after after part.name) (filter (is_listed code) parts)
   named_are =
-      found_all (λ name. row_at part_key name_cmp name parts) (filter (is_behind after) (names_of code lists)) (filter (λ part. is_behind after part.name) (filter (is_listed code) parts)) each_is
+      found_all (λ name. row_at part_key name_cmp name parts) (filter (is_after after) (names_of code lists)) (filter (λ part. is_after after part.name) (filter (is_listed code) parts)) each_is
 
   -- and those of the first names are the first of these
-  pub first_named_are : (most : ℕ) → parts_named (take most (filter (is_behind after) (names_of code lists))) parts ≡ take most (filter (λ part. is_behind after part.name) (filter (is_listed code) parts))
+  pub first_named_are : (most : ℕ) → parts_named (take most (filter (is_after after) (names_of code lists))) parts ≡ take most (filter (λ part. is_after after part.name) (filter (is_listed code) parts))
   first_named_are most =
-      found_first (λ name. row_at part_key name_cmp name parts) (filter (is_behind after) (names_of code lists)) (filter (λ part. is_behind after part.name) (filter (is_listed code) parts)) most each_is
+      found_first (λ name. row_at part_key name_cmp name parts) (filter (is_after after) (names_of code lists)) (filter (λ part. is_after after part.name) (filter (is_listed code) parts)) most each_is

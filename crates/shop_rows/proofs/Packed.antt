@@ -10,7 +10,7 @@ use Rattle.std.proofs.lemmas.List.Folds.{list_all-append}
 use Rattle.cut_measure.specs.Names.{Name, name_cmp}
 use Rattle.shop_records.specs.declared.records.Part.{Part}
 use Rattle.shop_rows.specs.Keys.{part_key}
-use Rattle.shop_rows.specs.PartRows.{no_origin, part_of, parts_in, row_key, AreBelow, AreAppended, AreKnown, HasRoom, IsNumbered, TakesNumber}
+use Rattle.shop_rows.specs.PartRows.{no_origin, part_of, parts_in, row_key, AreBelow, AreAppended, AreKnown, HasCapacity, IsNumbered, TakesNumber}
 use Rattle.shop_rows.specs.SameParts.{part_decides, same_part}
 use Rattle.shop_rows.specs.Rows.{entries_of, put_each, rise, row_at, ArePut, IsPut, IsRun}
 use Rattle.shop_rows.specs.declared.part_rows.Origin.{Origin}
@@ -94,7 +94,7 @@ module _ (part : Part) (number : ℕ) (old mid : PartRows) (takes : TakesNumber 
 next_part : (parts : List Part) (i : ℕ) (part : Part) → i < length parts → part ≡ get_or parts i part → take (i + 1) parts ≡ take i parts ++ part ∷ []
 next_part parts i part within is = ap (λ n. take n parts) (add-one i) ∙ take-suc parts i part within ∙ ap (λ p. take i parts ++ p ∷ []) (sym is)
 
-pub room_less : (m n : ℕ) (parts : PartRows) → n ≤ m → HasRoom m parts → HasRoom n parts
+pub room_less : (m n : ℕ) (parts : PartRows) → n ≤ m → HasCapacity m parts → HasCapacity n parts
 room_less m n parts le room =
     record { rows = let h = room.rows in omega (arith, h, le); origins = let h = room.origins in omega (arith, h, le); numbers = let h = room.numbers in omega (arith, h, le) }
 
@@ -106,7 +106,7 @@ none_appended parts = record {
   rows = sym (append-nil parts.rows.items);
   parts = refl;
   known = refl;
-  room = λ count room. subst (λ n. HasRoom n parts) (no_more count) room;
+  room = λ count room. subst (λ n. HasCapacity n parts) (no_more count) room;
 }
   where
     no_more : (n : ℕ) → 0 + n ≡ n
@@ -127,7 +127,7 @@ appended_then first second old mid new a b = record {
       let more = ap length b.origins ∙ length-append mid.origins.items b.more in
       list_all-append (λ r. nat_lt r.origin (length new.origins.items)) a.back b.back
       ∙ (λ i. below_more (length mid.origins.items) (length new.origins.items) a.back (omega (arith, more)) a.known i && b.known i);
-  room = λ count room. b.room count (a.room (length second + count) (subst (λ n. HasRoom n old) (ap (λ n. n + count) (length-append first second) ∙ together (length first) (length second) count) room));
+  room = λ count room. b.room count (a.room (length second + count) (subst (λ n. HasCapacity n old) (ap (λ n. n + count) (length-append first second) ∙ together (length first) (length second) count) room));
 }
   where
     together : (x y z : ℕ) → x + y + z ≡ x + (y + z)
@@ -141,13 +141,13 @@ appended_next added i part old mid new within is a b =
     (appended_then (take i added) (part ∷ []) old mid new a b)
 
 -- there is room for it
-pub room_next : (added : List Part) (i : ℕ) (old mid : PartRows) → i < length added → HasRoom (length added) old → AreAppended (take i added) old mid → HasRoom 1 mid
+pub room_next : (added : List Part) (i : ℕ) (old mid : PartRows) → i < length added → HasCapacity (length added) old → AreAppended (take i added) old mid → HasCapacity 1 mid
 room_next added i old mid within room a =
     let len = length-take-le i added (omega arith) in
     let all : length added ≡ length (take i added) + (length added - i) = omega (arith, len, within) in
-    room_less (length added - i) 1 mid (omega arith) (a.room (length added - i) (subst (λ n. HasRoom n old) all room))
+    room_less (length added - i) 1 mid (omega arith) (a.room (length added - i) (subst (λ n. HasCapacity n old) all room))
 
--- a row of the part behind all others
+-- a row of the part after all others
 pub one_appended : (part : Part) (number : ℕ) (old mid new : PartRows) (row : PartRow) → TakesNumber part number old mid → row.origin ≡ number → part_of mid.origins.items row ≡ part
     → new.origins ≡ mid.origins → new.rows.items ≡ mid.rows.items ++ row ∷ [] → vec_len new.rows ≡ vec_len mid.rows + 1 → vec_capacity mid.rows ≤ vec_capacity new.rows → AreAppended (part ∷ []) old new
 one_appended part number old mid new row takes numbered is same pushed len capacity = record {

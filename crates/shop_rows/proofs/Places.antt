@@ -17,7 +17,7 @@ use Rattle.std.proofs.lemmas.Option.{get_or_from_slice_get, slice_get-map}
 use Rattle.std.proofs.lemmas.List.Elements.{filter-append}
 use Rattle.std.proofs.lemmas.List.{append_assoc, get_or_default, get_or-drop, get_or-take, length-drop, length-take-le, set_split, map-append, take-append-drop}
 use Rattle.shop_records.proofs.Sums.{first, second, less}
-use Rattle.shop_rows.specs.Rows.{entry_of, entries_of, rise, row_at, put_each, IsPut, IsRun, IsSettled, IsTaken, ArePut}
+use Rattle.shop_rows.specs.Rows.{entry_of, entries_of, rise, row_at, put_each, IsPut, IsRun, SetsRow, IsTakenOut, ArePut}
 
 pub lesser : (r : Ordering) → r ≡ Less → T (is_lt r)
 lesser Less e = tt
@@ -33,18 +33,18 @@ module _ {X K : Type 0} (key_of : X → K) (cmp : K → K → Ordering) (o : IsT
   all P [] = Unit {0}
   all P (x ∷ xs) = P x × all P xs
 
-  -- ---- behind what is before, and before what is behind
+  -- ---- after what is before, and before what is after
 
-  find_past : (key : K) (front rest : List X) → all (λ x. cmp key (key_of x) ≡ Greater) front → row_at key_of cmp key (front ++ rest) ≡ row_at key_of cmp key rest
+  find_past : (key : K) (prefix rest : List X) → all (λ x. cmp key (key_of x) ≡ Greater) prefix → row_at key_of cmp key (prefix ++ rest) ≡ row_at key_of cmp key rest
   find_past key [] rest h = refl
-  find_past key (x ∷ front) rest h = ap (λ r. cond (is_eq r) (Some x) (row_at key_of cmp key (front ++ rest))) h.0 ∙ find_past key front rest h.1
+  find_past key (x ∷ prefix) rest h = ap (λ r. cond (is_eq r) (Some x) (row_at key_of cmp key (prefix ++ rest))) h.0 ∙ find_past key prefix rest h.1
 
-  put_past : (key : K) (row : X) (front rest : List X) → all (λ x. cmp key (key_of x) ≡ Greater) front
-      → put cmp key row (entries_of key_of cmp (front ++ rest)) ≡ entries_of key_of cmp front ++ put cmp key row (entries_of key_of cmp rest)
+  put_past : (key : K) (row : X) (prefix rest : List X) → all (λ x. cmp key (key_of x) ≡ Greater) prefix
+      → put cmp key row (entries_of key_of cmp (prefix ++ rest)) ≡ entries_of key_of cmp prefix ++ put cmp key row (entries_of key_of cmp rest)
   put_past key row [] rest h = refl
-  put_past key row (x ∷ front) rest h =
-      ap (λ r. by_order r ((key, row) ∷ entries_of key_of cmp (x ∷ front ++ rest)) ((key_of x, row) ∷ entries_of key_of cmp (front ++ rest)) ((key_of x, x) ∷ put cmp key row (entries_of key_of cmp (front ++ rest)))) h.0
-      ∙ ap (λ es. (key_of x, x) ∷ es) (put_past key row front rest h.1)
+  put_past key row (x ∷ prefix) rest h =
+      ap (λ r. by_order r ((key, row) ∷ entries_of key_of cmp (x ∷ prefix ++ rest)) ((key_of x, row) ∷ entries_of key_of cmp (prefix ++ rest)) ((key_of x, x) ∷ put cmp key row (entries_of key_of cmp (prefix ++ rest)))) h.0
+      ∙ ap (λ es. (key_of x, x) ∷ es) (put_past key row prefix rest h.1)
 
   find_before : (key : K) (rest : List X) → all (λ x. cmp key (key_of x) ≡ Less) rest → row_at key_of cmp key rest ≡ None
   find_before key [] h = refl
@@ -87,7 +87,7 @@ module _ {X K : Type 0} (key_of : X → K) (cmp : K → K → Ordering) (o : IsT
   abbrev others : K → List (K × X) → List (K × X)
   others key es = where_key cmp (λ other. not (eq_by_cmp cmp key other)) es
 
-  -- rows whose keys are all before a key, or all behind it, are others
+  -- rows whose keys are all before a key, or all after it, are others
   kept : (key : K) (r : Ordering) → is_eq r ≡ false → (ys : List X) → all (λ y. cmp key (key_of y) ≡ r) ys → others key (entries_of key_of cmp ys) ≡ entries_of key_of cmp ys
   kept key r apart [] h = refl
   kept key r apart (y ∷ ys) h =
@@ -121,17 +121,17 @@ module _ {X K : Type 0} (key_of : X → K) (cmp : K → K → Ordering) (o : IsT
         ap (row_at key_of cmp key) split ∙ find_past key (take i xs) (x ∷ drop (suc i) xs) passed
         ∙ ap (λ r. cond (is_eq r) (Some x) (row_at key_of cmp key (drop (suc i) xs))) (flipped (key_of x) key Equal ties)
 
-    behind : all (λ y. cmp key (key_of y) ≡ Less) (drop (suc i) xs)
-    behind =
+    after : all (λ y. cmp key (key_of y) ≡ Less) (drop (suc i) xs)
+    after =
         all_from (λ y. cmp key (key_of y) ≡ Less) xs (suc i) (λ k d le lt.
         o.congr key (key_of x) (key_of (get_or xs k d)) (flipped (key_of x) key Equal ties)
         ∙ ap (λ y. cmp (key_of y) (key_of (get_or xs k d))) here ∙ ap (λ y. cmp (key_of y) (key_of (get_or xs k d))) (get_or_default xs i x d within) ∙ rising_at xs up i k d (omega arith) lt)
 
     -- without it
-    pub taken_found : IsTaken key_of cmp key xs (take i xs ++ drop (suc i) xs)
+    pub taken_found : IsTakenOut key_of cmp key xs (take i xs ++ drop (suc i) xs)
     taken_found =
         map-append (entry_of key_of cmp) (take i xs) (drop (suc i) xs)
-        ∙ (λ j. sym (kept key Greater refl (take i xs) passed) j ++ sym (kept key Less refl (drop (suc i) xs) behind) j)
+        ∙ (λ j. sym (kept key Greater refl (take i xs) passed) j ++ sym (kept key Less refl (drop (suc i) xs) after) j)
         ∙ ap (λ r. others key (entries_of key_of cmp (take i xs)) ++ cond (not (is_eq r)) ((key_of x, x) ∷ others key (entries_of key_of cmp (drop (suc i) xs))) (others key (entries_of key_of cmp (drop (suc i) xs)))) (sym (flipped (key_of x) key Equal ties))
         ∙ sym (filter-append (λ (e : K × X). not (eq_by_cmp cmp key e.0)) (entries_of key_of cmp (take i xs)) (entries_of key_of cmp (x ∷ drop (suc i) xs)))
         ∙ ap (others key) (sym (map-append (entry_of key_of cmp) (take i xs) (x ∷ drop (suc i) xs)) ∙ ap (entries_of key_of cmp) (sym split))
@@ -175,7 +175,7 @@ module _ {X K : Type 0} (key_of : X → K) (cmp : K → K → Ordering) (o : IsT
     pub row_missed : row_at key_of cmp key xs ≡ None
     row_missed = ap (row_at key_of cmp key) (sym (take-append-drop i xs)) ∙ find_past key (take i xs) (drop i xs) low ∙ find_before key (drop i xs) high
 
-    pub taken_missed : IsTaken key_of cmp key xs xs
+    pub taken_missed : IsTakenOut key_of cmp key xs xs
     taken_missed =
         ap (entries_of key_of cmp) (sym (take-append-drop i xs)) ∙ map-append (entry_of key_of cmp) (take i xs) (drop i xs)
         ∙ (λ j. sym (kept key Greater refl (take i xs) low) j ++ sym (kept key Less refl (drop i xs) high) j)
@@ -194,7 +194,7 @@ module _ {X K : Type 0} (key_of : X → K) (cmp : K → K → Ordering) (o : IsT
   -- ---- rows that stand together
 
   abbrev Above : List X → K → Type 0
-  Above front key = all (λ y. cmp key (key_of y) ≡ Greater) front
+  Above prefix key = all (λ y. cmp key (key_of y) ≡ Greater) prefix
 
   abbrev Below : List X → K → Type 0
   Below back key = all (λ y. cmp key (key_of y) ≡ Less) back
@@ -203,38 +203,38 @@ module _ {X K : Type 0} (key_of : X → K) (cmp : K → K → Ordering) (o : IsT
   all_append P [] ys h k = k
   all_append P (x ∷ xs) ys h k = (h.0, all_append P xs ys h.1 k)
 
-  put_between : (row : X) (front back : List X) → Above front (key_of row) → Below back (key_of row)
-      → put cmp (key_of row) row (entries_of key_of cmp (front ++ back)) ≡ entries_of key_of cmp ((front ++ row ∷ []) ++ back)
-  put_between row front back under over =
-      put_past (key_of row) row front back under ∙ ap (λ es. entries_of key_of cmp front ++ es) (put_before (key_of row) row back over)
-      ∙ sym (map-append (entry_of key_of cmp) front (row ∷ back)) ∙ ap (entries_of key_of cmp) (sym (append_assoc front (row ∷ []) back))
+  put_between : (row : X) (prefix back : List X) → Above prefix (key_of row) → Below back (key_of row)
+      → put cmp (key_of row) row (entries_of key_of cmp (prefix ++ back)) ≡ entries_of key_of cmp ((prefix ++ row ∷ []) ++ back)
+  put_between row prefix back under over =
+      put_past (key_of row) row prefix back under ∙ ap (λ es. entries_of key_of cmp prefix ++ es) (put_before (key_of row) row back over)
+      ∙ sym (map-append (entry_of key_of cmp) prefix (row ∷ back)) ∙ ap (entries_of key_of cmp) (sym (append_assoc prefix (row ∷ []) back))
 
-  one_more : (row : X) (rows front : List X) → T (below_all cmp (key_of row) (entries_of key_of cmp rows)) → all (λ r. Above front (key_of r)) rows → all (λ r. Above (front ++ row ∷ []) (key_of r)) rows
-  one_more row [] front h under = tt
-  one_more row (r ∷ rows) front h under =
-      (all_append (λ y. cmp (key_of r) (key_of y) ≡ Greater) front (row ∷ []) under.0 (flipped (key_of row) (key_of r) Less (less _ (first _ _ h)), tt), one_more row rows front (second _ _ h) under.1)
+  one_more : (row : X) (rows prefix : List X) → T (below_all cmp (key_of row) (entries_of key_of cmp rows)) → all (λ r. Above prefix (key_of r)) rows → all (λ r. Above (prefix ++ row ∷ []) (key_of r)) rows
+  one_more row [] prefix h under = tt
+  one_more row (r ∷ rows) prefix h under =
+      (all_append (λ y. cmp (key_of r) (key_of y) ≡ Greater) prefix (row ∷ []) under.0 (flipped (key_of row) (key_of r) Less (less _ (first _ _ h)), tt), one_more row rows prefix (second _ _ h) under.1)
 
-  -- each is put behind what is before and before what is behind
-  put_together : (added front back : List X) → T (rise key_of cmp added) → all (λ r. Above front (key_of r)) added → all (λ r. Below back (key_of r)) added
-      → put_each key_of cmp added (entries_of key_of cmp (front ++ back)) ≡ entries_of key_of cmp (front ++ (added ++ back))
-  put_together [] front back up under over = refl
-  put_together (row ∷ rows) front back up under over =
-      ap (put_each key_of cmp rows) (put_between row front back under.0 over.0)
-      ∙ put_together rows (front ++ row ∷ []) back (second _ _ up) (one_more row rows front (first _ _ up) under.1) over.1
-      ∙ ap (entries_of key_of cmp) (append_assoc front (row ∷ []) (rows ++ back))
+  -- each is put after what is before and before what is after
+  put_together : (added prefix back : List X) → T (rise key_of cmp added) → all (λ r. Above prefix (key_of r)) added → all (λ r. Below back (key_of r)) added
+      → put_each key_of cmp added (entries_of key_of cmp (prefix ++ back)) ≡ entries_of key_of cmp (prefix ++ (added ++ back))
+  put_together [] prefix back up under over = refl
+  put_together (row ∷ rows) prefix back up under over =
+      ap (put_each key_of cmp rows) (put_between row prefix back under.0 over.0)
+      ∙ put_together rows (prefix ++ row ∷ []) back (second _ _ up) (one_more row rows prefix (first _ _ up) under.1) over.1
+      ∙ ap (entries_of key_of cmp) (append_assoc prefix (row ∷ []) (rows ++ back))
 
-  above_more : (key more : K) (front : List X) → cmp key more ≡ Less → Above front key → Above front more
+  above_more : (key more : K) (prefix : List X) → cmp key more ≡ Less → Above prefix key → Above prefix more
   above_more key more [] lt h = tt
-  above_more key more (y ∷ front) lt h = (flipped (key_of y) more Less (o.trans (key_of y) key more (flipped key (key_of y) Greater h.0) lt), above_more key more front lt h.1)
+  above_more key more (y ∷ prefix) lt h = (flipped (key_of y) more Less (o.trans (key_of y) key more (flipped key (key_of y) Greater h.0) lt), above_more key more prefix lt h.1)
 
   below_more : (less_key key : K) (back : List X) → cmp less_key key ≡ Less → Below back key → Below back less_key
   below_more less_key key [] lt h = tt
   below_more less_key key (y ∷ back) lt h = (o.trans less_key key (key_of y) lt h.0, below_more less_key key back lt h.1)
 
-  -- what the first stands behind, all stand behind
-  behind_front : (x : X) (rows front : List X) → T (below_all cmp (key_of x) (entries_of key_of cmp rows)) → Above front (key_of x) → all (λ r. Above front (key_of r)) rows
-  behind_front x [] front h under = tt
-  behind_front x (r ∷ rows) front h under = (above_more (key_of x) (key_of r) front (less _ (first _ _ h)) under, behind_front x rows front (second _ _ h) under)
+  -- what the first stands after, all stand after
+  after_prefix : (x : X) (rows prefix : List X) → T (below_all cmp (key_of x) (entries_of key_of cmp rows)) → Above prefix (key_of x) → all (λ r. Above prefix (key_of r)) rows
+  after_prefix x [] prefix h under = tt
+  after_prefix x (r ∷ rows) prefix h under = (above_more (key_of x) (key_of r) prefix (less _ (first _ _ h)) under, after_prefix x rows prefix (second _ _ h) under)
 
   -- what the last stands before, all stand before
   before_back : (added back : List X) (x : X) → T (rise key_of cmp added) → slice_get added (length added - 1) ≡ Some x → Below back (key_of x) → all (λ r. Below back (key_of r)) added
@@ -246,13 +246,13 @@ module _ {X K : Type 0} (key_of : X → K) (cmp : K → K → Ordering) (o : IsT
         | inr ge ↦ let same : k ≡ length added - 1 = omega arith in subst (λ y. Below back (key_of y)) (sym (ap (λ n. get_or added n d) same ∙ here)) h
       ])
 
-  -- a key before a row is before those behind it
+  -- a key before a row is before those after it
   before_drop : (xs : List X) → T (rise key_of cmp xs) → (i : ℕ) (key : K) → (i < length xs → (d : X) → cmp (key_of (get_or xs i d)) key ≡ Greater) → Below (drop i xs) key
   before_drop xs up i key h =
       all_from (λ y. cmp key (key_of y) ≡ Less) xs i (λ k d le lt.
       let here : cmp key (key_of (get_or xs i d)) ≡ Less = flipped (key_of (get_or xs i d)) key Greater (h (omega arith) d) in
       elim (cases_lt i k) [
-        | inl behind ↦ o.trans key (key_of (get_or xs i d)) (key_of (get_or xs k d)) here (rising_at xs up i k d behind lt)
+        | inl after ↦ o.trans key (key_of (get_or xs i d)) (key_of (get_or xs k d)) here (rising_at xs up i k d after lt)
         | inr ge ↦ let same : i ≡ k = omega arith in subst (λ n. cmp key (key_of (get_or xs n d)) ≡ Less) same here
       ])
 
@@ -262,16 +262,16 @@ module _ {X K : Type 0} (key_of : X → K) (cmp : K → K → Ordering) (o : IsT
       → (IsNonDecreasingBy (λ z. ordering_index (cmp (key_of z) (key_of x))) xs → IsPartitionPoint (λ z. cmp (key_of z) (key_of x) ≡ Less) (λ z. cmp (key_of z) (key_of x) ≡ Greater) xs i)
       → (i < length xs → (d : X) → cmp (key_of (get_or xs i d)) (key_of y) ≡ Greater)
       → put_each key_of cmp added (entries_of key_of cmp xs) ≡ entries_of key_of cmp (insert_slice xs i added)
-  put_at xs [] i x y up rises within front last point before = absurd (none_some front)
+  put_at xs [] i x y up rises within prefix last point before = absurd (none_some prefix)
     where
       none_some : {A : Type 0} {a : A} → None ≡ Some a → ⊥
       none_some e = cc
-  put_at xs (z ∷ added) i x y up rises within front last point before =
+  put_at xs (z ∷ added) i x y up rises within prefix last point before =
       let same : z ≡ x = cc in
       let under : Above (take i xs) (key_of z) = subst (λ r. Above (take i xs) (key_of r)) (sym same) (low xs up i (key_of x) within point) in
       let over = before_back (z ∷ added) (drop i xs) y rises last (before_drop xs up i (key_of y) before) in
       ap (λ ys. put_each key_of cmp (z ∷ added) (entries_of key_of cmp ys)) (sym (take-append-drop i xs))
-      ∙ put_together (z ∷ added) (take i xs) (drop i xs) rises (under, behind_front z added (take i xs) (first _ _ rises) under) over
+      ∙ put_together (z ∷ added) (take i xs) (drop i xs) rises (under, after_prefix z added (take i xs) (first _ _ rises) under) over
       ∙ ap (entries_of key_of cmp) (sym (append_assoc (take i xs) (z ∷ added) (drop i xs)))
 
   all_at : (P : X → Type 0) (ys : List X) → all P ys → All P ys
@@ -285,12 +285,12 @@ module _ {X K : Type 0} (key_of : X → K) (cmp : K → K → Ordering) (o : IsT
       → (IsNonDecreasingBy (λ z. ordering_index (cmp (key_of z) (key_of x))) xs → IsPartitionPoint (λ z. cmp (key_of z) (key_of x) ≡ Less) (λ z. cmp (key_of z) (key_of x) ≡ Greater) xs i)
       → (i < length xs → (d : X) → cmp (key_of (get_or xs i d)) (key_of y) ≡ Greater)
       → All (λ row. row_at key_of cmp (key_of row) xs ≡ None) added
-  put_new xs [] i x y up rises within front last point before = λ k d lt. absurd (omega arith)
-  put_new xs (z ∷ added) i x y up rises within front last point before =
+  put_new xs [] i x y up rises within prefix last point before = λ k d lt. absurd (omega arith)
+  put_new xs (z ∷ added) i x y up rises within prefix last point before =
       let same : z ≡ x = cc in
       let under : Above (take i xs) (key_of z) = subst (λ r. Above (take i xs) (key_of r)) (sym same) (low xs up i (key_of x) within point) in
       let over = before_back (z ∷ added) (drop i xs) y rises last (before_drop xs up i (key_of y) before) in
-      all_at (λ row. row_at key_of cmp (key_of row) xs ≡ None) (z ∷ added) (each (z ∷ added) (under, behind_front z added (take i xs) (first _ _ rises) under) over)
+      all_at (λ row. row_at key_of cmp (key_of row) xs ≡ None) (z ∷ added) (each (z ∷ added) (under, after_prefix z added (take i xs) (first _ _ rises) under) over)
     where
       each : (rows : List X) → all (λ r. Above (take i xs) (key_of r)) rows → all (λ r. Below (drop i xs) (key_of r)) rows → all (λ row. row_at key_of cmp (key_of row) xs ≡ None) rows
       each [] under over = tt
@@ -348,34 +348,34 @@ module _ {X K : Type 0} (key_of : X → K) (cmp : K → K → Ordering) (o : IsT
 
   -- ---- rows that would rise together
 
-  behind_all : (x : X) (ys : List X) → T (below_all cmp (key_of x) (entries_of key_of cmp ys)) → all (λ y. cmp (key_of x) (key_of y) ≡ Less) ys
-  behind_all x [] h = tt
-  behind_all x (y ∷ ys) h = (less _ (first _ _ h), behind_all x ys (second _ _ h))
+  after_all : (x : X) (ys : List X) → T (below_all cmp (key_of x) (entries_of key_of cmp ys)) → all (λ y. cmp (key_of x) (key_of y) ≡ Less) ys
+  after_all x [] h = tt
+  after_all x (y ∷ ys) h = (less _ (first _ _ h), after_all x ys (second _ _ h))
 
-  all_front : (P : X → Type 0) (xs ys : List X) → all P (xs ++ ys) → all P xs
-  all_front P [] ys h = tt
-  all_front P (x ∷ xs) ys h = (h.0, all_front P xs ys h.1)
+  all_prefix : (P : X → Type 0) (xs ys : List X) → all P (xs ++ ys) → all P xs
+  all_prefix P [] ys h = tt
+  all_prefix P (x ∷ xs) ys h = (h.0, all_prefix P xs ys h.1)
 
   all_later : (P : X → Type 0) (xs ys : List X) → all P (xs ++ ys) → all P ys
   all_later P [] ys h = h
   all_later P (x ∷ xs) ys h = all_later P xs ys h.1
 
   -- each of the first is before each of the others
-  apart : (front rest : List X) → T (rise key_of cmp (front ++ rest)) → all (λ x. all (λ y. cmp (key_of x) (key_of y) ≡ Less) rest) front
+  apart : (prefix rest : List X) → T (rise key_of cmp (prefix ++ rest)) → all (λ x. all (λ y. cmp (key_of x) (key_of y) ≡ Less) rest) prefix
   apart [] rest h = tt
-  apart (x ∷ front) rest h = (all_later (λ y. cmp (key_of x) (key_of y) ≡ Less) front rest (behind_all x (front ++ rest) (first _ _ h)), apart front rest (second _ _ h))
+  apart (x ∷ prefix) rest h = (all_later (λ y. cmp (key_of x) (key_of y) ≡ Less) prefix rest (after_all x (prefix ++ rest) (first _ _ h)), apart prefix rest (second _ _ h))
 
-  rise_later : (front rest : List X) → T (rise key_of cmp (front ++ rest)) → T (rise key_of cmp rest)
+  rise_later : (prefix rest : List X) → T (rise key_of cmp (prefix ++ rest)) → T (rise key_of cmp rest)
   rise_later [] rest h = h
-  rise_later (x ∷ front) rest h = rise_later front rest (second _ _ h)
+  rise_later (x ∷ prefix) rest h = rise_later prefix rest (second _ _ h)
 
-  below_front : (x : X) (front rest : List X) → T (below_all cmp (key_of x) (entries_of key_of cmp (front ++ rest))) → T (below_all cmp (key_of x) (entries_of key_of cmp front))
-  below_front x [] rest h = tt
-  below_front x (y ∷ front) rest h = pair_of _ _ (first _ _ h) (below_front x front rest (second _ _ h))
+  below_prefix : (x : X) (prefix rest : List X) → T (below_all cmp (key_of x) (entries_of key_of cmp (prefix ++ rest))) → T (below_all cmp (key_of x) (entries_of key_of cmp prefix))
+  below_prefix x [] rest h = tt
+  below_prefix x (y ∷ prefix) rest h = pair_of _ _ (first _ _ h) (below_prefix x prefix rest (second _ _ h))
 
-  rise_front : (front rest : List X) → T (rise key_of cmp (front ++ rest)) → T (rise key_of cmp front)
-  rise_front [] rest h = tt
-  rise_front (x ∷ front) rest h = pair_of _ _ (below_front x front rest (first _ _ h)) (rise_front front rest (second _ _ h))
+  rise_prefix : (prefix rest : List X) → T (rise key_of cmp (prefix ++ rest)) → T (rise key_of cmp prefix)
+  rise_prefix [] rest h = tt
+  rise_prefix (x ∷ prefix) rest h = pair_of _ _ (below_prefix x prefix rest (first _ _ h)) (rise_prefix prefix rest (second _ _ h))
 
   at_some : (P : X → Type 0) (ys : List X) (k : ℕ) (y : X) → slice_get ys k ≡ Some y → all P ys → P y
   at_some P [] zero y e h = absurd (cc)
@@ -389,7 +389,7 @@ module _ {X K : Type 0} (key_of : X → K) (cmp : K → K → Ordering) (o : IsT
     joined = subst (λ ys. T (rise key_of cmp ys)) (append_assoc (take i xs) added (drop i xs)) together
 
     pub rise_inside : T (rise key_of cmp added)
-    rise_inside = rise_front added (drop i xs) (rise_later (take i xs) (added ++ drop i xs) joined)
+    rise_inside = rise_prefix added (drop i xs) (rise_later (take i xs) (added ++ drop i xs) joined)
 
     module _ (from to : K) (within : i ≤ length xs) (run : IsRun key_of cmp from to added) where
       under : (k : ℕ) (d : X) → k < i → cmp (key_of (get_or xs k d)) from ≡ Less
@@ -399,7 +399,7 @@ module _ {X K : Type 0} (key_of : X → K) (cmp : K → K → Ordering) (o : IsT
           let here : all (λ z. cmp (key_of (get_or (take i xs) k d)) (key_of z) ≡ Less) (added ++ drop i xs) =
           all_at (λ y. all (λ z. cmp (key_of y) (key_of z) ≡ Less) (added ++ drop i xs)) (take i xs) (apart (take i xs) (added ++ drop i xs) joined) k d (omega (arith, long)) in
           let before : cmp (key_of (get_or (take i xs) k d)) (key_of x.0) ≡ Less =
-          at_some (λ z. cmp (key_of (get_or (take i xs) k d)) (key_of z) ≡ Less) added 0 x.0 x.1 (all_front (λ z. cmp (key_of (get_or (take i xs) k d)) (key_of z) ≡ Less) added (drop i xs) here) in
+          at_some (λ z. cmp (key_of (get_or (take i xs) k d)) (key_of z) ≡ Less) added 0 x.0 x.1 (all_prefix (λ z. cmp (key_of (get_or (take i xs) k d)) (key_of z) ≡ Less) added (drop i xs) here) in
           subst (λ y. cmp (key_of y) from ≡ Less) (get_or-take i xs k d lt) (subst (λ q. cmp (key_of (get_or (take i xs) k d)) q ≡ Less) x.2 before)
 
       over : (n : ℕ) (key : K) → slice_get (map key_of added) n ≡ Some key → (k : ℕ) (d : X) → i ≤ k → k < length xs → cmp (key_of (get_or xs k d)) key ≡ Greater
@@ -447,7 +447,7 @@ pub of_none : {X P : Type 0} (found : Option X) → P → IfNone found P
 of_none None p = p
 of_none (Some x) p = tt
 
--- ---- behind the last row
+-- ---- after the last row
 
 lowest : (r : Ordering) → ordering_index r ≤ 0 → r ≡ Less
 lowest Less h = refl
@@ -455,9 +455,9 @@ lowest Equal h = absurd (omega arith)
 lowest Greater h = absurd (omega arith)
 
 -- where the last row is too low, and the rows don't fall, each is
-pub behind_last : {X : Type 0} (rank : X → Ordering) (xs : List X) (x : X) → slice_get xs (length xs - 1) ≡ Some x → rank x ≡ Less
+pub after_last : {X : Type 0} (rank : X → Ordering) (xs : List X) (x : X) → slice_get xs (length xs - 1) ≡ Some x → rank x ≡ Less
     → IsNonDecreasingBy (λ y. ordering_index (rank y)) xs → IsPartitionPoint (λ y. rank y ≡ Less) (λ y. rank y ≡ Greater) xs (length xs)
-behind_last rank xs x at low up = (
+after_last rank xs x at low up = (
   λ k d le lt.
       let last : ordering_index (rank (get_or xs k d)) ≤ ordering_index (rank (get_or xs (length xs - 1) d)) = up k (length xs - 1) d (omega arith) (omega arith) in
       let least : ordering_index (rank (get_or xs (length xs - 1) d)) ≡ 0 = ap (λ y. ordering_index (rank y)) (get_or_from_slice_get xs (length xs - 1) x d at) ∙ ap ordering_index low in
@@ -486,19 +486,19 @@ pub rise-put_each : {X K : Type 0} (key_of : X → K) (cmp : K → K → Orderin
 rise-put_each key_of cmp o added old new are_put up = ap (is_sorted cmp) are_put ∙ sorted_each key_of cmp o added (entries_of key_of cmp old) up
 
 -- rows without one rise
-pub rise-taken : {X K : Type 0} (key_of : X → K) (cmp : K → K → Ordering) (key : K) (old new : List X) → IsTaken key_of cmp key old new → rise key_of cmp old ≡ true → rise key_of cmp new ≡ true
+pub rise-taken : {X K : Type 0} (key_of : X → K) (cmp : K → K → Ordering) (key : K) (old new : List X) → IsTakenOut key_of cmp key old new → rise key_of cmp old ≡ true → rise key_of cmp new ≡ true
 rise-taken key_of cmp key old new taken up =
     ap (is_sorted cmp) taken ∙ met _ (is_sorted-where_key cmp (λ other. not (eq_by_cmp cmp key other)) (entries_of key_of cmp old) (tested _ up))
 
 -- ---- which keys are there
 
 module _ {X K : Type 0} (key_of : X → K) (cmp : K → K → Ordering) (o : IsTotalOrder cmp) where
-  pub settled_put : (row : X) (old new : List X) → IsPut key_of cmp row old new → IsSettled key_of cmp (key_of row) true old new
+  pub settled_put : (row : X) (old new : List X) → IsPut key_of cmp row old new → SetsRow key_of cmp (key_of row) true old new
   settled_put row old new put_there other =
       ap is_some (ap (find cmp other) put_there ∙ find-put cmp o other (key_of row) row (entries_of key_of cmp old))
       ∙ elim (eq_by_cmp cmp other (key_of row)) as (λ b. is_some (cond b (Some row) (row_at key_of cmp other old)) ≡ cond b true (is_some (row_at key_of cmp other old))) [ true ↦ refl | false ↦ refl ]
 
-  pub settled_taken : (key : K) (old new : List X) → IsTaken key_of cmp key old new → IsSettled key_of cmp key false old new
+  pub settled_taken : (key : K) (old new : List X) → IsTakenOut key_of cmp key old new → SetsRow key_of cmp key false old new
   settled_taken key old new taken other =
       ap is_some (ap (find cmp other) taken ∙ find-where_key cmp (λ q. not (eq_by_cmp cmp key q)) other (λ x t. ap (λ r. not (is_eq r)) (sym (alike_right o other x key t))) (entries_of key_of cmp old))
       ∙ ap (λ b. is_some (cond (not b) (row_at key_of cmp other old) None)) ((eq_by_cmp_equiv o).symm key other)

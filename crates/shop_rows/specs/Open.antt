@@ -73,8 +73,8 @@ abbrev pub has_key : OpenPart → List NameList → Bool
 has_key key lists = has name_cmp key.name (names_of key.material lists)
 
 -- a key is listed, or is not, and all others are there as they were
-abbrev pub IsKeySettled : OpenPart → Bool → List NameList → List NameList → Type 0
-IsKeySettled key is_there old new = (other : OpenPart) → has_key other new ≡ cond (eq_by_cmp open_cmp other key) is_there (has_key other old)
+abbrev pub SetsKey : OpenPart → Bool → List NameList → List NameList → Type 0
+SetsKey key is_there old new = (other : OpenPart) → has_key other new ≡ cond (eq_by_cmp open_cmp other key) is_there (has_key other old)
 
 -- The lists have the names of the parts that stand, of each material those of its own, and no other.
 abbrev pub ListsParts : (Name → Option Part) → List NameList → Type 0

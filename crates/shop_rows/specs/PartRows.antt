@@ -50,7 +50,7 @@ pub record IsNumbered (part : Part) (number : ℕ) (origins : List Origin) : Typ
   pub is : get_or origins number no_origin ≡ origin_of part
 
 -- there is room for so many rows and origins more, and the origins have numbers of 32 bits
-pub record HasRoom (count : ℕ) (parts : PartRows) : Type 0 where
+pub record HasCapacity (count : ℕ) (parts : PartRows) : Type 0 where
   pub rows : vec_len parts.rows + count ≤ vec_capacity parts.rows
   pub origins : vec_len parts.origins + count ≤ vec_capacity parts.origins
   pub numbers : vec_len parts.origins + count ≤ 2 ^ 32
@@ -63,7 +63,7 @@ pub record TakesNumber (part : Part) (number : ℕ) (old new : PartRows) : Type 
   pub len : vec_len new.origins ≤ vec_len old.origins + 1
   pub capacity : vec_capacity old.origins ≤ vec_capacity new.origins
 
--- rows of these parts came behind all others, and nothing else changed but for new origins
+-- rows of these parts came after all others, and nothing else changed but for new origins
 pub record AreAppended (added : List Part) (old new : PartRows) : Type 0 where
   pub more : List Origin
   pub back : List PartRow
@@ -71,4 +71,4 @@ pub record AreAppended (added : List Part) (old new : PartRows) : Type 0 where
   pub rows : new.rows.items ≡ old.rows.items ++ back
   pub parts : map (part_of new.origins.items) back ≡ added
   pub known : AreBelow (length new.origins.items) back
-  pub room : (count : ℕ) → HasRoom (length added + count) old → HasRoom count new
+  pub room : (count : ℕ) → HasCapacity (length added + count) old → HasCapacity count new

@@ -30,12 +30,12 @@ module _ {X K : Type 0} (key_of : X → K) (cmp : K → K → Ordering) where
   IsPut row old new = entries_of new ≡ put cmp (key_of row) row (entries_of old)
 
   -- the new rows are the old ones without the one of this key
-  abbrev pub IsTaken : K → List X → List X → Type 0
-  IsTaken key old new = entries_of new ≡ where_key cmp (λ other. not (eq_by_cmp cmp key other)) (entries_of old)
+  abbrev pub IsTakenOut : K → List X → List X → Type 0
+  IsTakenOut key old new = entries_of new ≡ where_key cmp (λ other. not (eq_by_cmp cmp key other)) (entries_of old)
 
   -- a row has this key, or none has, and all others are there as they were
-  abbrev pub IsSettled : K → Bool → List X → List X → Type 0
-  IsSettled key is_there old new = (other : K) → has_row other new ≡ cond (eq_by_cmp cmp other key) is_there (has_row other old)
+  abbrev pub SetsRow : K → Bool → List X → List X → Type 0
+  SetsRow key is_there old new = (other : K) → has_row other new ≡ cond (eq_by_cmp cmp other key) is_there (has_row other old)
 
   -- the entries with these rows put one after another
   abbrev pub put_each : List X → List (K × X) → List (K × X)

@@ -1,6 +1,6 @@
 //! The keys by which materials, parts, jobs, demands, imports, numbers and names are kept in order.
 
-use crate::rows::{Row, RowKey};
+use crate::rows::{KeyedRow, RowKey};
 use cut_measure::{Code, PartName};
 use shop_records::{Demand, ImportRow, Job, Material, Part};
 use std::cmp::Ordering;
@@ -53,7 +53,7 @@ impl RowKey for u32 {
     ghost exact = { nat_cmp-IsAntisymmetric };
 }
 
-impl Row for Material {
+impl KeyedRow for Material {
     ghost use Rattle.shop_rows.specs.Keys.{material_key};
 
     type Key = Code;
@@ -65,7 +65,7 @@ impl Row for Material {
     }
 }
 
-impl Row for Part {
+impl KeyedRow for Part {
     ghost use Rattle.shop_rows.specs.Keys.{part_key};
 
     type Key = PartName;
@@ -77,7 +77,7 @@ impl Row for Part {
     }
 }
 
-impl Row for Job {
+impl KeyedRow for Job {
     ghost use Rattle.shop_rows.specs.Keys.{job_key};
 
     type Key = u32;
@@ -89,7 +89,7 @@ impl Row for Job {
     }
 }
 
-impl Row for Demand {
+impl KeyedRow for Demand {
     ghost use Rattle.shop_rows.specs.Keys.{demand_key};
 
     type Key = u32;
@@ -106,7 +106,7 @@ impl Row for Demand {
     }
 }
 
-impl Row for ImportRow {
+impl KeyedRow for ImportRow {
     ghost use Rattle.shop_rows.specs.Keys.{import_key};
 
     type Key = Code;
@@ -119,7 +119,7 @@ impl Row for ImportRow {
 }
 
 /// A number of a list is its own row.
-impl Row for u32 {
+impl KeyedRow for u32 {
     ghost use Rattle.shop_rows.specs.Open.{own_key};
 
     type Key = u32;
@@ -132,7 +132,7 @@ impl Row for u32 {
 }
 
 /// A name of a list is its own row.
-impl Row for PartName {
+impl KeyedRow for PartName {
     ghost use Rattle.shop_rows.specs.Open.{own_key};
 
     type Key = PartName;

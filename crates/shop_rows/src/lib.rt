@@ -13,13 +13,13 @@ mod sums;
 pub use laws::origin_limits;
 pub use lines::{Span, between, by_line};
 pub use names::{
-    NameList, OpenPart, list_all, list_in_place, list_part, make_room, names_behind, reserve_names,
+    NameList, OpenPart, list_all, list_in_place, list_part, make_room, names_after, reserve_names,
 };
-pub use open::{OpenRows, list_demands, list_job, numbers_behind};
+pub use open::{OpenRows, list_demands, list_job, numbers_after};
 pub use part_rows::{Origin, PartRow, PartRows};
 pub use rows::{
-    Row, RowKey, at, copy_rows, find, first_rows, put, put_all, put_run, put_some, rises, settle,
-    take_row,
+    KeyedRow, RowKey, at, copy_rows, find, first_rows, put, put_all, put_run, put_some, rises,
+    settle, take_row,
 };
 pub use sums::{
     Sums, add_part, count_part, has_totals, no_sums, sums_of, take_replaced, totals_in, with_all,

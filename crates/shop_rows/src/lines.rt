@@ -7,7 +7,7 @@ ghost use Rattle.shop_rows.specs.Keys.{demand_key};
 ghost use Rattle.shop_rows.specs.Lines.{is_within, line_key, AreByLine, HaveLines};
 ghost use Rattle.shop_rows.specs.Rows.{rise, row_at, IsPut};
 
-use crate::rows::{Row, put};
+use crate::rows::{KeyedRow, put};
 use cut_measure::Code;
 use shop_records::{Demand, DemandList};
 use std::alloc::{AllocError, Global};
@@ -105,7 +105,7 @@ impl Model for Line {
     ghost inverse = { λ demand. record { demand = demand } };
 }
 
-impl Row for Line {
+impl KeyedRow for Line {
     ghost use Rattle.shop_rows.specs.Lines.{line_key};
 
     type Key = u32;

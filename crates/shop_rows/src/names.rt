@@ -3,14 +3,14 @@
 ghost use Rattle.std.specs.Prelude.{◌≡◌, ◌+◌, ◌<◌, ◌≤◌, List, ℕ, None, Option, IfOk, OnOk, IsTrue, false, filter, length, vec_len, vec_capacity};
 ghost use Rattle.std.specs.Option.{option_to_list};
 ghost use Rattle.cut_measure.specs.Names.{Name, name_cmp};
-ghost use Rattle.shop_records.specs.Lists.{is_behind};
+ghost use Rattle.shop_records.specs.Lists.{is_after};
 ghost use Rattle.shop_records.specs.declared.records.Part.{Part as PartOf};
 ghost use Rattle.cut_measure.specs.Codes.{code_cmp};
 ghost use Rattle.shop_rows.specs.Keys.{part_key};
-ghost use Rattle.shop_rows.specs.Open.{own_key, open_key, list_key, names_of, room_of, finds_with, finds_with_all, AreInOrder, HaveRoom, IsKeySettled, KeepsMaterial, KeepMaterials, ListsParts, ListsOthers};
-ghost use Rattle.shop_rows.specs.Rows.{rise, row_at, IsSettled};
+ghost use Rattle.shop_rows.specs.Open.{own_key, open_key, list_key, names_of, room_of, finds_with, finds_with_all, AreInOrder, HaveRoom, SetsKey, KeepsMaterial, KeepMaterials, ListsParts, ListsOthers};
+ghost use Rattle.shop_rows.specs.Rows.{rise, row_at, SetsRow};
 
-use crate::rows::{Row, at, place_near, put, settle};
+use crate::rows::{KeyedRow, at, place_near, put, settle};
 use cut_measure::{Code, PartName};
 use shop_records::Part;
 use std::alloc::{AllocError, Global};
@@ -30,7 +30,7 @@ pub struct NameList {
     pub names: Vec<PartName>,
 }
 
-impl Row for NameList {
+impl KeyedRow for NameList {
     ghost use Rattle.shop_rows.specs.Open.{list_key};
 
     type Key = Code;
@@ -148,7 +148,7 @@ fn reserve_some(
     Ok(())
 }
 
-/// Makes room for the names of a part that moves, if there is one, and of parts that are put behind it. The names stay, also
+/// Makes room for the names of a part that moves, if there is one, and of parts that are put after it. The names stay, also
 /// where memory is wanting.
 pub fn reserve_names(
     lists: &mut Vec<NameList>,
@@ -175,7 +175,7 @@ fn settle_name(list: &mut NameList, name: PartName, is_there: bool)
     requires rising { IsTrue (rise own_key name_cmp list.old.names.items) }
     requires room { IsTrue is_there → vec_len list.old.names < vec_capacity list.old.names }
     ensures material { list.new.material ≡ list.old.material }
-    ensures settled { IsSettled own_key name_cmp name is_there list.old.names.items
+    ensures settled { SetsRow own_key name_cmp name is_there list.old.names.items
         list.new.names.items }
     ensures rising { IsTrue (rise own_key name_cmp list.new.names.items) }
     ensures len { vec_len list.new.names ≤ vec_len list.old.names + 1 }
@@ -189,7 +189,7 @@ fn settle_name(list: &mut NameList, name: PartName, is_there: bool)
 fn settle_key(lists: &mut Vec<NameList>, near: usize, key: OpenPart, is_there: bool) -> usize
     requires order { AreInOrder lists.old.items }
     requires room { IsTrue is_there → 1 ≤ room_of key.material lists.old.items }
-    ensures settled { IsKeySettled key is_there lists.old.items lists.new.items }
+    ensures settled { SetsKey key is_there lists.old.items lists.new.items }
     ensures order { AreInOrder lists.new.items }
     ensures room { (code : List ℕ)
         → room_of code lists.old.items ≤ room_of code lists.new.items + 1 }
@@ -276,10 +276,10 @@ pub fn list_all(lists: &mut Vec<NameList>, parts: &[Part])
 
 // ---- names are read
 
-// The names of a list that are behind one, or all.
-fn behind_name(names: &[PartName], after: Option<PartName>) -> &[PartName]
+// The names of a list that are after one, or all.
+fn after_name(names: &[PartName], after: Option<PartName>) -> &[PartName]
     requires { IsTrue (rise own_key name_cmp names.now) }
-    ensures { result.now ≡ filter (is_behind after) names.now }
+    ensures { result.now ≡ filter (is_after after) names.now }
 {
     let Some(after) = after else {
         return names;
@@ -288,13 +288,13 @@ fn behind_name(names: &[PartName], after: Option<PartName>) -> &[PartName]
     &names[from..]
 }
 
-/// The names of the standing parts of a material, those behind one or all.
-pub fn names_behind(lists: &[NameList], material: Code, after: Option<PartName>) -> &[PartName]
+/// The names of the standing parts of a material, those after one or all.
+pub fn names_after(lists: &[NameList], material: Code, after: Option<PartName>) -> &[PartName]
     requires { AreInOrder lists.now }
-    ensures { result.now ≡ filter (is_behind after) (names_of material lists.now) }
+    ensures { result.now ≡ filter (is_after after) (names_of material lists.now) }
 {
     match at(lists, material) {
-        Some(list) => behind_name(&list.names, after),
+        Some(list) => after_name(&list.names, after),
         None => &[],
     }
 }

@@ -103,7 +103,7 @@ pub fn list_demands(keys: &mut Vec<u32>, demands: &[Demand])
 }
 
 /// The numbers of a list that are greater than this one.
-pub fn numbers_behind(keys: &[u32], after: u32) -> &[u32]
+pub fn numbers_after(keys: &[u32], after: u32) -> &[u32]
     requires { IsTrue (rise own_key nat_cmp keys.now) }
     ensures { result.now ≡ filter (nat_lt after) keys.now }
 {

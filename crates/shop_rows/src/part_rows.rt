@@ -6,7 +6,7 @@ ghost use Rattle.shop_rows.specs.declared.part_rows.Origin.{Origin as OriginOf};
 ghost use Rattle.shop_rows.specs.Keys.{part_key};
 ghost use Rattle.shop_rows.specs.PartRows.{part_of, row_key, IsNumbered};
 
-use crate::rows::{Row, ends, find, gap, move_back, put};
+use crate::rows::{KeyedRow, ends, find, gap, move_back, put};
 use cut_measure::{Code, PartName, Size};
 use shop_records::{Part, State};
 use std::alloc::{AllocError, Global};
@@ -43,7 +43,7 @@ pub struct PartRows {
     pub recent: u32,
 }
 
-impl Row for PartRow {
+impl KeyedRow for PartRow {
     ghost use Rattle.shop_rows.specs.PartRows.{row_key};
 
     type Key = PartName;
@@ -194,14 +194,14 @@ impl PartRows {
     ghost use Rattle.std.specs.List.{insert_slice};
     ghost use Rattle.cut_measure.specs.Names.{name_cmp};
     ghost use Rattle.shop_rows.specs.Keys.{part_key};
-    ghost use Rattle.shop_rows.specs.PartRows.{parts_in, row_key, AreAppended, AreKnown, HasRoom, TakesNumber};
+    ghost use Rattle.shop_rows.specs.PartRows.{parts_in, row_key, AreAppended, AreKnown, HasCapacity, TakesNumber};
     ghost use Rattle.shop_rows.specs.Rows.{rise, row_at, ArePut, IsPut};
 
     /// Makes room for so many parts.
     pub fn reserve(&mut self, count: usize) -> Result<(), AllocError>
         ensures parts { parts_in self.new ≡ parts_in self.old }
         ensures known { AreKnown self.old → AreKnown self.new }
-        ensures room { OnOk result (HasRoom count self.new) }
+        ensures room { OnOk result (HasCapacity count self.new) }
     {
         if MOST_ORIGINS < self.origins.len().saturating_add(count) {
             return Err(AllocError);
@@ -213,7 +213,7 @@ impl PartRows {
 
     // Appends the origin of a part, and gives its number.
     fn begin_origin(&mut self, part: &Part) -> u32
-        requires { HasRoom 1 self.old }
+        requires { HasCapacity 1 self.old }
         ensures { TakesNumber part.now result self.old self.new }
     {
         let number = self.origins.len() as u32;
@@ -231,7 +231,7 @@ impl PartRows {
 
     // The number of a part's origin, which is that of the last part where it is the same.
     fn next_number(&mut self, part: &Part) -> u32
-        requires { HasRoom 1 self.old }
+        requires { HasCapacity 1 self.old }
         ensures { TakesNumber part.now result self.old self.new }
     {
         if is_numbered(&self.origins, self.recent, part) {
@@ -243,7 +243,7 @@ impl PartRows {
     // The number of a part's origin, which is that of the part of its name where it is the same.
     fn number_of(&mut self, part: &Part) -> u32
         requires rising { IsTrue (rise row_key name_cmp self.old.rows.items) }
-        requires room { HasRoom 1 self.old }
+        requires room { HasCapacity 1 self.old }
         ensures { TakesNumber part.now result self.old self.new }
     {
         let Some(row) = find(&self.rows, part.name) else {
@@ -260,22 +260,22 @@ impl PartRows {
     pub fn put(&mut self, part: &Part) -> Option<Part>
         requires rising { IsTrue (rise part_key name_cmp (parts_in self.old)) }
         requires known { AreKnown self.old }
-        requires room { HasRoom 1 self.old }
+        requires room { HasCapacity 1 self.old }
         ensures put { IsPut part_key name_cmp part.now (parts_in self.old) (parts_in self.new) }
         ensures replaced { result
             ≡ row_at part_key name_cmp part.now.name (parts_in self.old) }
         ensures rising { IsTrue (rise part_key name_cmp (parts_in self.new)) }
         ensures known { AreKnown self.new }
-        ensures room { (count : ℕ) → HasRoom (count + 1) self.old → HasRoom count self.new }
+        ensures room { (count : ℕ) → HasCapacity (count + 1) self.old → HasCapacity count self.new }
     {
         let number = self.number_of(part);
         let replaced = put(&mut self.rows, pack(part, number));
         unpack_found(&self.origins, replaced)
     }
 
-    // Appends a part behind all others.
+    // Appends a part after all others.
     fn append(&mut self, part: &Part)
-        requires { HasRoom 1 self.old }
+        requires { HasCapacity 1 self.old }
         ensures { AreAppended (part.now ∷ []) self.old self.new }
     {
         let number = self.next_number(part);
@@ -287,7 +287,7 @@ impl PartRows {
 
     // Appends parts, one after another.
     fn append_all(&mut self, added: &[Part])
-        requires { HasRoom (length added.now) self.old }
+        requires { HasCapacity (length added.now) self.old }
         ensures { AreAppended added.now self.old self.new }
     {
         for part in added {
@@ -299,7 +299,7 @@ impl PartRows {
     pub fn put_run(&mut self, added: &[Part]) -> bool
         requires rising { IsTrue (rise part_key name_cmp (parts_in self.old)) }
         requires known { AreKnown self.old }
-        requires room { HasRoom (length added.now) self.old }
+        requires room { HasCapacity (length added.now) self.old }
         ensures put { IsTrue result
             → ArePut part_key name_cmp added.now (parts_in self.old) (parts_in self.new) }
         ensures new { IsTrue result

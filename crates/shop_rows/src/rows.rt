@@ -6,7 +6,7 @@ ghost use Rattle.std.specs.Prelude.{◌≡◌, ◌+◌, ◌++◌, ◌<◌, ◌�
 ghost use Rattle.std.specs.List.{HoldsAt, insert_slice};
 ghost use Rattle.std.specs.List.Sorted.{IsBinarySearchResult, IsSearchInRange};
 ghost use Rattle.std.specs.Option.{option_to_list};
-ghost use Rattle.shop_rows.specs.Rows.{rise, row_at, IsRun, IsPut, IsSettled, IsTaken, ArePut};
+ghost use Rattle.shop_rows.specs.Rows.{rise, row_at, IsRun, IsPut, SetsRow, IsTakenOut, ArePut};
 
 use shop_records::RowList;
 use std::alloc::{AllocError, Global};
@@ -29,7 +29,7 @@ pub trait RowKey: Copy {
 }
 
 /// Rows that are kept in the order of their keys.
-pub trait Row: Drop {
+pub trait KeyedRow: Drop {
     type Key: RowKey;
 
     ghost key_of: { Self → Self.Key };
@@ -51,7 +51,7 @@ pub trait Row: Drop {
 }
 
 // Whether the row of a key stands at this place.
-fn stands_at<R: Row>(rows: &[R], key: R::Key, i: usize) -> bool
+fn stands_at<R: KeyedRow>(rows: &[R], key: R::Key, i: usize) -> bool
     ensures { IsTrue result → i < length rows.now
         × HoldsAt (λ row. R.Key.cmp (R.key_of row) key ≡ Equal) rows.now i }
 {
@@ -61,8 +61,8 @@ fn stands_at<R: Row>(rows: &[R], key: R::Key, i: usize) -> bool
     }
 }
 
-// Whether a key comes behind the last row.
-fn is_behind<R: Row>(rows: &[R], key: R::Key) -> bool
+// Whether a key comes after the last row.
+fn is_after<R: KeyedRow>(rows: &[R], key: R::Key) -> bool
     ensures { IsTrue result → IsBinarySearchResult (λ row. R.Key.cmp (R.key_of row) key) rows.now
         (Err (length rows.now)) }
 {
@@ -72,23 +72,23 @@ fn is_behind<R: Row>(rows: &[R], key: R::Key) -> bool
     }
 }
 
-/// Where the row of a key stands, or where it would. Only where it neither stands at this place nor comes behind the last
+/// Where the row of a key stands, or where it would. Only where it neither stands at this place nor comes after the last
 /// row are the rows searched.
-pub(crate) fn place_near<R: Row>(rows: &[R], key: R::Key, near: usize) -> Result<usize, usize>
+pub(crate) fn place_near<R: KeyedRow>(rows: &[R], key: R::Key, near: usize) -> Result<usize, usize>
     ensures range { IsSearchInRange result (length rows.now) }
     ensures position { IsBinarySearchResult (λ row. R.Key.cmp (R.key_of row) key) rows.now result }
 {
     if stands_at(rows, key, near) {
         return Ok(near);
     }
-    if is_behind(rows, key) {
+    if is_after(rows, key) {
         return Err(rows.len());
     }
     rows.binary_search_by(|row| row.compare(key))
 }
 
 // Where the row of a key stands, or where it would.
-fn place<R: Row>(rows: &[R], key: R::Key) -> Result<usize, usize>
+fn place<R: KeyedRow>(rows: &[R], key: R::Key) -> Result<usize, usize>
     ensures range { IsSearchInRange result (length rows.now) }
     ensures position { IsBinarySearchResult (λ row. R.Key.cmp (R.key_of row) key) rows.now result }
 {
@@ -96,7 +96,7 @@ fn place<R: Row>(rows: &[R], key: R::Key) -> Result<usize, usize>
 }
 
 /// Whether rows rise by their keys.
-pub fn rises<R: Row>(rows: &[R]) -> bool
+pub fn rises<R: KeyedRow>(rows: &[R]) -> bool
     ensures { result ≡ rise R.key_of R.Key.cmp rows.now }
 {
     for i in 1..rows.len() {
@@ -108,7 +108,7 @@ pub fn rises<R: Row>(rows: &[R]) -> bool
 }
 
 // Whether a key comes before the row at a place, or there is none.
-fn is_before<R: Row>(rows: &[R], i: usize, key: R::Key) -> bool
+fn is_before<R: KeyedRow>(rows: &[R], i: usize, key: R::Key) -> bool
     ensures yes { IsTrue result → i < length rows.now
         → HoldsAt (λ row. R.Key.cmp (R.key_of row) key ≡ Greater) rows.now i }
     ensures no { result ≡ false → i < length rows.now
@@ -121,7 +121,7 @@ fn is_before<R: Row>(rows: &[R], i: usize, key: R::Key) -> bool
 }
 
 /// The keys of the first and the last of rows that rise.
-pub(crate) fn ends<R: Row>(rows: &[R]) -> Option<(R::Key, R::Key)>
+pub(crate) fn ends<R: KeyedRow>(rows: &[R]) -> Option<(R::Key, R::Key)>
     ensures run { IfSome result (λ keys. IsRun R.key_of R.Key.cmp keys.0 keys.1 rows.now) }
     ensures none { IfNone result (IsTrue (rise R.key_of R.Key.cmp rows.now) → rows.now ≡ []) }
 {
@@ -132,7 +132,7 @@ pub(crate) fn ends<R: Row>(rows: &[R]) -> Option<(R::Key, R::Key)>
 }
 
 /// Where rows that rise from one key to another would stand together between two others.
-pub(crate) fn gap<R: Row>(rows: &[R], first: R::Key, last: R::Key) -> Option<usize>
+pub(crate) fn gap<R: KeyedRow>(rows: &[R], first: R::Key, last: R::Key) -> Option<usize>
     requires { IsTrue (rise R.key_of R.Key.cmp rows.now) }
     ensures range { IfSome result (λ i. i ≤ length rows.now) }
     ensures put { IfSome result
@@ -156,7 +156,7 @@ pub(crate) fn gap<R: Row>(rows: &[R], first: R::Key, last: R::Key) -> Option<usi
 }
 
 // Where rows that rise would stand together between two others.
-fn run_place<R: Row>(rows: &[R], added: &[R]) -> Option<usize>
+fn run_place<R: KeyedRow>(rows: &[R], added: &[R]) -> Option<usize>
     requires { IsTrue (rise R.key_of R.Key.cmp rows.now) }
     ensures range { IfSome result (λ i. i ≤ length rows.now) }
     ensures put { IfSome result
@@ -176,7 +176,7 @@ fn run_place<R: Row>(rows: &[R], added: &[R]) -> Option<usize>
 }
 
 /// The row of a key, where it stands.
-pub fn at<R: Row>(rows: &[R], key: R::Key) -> Option<&R>
+pub fn at<R: KeyedRow>(rows: &[R], key: R::Key) -> Option<&R>
     requires { IsTrue (rise R.key_of R.Key.cmp rows.now) }
     ensures row { option_copied result ≡ row_at R.key_of R.Key.cmp key rows.now }
     ensures key { IfSome result (λ row. R.key_of row.now ≡ key) }
@@ -188,7 +188,7 @@ pub fn at<R: Row>(rows: &[R], key: R::Key) -> Option<&R>
 }
 
 /// The row of a key.
-pub fn find<R: Row + Copy>(rows: &[R], key: R::Key) -> Option<R>
+pub fn find<R: KeyedRow + Copy>(rows: &[R], key: R::Key) -> Option<R>
     requires { IsTrue (rise R.key_of R.Key.cmp rows.now) }
     ensures row { result ≡ row_at R.key_of R.Key.cmp key rows.now }
     ensures key { IfSome result (λ row. R.key_of row ≡ key) }
@@ -200,7 +200,7 @@ pub fn find<R: Row + Copy>(rows: &[R], key: R::Key) -> Option<R>
 }
 
 /// Puts a row in its place, and gives the one that it replaced.
-pub fn put<R: Row>(rows: &mut Vec<R>, row: R) -> Option<R>
+pub fn put<R: KeyedRow>(rows: &mut Vec<R>, row: R) -> Option<R>
     requires rising { IsTrue (rise R.key_of R.Key.cmp rows.old.items) }
     requires room { vec_len rows.old < vec_capacity rows.old }
     ensures put { IsPut R.key_of R.Key.cmp row rows.old.items rows.new.items }
@@ -226,9 +226,9 @@ pub fn put<R: Row>(rows: &mut Vec<R>, row: R) -> Option<R>
 }
 
 /// Takes the row of a key out, where it stands, and gives it.
-pub fn take_row<R: Row>(rows: &mut Vec<R>, key: R::Key) -> Option<R>
+pub fn take_row<R: KeyedRow>(rows: &mut Vec<R>, key: R::Key) -> Option<R>
     requires { IsTrue (rise R.key_of R.Key.cmp rows.old.items) }
-    ensures taken { IsTaken R.key_of R.Key.cmp key rows.old.items rows.new.items }
+    ensures taken { IsTakenOut R.key_of R.Key.cmp key rows.old.items rows.new.items }
     ensures row { result ≡ row_at R.key_of R.Key.cmp key rows.old.items }
     ensures rising { IsTrue (rise R.key_of R.Key.cmp rows.new.items) }
     ensures len { vec_len rows.new ≤ vec_len rows.old }
@@ -241,10 +241,10 @@ pub fn take_row<R: Row>(rows: &mut Vec<R>, key: R::Key) -> Option<R>
 }
 
 /// Has a row there, or none of its key.
-pub fn settle<R: Row>(rows: &mut Vec<R>, row: R, is_there: bool)
+pub fn settle<R: KeyedRow>(rows: &mut Vec<R>, row: R, is_there: bool)
     requires rising { IsTrue (rise R.key_of R.Key.cmp rows.old.items) }
     requires room { IsTrue is_there → vec_len rows.old < vec_capacity rows.old }
-    ensures settled { IsSettled R.key_of R.Key.cmp
+    ensures settled { SetsRow R.key_of R.Key.cmp
         (R.key_of row) is_there rows.old.items rows.new.items }
     ensures rising { IsTrue (rise R.key_of R.Key.cmp rows.new.items) }
     ensures len { vec_len rows.new ≤ vec_len rows.old + 1 }
@@ -259,7 +259,7 @@ pub fn settle<R: Row>(rows: &mut Vec<R>, row: R, is_there: bool)
 }
 
 /// Puts a row in its place, if there is one.
-pub fn put_some<R: Row>(rows: &mut Vec<R>, row: Option<R>)
+pub fn put_some<R: KeyedRow>(rows: &mut Vec<R>, row: Option<R>)
     requires rising { IsTrue (rise R.key_of R.Key.cmp rows.old.items) }
     requires room { vec_len rows.old < vec_capacity rows.old }
     ensures put { ArePut R.key_of R.Key.cmp (option_to_list row) rows.old.items rows.new.items }
@@ -271,21 +271,21 @@ pub fn put_some<R: Row>(rows: &mut Vec<R>, row: Option<R>)
 }
 
 // Moves the rows from `from` on to a place before them.
-fn move_to<R: Row>(rows: &mut [R], from: usize, i: usize)
+fn move_to<R: KeyedRow>(rows: &mut [R], from: usize, i: usize)
     requires order { i ≤ from }
     requires range { from ≤ length rows.old }
-    ensures { (front back : List R) → rows.old ≡ front ++ back → length front ≡ from
-        → rows.new ≡ insert_slice front i back }
+    ensures { (prefix back : List R) → rows.old ≡ prefix ++ back → length prefix ≡ from
+        → rows.new ≡ insert_slice prefix i back }
 {
     rows[i..].rotate_left(from - i);
 }
 
 /// Moves the rows from `from` on to a place before them, of rows that a list has.
-pub(crate) fn move_back<R: Row>(rows: &mut Vec<R>, from: usize, i: usize)
+pub(crate) fn move_back<R: KeyedRow>(rows: &mut Vec<R>, from: usize, i: usize)
     requires order { i ≤ from }
     requires range { from ≤ length rows.old.items }
-    ensures moved { (front back : List R) → rows.old.items ≡ front ++ back → length front ≡ from
-        → rows.new.items ≡ insert_slice front i back }
+    ensures moved { (prefix back : List R) → rows.old.items ≡ prefix ++ back → length prefix ≡ from
+        → rows.new.items ≡ insert_slice prefix i back }
     ensures len { vec_len rows.new ≡ vec_len rows.old }
     ensures capacity { vec_capacity rows.new ≡ vec_capacity rows.old }
 {
@@ -293,7 +293,7 @@ pub(crate) fn move_back<R: Row>(rows: &mut Vec<R>, from: usize, i: usize)
 }
 
 /// Puts rows that stand together between two others, all by one move, and tells whether they do; else nothing changes.
-pub fn put_run<R: Row + Copy>(rows: &mut Vec<R>, added: &[R]) -> bool
+pub fn put_run<R: KeyedRow + Copy>(rows: &mut Vec<R>, added: &[R]) -> bool
     requires rising { IsTrue (rise R.key_of R.Key.cmp rows.old.items) }
     requires room { vec_len rows.old + length added.now ≤ vec_capacity rows.old }
     ensures put { IsTrue result → ArePut R.key_of R.Key.cmp added.now rows.old.items rows.new.items }
@@ -320,7 +320,7 @@ pub fn put_run<R: Row + Copy>(rows: &mut Vec<R>, added: &[R]) -> bool
 }
 
 // Puts rows in their places, one after another.
-fn put_each<R: Row + Copy>(rows: &mut Vec<R>, added: &[R])
+fn put_each<R: KeyedRow + Copy>(rows: &mut Vec<R>, added: &[R])
     requires rising { IsTrue (rise R.key_of R.Key.cmp rows.old.items) }
     requires room { vec_len rows.old + length added.now ≤ vec_capacity rows.old }
     ensures put { ArePut R.key_of R.Key.cmp added.now rows.old.items rows.new.items }
@@ -332,7 +332,7 @@ fn put_each<R: Row + Copy>(rows: &mut Vec<R>, added: &[R])
 }
 
 /// Puts rows in their places, as one after another.
-pub fn put_all<R: Row + Copy>(rows: &mut Vec<R>, added: &[R])
+pub fn put_all<R: KeyedRow + Copy>(rows: &mut Vec<R>, added: &[R])
     requires rising { IsTrue (rise R.key_of R.Key.cmp rows.old.items) }
     requires room { vec_len rows.old + length added.now ≤ vec_capacity rows.old }
     ensures put { ArePut R.key_of R.Key.cmp added.now rows.old.items rows.new.items }

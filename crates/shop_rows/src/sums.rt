@@ -12,7 +12,7 @@ ghost use Rattle.shop_rows.specs.Adding.{IsAdded, IsLost, IsOver};
 ghost use Rattle.shop_records.specs.Columns.{is_counted};
 ghost use Rattle.shop_rows.specs.Sums.{totals_from, sum_in, sums_key, sum_at, counted_cells, cells_for, most_cells, all_small};
 
-use crate::rows::{Row, find, put};
+use crate::rows::{KeyedRow, find, put};
 use cut_measure::Code;
 use shop_records::{Column, MaterialTotals, Part, State, Totals};
 
@@ -32,7 +32,7 @@ pub struct Sums {
     pub returned: u128,
 }
 
-impl Row for Sums {
+impl KeyedRow for Sums {
     ghost use Rattle.shop_rows.specs.Sums.{sums_key};
 
     type Key = Code;

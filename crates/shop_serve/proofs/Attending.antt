@@ -8,10 +8,10 @@ use Rattle.slab.proofs.SlabLemmas.{Updates-with_value}
 use Rattle.std.specs.declared.time.Instant.{Instant}
 use Rattle.shop_book.specs.declared.books.Book.{Ghosts}
 use Rattle.shop_request.specs.Reading.{IsReadOn}
-use Rattle.shop_request.specs.Senses.{IsSettled}
+use Rattle.shop_request.specs.Parses.{IsDetermined}
 use Rattle.shop_serve.specs.declared.connections.Connection.{Ghosts as ConnectionGhosts}
-use Rattle.shop_serve.specs.declared.lines.Fate.{Fate}
-use Rattle.shop_serve.specs.declared.lines.Line.{Line}
+use Rattle.shop_serve.specs.declared.clients.Fate.{Fate}
+use Rattle.shop_serve.specs.declared.clients.Client.{Client}
 use Rattle.shop_serve.specs.declared.sites.Site.{Site}
 use Rattle.shop_serve.specs.declared.transfers.Given.{Given}
 use Rattle.shop_serve.specs.declared.transfers.Given.TheVariants as given
@@ -19,7 +19,7 @@ use Rattle.shop_planning.specs.Thoughts.{posed_in}
 use Rattle.shop_serve.specs.declared.answers.Made.{Made}
 use Rattle.shop_serve.specs.declared.answers.Made.TheVariants.{Answer, Thought}
 use Rattle.shop_serve.specs.Making.{IsAsked, IsMadeMeanwhile, put_made}
-use Rattle.shop_serve.specs.Lines.{is_unanswered, unanswered, StopsAt, TakesAnswer, IsHandedOn, IsAnsweredWhole, IsBegunWhole, IsHeard, IsAttended, IsAttendedAt, IsClosedBy, IsSpent, IsSpoiled}
+use Rattle.shop_serve.specs.Clients.{is_unanswered, unanswered, StopsAt, TakesAnswer, IsHandedOn, IsAnsweredWhole, IsBegunWhole, IsHeard, IsAttended, IsAttendedAt, IsClosedBy, IsSpent, IsSpoiled}
 use Rattle.shop_serve.specs.Serving.{Advances, HasServed, IsAnsweredThen}
 use Rattle.shop_serve.specs.Times.{Times, Tells}
 use Rattle.shop_serve.proofs.Slots.{answered-of, has-answer, has-neither, has-question, one_of, unanswered-of, unanswered-updates}
@@ -42,8 +42,8 @@ module _ {C : Type 0} (connection : ConnectionGhosts C) (site : Site) {B : Type 
   stops-ended answer mid new there more same whole keeps (inr waits) = absurd (omega (arith, whole, waits.0))
 
   -- it took its whole answer and was told the end of it, and what still came was dropped
-  pub attended-ended : (old mid new : Line C) (before after : B) (seen seeing : Times)
-      → (new.came ≡ mid.came) × (new.answer ≡ mid.answer) × (new.sent ≡ mid.sent) → new.since ≡ mid.since → new.thought ≡ mid.thought
+  pub attended-ended : (old mid new : Client C) (before after : B) (seen seeing : Times)
+      → (new.received ≡ mid.received) × (new.answer ≡ mid.answer) × (new.sent ≡ mid.sent) → new.since ≡ mid.since → new.thought ≡ mid.thought
       → connection.contents new.stream ≡ connection.contents mid.stream → (connection.has_ended mid.stream → connection.has_ended new.stream) → IsSomeAnd mid.answer (λ answer. mid.sent ≡ length answer.items)
       → IsAttended connection site book old mid before after seen seeing → IsAttended connection site book old new before after seen seeing
   attended-ended old mid new before after seen seeing kept since asks contents keeps whole attended = (
@@ -51,23 +51,23 @@ module _ {C : Type 0} (connection : ConnectionGhosts C) (site : Site) {B : Type 
       same = handed.same;
       unread = handed.unread;
       since = since ∙ handed.since;
-      came = kept.0 ∙ handed.came;
+      received = kept.0 ∙ handed.received;
       asks = asks ∙ handed.asks;
       kept = kept.1 ∙ handed.kept;
       takes = takes-ended answer.items old.stream mid.stream new.stream old.sent mid.sent new.sent kept.2 contents handed.takes;
       stops = stops-ended answer.items mid.stream new.stream mid.sent new.sent kept.2 (subst (λ o. IsSomeAnd o (λ a. mid.sent ≡ length a.items)) (handed.kept ∙ is) whole) keeps handed.stops;
     }) attended.0,
-    λ none thinks. absurd (some_answer (ap (λ (l : Line C). l.answer) (attended.1 none thinks).kept ∙ none)),
+    λ none thinks. absurd (some_answer (ap (λ (l : Client C). l.answer) (attended.1 none thinks).kept ∙ none)),
     λ none rests. let heard = attended.2 none rests in record {
       rest = heard.rest;
-      read = subst (λ came. IsReadOn (connection.remaining old.stream) heard.rest old.came.items came.items) (sym kept.0) heard.read;
+      read = subst (λ received. IsReadOn (connection.remaining old.stream) heard.rest old.received.items received.items) (sym kept.0) heard.read;
       waits = λ waits idle. absurd (some_answer (sym kept.1 ∙ waits));
       begun = subst (λ o. IfSome o (IsBegunWhole connection site book old new heard.rest before after seen seeing)) (sym asks)
           (if_some_at mid.thought _ _ (λ thinking is b. absurd (some_answer b.none)) heard.begun);
       answered = if_some_at new.answer _ _ (λ answer is whole_answer. record {
-        whole = subst (λ came. IsSettled came.items ⊎ IsAtEnd heard.rest) (sym kept.0) whole_answer.whole;
-        answered = subst (λ at. IsAnsweredThen site book before after seen seeing at new.came.items answer.items) (sym since)
-            (subst (λ came. IsAnsweredThen site book before after seen seeing mid.since came.items answer.items) (sym kept.0) whole_answer.answered);
+        whole = subst (λ received. IsDetermined received.items ⊎ IsAtEnd heard.rest) (sym kept.0) whole_answer.whole;
+        answered = subst (λ at. IsAnsweredThen site book before after seen seeing at new.received.items answer.items) (sym since)
+            (subst (λ received. IsAnsweredThen site book before after seen seeing mid.since received.items answer.items) (sym kept.0) whole_answer.answered);
         takes = takes-ended answer.items old.stream mid.stream new.stream 0 mid.sent new.sent kept.2 contents whole_answer.takes;
         stops = stops-ended answer.items mid.stream new.stream mid.sent new.sent kept.2 (subst (λ o. IsSomeAnd o (λ a. mid.sent ≡ length a.items)) (sym kept.1 ∙ is) whole) keeps whole_answer.stops;
       }) (subst (λ o. IfSome o (λ answer. IsAnsweredWhole connection site book old mid heard.rest before after seen seeing answer.items)) (sym kept.1) heard.answered);
@@ -78,14 +78,14 @@ module _ {C : Type 0} (connection : ConnectionGhosts C) (site : Site) {B : Type 
       some_answer none = subst (λ o. IsSomeAnd o (λ a. mid.sent ≡ length a.items)) none whole
 
   -- it was answered or its question begun, and its answer handed over as far as that went
-  pub attended-first : (old mid new : Line C) (before after : B) (seen seeing : Times) (r : Given) → old.answer ≡ None → old.thought ≡ None
-      → IsReadOn (connection.remaining old.stream) (connection.remaining mid.stream) old.came.items mid.came.items
+  pub attended-first : (old mid new : Client C) (before after : B) (seen seeing : Times) (r : Given) → old.answer ≡ None → old.thought ≡ None
+      → IsReadOn (connection.remaining old.stream) (connection.remaining mid.stream) old.received.items mid.received.items
       → connection.contents mid.stream ≡ connection.contents old.stream
       → ((IsSome mid.answer × (mid.thought ≡ None)) ⊎ (IsSome mid.thought × (mid.answer ≡ None))) × (mid.sent ≡ 0)
-      → IsSettled mid.came.items ⊎ IsAtEnd (connection.remaining mid.stream)
-      → IfSome mid.answer (λ answer. IsAnsweredThen site book before after seen seeing mid.since mid.came.items answer.items)
-      → IfSome mid.thought (λ t. (t.last ≡ None) × IsAsked site book before after mid.came.items (posed_in t.thought))
-      → (IsSome mid.thought → Tells seen seeing mid.since) → (new.came ≡ mid.came) × (new.answer ≡ mid.answer) → new.since ≡ mid.since → new.thought ≡ mid.thought
+      → IsDetermined mid.received.items ⊎ IsAtEnd (connection.remaining mid.stream)
+      → IfSome mid.answer (λ answer. IsAnsweredThen site book before after seen seeing mid.since mid.received.items answer.items)
+      → IfSome mid.thought (λ t. (t.last ≡ None) × IsAsked site book before after mid.received.items (posed_in t.thought))
+      → (IsSome mid.thought → Tells seen seeing mid.since) → (new.received ≡ mid.received) × (new.answer ≡ mid.answer) → new.since ≡ mid.since → new.thought ≡ mid.thought
       → (mid.answer ≡ None → (new ≡ mid) × (r ≡ given.Waits)) → r ≢ given.Lost
       → (r ≢ given.Lost → IfSome mid.answer (λ answer. TakesAnswer connection answer.items mid.stream mid.sent new.stream new.sent))
       → (r ≢ given.Lost → IfSome mid.answer (λ answer. StopsAt connection answer.items new.stream new.sent)) → IsAttended connection site book old new before after seen seeing
@@ -104,7 +104,7 @@ module _ {C : Type 0} (connection : ConnectionGhosts C) (site : Site) {B : Type 
       heard : (o : Option _) → mid.answer ≡ o → IsHeard connection site book old new before after seen seeing
       heard None e =
           let same = (idle e).0 in
-          subst (λ (l : Line C). IsHeard connection site book old l before after seen seeing) (sym same) (record {
+          subst (λ (l : Client C). IsHeard connection site book old l before after seen seeing) (sym same) (record {
             rest = connection.remaining mid.stream;
             read = read;
             waits = λ waits idle. absurd (cc (subst IsSome idle (thinks_then e)));
@@ -123,14 +123,14 @@ module _ {C : Type 0} (connection : ConnectionGhosts C) (site : Site) {B : Type 
           let taken = subst (λ o. IfSome o (λ answer. TakesAnswer connection answer.items mid.stream mid.sent new.stream new.sent)) e (takes stays) in
           record {
             rest = connection.remaining mid.stream;
-            read = subst (λ came. IsReadOn (connection.remaining old.stream) (connection.remaining mid.stream) old.came.items came.items) (sym kept.0) read;
+            read = subst (λ received. IsReadOn (connection.remaining old.stream) (connection.remaining mid.stream) old.received.items received.items) (sym kept.0) read;
             waits = λ waits idle. absurd (cc (waits, there));
             begun = subst (λ o. IfSome o (IsBegunWhole connection site book old new (connection.remaining mid.stream) before after seen seeing)) (sym (asks ∙ asks_nothing a e)) tt;
             answered = subst (λ o. IfSome o (λ answer. IsAnsweredWhole connection site book old new (connection.remaining mid.stream) before after seen seeing answer.items)) (sym there) (record {
-              whole = subst (λ came. IsSettled came.items ⊎ IsAtEnd (connection.remaining mid.stream)) (sym kept.0) whole;
-              answered = subst (λ at. IsAnsweredThen site book before after seen seeing at new.came.items a.items) (sym since)
-                  (subst (λ came. IsAnsweredThen site book before after seen seeing mid.since came.items a.items) (sym kept.0)
-                  (subst (λ o. IfSome o (λ answer. IsAnsweredThen site book before after seen seeing mid.since mid.came.items answer.items)) e own));
+              whole = subst (λ received. IsDetermined received.items ⊎ IsAtEnd (connection.remaining mid.stream)) (sym kept.0) whole;
+              answered = subst (λ at. IsAnsweredThen site book before after seen seeing at new.received.items a.items) (sym since)
+                  (subst (λ received. IsAnsweredThen site book before after seen seeing mid.since received.items a.items) (sym kept.0)
+                  (subst (λ o. IfSome o (λ answer. IsAnsweredThen site book before after seen seeing mid.since mid.received.items answer.items)) e own));
               takes = λ held first. taken held (subst (λ n. Appends held (connection.contents mid.stream) (take n a.items)) (sym begins.1)
                   (subst (λ known. Appends held known (take 0 a.items)) (sym contents) first));
               stops = subst (λ o. IfSome o (λ answer. StopsAt connection answer.items new.stream new.sent)) e (stops stays);
@@ -138,29 +138,29 @@ module _ {C : Type 0} (connection : ConnectionGhosts C) (site : Site) {B : Type 
           }
 
   -- what was made was put into its connection
-  module _ (before after : B) (seen between seeing : Times) (line : Line C) where
-    pub made-own : (made : Made) (now : Instant) → IsMadeMeanwhile site book before after seen between line.came.items made → Tells between seeing now
-        → IfSome (put_made line made now).answer (λ answer. IsAnsweredThen site book before after seen seeing (put_made line made now).since (put_made line made now).came.items answer.items)
+  module _ (before after : B) (seen between seeing : Times) (client : Client C) where
+    pub made-own : (made : Made) (now : Instant) → IsMadeMeanwhile site book before after seen between client.received.items made → Tells between seeing now
+        → IfSome (put_made client made now).answer (λ answer. IsAnsweredThen site book before after seen seeing (put_made client made now).since (put_made client made now).received.items answer.items)
     made-own (Answer answer) now is tells = (between, is, tells)
     made-own (Thought thought) now is tells = tt
 
-    pub made-asked : (made : Made) (now : Instant) → IsMadeMeanwhile site book before after seen between line.came.items made
-        → IfSome (put_made line made now).thought (λ t. (t.last ≡ None) × IsAsked site book before after (put_made line made now).came.items (posed_in t.thought))
+    pub made-asked : (made : Made) (now : Instant) → IsMadeMeanwhile site book before after seen between client.received.items made
+        → IfSome (put_made client made now).thought (λ t. (t.last ≡ None) × IsAsked site book before after (put_made client made now).received.items (posed_in t.thought))
     made-asked (Answer answer) now is = tt
     made-asked (Thought thought) now is = (refl, is.0)
 
-    pub made-timed : (made : Made) (now : Instant) → IsMadeMeanwhile site book before after seen between line.came.items made → Tells between seeing now
-        → IsSome (put_made line made now).thought → Tells seen seeing (put_made line made now).since
+    pub made-timed : (made : Made) (now : Instant) → IsMadeMeanwhile site book before after seen between client.received.items made → Tells between seeing now
+        → IsSome (put_made client made now).thought → Tells seen seeing (put_made client made now).since
     made-timed (Answer answer) now is tells some = absurd (cc some)
     made-timed (Thought thought) now is tells some = subst (λ t. Tells t seeing now) is.1 tells
 
-  pub made-whole : (line : Line C) (made : Made) (now : Instant) → IsSettled line.came.items ⊎ IsAtEnd (connection.remaining line.stream)
-      → IsSettled (put_made line made now).came.items ⊎ IsAtEnd (connection.remaining (put_made line made now).stream)
-  made-whole line (Answer answer) now whole = whole
-  made-whole line (Thought thought) now whole = whole
+  pub made-whole : (client : Client C) (made : Made) (now : Instant) → IsDetermined client.received.items ⊎ IsAtEnd (connection.remaining client.stream)
+      → IsDetermined (put_made client made now).received.items ⊎ IsAtEnd (connection.remaining (put_made client made now).stream)
+  made-whole client (Answer answer) now whole = whole
+  made-whole client (Thought thought) now whole = whole
 
   -- its question is thought about
-  pub attended-heeded : (old new : Line C) (before : B) (seen : Times) → old.answer ≡ None → IsSome old.thought → new ≡ record old { stream = new.stream }
+  pub attended-heeded : (old new : Client C) (before : B) (seen : Times) → old.answer ≡ None → IsSome old.thought → new ≡ record old { stream = new.stream }
       → connection.contents new.stream ≡ connection.contents old.stream → IsAttended connection site book old new before before seen seen
   attended-heeded old new before seen none thinks kept contents = (
     subst (λ o. IfSome o (λ answer. IsHandedOn connection site book old new before before seen seen answer.items)) (sym none) tt,
@@ -169,7 +169,7 @@ module _ {C : Type 0} (connection : ConnectionGhosts C) (site : Site) {B : Type 
   )
 
   -- it took its whole answer
-  pub spent : (mid new : Line C) → (new.came ≡ mid.came) × (new.answer ≡ mid.answer) × (new.sent ≡ mid.sent)
+  pub spent : (mid new : Client C) → (new.received ≡ mid.received) × (new.answer ≡ mid.answer) × (new.sent ≡ mid.sent)
       → IsSomeAnd mid.answer (λ answer. mid.sent ≡ length answer.items) → IsSpent new
   spent mid new kept whole = by_answer mid.answer kept.1 whole
     where
@@ -179,7 +179,7 @@ module _ {C : Type 0} (connection : ConnectionGhosts C) (site : Site) {B : Type 
           subst (λ o. IsSomeAnd o (λ answer. length answer.items ≤ new.sent)) (sym e) (omega (arith, whole, kept.2))
 
   -- it is lost, or told to have taken more than its answer, which it isn't when that begins
-  pub spoiled-on : (seen : Times) (old new : Line C) → IsSome old.answer → connection.is_lost new.stream ⊎ IsSomeAnd old.answer (λ answer. length answer.items < old.sent)
+  pub spoiled-on : (seen : Times) (old new : Client C) → IsSome old.answer → connection.is_lost new.stream ⊎ IsSomeAnd old.answer (λ answer. length answer.items < old.sent)
       → IsSpoiled connection site book seen old new
   spoiled-on seen old new some why = inr (inl (by_answer old.answer some why))
     where
@@ -188,7 +188,7 @@ module _ {C : Type 0} (connection : ConnectionGhosts C) (site : Site) {B : Type 
       by_answer None some why = absurd (cc some)
       by_answer (Some answer) some why = why
 
-  pub spoiled-first : (seen : Times) (old mid new : Line C) → old.answer ≡ None → old.thought ≡ None → mid.sent ≡ 0
+  pub spoiled-first : (seen : Times) (old mid new : Client C) → old.answer ≡ None → old.thought ≡ None → mid.sent ≡ 0
       → connection.is_lost new.stream ⊎ IsSomeAnd mid.answer (λ answer. length answer.items < mid.sent) → IsSpoiled connection site book seen old new
   spoiled-first seen old mid new none rests begins (inl lost) = inl (none, rests, inl lost)
   spoiled-first seen old mid new none rests begins (inr over) = by_answer mid.answer refl over
@@ -198,100 +198,100 @@ module _ {C : Type 0} (connection : ConnectionGhosts C) (site : Site) {B : Type 
       by_answer (Some answer) e over = absurd (omega (arith, begins, over))
 
   -- it keeps its answer or its question
-  keeps-own : (line left : Line C) (before after : B) (seen seeing : Times) → is_unanswered (Some line) ≡ false
-      → IsAttended connection site book line left before after seen seeing → is_unanswered (Some left) ≡ false
-  keeps-own line left before after seen seeing own attended = by_answer line.answer refl
+  keeps-own : (client left : Client C) (before after : B) (seen seeing : Times) → is_unanswered (Some client) ≡ false
+      → IsAttended connection site book client left before after seen seeing → is_unanswered (Some left) ≡ false
+  keeps-own client left before after seen seeing own attended = by_answer client.answer refl
     where
-      by_thought : line.answer ≡ None → (t : Option _) → line.thought ≡ t → is_unanswered (Some left) ≡ false
+      by_thought : client.answer ≡ None → (t : Option _) → client.thought ≡ t → is_unanswered (Some left) ≡ false
       by_thought none None e = absurd (cc (own, none, e))
       by_thought none (Some x) e =
           let heeded = attended.1 none (subst IsSome (sym e) refl) in
-          has-question left (subst IsSome (sym (ap (λ (l : Line C). l.thought) heeded.kept ∙ e)) refl)
+          has-question left (subst IsSome (sym (ap (λ (l : Client C). l.thought) heeded.kept ∙ e)) refl)
 
-      by_answer : (o : Option _) → line.answer ≡ o → is_unanswered (Some left) ≡ false
-      by_answer None e = by_thought e line.thought refl
+      by_answer : (o : Option _) → client.answer ≡ o → is_unanswered (Some left) ≡ false
+      by_answer None e = by_thought e client.thought refl
       by_answer (Some a) e =
-          let handed = subst (λ o. IfSome o (λ a. IsHandedOn connection site book line left before after seen seeing a.items)) e attended.0 in
+          let handed = subst (λ o. IfSome o (λ a. IsHandedOn connection site book client left before after seen seeing a.items)) e attended.0 in
           has-answer left (subst IsSome (sym (handed.kept ∙ e)) refl)
 
   -- as many fewer have no answer and no question as were served
-  fewer : (before after : B) (seen seeing : Times) (line : Line C) (left : Option (Line C)) (from to : ℕ) → to + one_of (Some line) ≡ from + one_of left
-      → (is_unanswered (Some line) ≡ false → after ≡ before) → IfSome left (λ l. IsAttended connection site book line l before after seen seeing) → HasServed site book before after 1
+  fewer : (before after : B) (seen seeing : Times) (client : Client C) (left : Option (Client C)) (from to : ℕ) → to + one_of (Some client) ≡ from + one_of left
+      → (is_unanswered (Some client) ≡ false → after ≡ before) → IfSome left (λ l. IsAttended connection site book client l before after seen seeing) → HasServed site book before after 1
       → Advances site book before after from to
-  fewer before after seen seeing line left from to sum once attended one = by_line (is_unanswered (Some line)) refl
+  fewer before after seen seeing client left from to sum once attended one = by_line (is_unanswered (Some client)) refl
     where
       stayed : to ≤ from → after ≡ before → Advances site book before after from to
       stayed within same = subst (λ b. Advances site book before b from to) (sym same) (stays site book before from to within)
 
-      by_left : (slot : Option (Line C)) → left ≡ slot → is_unanswered (Some line) ≡ true → Advances site book before after from to
-      by_left None is none = one_advances site book before after from to (omega (arith, sum, unanswered-of line none, ap one_of is)) one
+      by_left : (slot : Option (Client C)) → left ≡ slot → is_unanswered (Some client) ≡ true → Advances site book before after from to
+      by_left None is none = one_advances site book before after from to (omega (arith, sum, unanswered-of client none, ap one_of is)) one
       by_left (Some l) is none = by_new (is_unanswered (Some l)) refl
         where
-          heard : IsHeard connection site book line l before after seen seeing
-          heard = (subst (λ slot. IfSome slot (λ l. IsAttended connection site book line l before after seen seeing)) is attended).2 (has-neither line none).0 (has-neither line none).1
+          heard : IsHeard connection site book client l before after seen seeing
+          heard = (subst (λ slot. IfSome slot (λ l. IsAttended connection site book client l before after seen seeing)) is attended).2 (has-neither client none).0 (has-neither client none).1
 
           by_new : (b : Bool) → is_unanswered (Some l) ≡ b → Advances site book before after from to
-          by_new true e = stayed (omega (arith, sum, unanswered-of line none, ap one_of is, unanswered-of l e)) (heard.waits (has-neither l e).0 (has-neither l e).1).same
-          by_new false e = one_advances site book before after from to (omega (arith, sum, unanswered-of line none, ap one_of is, answered-of l e)) one
+          by_new true e = stayed (omega (arith, sum, unanswered-of client none, ap one_of is, unanswered-of l e)) (heard.waits (has-neither l e).0 (has-neither l e).1).same
+          by_new false e = one_advances site book before after from to (omega (arith, sum, unanswered-of client none, ap one_of is, answered-of l e)) one
 
-      kept_left : (slot : Option (Line C)) → left ≡ slot → is_unanswered (Some line) ≡ false → one_of left ≡ 0
+      kept_left : (slot : Option (Client C)) → left ≡ slot → is_unanswered (Some client) ≡ false → one_of left ≡ 0
       kept_left None is e = ap one_of is
       kept_left (Some l) is e =
-          ap one_of is ∙ answered-of l (keeps-own line l before after seen seeing e (subst (λ slot. IfSome slot (λ l. IsAttended connection site book line l before after seen seeing)) is attended))
+          ap one_of is ∙ answered-of l (keeps-own client l before after seen seeing e (subst (λ slot. IfSome slot (λ l. IsAttended connection site book client l before after seen seeing)) is attended))
 
-      by_line : (b : Bool) → is_unanswered (Some line) ≡ b → Advances site book before after from to
+      by_line : (b : Bool) → is_unanswered (Some client) ≡ b → Advances site book before after from to
       by_line true e = by_left left refl e
-      by_line false e = stayed (omega (arith, sum, answered-of line e, kept_left left refl e)) (once e)
+      by_line false e = stayed (omega (arith, sum, answered-of client e, kept_left left refl e)) (once e)
 
   -- it stays open
-  pub advances-stays : (before after : B) (seen seeing : Times) (lines : Slab (Line C)) (key : ℕ) (line left : Line C) → get lines key ≡ Some line
-      → (is_unanswered (Some line) ≡ false → after ≡ before) → IsAttended connection site book line left before after seen seeing → HasServed site book before after 1
-      → Advances site book before after (unanswered lines) (unanswered (with_value lines key left))
-  advances-stays before after seen seeing lines key line left is once attended one =
-      fewer before after seen seeing line (Some left) (unanswered lines) (unanswered (with_value lines key left))
-      (subst (λ slot. unanswered (with_value lines key left) + one_of slot ≡ unanswered lines + one_of (Some left)) is
-      (unanswered-updates lines (with_value lines key left) key (Some left) (Updates-with_value lines key left (subst IsSome (sym is) refl)))) once attended one
+  pub advances-stays : (before after : B) (seen seeing : Times) (clients : Slab (Client C)) (key : ℕ) (client left : Client C) → get clients key ≡ Some client
+      → (is_unanswered (Some client) ≡ false → after ≡ before) → IsAttended connection site book client left before after seen seeing → HasServed site book before after 1
+      → Advances site book before after (unanswered clients) (unanswered (with_value clients key left))
+  advances-stays before after seen seeing clients key client left is once attended one =
+      fewer before after seen seeing client (Some left) (unanswered clients) (unanswered (with_value clients key left))
+      (subst (λ slot. unanswered (with_value clients key left) + one_of slot ≡ unanswered clients + one_of (Some left)) is
+      (unanswered-updates clients (with_value clients key left) key (Some left) (Updates-with_value clients key left (subst IsSome (sym is) refl)))) once attended one
 
   -- it is closed
-  pub advances-closed : (before after : B) (seen seeing : Times) (lines new : Slab (Line C)) (key : ℕ) (line left : Line C) → get lines key ≡ Some line
-      → (is_unanswered (Some line) ≡ false → after ≡ before) → HasServed site book before after 1 → Updates (with_value lines key left) new key None
-      → Advances site book before after (unanswered lines) (unanswered new)
-  advances-closed before after seen seeing lines new key line left is once one closed =
-      let written = Updates-with_value lines key left (subst IsSome (sym is) refl) in
-      fewer before after seen seeing line None (unanswered lines) (unanswered new)
-      (omega (arith, unanswered-updates lines (with_value lines key left) key (Some left) written, unanswered-updates (with_value lines key left) new key None closed, ap one_of written.changed, ap one_of is))
+  pub advances-closed : (before after : B) (seen seeing : Times) (clients new : Slab (Client C)) (key : ℕ) (client left : Client C) → get clients key ≡ Some client
+      → (is_unanswered (Some client) ≡ false → after ≡ before) → HasServed site book before after 1 → Updates (with_value clients key left) new key None
+      → Advances site book before after (unanswered clients) (unanswered new)
+  advances-closed before after seen seeing clients new key client left is once one closed =
+      let written = Updates-with_value clients key left (subst IsSome (sym is) refl) in
+      fewer before after seen seeing client None (unanswered clients) (unanswered new)
+      (omega (arith, unanswered-updates clients (with_value clients key left) key (Some left) written, unanswered-updates (with_value clients key left) new key None closed, ap one_of written.changed, ap one_of is))
       once tt one
 
   -- the connection of a key is closed
-  pub attended-closed : (fate : Fate) (key : ℕ) (lines new : Slab (Line C)) (line left : Line C) (before after : B) (seen seeing : Times) → get lines key ≡ Some line
-      → Updates (with_value lines key left) new key None → (is_unanswered (Some line) ≡ false → after ≡ before) → HasServed site book before after 1 → (book.is_honest after → book.is_honest before)
-      → IsClosedBy connection site book fate line before after seen seeing → IsAttendedAt connection site book fate key lines new before after seen seeing
-  attended-closed fate key lines new line left before after seen seeing is removed once one honest closed =
-      let written = Updates-with_value lines key left (subst IsSome (sym is) refl) in
+  pub attended-closed : (fate : Fate) (key : ℕ) (clients new : Slab (Client C)) (client left : Client C) (before after : B) (seen seeing : Times) → get clients key ≡ Some client
+      → Updates (with_value clients key left) new key None → (is_unanswered (Some client) ≡ false → after ≡ before) → HasServed site book before after 1 → (book.has_clean_disk after → book.has_clean_disk before)
+      → IsClosedBy connection site book fate client before after seen seeing → IsAttendedAt connection site book fate key clients new before after seen seeing
+  attended-closed fate key clients new client left before after seen seeing is removed once one clean_disk closed =
+      let written = Updates-with_value clients key left (subst IsSome (sym is) refl) in
       record {
         others = λ other differs. removed.others other differs ∙ written.others other differs;
         absent = λ none. absurd (cc (is, none));
         there = λ l e. subst (λ slot. IfSome slot (λ left. IsAttended connection site book l left before after seen seeing)) (sym removed.changed) tt;
-        closed = λ l e none. let same : line ≡ l = cc (is, e) in subst (λ l. IsClosedBy connection site book fate l before after seen seeing) same closed;
-        once = λ l e. let same : line ≡ l = cc (is, e) in subst (λ (l : Line C). is_unanswered (Some l) ≡ false → after ≡ before) same once;
+        closed = λ l e none. let same : client ≡ l = cc (is, e) in subst (λ l. IsClosedBy connection site book fate l before after seen seeing) same closed;
+        once = λ l e. let same : client ≡ l = cc (is, e) in subst (λ (l : Client C). is_unanswered (Some l) ≡ false → after ≡ before) same once;
         one = one;
-        honest = honest;
+        clean_disk = clean_disk;
       }
 
   -- it stays
-  pub attended-stays : (fate : Fate) (key : ℕ) (lines : Slab (Line C)) (line left : Line C) (before after : B) (seen seeing : Times) → get lines key ≡ Some line
-      → (is_unanswered (Some line) ≡ false → after ≡ before) → HasServed site book before after 1 → (book.is_honest after → book.is_honest before)
-      → IsAttended connection site book line left before after seen seeing → IsAttendedAt connection site book fate key lines (with_value lines key left) before after seen seeing
-  attended-stays fate key lines line left before after seen seeing is once one honest attended =
-      let written = Updates-with_value lines key left (subst IsSome (sym is) refl) in
+  pub attended-stays : (fate : Fate) (key : ℕ) (clients : Slab (Client C)) (client left : Client C) (before after : B) (seen seeing : Times) → get clients key ≡ Some client
+      → (is_unanswered (Some client) ≡ false → after ≡ before) → HasServed site book before after 1 → (book.has_clean_disk after → book.has_clean_disk before)
+      → IsAttended connection site book client left before after seen seeing → IsAttendedAt connection site book fate key clients (with_value clients key left) before after seen seeing
+  attended-stays fate key clients client left before after seen seeing is once one clean_disk attended =
+      let written = Updates-with_value clients key left (subst IsSome (sym is) refl) in
       record {
         others = λ other differs. written.others other differs;
         absent = λ none. absurd (cc (is, none));
-        there = λ l e. let same : line ≡ l = cc (is, e) in
+        there = λ l e. let same : client ≡ l = cc (is, e) in
             subst (λ slot. IfSome slot (λ left. IsAttended connection site book l left before after seen seeing)) (sym written.changed)
             (subst (λ l. IsAttended connection site book l left before after seen seeing) same attended);
         closed = λ l e none. absurd (cc (written.changed, none));
-        once = λ l e. let same : line ≡ l = cc (is, e) in subst (λ (l : Line C). is_unanswered (Some l) ≡ false → after ≡ before) same once;
+        once = λ l e. let same : client ≡ l = cc (is, e) in subst (λ (l : Client C). is_unanswered (Some l) ≡ false → after ≡ before) same once;
         one = one;
-        honest = honest;
+        clean_disk = clean_disk;
       }

@@ -1,14 +1,14 @@
 -- Bytes that wait for more, as more come.
 use Rattle.std.proofs.Common.{ℕ, ◌<◌, List, ◌++◌, length, sym, ap, subst, arith}
 use Rattle.std.proofs.lemmas.List.{append_assoc}
-use Rattle.shop_request.specs.Senses.{IsUnfinished}
-use Rattle.shop_serve.specs.Lines.{AwaitsMore}
+use Rattle.shop_request.specs.Parses.{IsUnfinished}
+use Rattle.shop_serve.specs.Clients.{AwaitsMore}
 
-pub awaits-on : (came piece : List ℕ) (needed : ℕ) → length (came ++ piece) < needed → AwaitsMore came needed → AwaitsMore (came ++ piece) needed
-awaits-on came piece needed short awaits =
+pub awaits-on : (received piece : List ℕ) (needed : ℕ) → length (received ++ piece) < needed → AwaitsMore received needed → AwaitsMore (received ++ piece) needed
+awaits-on received piece needed short awaits =
     record {
       here = awaits.later piece short;
       later = λ more few.
-          let same = append_assoc came piece more in
+          let same = append_assoc received piece more in
           subst IsUnfinished (sym same) (awaits.later (piece ++ more) (omega (arith, few, ap length same)));
     }

@@ -6,12 +6,12 @@ use Rattle.slab.specs.Slab.{Slab, get, slab_len}
 use Rattle.shop_book.specs.declared.books.Book.{Ghosts}
 use Rattle.shop_serve.specs.declared.connections.Connection.{Ghosts as ConnectionGhosts}
 use Rattle.shop_serve.specs.declared.ports.Port.{Ghosts as PortGhosts}
-use Rattle.shop_serve.specs.declared.lines.Fate.{Fate}
-use Rattle.shop_serve.specs.declared.lines.Line.{Line}
-use Rattle.shop_serve.specs.declared.lines.TheConstants.{MOST_LINES}
+use Rattle.shop_serve.specs.declared.clients.Fate.{Fate}
+use Rattle.shop_serve.specs.declared.clients.Client.{Client}
+use Rattle.shop_serve.specs.declared.clients.TheConstants.{MOST_CLIENTS}
 use Rattle.shop_serve.specs.declared.sites.Site.{Site}
 use Rattle.shop_serve.specs.Times.{Times}
-use Rattle.shop_serve.specs.Lines.{AreAttended, IsAttendedAt, IsOpened, IsTurnedAway, MakesRoom}
+use Rattle.shop_serve.specs.Clients.{AreAttended, IsAttendedAt, IsOpened, IsTurnedAway, MakesRoom}
 use Rattle.shop_serve.specs.Thinking.{IsThoughtAt, Thinks}
 use Rattle.shop_serve.specs.declared.thinking.Progress.{Progress}
 use Rattle.shop_serve.specs.declared.thinking.Progress.TheVariants.{GoesOn, Answered, NoMemory}
@@ -20,83 +20,83 @@ use Rattle.shop_serve.proofs.Counts.{one, one-most, count-but, count-fewer}
 use Rattle.shop_serve.proofs.Slots.{late-fewer}
 
 module _ {C : Type 0} where
-  abbrev counted : Option (Line C) → ℕ
+  abbrev counted : Option (Client C) → ℕ
   counted slot = one is_some refl slot
 
-  none-few : (lines : Slab (Line C)) → ((key : ℕ) → get lines key ≡ None) → slab_len lines ≤ MOST_LINES
-  none-few lines none = omega (arith, count-fewer is_some refl [] lines.slots (λ key. omega (arith, ap counted (none key))))
+  none-few : (clients : Slab (Client C)) → ((key : ℕ) → get clients key ≡ None) → slab_len clients ≤ MOST_CLIENTS
+  none-few clients none = omega (arith, count-fewer is_some refl [] clients.slots (λ key. omega (arith, ap counted (none key))))
 
-  room-made : (old room : Slab (Line C)) → slab_len old ≤ MOST_LINES → MakesRoom old room → slab_len room < MOST_LINES
+  room-made : (old room : Slab (Client C)) → slab_len old ≤ MOST_CLIENTS → MakesRoom old room → slab_len room < MOST_CLIENTS
   room-made old room few (inl (less, same)) = omega (arith, less, ap (count_by is_some) same)
   room-made old room few (inr (full, key, oldest, gone)) =
       omega (arith, few, count-but is_some refl key old.slots room.slots gone.others, ap counted gone.changed, ap counted oldest.there)
 
-  opened-few : {P : Type 0} (port : PortGhosts P C) (now : Instant) (stream : C) (key : ℕ) (old new : Slab (Line C)) → slab_len old ≤ MOST_LINES → IsOpened port now stream key old new → slab_len new ≤ MOST_LINES
+  opened-few : {P : Type 0} (port : PortGhosts P C) (now : Instant) (stream : C) (key : ℕ) (old new : Slab (Client C)) → slab_len old ≤ MOST_CLIENTS → IsOpened port now stream key old new → slab_len new ≤ MOST_CLIENTS
   opened-few port now stream key old new few o =
       omega (arith, room-made old o.room few o.made, count-but is_some refl key o.room.slots new.slots o.there.others, ap counted o.there.changed, ap counted o.free)
 
-  turned-few : {P : Type 0} (port : PortGhosts P C) (old new : Slab (Line C)) → slab_len old ≤ MOST_LINES → IsTurnedAway port old new → slab_len new ≤ MOST_LINES
+  turned-few : {P : Type 0} (port : PortGhosts P C) (old new : Slab (Client C)) → slab_len old ≤ MOST_CLIENTS → IsTurnedAway port old new → slab_len new ≤ MOST_CLIENTS
   turned-few port old new few t = omega (arith, room-made old t.room few t.made, ap (count_by is_some) t.same)
 
 module _ {C : Type 0} (connection : ConnectionGhosts C) (site : Site) {B : Type 0} (book : Ghosts B) {P : Type 0} (port : PortGhosts P C) where
-  attended-fewer : (fate : Fate) (key : ℕ) (old new : Slab (Line C)) (before after : B) (seen seeing : Times)
+  attended-fewer : (fate : Fate) (key : ℕ) (old new : Slab (Client C)) (before after : B) (seen seeing : Times)
       → IsAttendedAt connection site book fate key old new before after seen seeing → slab_len new ≤ slab_len old
   attended-fewer fate key old new before after seen seeing attended = by_slot (get old key) refl
     where
-      by_slot : (slot : Option (Line C)) → get old key ≡ slot → slab_len new ≤ slab_len old
+      by_slot : (slot : Option (Client C)) → get old key ≡ slot → slab_len new ≤ slab_len old
       by_slot None is = omega (arith, count-but is_some refl key old.slots new.slots attended.others, ap counted is, ap counted (attended.absent is).0)
-      by_slot (Some line) is = omega (arith, count-but is_some refl key old.slots new.slots attended.others, ap counted is, one-most is_some refl (get new key))
+      by_slot (Some client) is = omega (arith, count-but is_some refl key old.slots new.slots attended.others, ap counted is, one-most is_some refl (get new key))
 
-  each-fewer : (keys : List ℕ) (old new : Slab (Line C)) (before after : B) (seen seeing : Times)
+  each-fewer : (keys : List ℕ) (old new : Slab (Client C)) (before after : B) (seen seeing : Times)
       → AreAttended connection site book keys old new before after seen seeing → slab_len new ≤ slab_len old
-  each-fewer [] old new before after seen seeing run = omega (arith, ap (λ (s : Slab (Line C)). slab_len s) run.0)
+  each-fewer [] old new before after seen seeing run = omega (arith, ap (λ (s : Slab (Client C)). slab_len s) run.0)
   each-fewer (key ∷ keys) old new before after seen seeing run =
       omega (arith, attended-fewer run.0 key old run.1 before run.2 seen run.3 run.4, each-fewer keys run.1 new run.2 after run.3 seeing run.5)
 
-  received-few : (stream : C) (old new : Slab (Line C)) (before after : B) (seen seeing : Times) → slab_len old ≤ MOST_LINES
-      → IsReceived connection site book port stream old new before after seen seeing → slab_len new ≤ MOST_LINES
+  received-few : (stream : C) (old new : Slab (Client C)) (before after : B) (seen seeing : Times) → slab_len old ≤ MOST_CLIENTS
+      → IsReceived connection site book port stream old new before after seen seeing → slab_len new ≤ MOST_CLIENTS
   received-few stream old new before after seen seeing few (now, between, told, inl away) = turned-few port old new few away.0
   received-few stream old new before after seen seeing few (now, between, told, inr here) =
-      omega (arith, opened-few port now stream here.key old here.lines few here.opened, attended-fewer here.fate here.key here.lines new before after between seeing here.attended)
+      omega (arith, opened-few port now stream here.key old here.clients few here.opened, attended-fewer here.fate here.key here.clients new before after between seeing here.attended)
 
-  came-few : (came : List C) (old new : Slab (Line C)) (before after : B) (seen seeing : Times) → slab_len old ≤ MOST_LINES
-      → AreReceived connection site book port came old new before after seen seeing → slab_len new ≤ MOST_LINES
-  came-few [] old new before after seen seeing few run = omega (arith, few, ap (λ (s : Slab (Line C)). slab_len s) run.0)
-  came-few (stream ∷ came) old new before after seen seeing few run =
-      came-few came run.0 new run.1 after run.2 seeing (received-few stream old run.0 before run.1 seen run.2 few run.3) run.4
+  arrived-few : (arrived : List C) (old new : Slab (Client C)) (before after : B) (seen seeing : Times) → slab_len old ≤ MOST_CLIENTS
+      → AreReceived connection site book port arrived old new before after seen seeing → slab_len new ≤ MOST_CLIENTS
+  arrived-few [] old new before after seen seeing few run = omega (arith, few, ap (λ (s : Slab (Client C)). slab_len s) run.0)
+  arrived-few (stream ∷ arrived) old new before after seen seeing few run =
+      arrived-few arrived run.0 new run.1 after run.2 seeing (received-few stream old run.0 before run.1 seen run.2 few run.3) run.4
 
-  thought-fewer : (progress : Progress) (now : Instant) (key : ℕ) (old new : Slab (Line C)) (seen seeing : Times)
+  thought-fewer : (progress : Progress) (now : Instant) (key : ℕ) (old new : Slab (Client C)) (seen seeing : Times)
       → IsThoughtAt progress now key old new seen seeing → slab_len new ≤ slab_len old
   thought-fewer progress now key old new seen seeing t =
       omega (arith, count-but is_some refl key old.slots new.slots t.others, ap counted t.there, one-most is_some refl (get new key))
 
-  thinks-fewer : (now : Instant) (old new : Slab (Line C)) (before after : B) (seen seeing : Times)
+  thinks-fewer : (now : Instant) (old new : Slab (Client C)) (before after : B) (seen seeing : Times)
       → Thinks connection site book now old new before after seen seeing → slab_len new ≤ slab_len old
-  thinks-fewer now old new before after seen seeing (inl idle) = omega (arith, ap (λ (s : Slab (Line C)). slab_len s) idle.1)
+  thinks-fewer now old new before after seen seeing (inl idle) = omega (arith, ap (λ (s : Slab (Client C)). slab_len s) idle.1)
   thinks-fewer now old new before after seen seeing (inr t) = by_progress t.progress refl
     where
-      once : slab_len t.lines ≤ slab_len old
-      once = thought-fewer t.progress now t.key old t.lines seen t.between t.thought
+      once : slab_len t.clients ≤ slab_len old
+      once = thought-fewer t.progress now t.key old t.clients seen t.between t.thought
 
       on : t.progress ≢ Answered → slab_len new ≤ slab_len old
-      on other = omega (arith, once, ap (λ (s : Slab (Line C)). slab_len s) (t.goes_on other).0)
+      on other = omega (arith, once, ap (λ (s : Slab (Client C)). slab_len s) (t.goes_on other).0)
 
       by_progress : (p : Progress) → t.progress ≡ p → slab_len new ≤ slab_len old
       by_progress GoesOn e = on (λ is. absurd (cc (e, is)))
       by_progress NoMemory e = on (λ is. absurd (cc (e, is)))
       by_progress Answered e =
           let handed = t.answered e in
-          omega (arith, once, attended-fewer handed.0 t.key t.lines new before after t.between seeing handed.1)
+          omega (arith, once, attended-fewer handed.0 t.key t.clients new before after t.between seeing handed.1)
 
-  round-few : (round : Round C) (old new : Slab (Line C)) (before after : B) (seen seeing : Times) → slab_len old ≤ MOST_LINES
-      → IsRound connection site book port round old new before after seen seeing → slab_len new ≤ MOST_LINES
+  round-few : (round : Round C) (old new : Slab (Client C)) (before after : B) (seen seeing : Times) → slab_len old ≤ MOST_CLIENTS
+      → IsRound connection site book port round old new before after seen seeing → slab_len new ≤ MOST_CLIENTS
   round-few round old new before after seen seeing few r =
-      came-few round.came r.thought new r.later after r.third seeing
+      arrived-few round.arrived r.thought new r.later after r.third seeing
       (omega (arith, few, thinks-fewer round.now r.kept r.thought r.mid r.later r.second r.third r.thinks, each-fewer round.keys old r.attended before r.mid seen r.first r.each, late-fewer is_some refl round.now r.attended r.kept r.late)) r.received
 
-  rounds-few : (rounds : List (Round C)) (old new : Slab (Line C)) (before after : B) (seen seeing : Times) → slab_len old ≤ MOST_LINES
-      → AreRounds connection site book port rounds old new before after seen seeing → slab_len new ≤ MOST_LINES
-  rounds-few [] old new before after seen seeing few run = omega (arith, few, ap (λ (s : Slab (Line C)). slab_len s) run.0)
+  rounds-few : (rounds : List (Round C)) (old new : Slab (Client C)) (before after : B) (seen seeing : Times) → slab_len old ≤ MOST_CLIENTS
+      → AreRounds connection site book port rounds old new before after seen seeing → slab_len new ≤ MOST_CLIENTS
+  rounds-few [] old new before after seen seeing few run = omega (arith, few, ap (λ (s : Slab (Client C)). slab_len s) run.0)
   rounds-few (round ∷ rounds) old new before after seen seeing few run =
       rounds-few rounds run.0 new run.1 after run.2 seeing (round-few round old run.0 before run.1 seen run.2 few run.3) run.4
 

@@ -8,9 +8,9 @@ use Rattle.slab.specs.Slab.{Slab}
 use Rattle.shop_book.specs.declared.books.Book.{Ghosts}
 use Rattle.shop_serve.specs.declared.connections.Connection.{Ghosts as ConnectionGhosts}
 use Rattle.shop_serve.specs.declared.ports.Port.{Ghosts as PortGhosts}
-use Rattle.shop_serve.specs.declared.lines.Line.{Line}
+use Rattle.shop_serve.specs.declared.clients.Client.{Client}
 use Rattle.shop_serve.specs.declared.sites.Site.{Site}
-use Rattle.shop_serve.specs.Rounds.{AreReceived, AreRounds, IsReceived, IsRound, Round, all_came, all_keys}
+use Rattle.shop_serve.specs.Rounds.{AreReceived, AreRounds, IsReceived, IsRound, Round, all_arrived, all_keys}
 use Rattle.shop_serve.specs.Times.{Adds, Times}
 
 module _ {X : Type 0} where
@@ -26,67 +26,67 @@ module _ {X : Type 0} where
 
 module _ {C : Type 0} (connection : ConnectionGhosts C) (site : Site) {B : Type 0} (book : Ghosts B) {P : Type 0} (port : PortGhosts P C) where
   -- the connections that came, and that were received
-  abbrev pub Came : Option (List C) → Option (List C) → ℕ → ℕ → Slab (Line C) → Slab (Line C) → B → B → (seen seeing : Times) → Type 0
-  Came given giving from to old new before after seen seeing =
-      (came : List C) × (to ≡ from + length came) × Adds given giving came × AreReceived connection site book port came old new before after seen seeing
+  abbrev pub Arrived : Option (List C) → Option (List C) → ℕ → ℕ → Slab (Client C) → Slab (Client C) → B → B → (seen seeing : Times) → Type 0
+  Arrived given giving from to old new before after seen seeing =
+      (arrived : List C) × (to ≡ from + length arrived) × Adds given giving arrived × AreReceived connection site book port arrived old new before after seen seeing
 
   -- and whatever comes later
-  abbrev pub CameSoFar : Option (List C) → Option (List C) → ℕ → ℕ → Slab (Line C) → Slab (Line C) → B → B → (seen now : Times) → Type 0
-  CameSoFar given giving from to old mid before here seen now =
-      (came : List C) × (to ≡ from + length came) × Adds given giving came
-      × ((later : List C) (lines : Slab (Line C)) (after : B) (seeing : Times) → AreReceived connection site book port later mid lines here after now seeing
-      → AreReceived connection site book port (came ++ later) old lines before after seen seeing)
+  abbrev pub ArrivedSoFar : Option (List C) → Option (List C) → ℕ → ℕ → Slab (Client C) → Slab (Client C) → B → B → (seen now : Times) → Type 0
+  ArrivedSoFar given giving from to old mid before here seen now =
+      (arrived : List C) × (to ≡ from + length arrived) × Adds given giving arrived
+      × ((later : List C) (clients : Slab (Client C)) (after : B) (seeing : Times) → AreReceived connection site book port later mid clients here after now seeing
+      → AreReceived connection site book port (arrived ++ later) old clients before after seen seeing)
 
-  pub came-none : (given : Option (List C)) (from : ℕ) (old : Slab (Line C)) (before : B) (seen : Times) → CameSoFar given given from from old old before before seen seen
-  came-none given from old before seen = ([], omega arith, adds-none given, λ later lines after seeing run. run)
+  pub arrived-none : (given : Option (List C)) (from : ℕ) (old : Slab (Client C)) (before : B) (seen : Times) → ArrivedSoFar given given from from old old before before seen seen
+  arrived-none given from old before seen = ([], omega arith, adds-none given, λ later clients after seeing run. run)
 
-  pub came-all : (given giving last : Option (List C)) (from to : ℕ) (old new : Slab (Line C)) (before after : B) (seen seeing : Times) → Adds giving last []
-      → CameSoFar given giving from to old new before after seen seeing → Came given last from to old new before after seen seeing
-  came-all given giving last from to old new before after seen seeing more s = (
+  pub arrived-all : (given giving last : Option (List C)) (from to : ℕ) (old new : Slab (Client C)) (before after : B) (seen seeing : Times) → Adds giving last []
+      → ArrivedSoFar given giving from to old new before after seen seeing → Arrived given last from to old new before after seen seeing
+  arrived-all given giving last from to old new before after seen seeing more s = (
     s.0,
     s.1,
     subst (Adds given last) (append-nil s.0) (adds-more given giving last s.0 [] s.2 more),
-    subst (λ came. AreReceived connection site book port came old new before after seen seeing) (append-nil s.0) (s.3 [] new after seeing (refl, refl, refl)),
+    subst (λ arrived. AreReceived connection site book port arrived old new before after seen seeing) (append-nil s.0) (s.3 [] new after seeing (refl, refl, refl)),
   )
 
-  pub came-one : (given giving last : Option (List C)) (from to : ℕ) (old mid new : Slab (Line C)) (before here after : B) (seen now seeing : Times) (stream : C)
+  pub arrived-one : (given giving last : Option (List C)) (from to : ℕ) (old mid new : Slab (Client C)) (before here after : B) (seen now seeing : Times) (stream : C)
       → Adds giving last (stream ∷ []) → IsReceived connection site book port stream mid new here after now seeing
-      → CameSoFar given giving from to old mid before here seen now → CameSoFar given last from (to + 1) old new before after seen seeing
-  came-one given giving last from to old mid new before here after seen now seeing stream more received s = (
+      → ArrivedSoFar given giving from to old mid before here seen now → ArrivedSoFar given last from (to + 1) old new before after seen seeing
+  arrived-one given giving last from to old mid new before here after seen now seeing stream more received s = (
     s.0 ++ stream ∷ [],
     omega (arith, s.1, length-append s.0 (stream ∷ [])),
     adds-more given giving last s.0 (stream ∷ []) s.2 more,
-    λ later lines end ending run. subst (λ came. AreReceived connection site book port came old lines before end seen ending) (sym (append_assoc s.0 (stream ∷ []) later))
-        (s.3 (stream ∷ later) lines end ending (new, after, seeing, received, run)),
+    λ later clients end ending run. subst (λ arrived. AreReceived connection site book port arrived old clients before end seen ending) (sym (append_assoc s.0 (stream ∷ []) later))
+        (s.3 (stream ∷ later) clients end ending (new, after, seeing, received, run)),
   )
 
   -- the turns so far, and whatever comes later
-  abbrev pub RoundsSoFar : Option (List ℕ) → Option (List ℕ) → Option (List C) → Option (List C) → ℕ → Slab (Line C) → Slab (Line C) → B → B → (seen now : Times) → Type 0
+  abbrev pub RoundsSoFar : Option (List ℕ) → Option (List ℕ) → Option (List C) → Option (List C) → ℕ → Slab (Client C) → Slab (Client C) → B → B → (seen now : Times) → Type 0
   RoundsSoFar told telling given giving count first mid before here seen now =
-      (rounds : List (Round C)) × (count ≡ length (all_came rounds)) × Adds told telling (all_keys rounds) × Adds given giving (all_came rounds)
-      × ((later : List (Round C)) (lines : Slab (Line C)) (after : B) (seeing : Times) → AreRounds connection site book port later mid lines here after now seeing
-      → AreRounds connection site book port (rounds ++ later) first lines before after seen seeing)
+      (rounds : List (Round C)) × (count ≡ length (all_arrived rounds)) × Adds told telling (all_keys rounds) × Adds given giving (all_arrived rounds)
+      × ((later : List (Round C)) (clients : Slab (Client C)) (after : B) (seeing : Times) → AreRounds connection site book port later mid clients here after now seeing
+      → AreRounds connection site book port (rounds ++ later) first clients before after seen seeing)
 
-  pub rounds-none : (told : Option (List ℕ)) (given : Option (List C)) (first : Slab (Line C)) (before : B) (seen : Times) → RoundsSoFar told told given given 0 first first before before seen seen
-  rounds-none told given first before seen = ([], refl, adds-none told, adds-none given, λ later lines after seeing run. run)
+  pub rounds-none : (told : Option (List ℕ)) (given : Option (List C)) (first : Slab (Client C)) (before : B) (seen : Times) → RoundsSoFar told told given given 0 first first before before seen seen
+  rounds-none told given first before seen = ([], refl, adds-none told, adds-none given, λ later clients after seeing run. run)
 
-  pub rounds-all : (told telling : Option (List ℕ)) (given giving : Option (List C)) (count : ℕ) (first last : Slab (Line C)) (before after : B) (seen seeing : Times)
+  pub rounds-all : (told telling : Option (List ℕ)) (given giving : Option (List C)) (count : ℕ) (first last : Slab (Client C)) (before after : B) (seen seeing : Times)
       → (s : RoundsSoFar told telling given giving count first last before after seen seeing) → AreRounds connection site book port s.0 first last before after seen seeing
   rounds-all told telling given giving count first last before after seen seeing s =
       subst (λ rounds. AreRounds connection site book port rounds first last before after seen seeing) (append-nil s.0) (s.4 [] last after seeing (refl, refl, refl))
 
-  pub rounds-one : (told telling ends : Option (List ℕ)) (given giving last : Option (List C)) (count more : ℕ) (first mid new : Slab (Line C)) (before here after : B)
-      (seen seeing ending : Times) (now : Instant) (keys : List ℕ) (came : List C) → Adds telling ends keys → Adds giving last came → more ≡ count + length came
-      → IsRound connection site book port (record { now = now; keys = keys; came = came }) mid new here after seeing ending
+  pub rounds-one : (told telling ends : Option (List ℕ)) (given giving last : Option (List C)) (count more : ℕ) (first mid new : Slab (Client C)) (before here after : B)
+      (seen seeing ending : Times) (now : Instant) (keys : List ℕ) (arrived : List C) → Adds telling ends keys → Adds giving last arrived → more ≡ count + length arrived
+      → IsRound connection site book port (record { now = now; keys = keys; arrived = arrived }) mid new here after seeing ending
       → RoundsSoFar told telling given giving count first mid before here seen seeing → RoundsSoFar told ends given last more first new before after seen ending
-  rounds-one told telling ends given giving last count more first mid new before here after seen seeing ending now keys came told_more given_more counted round s =
-      let r : Round C = record { now = now; keys = keys; came = came } in
+  rounds-one told telling ends given giving last count more first mid new before here after seen seeing ending now keys arrived told_more given_more counted round s =
+      let r : Round C = record { now = now; keys = keys; arrived = arrived } in
       let all_keys_more = flat_map-append (λ (r : Round C). r.keys) s.0 (r ∷ []) ∙ ap (λ l. all_keys s.0 ++ l) (append-nil keys) in
-      let all_came_more = flat_map-append (λ (r : Round C). r.came) s.0 (r ∷ []) ∙ ap (λ l. all_came s.0 ++ l) (append-nil came) in (
+      let all_arrived_more = flat_map-append (λ (r : Round C). r.arrived) s.0 (r ∷ []) ∙ ap (λ l. all_arrived s.0 ++ l) (append-nil arrived) in (
         s.0 ++ r ∷ [],
-        omega (arith, s.1, counted, ap length all_came_more, length-append (all_came s.0) came),
+        omega (arith, s.1, counted, ap length all_arrived_more, length-append (all_arrived s.0) arrived),
         subst (Adds told ends) (sym all_keys_more) (adds-more told telling ends (all_keys s.0) keys s.2 told_more),
-        subst (Adds given last) (sym all_came_more) (adds-more given giving last (all_came s.0) came s.3 given_more),
-        λ later lines end last_seen run. subst (λ rounds. AreRounds connection site book port rounds first lines before end seen last_seen) (sym (append_assoc s.0 (r ∷ []) later))
-            (s.4 (r ∷ later) lines end last_seen (new, after, ending, round, run)),
+        subst (Adds given last) (sym all_arrived_more) (adds-more given giving last (all_arrived s.0) arrived s.3 given_more),
+        λ later clients end last_seen run. subst (λ rounds. AreRounds connection site book port rounds first clients before end seen last_seen) (sym (append_assoc s.0 (r ∷ []) later))
+            (s.4 (r ∷ later) clients end last_seen (new, after, ending, round, run)),
       )

@@ -5,28 +5,28 @@ use Rattle.std.specs.Time.{instant_nanos}
 use Rattle.std.specs.declared.time.Instant.{Instant}
 use Rattle.slab.specs.Slab.{Slab, get, slab_len, entries}
 use Rattle.slab.proofs.SlabLemmas.{Contains-cons, Contains-cons_cases, Contains-entries}
-use Rattle.shop_serve.specs.declared.lines.Line.{Line}
-use Rattle.shop_serve.specs.declared.lines.TheConstants.{MOST_LINES}
-use Rattle.shop_serve.specs.Lines.{HasRoom, IsOldest, MayGo, NoneMayGo}
+use Rattle.shop_serve.specs.declared.clients.Client.{Client}
+use Rattle.shop_serve.specs.declared.clients.TheConstants.{MOST_CLIENTS}
+use Rattle.shop_serve.specs.Clients.{CanOpenOne, IsOldest, MayGo, NoneMayGo}
 
-module _ {C : Type 0} (lines : Slab (Line C)) where
+module _ {C : Type 0} (clients : Slab (Client C)) where
   -- this one was found among those that were looked at, and these are left
-  pub record IsOldestSo (left : List (ℕ × Line C)) (found : Option (ℕ × Instant)) : Type 0 where
-    pub later : (key : ℕ) (line : Line C) → Contains left (key, line) → get lines key ≡ Some line
-    pub one : IfSome found (λ f. (line : Line C) × (get lines f.0 ≡ Some line) × MayGo line × (line.since ≡ f.1))
-    pub first : (other : ℕ) (another : Line C) → get lines other ≡ Some another → MayGo another
+  pub record IsOldestSo (left : List (ℕ × Client C)) (found : Option (ℕ × Instant)) : Type 0 where
+    pub later : (key : ℕ) (client : Client C) → Contains left (key, client) → get clients key ≡ Some client
+    pub one : IfSome found (λ f. (client : Client C) × (get clients f.0 ≡ Some client) × MayGo client × (client.since ≡ f.1))
+    pub first : (other : ℕ) (another : Client C) → get clients other ≡ Some another → MayGo another
         → Contains left (other, another) ⊎ IsSomeAnd found (λ f. instant_nanos f.1 ≤ instant_nanos another.since)
 
-  pub oldest-first : IsOldestSo (entries lines) None
+  pub oldest-first : IsOldestSo (entries clients) None
   oldest-first = record {
-    later = λ key line listed. (Contains-entries lines key line).0 listed;
+    later = λ key client listed. (Contains-entries clients key client).0 listed;
     one = tt;
-    first = λ other another there goes. inl ((Contains-entries lines other another).1 there);
+    first = λ other another there goes. inl ((Contains-entries clients other another).1 there);
   }
 
-  module _ (key : ℕ) (line : Line C) (left : List (ℕ × Line C)) (found : Option (ℕ × Instant)) (so_far : IsOldestSo ((key, line) ∷ left) found) where
+  module _ (key : ℕ) (client : Client C) (left : List (ℕ × Client C)) (found : Option (ℕ × Instant)) (so_far : IsOldestSo ((key, client) ∷ left) found) where
     -- it can't go, or isn't older
-    pub oldest-passed : (MayGo line → IsSomeAnd found (λ f. instant_nanos f.1 ≤ instant_nanos line.since)) → IsOldestSo left found
+    pub oldest-passed : (MayGo client → IsSomeAnd found (λ f. instant_nanos f.1 ≤ instant_nanos client.since)) → IsOldestSo left found
     oldest-passed younger = record {
       later = λ other another listed. so_far.later other another (Contains-cons _ _ _ listed);
       one = so_far.one;
@@ -41,10 +41,10 @@ module _ {C : Type 0} (lines : Slab (Line C)) where
     }
 
     -- it may go, and is older
-    pub oldest-taken : MayGo line → IfSome found (λ f. instant_nanos line.since ≤ instant_nanos f.1) → IsOldestSo left (Some (key, line.since))
+    pub oldest-taken : MayGo client → IfSome found (λ f. instant_nanos client.since ≤ instant_nanos f.1) → IsOldestSo left (Some (key, client.since))
     oldest-taken goes older = record {
       later = λ other another listed. so_far.later other another (Contains-cons _ _ _ listed);
-      one = (line, so_far.later key line (0, omega arith, refl), goes, refl);
+      one = (client, so_far.later key client (0, omega arith, refl), goes, refl);
       first = λ other another there goes. elim (so_far.first other another there goes) [
         | inr before ↦ inr (by_found found older another before)
         | inl listed ↦ elim (Contains-cons_cases _ _ _ listed) [
@@ -54,21 +54,21 @@ module _ {C : Type 0} (lines : Slab (Line C)) where
       ];
     }
       where
-        by_found : (found : Option (ℕ × Instant)) → IfSome found (λ f. instant_nanos line.since ≤ instant_nanos f.1) → (another : Line C)
-            → IsSomeAnd found (λ f. instant_nanos f.1 ≤ instant_nanos another.since) → instant_nanos line.since ≤ instant_nanos another.since
+        by_found : (found : Option (ℕ × Instant)) → IfSome found (λ f. instant_nanos client.since ≤ instant_nanos f.1) → (another : Client C)
+            → IsSomeAnd found (λ f. instant_nanos f.1 ≤ instant_nanos another.since) → instant_nanos client.since ≤ instant_nanos another.since
         by_found None older another before = absurd before
         by_found (Some f) older another before = omega (arith, older, before)
 
   -- none is left
-  module _ (left : List (ℕ × Line C)) (found : Option (ℕ × Instant)) (so_far : IsOldestSo left found) (done : left ≡ []) where
-    nothing : (e : ℕ × Line C) → Contains left e → ⊥
+  module _ (left : List (ℕ × Client C)) (found : Option (ℕ × Instant)) (so_far : IsOldestSo left found) (done : left ≡ []) where
+    nothing : (e : ℕ × Client C) → Contains left e → ⊥
     nothing e listed = absurd (omega (arith, listed.1, ap length done))
 
-    pub oldest-found : (key : ℕ) (since : Instant) → found ≡ Some (key, since) → IsOldest lines key
+    pub oldest-found : (key : ℕ) (since : Instant) → found ≡ Some (key, since) → IsOldest clients key
     oldest-found key since is =
-        let one = subst (λ o. IfSome o (λ f. (line : Line C) × (get lines f.0 ≡ Some line) × MayGo line × (line.since ≡ f.1))) is so_far.one in
+        let one = subst (λ o. IfSome o (λ f. (client : Client C) × (get clients f.0 ≡ Some client) × MayGo client × (client.since ≡ f.1))) is so_far.one in
         record {
-          line = one.0;
+          client = one.0;
           there = one.1;
           goes = one.2;
           first = λ other another there goes. elim (so_far.first other another there goes) [
@@ -81,20 +81,20 @@ module _ {C : Type 0} (lines : Slab (Line C)) where
           ];
         }
 
-    pub oldest-none : found ≡ None → NoneMayGo lines
-    oldest-none is key line there goes = elim (so_far.first key line there goes) [
-      | inl listed ↦ nothing (key, line) listed
-      | inr before ↦ subst (λ o. IsSomeAnd o (λ f. instant_nanos f.1 ≤ instant_nanos line.since)) is before
+    pub oldest-none : found ≡ None → NoneMayGo clients
+    oldest-none is key client there goes = elim (so_far.first key client there goes) [
+      | inl listed ↦ nothing (key, client) listed
+      | inr before ↦ subst (λ o. IsSomeAnd o (λ f. instant_nanos f.1 ≤ instant_nanos client.since)) is before
     ]
 
-module _ {C : Type 0} (lines : Slab (Line C)) (full : slab_len lines < MOST_LINES → ⊥) where
+module _ {C : Type 0} (clients : Slab (Client C)) (full : slab_len clients < MOST_CLIENTS → ⊥) where
   -- as many are open as may be, and none may go
-  pub no_room : NoneMayGo lines → HasRoom lines → ⊥
-  no_room none (inl few) = full few
-  no_room none (inr (key, oldest)) = none key oldest.line oldest.there oldest.goes
+  pub cannot_open_one : NoneMayGo clients → CanOpenOne clients → ⊥
+  cannot_open_one none (inl few) = full few
+  cannot_open_one none (inr (key, oldest)) = none key oldest.client oldest.there oldest.goes
 
   -- there is room exactly where one was found
-  pub room_found : (found : Option ℕ) (some : Bool) → some ≡ is_some found → IfSome found (IsOldest lines) → (found ≡ None → NoneMayGo lines)
-      → (some ≡ true → HasRoom lines) × (HasRoom lines → some ≡ true)
-  room_found None some is one none = (λ yes. absurd (cc (is, yes)), λ room. absurd (no_room (none refl) room))
+  pub room_found : (found : Option ℕ) (some : Bool) → some ≡ is_some found → IfSome found (IsOldest clients) → (found ≡ None → NoneMayGo clients)
+      → (some ≡ true → CanOpenOne clients) × (CanOpenOne clients → some ≡ true)
+  room_found None some is one none = (λ yes. absurd (cc (is, yes)), λ room. absurd (cannot_open_one (none refl) room))
   room_found (Some key) some is one none = (λ yes. inr (key, one), λ room. is)

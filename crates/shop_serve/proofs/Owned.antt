@@ -8,13 +8,13 @@ use Rattle.shop_book.specs.declared.books.Book.{Ghosts}
 use Rattle.shop_planning.specs.Thoughts.{posed_in}
 use Rattle.shop_serve.specs.declared.connections.Connection.{Ghosts as ConnectionGhosts}
 use Rattle.shop_serve.specs.declared.ports.Port.{Ghosts as PortGhosts}
-use Rattle.shop_serve.specs.declared.lines.Fate.{Fate}
-use Rattle.shop_serve.specs.declared.lines.Line.{Line}
+use Rattle.shop_serve.specs.declared.clients.Fate.{Fate}
+use Rattle.shop_serve.specs.declared.clients.Client.{Client}
 use Rattle.shop_serve.specs.declared.sites.Site.{Site}
 use Rattle.shop_serve.specs.declared.thinking.Thinking.{Thinking as ThinkingOf}
 use Rattle.shop_serve.specs.declared.thinking.Progress.{Progress}
 use Rattle.shop_serve.specs.declared.thinking.Progress.TheVariants.{GoesOn, Answered, NoMemory}
-use Rattle.shop_serve.specs.Lines.{AreAttended, IsAttended, IsAttendedAt, IsHandedOn, IsOpened, IsTurnedAway, MakesRoom, in_time, is_late}
+use Rattle.shop_serve.specs.Clients.{AreAttended, IsAttended, IsAttendedAt, IsHandedOn, IsOpened, IsTurnedAway, MakesRoom, in_time, is_late}
 use Rattle.shop_serve.specs.Own.{Leads, WasDone, WasAsked, WasAnswered, HasItsOwn, EachHasItsOwn}
 use Rattle.shop_serve.specs.Rounds.{AreReceived, AreRounds, IsReceived, IsRound, Round}
 use Rattle.shop_serve.specs.Thinking.{IsThoughtAt, Thinks}
@@ -27,78 +27,78 @@ if_some (Some a) P Q f p = f a p
 
 module _ (site : Site) {B : Type 0} (book : Ghosts B) where
   stays : (here : B) → Leads site book here here
-  stays here = record { honest = λ h. h; count = 0; served = none_served site book here 0 }
+  stays here = record { clean_disk = λ h. h; count = 0; served = none_served site book here 0 }
 
   on : (a b c : B) → Leads site book a b → Leads site book b c → Leads site book a c
   on a b c first second = record {
-    honest = λ h. first.honest (second.honest h);
+    clean_disk = λ h. first.clean_disk (second.clean_disk h);
     count = first.count + second.count;
-    served = more_served site book a b c first.count second.count second.honest first.served second.served;
+    served = more_served site book a b c first.count second.count second.clean_disk first.served second.served;
   }
 
   later-done : (a b c : B) (done : B → B → Type 0) → Leads site book b c → WasDone site book a b done → WasDone site book a c done
-  later-done a b c done more was = record { old = was.old; new = was.new; earlier = was.earlier; step = was.step; honest = was.honest; later = on was.new b c was.later more }
+  later-done a b c done more was = record { old = was.old; new = was.new; earlier = was.earlier; step = was.step; clean_disk = was.clean_disk; later = on was.new b c was.later more }
 
-  later-answer : (a b c : B) (came answer : List ℕ) → Leads site book b c → WasAnswered site book a b came answer → WasAnswered site book a c came answer
-  later-answer a b c came answer more (inl was) = inl (later-done a b c _ more was)
-  later-answer a b c came answer more (inr was) = inr (was.0, later-done a b c _ more was.1, was.2)
+  later-answer : (a b c : B) (received answer : List ℕ) → Leads site book b c → WasAnswered site book a b received answer → WasAnswered site book a c received answer
+  later-answer a b c received answer more (inl was) = inl (later-done a b c _ more was)
+  later-answer a b c received answer more (inr was) = inr (was.0, later-done a b c _ more was.1, was.2)
 
   module _ {C : Type 0} where
-    later-own : (a b c : B) (line : Line C) → Leads site book b c → HasItsOwn site book a b line → HasItsOwn site book a c line
-    later-own a b c line more own = (
-      if_some line.thought _ _ (λ t was. later-done a b c _ more was) own.0,
-      if_some line.answer _ _ (λ answer was. later-answer a b c line.came.items answer.items more was) own.1,
+    later-own : (a b c : B) (client : Client C) → Leads site book b c → HasItsOwn site book a b client → HasItsOwn site book a c client
+    later-own a b c client more own = (
+      if_some client.thought _ _ (λ t was. later-done a b c _ more was) own.0,
+      if_some client.answer _ _ (λ answer was. later-answer a b c client.received.items answer.items more was) own.1,
     )
 
-    -- another line with the same
-    same-own : (a b : B) (line other : Line C) → other.thought ≡ line.thought → other.answer ≡ line.answer → other.came ≡ line.came → HasItsOwn site book a b line → HasItsOwn site book a b other
-    same-own a b line other thought answer came own = (
-      subst (λ o. IfSome o (λ t. WasAsked site book a b other.came.items (posed_in t.thought))) (sym thought)
-          (subst (λ c. IfSome line.thought (λ t. WasAsked site book a b c.items (posed_in t.thought))) (sym came) own.0),
-      subst (λ o. IfSome o (λ x. WasAnswered site book a b other.came.items x.items)) (sym answer)
-          (subst (λ c. IfSome line.answer (λ x. WasAnswered site book a b c.items x.items)) (sym came) own.1),
+    -- another connection with the same
+    same-own : (a b : B) (client other : Client C) → other.thought ≡ client.thought → other.answer ≡ client.answer → other.received ≡ client.received → HasItsOwn site book a b client → HasItsOwn site book a b other
+    same-own a b client other thought answer received own = (
+      subst (λ o. IfSome o (λ t. WasAsked site book a b other.received.items (posed_in t.thought))) (sym thought)
+          (subst (λ c. IfSome client.thought (λ t. WasAsked site book a b c.items (posed_in t.thought))) (sym received) own.0),
+      subst (λ o. IfSome o (λ x. WasAnswered site book a b other.received.items x.items)) (sym answer)
+          (subst (λ c. IfSome client.answer (λ x. WasAnswered site book a b c.items x.items)) (sym received) own.1),
     )
 
     -- all that are open have their own
-    abbrev Own : B → B → Slab (Line C) → Type 0
-    Own a b lines = (key : ℕ) (line : Line C) → get lines key ≡ Some line → HasItsOwn site book a b line
+    abbrev Own : B → B → Slab (Client C) → Type 0
+    Own a b clients = (key : ℕ) (client : Client C) → get clients key ≡ Some client → HasItsOwn site book a b client
 
-    fewer-own : (a b c : B) (old new : Slab (Line C)) → Leads site book b c → ((key : ℕ) (line : Line C) → get new key ≡ Some line → get old key ≡ Some line) → Own a b old → Own a c new
-    fewer-own a b c old new more from own key line is = later-own a b c line more (own key line (from key line is))
+    fewer-own : (a b c : B) (old new : Slab (Client C)) → Leads site book b c → ((key : ℕ) (client : Client C) → get new key ≡ Some client → get old key ≡ Some client) → Own a b old → Own a c new
+    fewer-own a b c old new more from own key client is = later-own a b c client more (own key client (from key client is))
 
     -- it is that of a key, or another
-    at-key : (a b c : B) (old new : Slab (Line C)) (key : ℕ) → Leads site book b c → ((other : ℕ) → other ≢ key → get new other ≡ get old other)
-        → ((line : Line C) → get new key ≡ Some line → HasItsOwn site book a c line) → Own a b old → Own a c new
-    at-key a b c old new key more others one own other line is = by_test (nat_eq other key) refl
+    at-key : (a b c : B) (old new : Slab (Client C)) (key : ℕ) → Leads site book b c → ((other : ℕ) → other ≢ key → get new other ≡ get old other)
+        → ((client : Client C) → get new key ≡ Some client → HasItsOwn site book a c client) → Own a b old → Own a c new
+    at-key a b c old new key more others one own other client is = by_test (nat_eq other key) refl
       where
-        by_test : (b : Bool) → nat_eq other key ≡ b → HasItsOwn site book a c line
-        by_test true e = one line (subst (λ k. get new k ≡ Some line) (eqb-true other key e) is)
-        by_test false e = later-own a _ c line more (own other line (sym (others other (eqb-false other key e)) ∙ is))
+        by_test : (b : Bool) → nat_eq other key ≡ b → HasItsOwn site book a c client
+        by_test true e = one client (subst (λ k. get new k ≡ Some client) (eqb-true other key e) is)
+        by_test false e = later-own a _ c client more (own other client (sym (others other (eqb-false other key e)) ∙ is))
 
-    late-own : (now : Instant) (slot : Option (Line C)) (line : Line C) → in_time now slot ≡ Some line → slot ≡ Some line
-    late-own now None line e = absurd (cc e)
-    late-own now (Some there) line e = by_test (is_late now there) e
+    late-own : (now : Instant) (slot : Option (Client C)) (client : Client C) → in_time now slot ≡ Some client → slot ≡ Some client
+    late-own now None client e = absurd (cc e)
+    late-own now (Some there) client e = by_test (is_late now there) e
       where
-        by_test : (late : Bool) → (if late then None else Some there) ≡ Some line → Some there ≡ Some line
+        by_test : (late : Bool) → (if late then None else Some there) ≡ Some client → Some there ≡ Some client
         by_test true e = absurd (cc e)
         by_test false e = e
 
-    room-own : (old room : Slab (Line C)) → MakesRoom old room → (key : ℕ) (line : Line C) → get room key ≡ Some line → get old key ≡ Some line
-    room-own old room (inl (few, same)) key line is = ap (λ slots. get (record old { slots = slots }) key) (sym same) ∙ is
-    room-own old room (inr (full, gone, oldest, updates)) key line is = by_test (nat_eq key gone) refl
+    room-own : (old room : Slab (Client C)) → MakesRoom old room → (key : ℕ) (client : Client C) → get room key ≡ Some client → get old key ≡ Some client
+    room-own old room (inl (few, same)) key client is = ap (λ slots. get (record old { slots = slots }) key) (sym same) ∙ is
+    room-own old room (inr (full, gone, oldest, updates)) key client is = by_test (nat_eq key gone) refl
       where
-        by_test : (b : Bool) → nat_eq key gone ≡ b → get old key ≡ Some line
-        by_test true e = absurd (cc (updates.changed, subst (λ k. get room k ≡ Some line) (eqb-true key gone e) is))
+        by_test : (b : Bool) → nat_eq key gone ≡ b → get old key ≡ Some client
+        by_test true e = absurd (cc (updates.changed, subst (λ k. get room k ≡ Some client) (eqb-true key gone e) is))
         by_test false e = sym (updates.others key (eqb-false key gone e)) ∙ is
 
 module _ {C : Type 0} (connection : ConnectionGhosts C) (site : Site) {B : Type 0} (book : Ghosts B) {P : Type 0} (port : PortGhosts P C) where
-  abbrev Open : B → B → Slab (Line C) → Type 0
-  Open a b lines = Leads site book a b × Own site book a b lines
+  abbrev Open : B → B → Slab (Client C) → Type 0
+  Open a b clients = Leads site book a b × Own site book a b clients
 
   -- one connection, as it is attended to
-  line-own : (a b c : B) (seen seeing : Times) (old new : Line C) → Leads site book a b → Leads site book b c → (book.is_honest c → book.is_honest b)
+  client-own : (a b c : B) (seen seeing : Times) (old new : Client C) → Leads site book a b → Leads site book b c → (book.has_clean_disk c → book.has_clean_disk b)
       → HasItsOwn site book a b old → IsAttended connection site book old new b c seen seeing → HasItsOwn site book a c new
-  line-own a b c seen seeing old new so_far more honest own attended = by_answer old.answer refl
+  client-own a b c seen seeing old new so_far more clean_disk own attended = by_answer old.answer refl
     where
       was : HasItsOwn site book a c old
       was = later-own site book a b c old more own
@@ -106,121 +106,121 @@ module _ {C : Type 0} (connection : ConnectionGhosts C) (site : Site) {B : Type 
       by_thought : old.answer ≡ None → (t : Option _) → old.thought ≡ t → HasItsOwn site book a c new
       by_thought none (Some t) e =
           let heeded = attended.1 none (subst IsSome (sym e) refl) in
-          same-own site book a c old new (ap (λ (l : Line C). l.thought) heeded.kept) (ap (λ (l : Line C). l.answer) heeded.kept) (ap (λ (l : Line C). l.came) heeded.kept) was
+          same-own site book a c old new (ap (λ (l : Client C). l.thought) heeded.kept) (ap (λ (l : Client C). l.answer) heeded.kept) (ap (λ (l : Client C). l.received) heeded.kept) was
       by_thought none None e =
           let heard = attended.2 none e in (
-            if_some new.thought _ _ (λ t begun. record { old = b; new = c; earlier = so_far; step = begun.asked; honest = honest; later = stays site book c }) heard.begun,
-            if_some new.answer _ _ (λ answer whole. inl (record { old = b; new = c; earlier = so_far; step = answered-then site book b c seen seeing new.since new.came.items answer.items whole.answered; honest = honest; later = stays site book c })) heard.answered,
+            if_some new.thought _ _ (λ t begun. record { old = b; new = c; earlier = so_far; step = begun.asked; clean_disk = clean_disk; later = stays site book c }) heard.begun,
+            if_some new.answer _ _ (λ answer whole. inl (record { old = b; new = c; earlier = so_far; step = answered-then site book b c seen seeing new.since new.received.items answer.items whole.answered; clean_disk = clean_disk; later = stays site book c })) heard.answered,
           )
 
       by_answer : (o : Option _) → old.answer ≡ o → HasItsOwn site book a c new
       by_answer None e = by_thought e old.thought refl
       by_answer (Some x) e =
           let handed = subst (λ o. IfSome o (λ x. IsHandedOn connection site book old new b c seen seeing x.items)) e attended.0 in
-          same-own site book a c old new handed.asks handed.kept handed.came was
+          same-own site book a c old new handed.asks handed.kept handed.received was
 
-  attended-own : (fate : Fate) (key : ℕ) (old new : Slab (Line C)) (a b c : B) (seen seeing : Times) → IsAttendedAt connection site book fate key old new b c seen seeing
+  attended-own : (fate : Fate) (key : ℕ) (old new : Slab (Client C)) (a b c : B) (seen seeing : Times) → IsAttendedAt connection site book fate key old new b c seen seeing
       → Open a b old → Open a c new
   attended-own fate key old new a b c seen seeing attended (so_far, own) = (
     on site book a b c so_far more,
-    at-key site book a b c old new key more attended.others (λ line is. by_slot line is (get old key) refl) own,
+    at-key site book a b c old new key more attended.others (λ client is. by_slot client is (get old key) refl) own,
   )
     where
       more : Leads site book b c
-      more = record { honest = attended.honest; count = 1; served = attended.one }
+      more = record { clean_disk = attended.clean_disk; count = 1; served = attended.one }
 
-      by_slot : (line : Line C) → get new key ≡ Some line → (slot : Option (Line C)) → get old key ≡ slot → HasItsOwn site book a c line
-      by_slot line is None e = absurd (cc (is, (attended.absent e).0))
-      by_slot line is (Some there) e =
-          line-own a b c seen seeing there line so_far more attended.honest (own key there e)
+      by_slot : (client : Client C) → get new key ≡ Some client → (slot : Option (Client C)) → get old key ≡ slot → HasItsOwn site book a c client
+      by_slot client is None e = absurd (cc (is, (attended.absent e).0))
+      by_slot client is (Some there) e =
+          client-own a b c seen seeing there client so_far more attended.clean_disk (own key there e)
           (subst (λ slot. IfSome slot (λ left. IsAttended connection site book there left b c seen seeing)) is (attended.there there e))
 
-  each-own : (keys : List ℕ) (old new : Slab (Line C)) (a b c : B) (seen seeing : Times) → AreAttended connection site book keys old new b c seen seeing → Open a b old → Open a c new
-  each-own [] old new a b c seen seeing run here = subst (λ (n : Slab (Line C)). Open a c n) (sym run.0) (subst (λ (d : B). Open a d old) (sym run.1) here)
+  each-own : (keys : List ℕ) (old new : Slab (Client C)) (a b c : B) (seen seeing : Times) → AreAttended connection site book keys old new b c seen seeing → Open a b old → Open a c new
+  each-own [] old new a b c seen seeing run here = subst (λ (n : Slab (Client C)). Open a c n) (sym run.0) (subst (λ (d : B). Open a d old) (sym run.1) here)
   each-own (key ∷ keys) old new a b c seen seeing run here =
       each-own keys run.1 new a run.2 c run.3 seeing run.5 (attended-own run.0 key old run.1 a b run.2 seen run.3 run.4 here)
 
   -- a question is thought on
-  thought-own : (progress : Progress) (now : Instant) (key : ℕ) (old new : Slab (Line C)) (a b : B) (seen seeing : Times) → IsThoughtAt progress now key old new seen seeing
+  thought-own : (progress : Progress) (now : Instant) (key : ℕ) (old new : Slab (Client C)) (a b : B) (seen seeing : Times) → IsThoughtAt progress now key old new seen seeing
       → Own site book a b old → Own site book a b new
-  thought-own progress now key old new a b seen seeing t own = at-key site book a b b old new key (stays site book b) t.others (λ line is. by_progress line is progress refl) own
+  thought-own progress now key old new a b seen seeing t own = at-key site book a b b old new key (stays site book b) t.others (λ client is. by_progress client is progress refl) own
     where
-      was : HasItsOwn site book a b t.line
-      was = own key t.line t.there
+      was : HasItsOwn site book a b t.client
+      was = own key t.client t.there
 
-      asked : (thinking : ThinkingOf) → t.line.thought ≡ Some thinking → WasAsked site book a b t.line.came.items (posed_in thinking.thought)
-      asked thinking is = subst (λ o. IfSome o (λ t2. WasAsked site book a b t.line.came.items (posed_in t2.thought))) is was.0
+      asked : (thinking : ThinkingOf) → t.client.thought ≡ Some thinking → WasAsked site book a b t.client.received.items (posed_in thinking.thought)
+      asked thinking is = subst (λ o. IfSome o (λ t2. WasAsked site book a b t.client.received.items (posed_in t2.thought))) is was.0
 
-      by_progress : (line : Line C) → get new key ≡ Some line → (p : Progress) → progress ≡ p → HasItsOwn site book a b line
-      by_progress line is GoesOn e =
+      by_progress : (client : Client C) → get new key ≡ Some client → (p : Progress) → progress ≡ p → HasItsOwn site book a b client
+      by_progress client is GoesOn e =
           let (left, at, once, unread) = t.goes_on e in
-          let same : left ≡ line = cc (at, is) in
-          subst (HasItsOwn site book a b) (sym once.kept ∙ same) (subst (WasAsked site book a b t.line.came.items) (sym once.same) (asked once.thinking once.asks), was.1)
-      by_progress line is Answered e =
+          let same : left ≡ client = cc (at, is) in
+          subst (HasItsOwn site book a b) (sym once.kept ∙ same) (subst (WasAsked site book a b t.client.received.items) (sym once.same) (asked once.thinking once.asks), was.1)
+      by_progress client is Answered e =
           let (left, at, out) = t.answered e in
-          let same : left ≡ line = cc (at, is) in
+          let same : left ≡ client = cc (at, is) in
           subst (HasItsOwn site book a b) (sym out.kept ∙ same) (tt, inr (posed_in out.thinking.thought, asked out.thinking out.asks, out.told))
-      by_progress line is NoMemory e = absurd (cc (is, (t.closed e).0))
+      by_progress client is NoMemory e = absurd (cc (is, (t.closed e).0))
 
-  thinks-own : (now : Instant) (old new : Slab (Line C)) (a b c : B) (seen seeing : Times) → Thinks connection site book now old new b c seen seeing → Open a b old → Open a c new
-  thinks-own now old new a b c seen seeing (inl idle) here = subst (λ (n : Slab (Line C)). Open a c n) (sym idle.1) (subst (λ (d : B). Open a d old) (sym idle.2) here)
+  thinks-own : (now : Instant) (old new : Slab (Client C)) (a b c : B) (seen seeing : Times) → Thinks connection site book now old new b c seen seeing → Open a b old → Open a c new
+  thinks-own now old new a b c seen seeing (inl idle) here = subst (λ (n : Slab (Client C)). Open a c n) (sym idle.1) (subst (λ (d : B). Open a d old) (sym idle.2) here)
   thinks-own now old new a b c seen seeing (inr t) (so_far, own) = by_progress t.progress refl
     where
-      once : Own site book a b t.lines
-      once = thought-own t.progress now t.key old t.lines a b seen t.between t.thought own
+      once : Own site book a b t.clients
+      once = thought-own t.progress now t.key old t.clients a b seen t.between t.thought own
 
       rests : t.progress ≢ Answered → Open a c new
       rests other =
           let same = t.goes_on other in
-          subst (λ (n : Slab (Line C)). Open a c n) (sym same.0) (subst (λ (d : B). Open a d t.lines) (sym same.1) (so_far, once))
+          subst (λ (n : Slab (Client C)). Open a c n) (sym same.0) (subst (λ (d : B). Open a d t.clients) (sym same.1) (so_far, once))
 
       by_progress : (p : Progress) → t.progress ≡ p → Open a c new
       by_progress GoesOn e = rests (λ is. absurd (cc (e, is)))
       by_progress NoMemory e = rests (λ is. absurd (cc (e, is)))
       by_progress Answered e =
-          let handed = t.answered e in attended-own handed.0 t.key t.lines new a b c t.between seeing handed.1 (so_far, once)
+          let handed = t.answered e in attended-own handed.0 t.key t.clients new a b c t.between seeing handed.1 (so_far, once)
 
   -- a connection came
-  opened-own : (now : Instant) (stream : C) (key : ℕ) (old new : Slab (Line C)) (a b : B) → IsOpened port now stream key old new → Own site book a b old → Own site book a b new
+  opened-own : (now : Instant) (stream : C) (key : ℕ) (old new : Slab (Client C)) (a b : B) → IsOpened port now stream key old new → Own site book a b old → Own site book a b new
   opened-own now stream key old new a b o own =
       at-key site book a b b o.room new key (stays site book b) o.there.others
-      (λ line is. let same : o.line ≡ line = cc (o.there.changed, is) in subst (HasItsOwn site book a b) same (nothing o.line o.fresh.asks o.fresh.waits))
+      (λ client is. let same : o.client ≡ client = cc (o.there.changed, is) in subst (HasItsOwn site book a b) same (nothing o.client o.fresh.asks o.fresh.waits))
       (fewer-own site book a b b old o.room (stays site book b) (room-own site book old o.room o.made) own)
     where
-      nothing : (line : Line C) → line.thought ≡ None → line.answer ≡ None → HasItsOwn site book a b line
-      nothing line asks waits = (
-        subst (λ o. IfSome o (λ t. WasAsked site book a b line.came.items (posed_in t.thought))) (sym asks) tt,
-        subst (λ o. IfSome o (λ x. WasAnswered site book a b line.came.items x.items)) (sym waits) tt,
+      nothing : (client : Client C) → client.thought ≡ None → client.answer ≡ None → HasItsOwn site book a b client
+      nothing client asks waits = (
+        subst (λ o. IfSome o (λ t. WasAsked site book a b client.received.items (posed_in t.thought))) (sym asks) tt,
+        subst (λ o. IfSome o (λ x. WasAnswered site book a b client.received.items x.items)) (sym waits) tt,
       )
 
-  turned-own : (old new : Slab (Line C)) (a b : B) → IsTurnedAway port old new → Own site book a b old → Own site book a b new
+  turned-own : (old new : Slab (Client C)) (a b : B) → IsTurnedAway port old new → Own site book a b old → Own site book a b new
   turned-own old new a b t own =
       fewer-own site book a b b old new (stays site book b)
-      (λ key line is. room-own site book old t.room t.made key line (ap (λ slots. get (record t.room { slots = slots }) key) (sym t.same) ∙ is)) own
+      (λ key client is. room-own site book old t.room t.made key client (ap (λ slots. get (record t.room { slots = slots }) key) (sym t.same) ∙ is)) own
 
-  received-own : (stream : C) (old new : Slab (Line C)) (a b c : B) (seen seeing : Times) → IsReceived connection site book port stream old new b c seen seeing → Open a b old → Open a c new
+  received-own : (stream : C) (old new : Slab (Client C)) (a b c : B) (seen seeing : Times) → IsReceived connection site book port stream old new b c seen seeing → Open a b old → Open a c new
   received-own stream old new a b c seen seeing (now, between, told, inl away) (so_far, own) =
       subst (λ (d : B). Open a d new) (sym away.1) (so_far, turned-own old new a b away.0 own)
   received-own stream old new a b c seen seeing (now, between, told, inr here) (so_far, own) =
-      attended-own here.fate here.key here.lines new a b c between seeing here.attended (so_far, opened-own now stream here.key old here.lines a b here.opened own)
+      attended-own here.fate here.key here.clients new a b c between seeing here.attended (so_far, opened-own now stream here.key old here.clients a b here.opened own)
 
-  came-own : (came : List C) (old new : Slab (Line C)) (a b c : B) (seen seeing : Times) → AreReceived connection site book port came old new b c seen seeing → Open a b old → Open a c new
-  came-own [] old new a b c seen seeing run here = subst (λ (n : Slab (Line C)). Open a c n) (sym run.0) (subst (λ (d : B). Open a d old) (sym run.1) here)
-  came-own (stream ∷ came) old new a b c seen seeing run here =
-      came-own came run.0 new a run.1 c run.2 seeing run.4 (received-own stream old run.0 a b run.1 seen run.2 run.3 here)
+  arrived-own : (arrived : List C) (old new : Slab (Client C)) (a b c : B) (seen seeing : Times) → AreReceived connection site book port arrived old new b c seen seeing → Open a b old → Open a c new
+  arrived-own [] old new a b c seen seeing run here = subst (λ (n : Slab (Client C)). Open a c n) (sym run.0) (subst (λ (d : B). Open a d old) (sym run.1) here)
+  arrived-own (stream ∷ arrived) old new a b c seen seeing run here =
+      arrived-own arrived run.0 new a run.1 c run.2 seeing run.4 (received-own stream old run.0 a b run.1 seen run.2 run.3 here)
 
-  round-own : (round : Round C) (old new : Slab (Line C)) (a b c : B) (seen seeing : Times) → IsRound connection site book port round old new b c seen seeing → Open a b old → Open a c new
+  round-own : (round : Round C) (old new : Slab (Client C)) (a b c : B) (seen seeing : Times) → IsRound connection site book port round old new b c seen seeing → Open a b old → Open a c new
   round-own round old new a b c seen seeing r here =
       let first = each-own round.keys old r.attended a b r.mid seen r.first r.each here in
-      let kept = fewer-own site book a r.mid r.mid r.attended r.kept (stays site book r.mid) (λ key line is. late-own site book round.now (get r.attended key) line (sym (r.late key) ∙ is)) first.1 in
-      came-own round.came r.thought new a r.later c r.third seeing r.received
+      let kept = fewer-own site book a r.mid r.mid r.attended r.kept (stays site book r.mid) (λ key client is. late-own site book round.now (get r.attended key) client (sym (r.late key) ∙ is)) first.1 in
+      arrived-own round.arrived r.thought new a r.later c r.third seeing r.received
       (thinks-own round.now r.kept r.thought a r.mid r.later r.second r.third r.thinks (first.0, kept))
 
-  rounds-own : (rounds : List (Round C)) (old new : Slab (Line C)) (a b c : B) (seen seeing : Times) → AreRounds connection site book port rounds old new b c seen seeing → Open a b old → Open a c new
-  rounds-own [] old new a b c seen seeing run here = subst (λ (n : Slab (Line C)). Open a c n) (sym run.0) (subst (λ (d : B). Open a d old) (sym run.1) here)
+  rounds-own : (rounds : List (Round C)) (old new : Slab (Client C)) (a b c : B) (seen seeing : Times) → AreRounds connection site book port rounds old new b c seen seeing → Open a b old → Open a c new
+  rounds-own [] old new a b c seen seeing run here = subst (λ (n : Slab (Client C)). Open a c n) (sym run.0) (subst (λ (d : B). Open a d old) (sym run.1) here)
   rounds-own (round ∷ rounds) old new a b c seen seeing run here =
       rounds-own rounds run.0 new a run.1 c run.2 seeing run.4 (round-own round old run.0 a b run.1 seen run.2 run.3 here)
 
   pub each_has_its_own : EachHasItsOwn connection site book port
   each_has_its_own rounds first last before after seen seeing run none =
-      (rounds-own rounds first last before before after seen seeing run (stays site book before, λ key line is. absurd (cc (none key, is)))).1
+      (rounds-own rounds first last before before after seen seeing run (stays site book before, λ key client is. absurd (cc (none key, is)))).1

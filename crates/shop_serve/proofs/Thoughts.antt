@@ -4,82 +4,82 @@ use Rattle.std.specs.Prelude.{◌⊎◌, Option, Some, None, IfSome, IsSome}
 use Rattle.std.specs.declared.time.Instant.{Instant}
 use Rattle.slab.specs.Slab.{Slab, get, entries, Updates, with_value}
 use Rattle.slab.proofs.SlabLemmas.{Contains-cons, Contains-cons_cases, Contains-entries, Updates-with_value}
-use Rattle.shop_serve.specs.declared.lines.Line.{Line}
+use Rattle.shop_serve.specs.declared.clients.Client.{Client}
 use Rattle.shop_serve.specs.declared.thinking.Progress.TheVariants.{GoesOn, Answered, NoMemory}
-use Rattle.shop_serve.specs.Lines.{AsksAt, NoneAsks, unanswered}
+use Rattle.shop_serve.specs.Clients.{AsksAt, NoneAsks, unanswered}
 use Rattle.shop_serve.specs.Thinking.{IsThoughtAt, IsThoughtOnce, IsThoughtOut}
 use Rattle.shop_serve.specs.Times.{Times, TellsNone}
 use Rattle.shop_serve.proofs.Slots.{answered-of, has-answer, has-question, one_of, unanswered-updates}
 
-module _ {C P : Type 0} (lines : Slab (Line C)) where
+module _ {C P : Type 0} (clients : Slab (Client C)) where
   -- this one was found among those that were looked at, and these are left
-  pub record IsFoundSo (left : List (ℕ × Line C)) (found : Option (ℕ × P)) : Type 0 where
-    pub later : (key : ℕ) (line : Line C) → Contains left (key, line) → get lines key ≡ Some line
-    pub one : IfSome found (λ f. AsksAt lines f.0)
-    pub all : (key : ℕ) (line : Line C) → get lines key ≡ Some line → IsSome line.thought → Contains left (key, line) ⊎ IsSome found
+  pub record IsFoundSo (left : List (ℕ × Client C)) (found : Option (ℕ × P)) : Type 0 where
+    pub later : (key : ℕ) (client : Client C) → Contains left (key, client) → get clients key ≡ Some client
+    pub one : IfSome found (λ f. AsksAt clients f.0)
+    pub all : (key : ℕ) (client : Client C) → get clients key ≡ Some client → IsSome client.thought → Contains left (key, client) ⊎ IsSome found
 
-  pub found-first : IsFoundSo (entries lines) None
+  pub found-first : IsFoundSo (entries clients) None
   found-first = record {
-    later = λ key line listed. (Contains-entries lines key line).0 listed;
+    later = λ key client listed. (Contains-entries clients key client).0 listed;
     one = tt;
-    all = λ key line there asks. inl ((Contains-entries lines key line).1 there);
+    all = λ key client there asks. inl ((Contains-entries clients key client).1 there);
   }
 
-  module _ (key : ℕ) (line : Line C) (left : List (ℕ × Line C)) (found : Option (ℕ × P)) (so_far : IsFoundSo ((key, line) ∷ left) found) where
+  module _ (key : ℕ) (client : Client C) (left : List (ℕ × Client C)) (found : Option (ℕ × P)) (so_far : IsFoundSo ((key, client) ∷ left) found) where
     -- it has no question, or one was found
-    pub found-passed : (IsSome line.thought → IsSome found) → IsFoundSo left found
+    pub found-passed : (IsSome client.thought → IsSome found) → IsFoundSo left found
     found-passed other = record {
       later = λ other another listed. so_far.later other another (Contains-cons _ _ _ listed);
       one = so_far.one;
       all = λ other_key another there asks. elim (so_far.all other_key another there asks) [
         | inr found ↦ inr found
         | inl listed ↦ elim (Contains-cons_cases _ _ _ listed) [
-          | inl same ↦ inr (other (subst (λ (l : Line C). IsSome l.thought) (sym (ap (λ e. e.1) same)) asks))
+          | inl same ↦ inr (other (subst (λ (l : Client C). IsSome l.thought) (sym (ap (λ e. e.1) same)) asks))
           | inr rest ↦ inl rest
         ]
       ];
     }
 
     -- it is found
-    pub found-taken : (place : P) → IsSome line.thought → IsFoundSo left (Some (key, place))
+    pub found-taken : (place : P) → IsSome client.thought → IsFoundSo left (Some (key, place))
     found-taken place asks = record {
       later = λ other another listed. so_far.later other another (Contains-cons _ _ _ listed);
-      one = (line, so_far.later key line (0, omega arith, refl), asks);
+      one = (client, so_far.later key client (0, omega arith, refl), asks);
       all = λ other another there thinks. inr refl;
     }
 
   -- none is left
-  pub found-none : (left : List (ℕ × Line C)) (found : Option (ℕ × P)) → IsFoundSo left found → left ≡ [] → found ≡ None → NoneAsks lines
-  found-none left found so_far done is key (line, there, asks) = elim (so_far.all key line there asks) [
+  pub found-none : (left : List (ℕ × Client C)) (found : Option (ℕ × P)) → IsFoundSo left found → left ≡ [] → found ≡ None → NoneAsks clients
+  found-none left found so_far done is key (client, there, asks) = elim (so_far.all key client there asks) [
     | inl listed ↦ absurd (omega (arith, listed.1, ap length done))
     | inr some ↦ absurd (cc (subst IsSome is some))
   ]
 
 -- the connection of this key has a question
-pub asks-of : {C : Type 0} (lines : Slab (Line C)) (key : ℕ) (line : Line C) → AsksAt lines key → get lines key ≡ Some line → IsSome line.thought
-asks-of lines key line (there, at, asks) is = let same : there ≡ line = cc (at, is) in subst (λ (l : Line _). IsSome l.thought) same asks
+pub asks-of : {C : Type 0} (clients : Slab (Client C)) (key : ℕ) (client : Client C) → AsksAt clients key → get clients key ≡ Some client → IsSome client.thought
+asks-of clients key client (there, at, asks) is = let same : there ≡ client = cc (at, is) in subst (λ (l : Client _). IsSome l.thought) same asks
 
 -- one was found
-pub some-asks : {C : Type 0} (lines : Slab (Line C)) (found : Option ℕ) (some : Bool) → some ≡ is_some found → some ≡ true → IfSome found (AsksAt lines) → NoneAsks lines → ⊥
-some-asks lines None some is e asks none = absurd (cc (is, e))
-some-asks lines (Some key) some is e asks none = none key asks
+pub some-asks : {C : Type 0} (clients : Slab (Client C)) (found : Option ℕ) (some : Bool) → some ≡ is_some found → some ≡ true → IfSome found (AsksAt clients) → NoneAsks clients → ⊥
+some-asks clients None some is e asks none = absurd (cc (is, e))
+some-asks clients (Some key) some is e asks none = none key asks
 
 -- none was found
-pub none-asks : {C : Type 0} (lines : Slab (Line C)) (found : Option ℕ) (some : Bool) → some ≡ is_some found → some ≡ false → (found ≡ None → NoneAsks lines) → NoneAsks lines
-none-asks lines None some is e none = none refl
-none-asks lines (Some key) some is e none = absurd (cc (is, e))
+pub none-asks : {C : Type 0} (clients : Slab (Client C)) (found : Option ℕ) (some : Bool) → some ≡ is_some found → some ≡ false → (found ≡ None → NoneAsks clients) → NoneAsks clients
+none-asks clients None some is e none = none refl
+none-asks clients (Some key) some is e none = absurd (cc (is, e))
 
-module _ {C : Type 0} (now : Instant) (key : ℕ) (lines : Slab (Line C)) (line left : Line C) (seen seeing : Times) (is : get lines key ≡ Some line) (asks : IsSome line.thought) where
-  written : Updates lines (with_value lines key left) key (Some left)
-  written = Updates-with_value lines key left (subst IsSome (sym is) refl)
+module _ {C : Type 0} (now : Instant) (key : ℕ) (clients : Slab (Client C)) (client left : Client C) (seen seeing : Times) (is : get clients key ≡ Some client) (asks : IsSome client.thought) where
+  written : Updates clients (with_value clients key left) key (Some left)
+  written = Updates-with_value clients key left (subst IsSome (sym is) refl)
 
-  no_one : one_of (get lines key) ≡ 0
-  no_one = ap one_of is ∙ answered-of line (has-question line asks)
+  no_one : one_of (get clients key) ≡ 0
+  no_one = ap one_of is ∙ answered-of client (has-question client asks)
 
   -- it goes on
-  pub goes-on : IsThoughtOnce now line left → TellsNone seen seeing → IsThoughtAt GoesOn now key lines (with_value lines key left) seen seeing
+  pub goes-on : IsThoughtOnce now client left → TellsNone seen seeing → IsThoughtAt GoesOn now key clients (with_value clients key left) seen seeing
   goes-on once unread = record {
-    line = line;
+    client = client;
     there = is;
     asks = asks;
     others = written.others;
@@ -88,19 +88,19 @@ module _ {C : Type 0} (now : Instant) (key : ℕ) (lines : Slab (Line C)) (line 
     closed = λ e. absurd (cc e);
   }
 
-  pub goes-on-fewer : IsThoughtOnce now line left → unanswered (with_value lines key left) ≤ unanswered lines
+  pub goes-on-fewer : IsThoughtOnce now client left → unanswered (with_value clients key left) ≤ unanswered clients
   goes-on-fewer once =
       omega (
         arith,
-        unanswered-updates lines (with_value lines key left) key (Some left) written,
+        unanswered-updates clients (with_value clients key left) key (Some left) written,
         no_one,
-        answered-of left (has-question left (subst IsSome (sym (ap (λ (l : Line C). l.thought) once.kept)) refl)),
+        answered-of left (has-question left (subst IsSome (sym (ap (λ (l : Client C). l.thought) once.kept)) refl)),
       )
 
   -- it is answered
-  pub thought-out : IsThoughtOut line left seen seeing → IsThoughtAt Answered now key lines (with_value lines key left) seen seeing
+  pub thought-out : IsThoughtOut client left seen seeing → IsThoughtAt Answered now key clients (with_value clients key left) seen seeing
   thought-out out = record {
-    line = line;
+    client = client;
     there = is;
     asks = asks;
     others = written.others;
@@ -109,19 +109,19 @@ module _ {C : Type 0} (now : Instant) (key : ℕ) (lines : Slab (Line C)) (line 
     closed = λ e. absurd (cc e);
   }
 
-  pub thought-out-fewer : IsThoughtOut line left seen seeing → unanswered (with_value lines key left) ≤ unanswered lines
+  pub thought-out-fewer : IsThoughtOut client left seen seeing → unanswered (with_value clients key left) ≤ unanswered clients
   thought-out-fewer out =
       omega (
         arith,
-        unanswered-updates lines (with_value lines key left) key (Some left) written,
+        unanswered-updates clients (with_value clients key left) key (Some left) written,
         no_one,
-        answered-of left (has-answer left (subst IsSome (sym (ap (λ (l : Line C). l.answer) out.kept)) refl)),
+        answered-of left (has-answer left (subst IsSome (sym (ap (λ (l : Client C). l.answer) out.kept)) refl)),
       )
 
   -- it is closed
-  pub given-up : (new : Slab (Line C)) → Updates (with_value lines key left) new key None → TellsNone seen seeing → IsThoughtAt NoMemory now key lines new seen seeing
+  pub given-up : (new : Slab (Client C)) → Updates (with_value clients key left) new key None → TellsNone seen seeing → IsThoughtAt NoMemory now key clients new seen seeing
   given-up new removed unread = record {
-    line = line;
+    client = client;
     there = is;
     asks = asks;
     others = λ other differs. removed.others other differs ∙ written.others other differs;
@@ -130,6 +130,6 @@ module _ {C : Type 0} (now : Instant) (key : ℕ) (lines : Slab (Line C)) (line 
     closed = λ e. (removed.changed, unread);
   }
 
-  pub given-up-fewer : (new : Slab (Line C)) → Updates (with_value lines key left) new key None → unanswered new ≤ unanswered lines
+  pub given-up-fewer : (new : Slab (Client C)) → Updates (with_value clients key left) new key None → unanswered new ≤ unanswered clients
   given-up-fewer new removed =
-      omega (arith, unanswered-updates lines (with_value lines key left) key (Some left) written, no_one, unanswered-updates (with_value lines key left) new key None removed, ap one_of written.changed)
+      omega (arith, unanswered-updates clients (with_value clients key left) key (Some left) written, no_one, unanswered-updates (with_value clients key left) new key None removed, ap one_of written.changed)

@@ -5,9 +5,9 @@ use Rattle.std.proofs.lemmas.List.Concat.{flat_map-append}
 use Rattle.std.specs.Prelude.{◌⊎◌, Option, Some, Result}
 use Rattle.std.specs.declared.time.Instant.{Instant}
 use Rattle.shop_records.specs.declared.refusals.Refusal.{Refusal}
-use Rattle.shop_request.specs.Requests.{Sense, silent, faulty, asking, HasSense}
+use Rattle.shop_request.specs.Requests.{ParseResult, silent, faulty, asking, ParsesTo}
 use Rattle.shop_request.specs.declared.routes.Route.{Route}
-use Rattle.shop_request.specs.declared.routes.Route.TheVariants.{Message, Plan, Plans, Bound, Backup, Totals, Rack, Trace, Demand, Ticket, Yield, Materials, Parts, PartsBehind, Demands, DemandsOf, Orders, OrdersBehind, OrderLines, Jobs, Job, Terminal}
+use Rattle.shop_request.specs.declared.routes.Route.TheVariants.{Message, Plan, Plans, Bound, Backup, Totals, Rack, Trace, Demand, Ticket, Yield, Materials, Parts, PartsAfter, Demands, DemandsOf, Orders, OrdersAfter, OrderLines, Jobs, Job, Terminal}
 use Rattle.shop_serve.specs.Times.{Times}
 use Rattle.shop_desk.specs.Handled.{HasAccount}
 use Rattle.shop_desk.specs.Faults.{CountsUp}
@@ -25,7 +25,7 @@ use Rattle.shop_wire.specs.Serves.{exchanged, IsBegun, IsServed}
 use Rattle.shop_wire.proofs.Crashes.{leads_join}
 use Rattle.shop_serve.specs.declared.answers.Made.{Made}
 use Rattle.shop_serve.specs.declared.answers.Made.TheVariants.{Answer, Thought}
-use Rattle.shop_serve.specs.Making.{IsMade, IsMadeMeanwhile}
+use Rattle.shop_serve.specs.Making.{IsMadeOf, IsMadeMeanwhile}
 use Rattle.shop_serve.specs.declared.sites.Site.{Site}
 use Rattle.shop_serve.specs.Sites.{is_routed, own_bytes}
 use Rattle.shop_serve.specs.Serving.{Turn, Handling, HandlingStep, IsServedOnce, routed, ruled, begun, copied, InTurn, asks_backup, is_backup, IsAnswered, IsAnsweredThen, IsBackupAnswer, exchange_of, exchanges, TellsFailure, TellOfFailures, HasServed, Advances}
@@ -56,20 +56,20 @@ is_for_backup Ticket e = absurd (cc e)
 is_for_backup Yield e = absurd (cc e)
 is_for_backup Materials e = absurd (cc e)
 is_for_backup Parts e = absurd (cc e)
-is_for_backup PartsBehind e = absurd (cc e)
+is_for_backup PartsAfter e = absurd (cc e)
 is_for_backup Demands e = absurd (cc e)
 is_for_backup DemandsOf e = absurd (cc e)
 is_for_backup Orders e = absurd (cc e)
-is_for_backup OrdersBehind e = absurd (cc e)
+is_for_backup OrdersAfter e = absurd (cc e)
 is_for_backup OrderLines e = absurd (cc e)
 is_for_backup Jobs e = absurd (cc e)
 is_for_backup Job e = absurd (cc e)
 is_for_backup Terminal e = absurd (cc e)
 
-pub backup_asked : (came : List ℕ) (sense : Sense) → asks_backup sense ≡ true → HasSense came sense → (body : List ℕ) × HasSense came (asking Backup body)
-backup_asked came silent e has = absurd (cc e)
-backup_asked came (faulty f) e has = absurd (cc e)
-backup_asked came (asking route text) e has = (text, subst (λ r. HasSense came (asking r text)) (is_for_backup route e) has)
+pub backup_asked : (received : List ℕ) (parsed : ParseResult) → asks_backup parsed ≡ true → ParsesTo received parsed → (body : List ℕ) × ParsesTo received (asking Backup body)
+backup_asked received silent e has = absurd (cc e)
+backup_asked received (faulty f) e has = absurd (cc e)
+backup_asked received (asking route text) e has = (text, subst (λ r. ParsesTo received (asking r text)) (is_for_backup route e) has)
 
 turns-append : (site : Site) {B : Type 0} (book : Ghosts B) (before mid after : B) (old m new : Content) (ss ts : List Turn)
     → InTurn site book before old ss mid m → InTurn site book mid m ts after new → InTurn site book before old (ss ++ ts) after new
@@ -87,7 +87,7 @@ blame-append a b c (s ∷ ss) ts up next first second t (inr i) e = blame-append
 module _ (site : Site) {B : Type 0} (book : Ghosts B) where
   -- none
   pub none_served : (here : B) (count : ℕ) → HasServed site book here here count
-  none_served here count honest m held sound =
+  none_served here count clean_disk m held sound =
       record { served = []; few = omega arith; next = m; run = (refl, refl); held = held; sound = sound; crash = (refl, λ left it. it); failures = inl refl; blame = λ t i. absurd i; account = account_same json_texts m m refl }
 
   -- nothing was done
@@ -95,12 +95,12 @@ module _ (site : Site) {B : Type 0} (book : Ghosts B) where
   none_done before after count same = subst (λ b. HasServed site book before b count) (sym same) (none_served before count)
 
   -- one that does nothing and tells of no failure
-  once_same : (here : B) (m : Content) (handling : Handling) → HandlingStep m handling m → book.is_honest here → book.holds here m → exchange_of handling ≡ [] → (TellsFailure handling → ⊥)
+  once_same : (here : B) (m : Content) (handling : Handling) → HandlingStep m handling m → book.has_clean_disk here → book.holds here m → exchange_of handling ≡ [] → (TellsFailure handling → ⊥)
       → IsServedOnce book here here m handling m
-  once_same here m handling step honest held none untold =
+  once_same here m handling step clean_disk held none untold =
       record {
         step = step;
-        honest = honest;
+        clean_disk = clean_disk;
         held = held;
         crash = subst (λ es. ExchangesLead book here here m es m) (sym none) (refl, λ left it. it);
         failures = inl refl;
@@ -114,12 +114,12 @@ module _ (site : Site) {B : Type 0} (book : Ghosts B) where
   -- one was served
   served_once : (before after : B) (input : List ℕ) (old new : Option (List ℕ)) (unwritten : List ℕ) → 0 < length input → GoesToRoute input
       → CountsUp (book.failed before) (book.failed after) → IsServed book before after (Some input) old new unwritten → HasServed site book before after 1
-  served_once before after input old new unwritten some goes up s honest m held sound =
+  served_once before after input old new unwritten some goes up s clean_disk m held sound =
       let telling = s.2.telling in
-      let done = s.2.run honest m held sound in
+      let done = s.2.run clean_disk m held sound in
       let turn : Turn = record { input = input; handling = routed s.0 telling; answer = s.2.bytes } in
       let once : IsServedOnce book before after m (routed s.0 telling) done.next =
-      record { step = done.step; honest = honest; held = done.held; crash = done.crash; failures = up; blame = done.blame } in
+      record { step = done.step; clean_disk = clean_disk; held = done.held; crash = done.crash; failures = up; blame = done.blame } in
       record {
         served = turn ∷ [];
         few = omega arith;
@@ -147,19 +147,19 @@ module _ (site : Site) {B : Type 0} (book : Ghosts B) where
   -- a question was begun
   begun_once : (before after : B) (input : List ℕ) (posed : Posed) → 0 < length input → GoesToRoute input → CountsUp (book.failed before) (book.failed after)
       → IsBegun book before after (Some input) posed → HasServed site book before after 1
-  begun_once before after input posed some goes up b honest m held sound =
-      let done = b.run honest m held sound in
+  begun_once before after input posed some goes up b clean_disk m held sound =
+      let done = b.run clean_disk m held sound in
       let turn : Turn = record { input = input; handling = begun b.body b.query posed; answer = [] } in
       let once : IsServedOnce book before after m (begun b.body b.query posed) m =
-      record { step = (refl, done.1); honest = honest; held = done.0; crash = (refl, b.keeps.crash honest m held); failures = up; blame = λ none. absurd none } in
+      record { step = (refl, done.1); clean_disk = clean_disk; held = done.0; crash = (refl, b.keeps.crash clean_disk m held); failures = up; blame = λ none. absurd none } in
       record {
         served = turn ∷ [];
         few = omega arith;
         next = m;
-        run = (after, m, (some, (goes, b.sense, b.asks, refl)), once, (refl, refl));
+        run = (after, m, (some, (goes, b.parsed, b.asks, refl)), once, (refl, refl));
         held = done.0;
         sound = sound;
-        crash = (refl, b.keeps.crash honest m held);
+        crash = (refl, b.keeps.crash clean_disk m held);
         failures = up;
         blame = λ t i e. elim i [ inl is ↦ absurd (subst (λ (t : Turn). TellsFailure t.handling) is e) | inr none ↦ absurd none ];
         account = account_same json_texts m m refl;
@@ -171,13 +171,13 @@ module _ (site : Site) {B : Type 0} (book : Ghosts B) where
 
   -- a backup was made or not, and this came of it
   pub one_copied : (here : B) (input answer : List ℕ) (outcome : Result ℕ Refusal) → 0 < length input → IsBackupAnswer site input answer outcome → HasServed site book here here 1
-  one_copied here input answer outcome some is honest m held sound =
+  one_copied here input answer outcome some is clean_disk m held sound =
       let turn : Turn = record { input = input; handling = copied is.0.1.0 outcome; answer = answer } in
       record {
         served = turn ∷ [];
         few = omega arith;
         next = m;
-        run = (here, m, (some, (is.0.0, is.0.1.1, is.1)), once_same here m turn.handling refl honest held refl (λ none. none), (refl, refl));
+        run = (here, m, (some, (is.0.0, is.0.1.1, is.1)), once_same here m turn.handling refl clean_disk held refl (λ none. none), (refl, refl));
         held = held;
         sound = sound;
         crash = (refl, λ left it. it);
@@ -191,25 +191,25 @@ module _ (site : Site) {B : Type 0} (book : Ghosts B) where
   copied_once before after input answer outcome same some is = subst (λ b. HasServed site book before b 1) (sym same) (one_copied before input answer outcome some is)
 
   -- what was made without a backup
-  pub made-alone : (before after : B) (seen : Times) (came : List ℕ) (made : Made) → IsMade site book before after came made → IsMadeMeanwhile site book before after seen seen came made
-  made-alone before after seen came (Answer answer) is = inl (is, refl)
-  made-alone before after seen came (Thought thought) is = (is, refl)
+  pub made-alone : (before after : B) (seen : Times) (received : List ℕ) (made : Made) → IsMadeOf site book before after received made → IsMadeMeanwhile site book before after seen seen received made
+  made-alone before after seen received (Answer answer) is = inl (is, refl)
+  made-alone before after seen received (Thought thought) is = (is, refl)
 
   -- what was answered meanwhile was answered
-  pub answered-then : (before after : B) (seen seeing : Times) (now : Instant) (came answer : List ℕ) → IsAnsweredThen site book before after seen seeing now came answer
-      → IsAnswered site book before after came answer
-  answered-then before after seen seeing now came answer (between, inl alone, tells) = inl alone.0
-  answered-then before after seen seeing now came answer (between, inr (outcome, is, same, copies), tells) = inr (outcome, is, same)
+  pub answered-then : (before after : B) (seen seeing : Times) (now : Instant) (received answer : List ℕ) → IsAnsweredThen site book before after seen seeing now received answer
+      → IsAnswered site book before after received answer
+  answered-then before after seen seeing now received answer (between, inl alone, tells) = inl alone.0
+  answered-then before after seen seeing now received answer (between, inr (outcome, is, same, copies), tells) = inr (outcome, is, same)
 
   -- the site answered one by itself
   pub one_ruled : (here : B) (input : List ℕ) (r : Ruling) → 0 < length input → HasRuling site.guard.port site.guard.has_page site.guard.has_backups input r → r ≢ Routed → HasServed site book here here 1
-  one_ruled here input r some rules other honest m held sound =
+  one_ruled here input r some rules other clean_disk m held sound =
       let turn : Turn = record { input = input; handling = ruled r; answer = own_bytes site r } in
       record {
         served = turn ∷ [];
         few = omega arith;
         next = m;
-        run = (here, m, (some, (rules, other, refl)), once_same here m turn.handling refl honest held refl (λ none. none), (refl, refl));
+        run = (here, m, (some, (rules, other, refl)), once_same here m turn.handling refl clean_disk held refl (λ none. none), (refl, refl));
         held = held;
         sound = sound;
         crash = (refl, λ left it. it);
@@ -219,10 +219,10 @@ module _ (site : Site) {B : Type 0} (book : Ghosts B) where
       }
 
   -- and more
-  pub more_served : (before mid after : B) (n k : ℕ) → (book.is_honest after → book.is_honest mid) → HasServed site book before mid n → HasServed site book mid after k → HasServed site book before after (n + k)
-  more_served before mid after n k back run step honest m held sound =
-      let first = run (back honest) m held sound in
-      let second = step honest first.next first.held first.sound in
+  pub more_served : (before mid after : B) (n k : ℕ) → (book.has_clean_disk after → book.has_clean_disk mid) → HasServed site book before mid n → HasServed site book mid after k → HasServed site book before after (n + k)
+  more_served before mid after n k back run step clean_disk m held sound =
+      let first = run (back clean_disk) m held sound in
+      let second = step clean_disk first.next first.held first.sound in
       record {
         served = first.served ++ second.served;
         few = omega (arith, length-append first.served second.served, first.few, second.few);
@@ -240,8 +240,8 @@ module _ (site : Site) {B : Type 0} (book : Ghosts B) where
 
   -- at most so many is at most more
   pub few_served : (before after : B) (n k : ℕ) → n ≤ k → HasServed site book before after n → HasServed site book before after k
-  few_served before after n k within run honest m held sound =
-      let done = run honest m held sound in
+  few_served before after n k within run clean_disk m held sound =
+      let done = run clean_disk m held sound in
       record {
         served = done.served;
         few = omega (arith, done.few, within);
@@ -264,7 +264,7 @@ module _ (site : Site) {B : Type 0} (book : Ghosts B) where
   one_advances before after from to within one = (1, omega (arith, within), one)
 
   -- a number fell, and then another: the third falls by as much as both at least
-  pub advances_more : (before mid after : B) (over under over2 under2 from to : ℕ) → over + over2 + to ≤ under + under2 + from → (book.is_honest after → book.is_honest mid)
+  pub advances_more : (before mid after : B) (over under over2 under2 from to : ℕ) → over + over2 + to ≤ under + under2 + from → (book.has_clean_disk after → book.has_clean_disk mid)
       → Advances site book before mid over under → Advances site book mid after over2 under2 → Advances site book before after from to
   advances_more before mid after over under over2 under2 from to within back first second =
       (first.0 + second.0, omega (arith, within, first.1, second.1), more_served before mid after first.0 second.0 back first.2 second.2)

@@ -5,13 +5,13 @@ use Rattle.slab.specs.Slab.{Slab, get}
 use Rattle.std.specs.declared.time.Instant.{Instant}
 use Rattle.shop_book.specs.declared.books.Book.{Ghosts}
 use Rattle.shop_request.specs.Requests.{most_request_reads}
-use Rattle.shop_request.specs.Senses.{IsSettled, IsUnfinished}
+use Rattle.shop_request.specs.Parses.{IsDetermined, IsUnfinished}
 use Rattle.shop_serve.specs.declared.connections.Connection.{Ghosts as ConnectionGhosts}
-use Rattle.shop_serve.specs.declared.lines.Fate.{Fate}
-use Rattle.shop_serve.specs.declared.lines.Fate.TheVariants.{NoMemory}
-use Rattle.shop_serve.specs.declared.lines.Line.{Line}
+use Rattle.shop_serve.specs.declared.clients.Fate.{Fate}
+use Rattle.shop_serve.specs.declared.clients.Fate.TheVariants.{NoMemory}
+use Rattle.shop_serve.specs.declared.clients.Client.{Client}
 use Rattle.shop_serve.specs.declared.sites.Site.{Site}
-use Rattle.shop_serve.specs.Lines.{IsAttendedAt, IsFresh, StopsAt}
+use Rattle.shop_serve.specs.Clients.{IsAttendedAt, IsFresh, StopsAt}
 use Rattle.shop_planning.specs.declared.posed.Posed.{Posed}
 use Rattle.shop_serve.specs.Making.{IsAsked}
 use Rattle.shop_serve.specs.Serving.{IsAnswered}
@@ -31,35 +31,35 @@ module _ {C : Type 0} (connection : ConnectionGhosts C) where
     pub few : length input < most_request_reads
 
   module _ (site : Site) {B : Type 0} (book : Ghosts B) where
-    -- The first of its bytes whose sense is settled, or all of them, were answered. It took the whole answer, and was told its
-    -- end; or first bytes of it, until it took no more. It is what is open in its place now, with this answer; or nothing is,
-    -- and it took the whole one.
-    pub record HasOwnAnswer (input : List ℕ) (place : Option (Line C)) (before after : B) : Type 0 where
-      pub came : List ℕ
+    -- The first of its bytes whose parse is determined, or all of them, were answered. It took the whole answer, and was told
+    -- its end; or first bytes of it, until it took no more. It is what is open in its place now, with this answer; or nothing
+    -- is, and it took the whole one.
+    pub record HasOwnAnswer (input : List ℕ) (place : Option (Client C)) (before after : B) : Type 0 where
+      pub received : List ℕ
       pub rest : List ℕ
       pub answer : List ℕ
       pub left : C
       pub sent : ℕ
-      pub split : input ≡ came ++ rest
-      pub whole : IsSettled came ⊎ (rest ≡ [])
-      pub answered : IsAnswered site book before after came answer
+      pub split : input ≡ received ++ rest
+      pub whole : IsDetermined received ⊎ (rest ≡ [])
+      pub answered : IsAnswered site book before after received answer
       pub takes : connection.contents left ≡ Some (take sent answer)
       pub stops : StopsAt connection answer left sent
-      pub stays : IfSome place (λ line. (line.stream ≡ left) × (line.sent ≡ sent) × IsSomeAnd line.answer (λ a. a.items ≡ answer))
+      pub stays : IfSome place (λ client. (client.stream ≡ left) × (client.sent ≡ sent) × IsSomeAnd client.answer (λ a. a.items ≡ answer))
       pub goes : place ≡ None → length answer ≤ sent
 
-    -- the first of its bytes whose sense is settled, or all of them, are a question, and this is what it asks of the content
+    -- the first of its bytes whose parse is determined, or all of them, are a question, and this is what it asks of the content
     pub record HasOwnQuestion (input : List ℕ) (before after : B) : Type 0 where
-      pub came : List ℕ
+      pub received : List ℕ
       pub rest : List ℕ
       pub posed : Posed
-      pub split : input ≡ came ++ rest
-      pub whole : IsSettled came ⊎ (rest ≡ [])
-      pub asked : IsAsked site book before after came posed
+      pub split : input ≡ received ++ rest
+      pub whole : IsDetermined received ⊎ (rest ≡ [])
+      pub asked : IsAsked site book before after received posed
 
     -- one that came now with a whole request, and is attended to, has its answer or its question, where memory isn't wanting
     abbrev pub WholeIsAnswered : Type 0
     WholeIsAnswered =
-        (now : Instant) (stream : C) (input : List ℕ) (line : Line C) (fate : Fate) (key : ℕ) (old new : Slab (Line C)) (before after : B) (seen seeing : Times)
-        → TellsAll → BringsRequest stream input → IsFresh now stream line → get old key ≡ Some line → fate ≢ NoMemory
+        (now : Instant) (stream : C) (input : List ℕ) (client : Client C) (fate : Fate) (key : ℕ) (old new : Slab (Client C)) (before after : B) (seen seeing : Times)
+        → TellsAll → BringsRequest stream input → IsFresh now stream client → get old key ≡ Some client → fate ≢ NoMemory
         → IsAttendedAt connection site book fate key old new before after seen seeing → HasOwnAnswer input (get new key) before after ⊎ HasOwnQuestion input before after

@@ -3,7 +3,7 @@ pub mod Serving
 pub mod Making
 pub mod Times
 pub mod Ports
-pub mod Lines
+pub mod Clients
 pub mod Thinking
 pub mod Rounds
 pub mod Known

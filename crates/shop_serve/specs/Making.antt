@@ -16,7 +16,7 @@ use Rattle.shop_serve.specs.declared.answers.Made.{Made}
 use Rattle.shop_serve.specs.declared.answers.Made.TheVariants.{Answer, Thought}
 use Rattle.shop_serve.specs.declared.answers.Next.{Next}
 use Rattle.shop_serve.specs.declared.answers.Next.TheVariants as next
-use Rattle.shop_serve.specs.declared.lines.Line.{Line}
+use Rattle.shop_serve.specs.declared.clients.Client.{Client}
 use Rattle.shop_serve.specs.declared.sites.Site.{Site}
 use Rattle.shop_serve.specs.Serving.{AsksBackup, IsAnsweredAlone, IsAnsweredMeanwhile}
 use Rattle.shop_serve.specs.Times.{Times, TellsNone}
@@ -24,24 +24,24 @@ use Rattle.shop_wire.specs.AnswerBytes.{answer_bytes, printed, replied, telling_
 use Rattle.shop_wire.specs.Serves.{IsBegun}
 
 -- By their head some bytes went to their route, and are a question; this is what it asks of the content. Nothing is done.
-abbrev pub IsAsked : Site → {B : Type 0} → Ghosts B → B → B → (came : List ℕ) → Posed → Type 0
-IsAsked site book before after came posed =
-    HasRuling site.guard.port site.guard.has_page site.guard.has_backups came Routed × IsBegun book before after (Some came) posed
+abbrev pub IsAsked : Site → {B : Type 0} → Ghosts B → B → B → (received : List ℕ) → Posed → Type 0
+IsAsked site book before after received posed =
+    HasRuling site.guard.port site.guard.has_page site.guard.has_backups received Routed × IsBegun book before after (Some received) posed
 
 -- what was made of some bytes
-abbrev pub IsMade : Site → {B : Type 0} → Ghosts B → B → B → (came : List ℕ) → Made → Type 0
-IsMade site book before after came (Answer answer) = IsAnsweredAlone site book before after came answer.items
-IsMade site book before after came (Thought thought) = IsAsked site book before after came (posed_in thought)
+abbrev pub IsMadeOf : Site → {B : Type 0} → Ghosts B → B → B → (received : List ℕ) → Made → Type 0
+IsMadeOf site book before after received (Answer answer) = IsAnsweredAlone site book before after received answer.items
+IsMadeOf site book before after received (Thought thought) = IsAsked site book before after received (posed_in thought)
 
 -- what is next: what was made of them is there, or the backup that they ask for is to be made, and nothing is done
-abbrev pub IsNext : Site → {B : Type 0} → Ghosts B → B → B → (came : List ℕ) → Next → Type 0
-IsNext site book before after came (next.Made made) = IsMade site book before after came made
-IsNext site book before after came next.Backup = AsksBackup site came × (after ≡ before)
+abbrev pub IsNext : Site → {B : Type 0} → Ghosts B → B → B → (received : List ℕ) → Next → Type 0
+IsNext site book before after received (next.Made made) = IsMadeOf site book before after received made
+IsNext site book before after received next.Backup = AsksBackup site received × (after ≡ before)
 
 -- what was made of some bytes, be it by a backup meanwhile
-abbrev pub IsMadeMeanwhile : Site → {B : Type 0} → Ghosts B → B → B → (seen between : Times) → (came : List ℕ) → Made → Type 0
-IsMadeMeanwhile site book before after seen between came (Answer answer) = IsAnsweredMeanwhile site book before after seen between came answer.items
-IsMadeMeanwhile site book before after seen between came (Thought thought) = IsAsked site book before after came (posed_in thought) × TellsNone seen between
+abbrev pub IsMadeMeanwhile : Site → {B : Type 0} → Ghosts B → B → B → (seen between : Times) → (received : List ℕ) → Made → Type 0
+IsMadeMeanwhile site book before after seen between received (Answer answer) = IsAnsweredMeanwhile site book before after seen between received answer.items
+IsMadeMeanwhile site book before after seen between received (Thought thought) = IsAsked site book before after received (posed_in thought) × TellsNone seen between
 
 -- the answer that memory was wanting for a question
 abbrev pub plans_refused : List ℕ
@@ -54,14 +54,14 @@ IsPlansAnswer posed answer =
     ⊎ (answer ≡ plans_refused)
 
 -- it has this answer from now on, and took nothing of it
-abbrev pub put_answer : {C : Type 0} → Line C → Vec ℕ Global → Instant → Line C
-put_answer line answer now = record line { thought = None; answer = Some answer; sent = 0; since = now }
+abbrev pub put_answer : {C : Type 0} → Client C → Vec ℕ Global → Instant → Client C
+put_answer client answer now = record client { thought = None; answer = Some answer; sent = 0; since = now }
 
 -- it has this question from now on, which waits
-abbrev pub put_thought : {C : Type 0} → Line C → Thoughts → Instant → Line C
-put_thought line thought now = record line { thought = Some (record { thought = thought; last = None }); answer = None; sent = 0; since = now }
+abbrev pub put_thought : {C : Type 0} → Client C → Thoughts → Instant → Client C
+put_thought client thought now = record client { thought = Some (record { thought = thought; last = None }); answer = None; sent = 0; since = now }
 
 -- what was made is put into its connection
-abbrev pub put_made : {C : Type 0} → Line C → Made → Instant → Line C
-put_made line (Answer answer) now = put_answer line answer now
-put_made line (Thought thought) now = put_thought line thought now
+abbrev pub put_made : {C : Type 0} → Client C → Made → Instant → Client C
+put_made client (Answer answer) now = put_answer client answer now
+put_made client (Thought thought) now = put_thought client thought now

@@ -6,7 +6,7 @@ use Rattle.shop_planning.specs.Thoughts.{posed_in}
 use Rattle.shop_planning.specs.declared.posed.Posed.{Posed}
 use Rattle.shop_serve.specs.declared.connections.Connection.{Ghosts as ConnectionGhosts}
 use Rattle.shop_serve.specs.declared.ports.Port.{Ghosts as PortGhosts}
-use Rattle.shop_serve.specs.declared.lines.Line.{Line}
+use Rattle.shop_serve.specs.declared.clients.Client.{Client}
 use Rattle.shop_serve.specs.declared.sites.Site.{Site}
 use Rattle.shop_serve.specs.Making.{IsAsked, IsPlansAnswer}
 use Rattle.shop_serve.specs.Rounds.{AreRounds, Round}
@@ -14,9 +14,9 @@ use Rattle.shop_serve.specs.Serving.{HasServed, IsAnswered}
 use Rattle.shop_serve.specs.Times.{Times}
 
 module _ (site : Site) {B : Type 0} (book : Ghosts B) where
-  -- requests led from one book to another: what is honest at last was honest at first
+  -- requests led from one book to another: a disk that is clean at last was so at first
   pub record Leads (before after : B) : Type 0 where
-    pub honest : book.is_honest after → book.is_honest before
+    pub clean_disk : book.has_clean_disk after → book.has_clean_disk before
     pub count : ℕ
     pub served : HasServed site book before after count
 
@@ -26,27 +26,27 @@ module _ (site : Site) {B : Type 0} (book : Ghosts B) where
     pub new : B
     pub earlier : Leads before old
     pub step : done old new
-    pub honest : book.is_honest new → book.is_honest old
+    pub clean_disk : book.has_clean_disk new → book.has_clean_disk old
     pub later : Leads new after
 
   -- these bytes are a question that was asked then, and this is what it asks of the content that the book had
   abbrev pub WasAsked : B → B → List ℕ → Posed → Type 0
-  WasAsked before after came posed = WasDone before after (λ old new. IsAsked site book old new came posed)
+  WasAsked before after received posed = WasDone before after (λ old new. IsAsked site book old new received posed)
 
   -- this is the answer to these bytes that was made then; or they are a question, and it is the answer to that
   abbrev pub WasAnswered : B → B → List ℕ → List ℕ → Type 0
-  WasAnswered before after came answer =
-      WasDone before after (λ old new. IsAnswered site book old new came answer)
-      ⊎ ((posed : Posed) × WasAsked before after came posed × IsPlansAnswer posed answer)
+  WasAnswered before after received answer =
+      WasDone before after (λ old new. IsAnswered site book old new received answer)
+      ⊎ ((posed : Posed) × WasAsked before after received posed × IsPlansAnswer posed answer)
 
   -- a connection's question and its answer are those of its own bytes
-  abbrev pub HasItsOwn : {C : Type 0} → B → B → Line C → Type 0
-  HasItsOwn before after line =
-      IfSome line.thought (λ t. WasAsked before after line.came.items (posed_in t.thought))
-      × IfSome line.answer (λ answer. WasAnswered before after line.came.items answer.items)
+  abbrev pub HasItsOwn : {C : Type 0} → B → B → Client C → Type 0
+  HasItsOwn before after client =
+      IfSome client.thought (λ t. WasAsked before after client.received.items (posed_in t.thought))
+      × IfSome client.answer (λ answer. WasAnswered before after client.received.items answer.items)
 
--- where none is open at first, each that is open behind the turns has its own
+-- where none is open at first, each that is open after the turns has its own
 abbrev pub EachHasItsOwn : {C : Type 0} → ConnectionGhosts C → Site → {B : Type 0} → Ghosts B → {P : Type 0} → PortGhosts P C → Type 0
 EachHasItsOwn {C} connection site {B} book port =
-    (rounds : List (Round C)) (first last : Slab (Line C)) (before after : B) (seen seeing : Times) → AreRounds connection site book port rounds first last before after seen seeing
-    → ((key : ℕ) → get first key ≡ None) → (key : ℕ) (line : Line C) → get last key ≡ Some line → HasItsOwn site book before after line
+    (rounds : List (Round C)) (first last : Slab (Client C)) (before after : B) (seen seeing : Times) → AreRounds connection site book port rounds first last before after seen seeing
+    → ((key : ℕ) → get first key ≡ None) → (key : ℕ) (client : Client C) → get last key ≡ Some client → HasItsOwn site book before after client

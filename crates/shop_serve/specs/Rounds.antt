@@ -6,85 +6,85 @@ use Rattle.std.specs.declared.time.Instant.{Instant}
 use Rattle.shop_book.specs.declared.books.Book.{Ghosts}
 use Rattle.shop_serve.specs.declared.connections.Connection.{Ghosts as ConnectionGhosts}
 use Rattle.shop_serve.specs.declared.ports.Port.{Ghosts as PortGhosts}
-use Rattle.shop_serve.specs.declared.lines.Fate.{Fate}
-use Rattle.shop_serve.specs.declared.lines.Line.{Line}
-use Rattle.shop_serve.specs.declared.lines.TheConstants.{MOST_LINES}
+use Rattle.shop_serve.specs.declared.clients.Fate.{Fate}
+use Rattle.shop_serve.specs.declared.clients.Client.{Client}
+use Rattle.shop_serve.specs.declared.clients.TheConstants.{MOST_CLIENTS}
 use Rattle.shop_serve.specs.declared.sites.Site.{Site}
 use Rattle.shop_serve.specs.Times.{Adds, Times, Tells, TellsNone}
-use Rattle.shop_serve.specs.Lines.{AreAttended, ClosesLate, IsAttendedAt, IsOpened, IsTurnedAway}
+use Rattle.shop_serve.specs.Clients.{AreAttended, ClosesLate, IsAttendedAt, IsOpened, IsTurnedAway}
 use Rattle.shop_serve.specs.Thinking.{Thinks}
 
 -- a turn of a server: the keys that were reported, when those that had their time were closed, and the connections that came
 pub record Round (C : Type 0) : Type 0 where
   pub now : Instant
   pub keys : List ℕ
-  pub came : List C
+  pub arrived : List C
 
 abbrev pub all_keys : {C : Type 0} → List (Round C) → List ℕ
 all_keys = flat_map (λ r. r.keys)
 
-abbrev pub all_came : {C : Type 0} → List (Round C) → List C
-all_came = flat_map (λ r. r.came)
+abbrev pub all_arrived : {C : Type 0} → List (Round C) → List C
+all_arrived = flat_map (λ r. r.arrived)
 
 module _ {C : Type 0} (connection : ConnectionGhosts C) (site : Site) {B : Type 0} (book : Ghosts B) {P : Type 0} (port : PortGhosts P C) where
   -- it is opened, and attended to at once
-  pub record IsOpenedAttended (now : Instant) (stream : C) (old new : Slab (Line C)) (before after : B) (seen seeing : Times) : Type 0 where
+  pub record IsOpenedAttended (now : Instant) (stream : C) (old new : Slab (Client C)) (before after : B) (seen seeing : Times) : Type 0 where
     pub key : ℕ
     pub fate : Fate
-    pub lines : Slab (Line C)
-    pub opened : IsOpened port now stream key old lines
-    pub attended : IsAttendedAt connection site book fate key lines new before after seen seeing
+    pub clients : Slab (Client C)
+    pub opened : IsOpened port now stream key old clients
+    pub attended : IsAttendedAt connection site book fate key clients new before after seen seeing
 
   -- A connection that came is opened and attended to, or it is turned away, and nothing is done. The time is read at once.
-  abbrev pub IsReceived : C → Slab (Line C) → Slab (Line C) → B → B → (seen seeing : Times) → Type 0
+  abbrev pub IsReceived : C → Slab (Client C) → Slab (Client C) → B → B → (seen seeing : Times) → Type 0
   IsReceived stream old new before after seen seeing =
       (now : Instant) × (between : Times) × Tells seen between now
       × ((IsTurnedAway port old new × (after ≡ before) × TellsNone between seeing) ⊎ IsOpenedAttended now stream old new before after between seeing)
 
   -- these came, one after another
-  abbrev pub AreReceived : List C → Slab (Line C) → Slab (Line C) → B → B → (seen seeing : Times) → Type 0
+  abbrev pub AreReceived : List C → Slab (Client C) → Slab (Client C) → B → B → (seen seeing : Times) → Type 0
   AreReceived [] old new before after seen seeing = (new ≡ old) × (after ≡ before) × TellsNone seen seeing
   AreReceived (stream ∷ streams) old new before after seen seeing =
-      (lines : Slab (Line C)) × (mid : B) × (between : Times) × IsReceived stream old lines before mid seen between × AreReceived streams lines new mid after between seeing
+      (clients : Slab (Client C)) × (mid : B) × (between : Times) × IsReceived stream old clients before mid seen between × AreReceived streams clients new mid after between seeing
 
   -- Those that are reported are attended to, one after another; the time is read, and those that had theirs are closed; a question
   -- is thought on, once, where there is any; those that come are received.
-  pub record IsRound (round : Round C) (old new : Slab (Line C)) (before after : B) (seen seeing : Times) : Type 0 where
-    pub attended : Slab (Line C)
+  pub record IsRound (round : Round C) (old new : Slab (Client C)) (before after : B) (seen seeing : Times) : Type 0 where
+    pub attended : Slab (Client C)
     pub mid : B
     pub first : Times
     pub each : AreAttended connection site book round.keys old attended before mid seen first
-    pub kept : Slab (Line C)
+    pub kept : Slab (Client C)
     pub second : Times
     pub read : Tells first second round.now
     pub late : ClosesLate round.now attended kept
-    pub thought : Slab (Line C)
+    pub thought : Slab (Client C)
     pub later : B
     pub third : Times
     pub thinks : Thinks connection site book round.now kept thought mid later second third
-    pub received : AreReceived round.came thought new later after third seeing
+    pub received : AreReceived round.arrived thought new later after third seeing
 
   -- turn after turn
-  abbrev pub AreRounds : List (Round C) → Slab (Line C) → Slab (Line C) → B → B → (seen seeing : Times) → Type 0
+  abbrev pub AreRounds : List (Round C) → Slab (Client C) → Slab (Client C) → B → B → (seen seeing : Times) → Type 0
   AreRounds [] old new before after seen seeing = (new ≡ old) × (after ≡ before) × TellsNone seen seeing
   AreRounds (round ∷ rounds) old new before after seen seeing =
-      (lines : Slab (Line C)) × (mid : B) × (between : Times) × IsRound round old lines before mid seen between × AreRounds rounds lines new mid after between seeing
+      (clients : Slab (Client C)) × (mid : B) × (between : Times) × IsRound round old clients before mid seen between × AreRounds rounds clients new mid after between seeing
 
-  -- where none is open at first, no more are behind the turns than may be
+  -- where none is open at first, no more are after the turns than may be
   abbrev pub FewAreOpen : Type 0
   FewAreOpen =
-      (rounds : List (Round C)) (first last : Slab (Line C)) (before after : B) (seen seeing : Times) → AreRounds rounds first last before after seen seeing
-      → ((key : ℕ) → get first key ≡ None) → slab_len last ≤ MOST_LINES
+      (rounds : List (Round C)) (first last : Slab (Client C)) (before after : B) (seen seeing : Times) → AreRounds rounds first last before after seen seeing
+      → ((key : ℕ) → get first key ≡ None) → slab_len last ≤ MOST_CLIENTS
 
   -- As many connections came as the limit says, and each is closed: each key that was reported was attended to, turn after turn,
   -- and each connection that was given was received. The time was read where that says so, and nowhere else.
   pub record HasServedAll (limit : ℕ) (told telling : Option (List ℕ)) (given giving : Option (List C)) (before after : B) (seen seeing : Times) : Type 0 where
     pub rounds : List (Round C)
-    pub first : Slab (Line C)
-    pub last : Slab (Line C)
+    pub first : Slab (Client C)
+    pub last : Slab (Client C)
     pub run : AreRounds rounds first last before after seen seeing
     pub none : (key : ℕ) → get first key ≡ None
     pub closed : (key : ℕ) → get last key ≡ None
-    pub count : length (all_came rounds) ≡ limit
+    pub count : length (all_arrived rounds) ≡ limit
     pub reported : Adds told telling (all_keys rounds)
-    pub came : Adds given giving (all_came rounds)
+    pub arrived : Adds given giving (all_arrived rounds)

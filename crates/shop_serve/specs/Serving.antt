@@ -14,7 +14,7 @@ use Rattle.shop_records.specs.declared.refusals.Refusal.TheVariants.{StoreFault}
 use Rattle.shop_request.specs.Guards.{HasRuling}
 use Rattle.shop_request.specs.declared.guards.Ruling.{Ruling}
 use Rattle.shop_request.specs.declared.guards.Ruling.TheVariants.{Routed}
-use Rattle.shop_request.specs.Requests.{Sense, silent, faulty, asking, HasSense}
+use Rattle.shop_request.specs.Requests.{ParseResult, silent, faulty, asking, ParsesTo}
 use Rattle.shop_request.specs.declared.routes.Route.{Route}
 use Rattle.shop_request.specs.declared.routes.Route.TheVariants.{Plans, Backup}
 use Rattle.shop_planning.specs.Questions.{IsPosed}
@@ -27,18 +27,18 @@ use Rattle.shop_book.specs.declared.books.Book.{Ghosts}
 use Rattle.shop_book.specs.Kept.{OnContent}
 use Rattle.shop_wire.specs.Replays.{ExchangesLead}
 use Rattle.shop_wire.specs.AnswerBytes.{Telling, answer_bytes, backup_answer, replied, bytes_of}
-use Rattle.shop_wire.specs.Serves.{SenseStep, exchanged, body_plans, IsServed}
+use Rattle.shop_wire.specs.Serves.{ParsedStep, exchanged, body_plans, IsServed}
 use Rattle.shop_serve.specs.declared.serving.TheConstants.{MOST_SERVED}
 use Rattle.shop_serve.specs.Sites.{own_bytes}
 use Rattle.shop_serve.specs.declared.sites.Site.{Site}
 use Rattle.shop_serve.specs.Times.{Times, Copies, Tells, TellsNone}
 use Rattle.std.specs.declared.time.Instant.{Instant}
 
--- What is done with a request: it goes to its route, with this sense, and this is told; or the site answers by itself; or its
+-- What is done with a request: it goes to its route, with this parse, and this is told; or the site answers by itself; or its
 -- body is a question, and this is what it asks of the content, which is thought about; or it asks for a backup, by this body, and
 -- this came of it.
 pub data Handling : Type 0 where
-  routed : Sense → Telling → Handling
+  routed : ParseResult → Telling → Handling
   ruled : Ruling → Handling
   begun : List ℕ → PlansQuery → Posed → Handling
   copied : List ℕ → Result ℕ Refusal → Handling
@@ -48,7 +48,7 @@ abbrev pub is_backup : Route → Bool
 is_backup Backup = true
 is_backup _ = false
 
-abbrev pub asks_backup : Sense → Bool
+abbrev pub asks_backup : ParseResult → Bool
 asks_backup silent = false
 asks_backup (faulty f) = false
 asks_backup (asking route text) = is_backup route
@@ -59,18 +59,18 @@ pub record Turn : Type 0 where
   pub handling : Handling
   pub answer : List ℕ
 
--- By its head the request goes to its route, and the answer is that of its sense but for some last bytes; or it doesn't, and the
--- answer is the site's own. A question is asked at its route, and has no answer yet. A backup is asked for at
--- its route, and what came of it is told.
+-- By its head the request goes to its route, and the answer is that of its parse but for some last bytes; or it doesn't, and
+-- the answer is the site's own. A question is asked at its route, and has no answer yet. A backup is asked for at its route,
+-- and what came of it is told.
 abbrev pub IsHandling : Site → (input answer : List ℕ) → Handling → Type 0
-IsHandling site input answer (routed sense telling) =
-    HasRuling site.guard.port site.guard.has_page site.guard.has_backups input Routed × HasSense input sense
-    × ((unwritten : List ℕ) × (answer ++ unwritten ≡ bytes_of sense telling))
+IsHandling site input answer (routed parsed telling) =
+    HasRuling site.guard.port site.guard.has_page site.guard.has_backups input Routed × ParsesTo input parsed
+    × ((unwritten : List ℕ) × (answer ++ unwritten ≡ bytes_of parsed telling))
 IsHandling site input answer (ruled r) = HasRuling site.guard.port site.guard.has_page site.guard.has_backups input r × (r ≢ Routed) × (answer ≡ own_bytes site r)
 IsHandling site input answer (begun body query posed) =
-    HasRuling site.guard.port site.guard.has_page site.guard.has_backups input Routed × HasSense input (asking Plans body) × (body_plans body ≡ Some query) × (answer ≡ [])
+    HasRuling site.guard.port site.guard.has_page site.guard.has_backups input Routed × ParsesTo input (asking Plans body) × (body_plans body ≡ Some query) × (answer ≡ [])
 IsHandling site input answer (copied body outcome) =
-    HasRuling site.guard.port site.guard.has_page site.guard.has_backups input Routed × HasSense input (asking Backup body) × (answer ≡ answer_bytes (backup_answer outcome))
+    HasRuling site.guard.port site.guard.has_page site.guard.has_backups input Routed × ParsesTo input (asking Backup body) × (answer ≡ answer_bytes (backup_answer outcome))
 
 -- some bytes came, and this is what was done with them
 abbrev pub IsTurn : Site → Turn → Type 0
@@ -79,14 +79,14 @@ IsTurn site t = (0 < length t.input) × IsHandling site t.input t.answer t.handl
 -- What the site answers by itself does nothing, and a question and a backup neither. What a question asks is asked of the content as
 -- it is then.
 abbrev pub HandlingStep : Content → Handling → Content → Type 0
-HandlingStep old (routed sense telling) new = SenseStep old sense telling new
+HandlingStep old (routed parsed telling) new = ParsedStep old parsed telling new
 HandlingStep old (ruled r) new = new ≡ old
 HandlingStep old (begun body query posed) new = (new ≡ old) × IsPosed old query posed
 HandlingStep old (copied body outcome) new = new ≡ old
 
 -- the message that was read, with its reply
 abbrev pub exchange_of : Handling → List (Message × Reply)
-exchange_of (routed sense telling) = exchanged sense telling
+exchange_of (routed parsed telling) = exchanged parsed telling
 exchange_of (ruled r) = []
 exchange_of (begun body query posed) = []
 exchange_of (copied body outcome) = []
@@ -97,7 +97,7 @@ exchanges = flat_map (λ t. exchange_of t.handling)
 
 -- a failed store is told; a backup that wasn't made tells nothing of the store
 abbrev pub TellsFailure : Handling → Type 0
-TellsFailure (routed sense telling) = telling ≡ replied (Refused StoreFault)
+TellsFailure (routed parsed telling) = telling ≡ replied (Refused StoreFault)
 TellsFailure (ruled r) = ⊥
 TellsFailure (begun body query posed) = ⊥
 TellsFailure (copied body outcome) = ⊥
@@ -106,7 +106,7 @@ TellsFailure (copied body outcome) = ⊥
 -- message, if there was one. A failed store is told of only where it failed at this very one.
 pub record IsServedOnce {B : Type 0} (book : Ghosts B) (before after : B) (old : Content) (handling : Handling) (new : Content) : Type 0 where
   pub step : HandlingStep old handling new
-  pub honest : book.is_honest after
+  pub clean_disk : book.has_clean_disk after
   pub held : book.holds after new
   pub crash : ExchangesLead book before after old (exchange_of handling) new
   pub failures : CountsUp (book.failed before) (book.failed after)
@@ -137,7 +137,8 @@ pub record HasServedTurns (site : Site) {B : Type 0} (book : Ghosts B) (before a
   pub blame : TellOfFailures served (book.failed before) (book.failed after)
   pub account : HasAccount json_texts old (map (λ e. e.0) (exchanges served)) (map (λ e. e.1) (exchanges served)) next
 
--- at most so many requests were served by a book: each sound content that an honest one held led to one that it holds now
+-- at most so many requests were served by a book: each sound content that one with a clean disk held led to one that it holds
+-- now
 abbrev pub HasServed : Site → {B : Type 0} → Ghosts B → B → B → ℕ → Type 0
 HasServed site book before after count = OnContent book before after (λ m. IsSound json_texts m → HasServedTurns site book before after m count)
 
@@ -157,35 +158,35 @@ IsUnserved site book before after limit Port = HasServed site book before after 
 
 -- a backup is asked for, at its route
 abbrev pub AsksBackup : Site → List ℕ → Type 0
-AsksBackup site came = HasRuling site.guard.port site.guard.has_page site.guard.has_backups came Routed × ((body : List ℕ) × HasSense came (asking Backup body))
+AsksBackup site received = HasRuling site.guard.port site.guard.has_page site.guard.has_backups received Routed × ((body : List ℕ) × ParsesTo received (asking Backup body))
 
 -- something else is
 abbrev pub AsksElse : List ℕ → Type 0
-AsksElse came = (sense : Sense) × HasSense came sense × (asks_backup sense ≡ false)
+AsksElse received = (parsed : ParseResult) × ParsesTo received parsed × (asks_backup parsed ≡ false)
 
 -- The whole answer to some bytes that ask for no backup: by their head they went to their route, and that is the answer to what they
 -- stand for; or the site answered by itself, and the book is the same.
-abbrev pub IsAnsweredAlone : Site → {B : Type 0} → Ghosts B → B → B → (came answer : List ℕ) → Type 0
-IsAnsweredAlone site book before after came answer =
-    (HasRuling site.guard.port site.guard.has_page site.guard.has_backups came Routed × IsServed book before after (Some came) (Some []) (Some answer) [] × AsksElse came)
-    ⊎ ((r : Ruling) × HasRuling site.guard.port site.guard.has_page site.guard.has_backups came r × (r ≢ Routed) × (answer ≡ own_bytes site r) × (after ≡ before))
+abbrev pub IsAnsweredAlone : Site → {B : Type 0} → Ghosts B → B → B → (received answer : List ℕ) → Type 0
+IsAnsweredAlone site book before after received answer =
+    (HasRuling site.guard.port site.guard.has_page site.guard.has_backups received Routed × IsServed book before after (Some received) (Some []) (Some answer) [] × AsksElse received)
+    ⊎ ((r : Ruling) × HasRuling site.guard.port site.guard.has_page site.guard.has_backups received r × (r ≢ Routed) × (answer ≡ own_bytes site r) × (after ≡ before))
 
 -- the whole answer to some bytes that ask for a backup, of which this came
-abbrev pub IsBackupAnswer : Site → (came answer : List ℕ) → Result ℕ Refusal → Type 0
-IsBackupAnswer site came answer outcome = AsksBackup site came × (answer ≡ answer_bytes (backup_answer outcome))
+abbrev pub IsBackupAnswer : Site → (received answer : List ℕ) → Result ℕ Refusal → Type 0
+IsBackupAnswer site received answer outcome = AsksBackup site received × (answer ≡ answer_bytes (backup_answer outcome))
 
 -- the whole answer to some bytes; a backup changes no book
-abbrev pub IsAnswered : Site → {B : Type 0} → Ghosts B → B → B → (came answer : List ℕ) → Type 0
-IsAnswered site book before after came answer =
-    IsAnsweredAlone site book before after came answer ⊎ ((outcome : Result ℕ Refusal) × IsBackupAnswer site came answer outcome × (after ≡ before))
+abbrev pub IsAnswered : Site → {B : Type 0} → Ghosts B → B → B → (received answer : List ℕ) → Type 0
+IsAnswered site book before after received answer =
+    IsAnsweredAlone site book before after received answer ⊎ ((outcome : Result ℕ Refusal) × IsBackupAnswer site received answer outcome × (after ≡ before))
 
 -- the same, and what came of a backup that it tells came of one that was made meanwhile
-abbrev pub IsAnsweredMeanwhile : Site → {B : Type 0} → Ghosts B → B → B → (seen between : Times) → (came answer : List ℕ) → Type 0
-IsAnsweredMeanwhile site book before after seen between came answer =
-    (IsAnsweredAlone site book before after came answer × TellsNone seen between)
-    ⊎ ((outcome : Result ℕ Refusal) × IsBackupAnswer site came answer outcome × (after ≡ before) × Copies seen between outcome)
+abbrev pub IsAnsweredMeanwhile : Site → {B : Type 0} → Ghosts B → B → B → (seen between : Times) → (received answer : List ℕ) → Type 0
+IsAnsweredMeanwhile site book before after seen between received answer =
+    (IsAnsweredAlone site book before after received answer × TellsNone seen between)
+    ⊎ ((outcome : Result ℕ Refusal) × IsBackupAnswer site received answer outcome × (after ≡ before) × Copies seen between outcome)
 
 -- and then the time was read
-abbrev pub IsAnsweredThen : Site → {B : Type 0} → Ghosts B → B → B → (seen seeing : Times) → Instant → (came answer : List ℕ) → Type 0
-IsAnsweredThen site book before after seen seeing now came answer =
-    (between : Times) × IsAnsweredMeanwhile site book before after seen between came answer × Tells between seeing now
+abbrev pub IsAnsweredThen : Site → {B : Type 0} → Ghosts B → B → B → (seen seeing : Times) → Instant → (received answer : List ℕ) → Type 0
+IsAnsweredThen site book before after seen seeing now received answer =
+    (between : Times) × IsAnsweredMeanwhile site book before after seen between received answer × Tells between seeing now

@@ -1,6 +1,6 @@
 -- What a site answers by itself: to requests of other sites, for its page, and for backups where none are made.
 use Rattle.std.specs.Prelude.{◌≡◌, ℕ, List, [], ◌++◌, length, Option, Some, None, Bool, true, false, codes, decimal}
-use Rattle.shop_request.specs.declared.faults.Fault.TheVariants as faults
+use Rattle.shop_request.specs.declared.faults.RequestFault.TheVariants as faults
 use Rattle.shop_request.specs.declared.guards.Ruling.{Ruling}
 use Rattle.shop_request.specs.declared.guards.Ruling.TheVariants.{Routed, Forbidden, Page, OnlyGet, NoBackups}
 use Rattle.shop_serve.specs.declared.sites.Site.{Site}
@@ -15,7 +15,7 @@ HasPage site None = site.guard.has_page ≡ false
 abbrev pub forbidden_bytes : List ℕ
 forbidden_bytes = codes "HTTP/1.1 403 Forbidden\r\nContent-Length: 0\r\nConnection: close\r\n\r\n"
 
--- what stands in a page's answer before and behind its length
+-- what stands in a page's answer before and after its length
 abbrev pub page_start : List ℕ
 page_start = codes "HTTP/1.1 200 OK\r\nContent-Type: text/html; charset=utf-8\r\nContent-Length: "
 

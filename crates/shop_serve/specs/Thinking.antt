@@ -6,19 +6,19 @@ use Rattle.slab.specs.Slab.{Slab, get}
 use Rattle.shop_book.specs.declared.books.Book.{Ghosts}
 use Rattle.shop_planning.specs.Thoughts.{posed_in}
 use Rattle.shop_serve.specs.declared.connections.Connection.{Ghosts as ConnectionGhosts}
-use Rattle.shop_serve.specs.declared.lines.Fate.{Fate}
-use Rattle.shop_serve.specs.declared.lines.Line.{Line}
+use Rattle.shop_serve.specs.declared.clients.Fate.{Fate}
+use Rattle.shop_serve.specs.declared.clients.Client.{Client}
 use Rattle.shop_serve.specs.declared.sites.Site.{Site}
 use Rattle.shop_serve.specs.declared.thinking.Thinking.{Thinking as ThinkingOf}
 use Rattle.shop_serve.specs.declared.thinking.Progress.{Progress}
 use Rattle.shop_serve.specs.declared.thinking.Progress.TheVariants.{GoesOn, Answered, NoMemory}
-use Rattle.shop_serve.specs.Lines.{IsAttendedAt, NoneAsks}
+use Rattle.shop_serve.specs.Clients.{IsAttendedAt, NoneAsks}
 use Rattle.shop_serve.specs.Making.{IsPlansAnswer, plans_refused, put_answer}
 use Rattle.shop_serve.specs.Times.{Times, Tells, TellsNone}
 
 module _ {C : Type 0} where
   -- its question was thought on now: it asks the same, and nothing else of the connection changed
-  pub record IsThoughtOnce (now : Instant) (old new : Line C) : Type 0 where
+  pub record IsThoughtOnce (now : Instant) (old new : Client C) : Type 0 where
     pub thinking : ThinkingOf
     pub next : ThinkingOf
     pub asks : old.thought ≡ Some thinking
@@ -27,7 +27,7 @@ module _ {C : Type 0} where
     pub kept : new ≡ record old { thought = Some next }
 
   -- It has the answer to its own question, and took nothing of it. Its seconds begin anew, at the time that is read then.
-  pub record IsThoughtOut (old new : Line C) (seen seeing : Times) : Type 0 where
+  pub record IsThoughtOut (old new : Client C) (seen seeing : Times) : Type 0 where
     pub thinking : ThinkingOf
     pub asks : old.thought ≡ Some thinking
     pub answer : Vec ℕ Global
@@ -37,7 +37,7 @@ module _ {C : Type 0} where
     pub kept : new ≡ put_answer old answer now
 
   -- It is told that memory was wanting for its question, and took nothing of that.
-  pub record IsRefused (old new : Line C) (seen seeing : Times) : Type 0 where
+  pub record IsRefused (old new : Client C) (seen seeing : Times) : Type 0 where
     pub answer : Vec ℕ Global
     pub now : Instant
     pub read : Tells seen seeing now
@@ -46,27 +46,27 @@ module _ {C : Type 0} where
 
   -- The connection of this key has a question, and no other connection changed. It goes on, it is answered, or memory was wanting
   -- for that and it is closed.
-  pub record IsThoughtAt (progress : Progress) (now : Instant) (key : ℕ) (old new : Slab (Line C)) (seen seeing : Times) : Type 0 where
-    pub line : Line C
-    pub there : get old key ≡ Some line
-    pub asks : IsSome line.thought
+  pub record IsThoughtAt (progress : Progress) (now : Instant) (key : ℕ) (old new : Slab (Client C)) (seen seeing : Times) : Type 0 where
+    pub client : Client C
+    pub there : get old key ≡ Some client
+    pub asks : IsSome client.thought
     pub others : (other : ℕ) → other ≢ key → get new other ≡ get old other
-    pub goes_on : progress ≡ GoesOn → (left : Line C) × (get new key ≡ Some left) × IsThoughtOnce now line left × TellsNone seen seeing
-    pub answered : progress ≡ Answered → (left : Line C) × (get new key ≡ Some left) × IsThoughtOut line left seen seeing
+    pub goes_on : progress ≡ GoesOn → (left : Client C) × (get new key ≡ Some left) × IsThoughtOnce now client left × TellsNone seen seeing
+    pub answered : progress ≡ Answered → (left : Client C) × (get new key ≡ Some left) × IsThoughtOut client left seen seeing
     pub closed : progress ≡ NoMemory → (get new key ≡ None) × TellsNone seen seeing
 
 module _ {C : Type 0} (connection : ConnectionGhosts C) (site : Site) {B : Type 0} (book : Ghosts B) where
   -- One question was thought on. Where its answer was made its connection is attended to at once.
-  pub record IsThoughtOn (now : Instant) (old new : Slab (Line C)) (before after : B) (seen seeing : Times) : Type 0 where
+  pub record IsThoughtOn (now : Instant) (old new : Slab (Client C)) (before after : B) (seen seeing : Times) : Type 0 where
     pub key : ℕ
     pub progress : Progress
-    pub lines : Slab (Line C)
+    pub clients : Slab (Client C)
     pub between : Times
-    pub thought : IsThoughtAt progress now key old lines seen between
-    pub goes_on : progress ≢ Answered → (new ≡ lines) × (after ≡ before) × TellsNone between seeing
-    pub answered : progress ≡ Answered → (fate : Fate) × IsAttendedAt connection site book fate key lines new before after between seeing
+    pub thought : IsThoughtAt progress now key old clients seen between
+    pub goes_on : progress ≢ Answered → (new ≡ clients) × (after ≡ before) × TellsNone between seeing
+    pub answered : progress ≡ Answered → (fate : Fate) × IsAttendedAt connection site book fate key clients new before after between seeing
 
   -- one was, or none has a question and nothing is done
-  abbrev pub Thinks : Instant → Slab (Line C) → Slab (Line C) → B → B → (seen seeing : Times) → Type 0
+  abbrev pub Thinks : Instant → Slab (Client C) → Slab (Client C) → B → B → (seen seeing : Times) → Type 0
   Thinks now old new before after seen seeing =
       (NoneAsks old × (new ≡ old) × (after ≡ before) × TellsNone seen seeing) ⊎ IsThoughtOn now old new before after seen seeing

@@ -10,13 +10,13 @@ Adds (Some xs) None more = ⊥
 Adds (Some xs) (Some ys) more = ys ≡ xs ++ more
 
 -- a time, or what came of a backup: its number, or why none was made
-pub data Told : Type 0 where
-  time : Instant → Told
-  copy : Result ℕ Refusal → Told
+pub data Report : Type 0 where
+  time : Instant → Report
+  copy : Result ℕ Refusal → Report
 
 -- the times that were told so far, and what came of backups meanwhile, where they are known
 abbrev pub Times : Type 0
-Times = Option (List Told)
+Times = Option (List Report)
 
 -- the time was read, and it was this
 abbrev pub Tells : Times → Times → Instant → Type 0
@@ -27,15 +27,15 @@ abbrev pub Copies : Times → Times → Result ℕ Refusal → Type 0
 Copies seen seeing outcome = Adds seen seeing (copy outcome ∷ [])
 
 -- the times alone
-abbrev pub times_of : List Told → List Instant
+abbrev pub times_of : List Report → List Instant
 times_of [] = []
 times_of (time now ∷ more) = now ∷ times_of more
 times_of (copy outcome ∷ more) = times_of more
 
 -- where the times are known, and one was read, this is the last
-abbrev pub ToldLast : Times → Instant → Type 0
-ToldLast None now = ⊤
-ToldLast (Some told) now = (times_of told ≡ []) ⊎ ((earlier : List Instant) × (times_of told ≡ earlier ++ now ∷ []))
+abbrev pub ReportedLast : Times → Instant → Type 0
+ReportedLast None now = ⊤
+ReportedLast (Some told) now = (times_of told ≡ []) ⊎ ((earlier : List Instant) × (times_of told ≡ earlier ++ now ∷ []))
 
 -- it wasn't read, and no backup was made
 abbrev pub TellsNone : Times → Times → Type 0

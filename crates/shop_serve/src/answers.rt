@@ -5,10 +5,10 @@ ghost use Rattle.std.specs.Prelude.{◌≡◌, ◌≢◌, ◌⊎◌, ◌<◌, �
 ghost use Rattle.shop_records.specs.declared.refusals.Refusal.{Refusal as RefusalOf};
 ghost use Rattle.shop_request.specs.Guards.{HasRuling};
 ghost use Rattle.shop_request.specs.declared.guards.Ruling.TheVariants as ruling;
-ghost use Rattle.shop_request.specs.declared.faults.Fault.TheVariants as faults;
+ghost use Rattle.shop_request.specs.declared.faults.RequestFault.TheVariants as faults;
 ghost use Rattle.shop_wire.specs.AnswerBytes.{answer_bytes, backup_answer, fault_answer};
 ghost use Rattle.shop_request.specs.Reading.{IsHeadIn};
-ghost use Rattle.shop_request.specs.Requests.{sense_of};
+ghost use Rattle.shop_request.specs.Requests.{parse_of};
 ghost use Rattle.shop_serve.specs.Making.{IsMadeMeanwhile, IsNext};
 ghost use Rattle.shop_serve.specs.Serving.{HasServed, asks_backup};
 ghost use Rattle.shop_serve.specs.Times.{Copies};
@@ -84,7 +84,7 @@ impl Sink for Answer {
 
 // Whether a backup is asked for.
 fn asks_backup(inbound: &Inbound) -> bool
-    ensures { result ≡ asks_backup (sense_of inbound.now) }
+    ensures { result ≡ asks_backup (parse_of inbound.now) }
 {
     match inbound {
         Inbound::Asks(route, _) => matches!(route, Route::Backup),
@@ -98,17 +98,17 @@ fn routed_answer<B: Book>(
     alloc: Global,
     site: &Site,
     head: &Head,
-    came: &[u8],
+    received: &[u8],
     book: &mut B,
 ) -> Option<Next>
-    requires some { 0 < length came.now }
-    requires head { IsHeadIn came.now head.now }
-    requires goes { HasRuling site.now.guard.port site.now.guard.has_page site.now.guard.has_backups came.now ruling.Routed }
-    ensures made { IfSome result (IsNext site.now B.Book book.old book.new came.now) }
+    requires some { 0 < length received.now }
+    requires head { IsHeadIn received.now head.now }
+    requires goes { HasRuling site.now.guard.port site.now.guard.has_page site.now.guard.has_backups received.now ruling.Routed }
+    ensures made { IfSome result (IsNext site.now B.Book book.old book.new received.now) }
     ensures step { HasServed site.now B.Book book.old book.new 1 }
-    ensures honest { B.is_honest book.new → B.is_honest book.old }
+    ensures clean_disk { B.has_clean_disk book.new → B.has_clean_disk book.old }
 {
-    let inbound = inbound_of(head, came);
+    let inbound = inbound_of(head, received);
     if asks_backup(&inbound) {
         return Some(Next::Backup);
     }
@@ -123,7 +123,7 @@ fn routed_answer<B: Book>(
     }
 }
 
-// The text that a page's answer has before and behind its length.
+// The text that a page's answer has before and after its length.
 fn page_head(alloc: Global, length: usize) -> Result<String, AllocError>
     ensures { IfOk result (λ text. string_bytes text ≡ page_start ++ decimal length
         ++ page_fields) }
@@ -167,18 +167,18 @@ fn answer_of<B: Book>(
     alloc: Global,
     site: &Site,
     head: &Head,
-    came: &[u8],
+    received: &[u8],
     book: &mut B,
 ) -> Option<Next>
-    requires some { 0 < length came.now }
-    requires head { IsHeadIn came.now head.now }
-    ensures made { IfSome result (IsNext site.now B.Book book.old book.new came.now) }
+    requires some { 0 < length received.now }
+    requires head { IsHeadIn received.now head.now }
+    ensures made { IfSome result (IsNext site.now B.Book book.old book.new received.now) }
     ensures step { HasServed site.now B.Book book.old book.new 1 }
-    ensures honest { B.is_honest book.new → B.is_honest book.old }
+    ensures clean_disk { B.has_clean_disk book.new → B.has_clean_disk book.old }
 {
-    let ruling = site.guard.rule(head, came);
+    let ruling = site.guard.rule(head, received);
     if is_routed(ruling) {
-        return routed_answer(alloc, site, head, came, book);
+        return routed_answer(alloc, site, head, received, book);
     }
     match own_answer(alloc, site, ruling) {
         Ok(answer) => Some(Next::Made(Made::Answer(answer))),
@@ -222,18 +222,18 @@ pub(crate) fn made_of<K: Watch, B: Book>(
     alloc: Global,
     site: &Site,
     head: &Head,
-    came: &[u8],
+    received: &[u8],
     watch: &mut K,
     book: &mut B,
 ) -> Option<Made>
-    requires some { 0 < length came.now }
-    requires head { IsHeadIn came.now head.now }
+    requires some { 0 < length received.now }
+    requires head { IsHeadIn received.now head.now }
     ensures made { IfSome result (IsMadeMeanwhile site.now B.Book book.old book.new
-        (K.times watch.old) (K.times watch.new) came.now) }
+        (K.times watch.old) (K.times watch.new) received.now) }
     ensures step { HasServed site.now B.Book book.old book.new 1 }
-    ensures honest { B.is_honest book.new → B.is_honest book.old }
+    ensures clean_disk { B.has_clean_disk book.new → B.has_clean_disk book.old }
 {
-    match answer_of(alloc, site, head, came, book)? {
+    match answer_of(alloc, site, head, received, book)? {
         Next::Made(made) => {
             note_made(watch, &made);
             Some(made)

@@ -1,7 +1,7 @@
 //! What a server reads from and writes to, as far as it goes without waiting: a connection, and that of a socket.
 
 ghost use Rattle.std.specs.Prelude.{◌≡◌, ◌<◌, ◌≤◌, ℕ, List, Option, None, Err, length, IfOk, ⊤};
-ghost use Rattle.shop_serve.specs.declared.connections.Halt.TheVariants.{Waits, Lost};
+ghost use Rattle.shop_serve.specs.declared.connections.Stall.TheVariants.{Waits, Lost};
 ghost use Rattle.std.specs.Io.KnownBytes.{ReadConsumes, WriteAppends};
 
 use mio::net::TcpStream;
@@ -13,7 +13,7 @@ const MOST_TRIES: u32 = 1000;
 
 /// Why a call moved no byte.
 #[derive(Clone, Copy, PartialEq, Eq)]
-pub(crate) enum Halt {
+pub(crate) enum Stall {
     Waits,
     Lost,
 }
@@ -39,17 +39,17 @@ pub(crate) trait Connection {
     ghost is_lost: { Self → Type 0 };
 
     /// Reads the next bytes that came of it, or none at their end.
-    fn read_some(&mut self, room: &mut [u8]) -> Result<usize, Halt>
-        ensures within { IfOk result (λ count. count ≤ length room.old) }
-        ensures long { length room.new ≡ length room.old }
-        ensures bytes { ReadConsumes (remaining self.old) (remaining self.new) result room.new }
+    fn read_some(&mut self, buffer: &mut [u8]) -> Result<usize, Stall>
+        ensures within { IfOk result (λ count. count ≤ length buffer.old) }
+        ensures long { length buffer.new ≡ length buffer.old }
+        ensures bytes { ReadConsumes (remaining self.old) (remaining self.new) result buffer.new }
         ensures drained { result ≡ Err Waits → is_drained self.new }
         ensures lost { result ≡ Err Lost → is_lost self.new }
         ensures kept { contents self.new ≡ contents self.old }
         ensures ended { has_ended self.old → has_ended self.new };
 
     /// Has it take the first of some bytes.
-    fn write_some(&mut self, bytes: &[u8]) -> Result<usize, Halt>
+    fn write_some(&mut self, bytes: &[u8]) -> Result<usize, Stall>
         ensures within { IfOk result (λ count. count ≤ length bytes.now) }
         ensures some { IfOk result (λ count. 0 < count) }
         ensures bytes { WriteAppends (contents self.old) (contents self.new) result bytes.now }
@@ -77,34 +77,34 @@ impl Connection for TcpStream {
     ghost is_lost = { λ _. ⊤ };
 
     // A call that is interrupted is made again.
-    fn read_some(&mut self, room: &mut [u8]) -> Result<usize, Halt> {
+    fn read_some(&mut self, buffer: &mut [u8]) -> Result<usize, Stall> {
         for _ in 0..MOST_TRIES {
-            match self.read(room) {
+            match self.read(buffer) {
                 Ok(count) => return Ok(count),
                 Err(error) => match error.kind() {
                     ErrorKind::Interrupted => (),
-                    ErrorKind::WouldBlock => return Err(Halt::Waits),
-                    _ => return Err(Halt::Lost),
+                    ErrorKind::WouldBlock => return Err(Stall::Waits),
+                    _ => return Err(Stall::Lost),
                 },
             }
         }
-        Err(Halt::Lost)
+        Err(Stall::Lost)
     }
 
     // A call that is interrupted is made again. A socket that takes none of the bytes is lost.
-    fn write_some(&mut self, bytes: &[u8]) -> Result<usize, Halt> {
+    fn write_some(&mut self, bytes: &[u8]) -> Result<usize, Stall> {
         for _ in 0..MOST_TRIES {
             match self.write(bytes) {
-                Ok(0) => return Err(Halt::Lost),
+                Ok(0) => return Err(Stall::Lost),
                 Ok(count) => return Ok(count),
                 Err(error) => match error.kind() {
                     ErrorKind::Interrupted => (),
-                    ErrorKind::WouldBlock => return Err(Halt::Waits),
-                    _ => return Err(Halt::Lost),
+                    ErrorKind::WouldBlock => return Err(Stall::Waits),
+                    _ => return Err(Stall::Lost),
                 },
             }
         }
-        Err(Halt::Lost)
+        Err(Stall::Lost)
     }
 
     fn end_writing(&mut self) {

@@ -3,10 +3,10 @@
 #![tactic(auto)]
 
 mod answers;
+mod clients;
 mod connections;
 mod faults;
 mod laws;
-mod lines;
 mod ports;
 mod serving;
 mod sites;

@@ -104,24 +104,24 @@ pub(crate) trait Port<C> {
 
 /// A listener that is watched beside the connections that it gave.
 #[derive(Drop)]
-pub(crate) struct Door<'a> {
+pub(crate) struct WatchedListener<'a> {
     listener: &'a Listener,
     poll: Poll,
     events: Events,
     keys: Vec<usize>,
 }
 
-impl<'a> Door<'a> {
+impl<'a> WatchedListener<'a> {
     /// Watches a listener.
     pub(crate) fn new<R: Net>(
         rt: &R,
         alloc: Global,
         listener: &'a Listener,
-    ) -> Result<Door<'a>, ServeFault> {
+    ) -> Result<WatchedListener<'a>, ServeFault> {
         let events = Events::with_capacity(alloc, MOST_EVENTS)?;
         let keys = Vec::with_capacity(alloc, MOST_EVENTS)?;
         let poll = watched(rt, listener)?;
-        Ok(Door {
+        Ok(WatchedListener {
             listener,
             poll,
             events,
@@ -182,12 +182,12 @@ fn next_stream(listener: &Listener) -> Result<Option<Stream>, ServeFault> {
     Ok(None)
 }
 
-impl<'a> Port<Stream> for Door<'a> {
+impl<'a> Port<Stream> for WatchedListener<'a> {
     ghost told = { λ _. None };
 
     ghost given = { λ _. None };
 
-    ghost reported = { λ door. door.keys.items };
+    ghost reported = { λ listening. listening.keys.items };
 
     ghost is_watched = { λ _ _ _. ⊤ };
 

@@ -4,16 +4,16 @@
 ghost use Rattle.std.specs.Prelude.{◌≡◌, ◌≤◌, ◌+◌, ℕ, List, length, IfErr, IfSome, OnOk};
 ghost use Rattle.std.specs.Duration.{as_nanos};
 ghost use Rattle.std.specs.declared.time.Instant.{Instant as Moment};
-ghost use Rattle.shop_serve.specs.Lines.{AreAttended, AsksAt, HasRoom, unanswered};
+ghost use Rattle.shop_serve.specs.Clients.{AreAttended, AsksAt, CanOpenOne, unanswered};
 ghost use Rattle.shop_serve.specs.Rounds.{AreReceived, HasServedAll, IsReceived, IsRound};
 ghost use Rattle.shop_serve.specs.Serving.{Advances, HasServed, IsUnserved, most_served};
 ghost use Rattle.shop_serve.specs.Times.{Adds};
 ghost use Rattle.shop_serve.specs.declared.faults.ServeFault.TheVariants.{Port as Fault};
 
+use crate::clients::{Client, attend_at, can_open_one, close_late, open_client};
 use crate::connections::Connection;
 use crate::faults::ServeFault;
-use crate::lines::{Line, attend_at, close_late, has_room, open_line};
-use crate::ports::{Door, Listener, Port};
+use crate::ports::{Listener, Port, WatchedListener};
 use crate::sites::Site;
 use crate::thinking::{next_wait, think};
 use crate::watches::{Stopwatch, Watch};
@@ -42,21 +42,21 @@ fn receive<C: Connection + Drop, P: Port<C>, K: Watch, B: Book>(
     port: &mut P,
     stream: C,
     watch: &mut K,
-    lines: &mut Slab<Line<C>>,
+    clients: &mut Slab<Client<C>>,
     book: &mut B,
 )
-    requires room { HasRoom lines.old }
-    ensures received { IsReceived C.Connection site.now B.Book P.Port stream lines.old lines.new
+    requires room { CanOpenOne clients.old }
+    ensures received { IsReceived C.Connection site.now B.Book P.Port stream clients.old clients.new
         book.old book.new (K.times watch.old) (K.times watch.new) }
     ensures told { P.told port.new ≡ P.told port.old }
     ensures given { P.given port.new ≡ P.given port.old }
-    ensures run { Advances site.now B.Book book.old book.new (unanswered lines.old + 1)
-        (unanswered lines.new) }
-    ensures honest { B.is_honest book.new → B.is_honest book.old }
+    ensures run { Advances site.now B.Book book.old book.new (unanswered clients.old + 1)
+        (unanswered clients.new) }
+    ensures clean_disk { B.has_clean_disk book.new → B.has_clean_disk book.old }
 {
     let now = watch.now();
-    if let Some(key) = open_line(alloc, port, stream, now, lines) {
-        let _ = attend_at(alloc, site, lines, key, watch, book);
+    if let Some(key) = open_client(alloc, port, stream, now, clients) {
+        let _ = attend_at(alloc, site, clients, key, watch, book);
     }
 }
 
@@ -68,26 +68,26 @@ fn accept_waiting<C: Connection + Drop, P: Port<C>, K: Watch, B: Book>(
     port: &mut P,
     watch: &mut K,
     limit: u64,
-    lines: &mut Slab<Line<C>>,
+    clients: &mut Slab<Client<C>>,
     accepted: &mut u64,
     book: &mut B,
 ) -> Option<Duration>
     requires bound { accepted.old ≤ limit }
-    ensures each { (came : List C) × (accepted.new ≡ accepted.old + length came)
-        × Adds (P.given port.old) (P.given port.new) came
-        × AreReceived C.Connection site.now B.Book P.Port came lines.old lines.new book.old book.new
+    ensures each { (arrived : List C) × (accepted.new ≡ accepted.old + length arrived)
+        × Adds (P.given port.old) (P.given port.new) arrived
+        × AreReceived C.Connection site.now B.Book P.Port arrived clients.old clients.new book.old book.new
         (K.times watch.old) (K.times watch.new) }
     ensures told { P.told port.new ≡ P.told port.old }
-    ensures run { Advances site.now B.Book book.old book.new (unanswered lines.old + accepted.new)
-        (unanswered lines.new + accepted.old) }
+    ensures run { Advances site.now B.Book book.old book.new (unanswered clients.old + accepted.new)
+        (unanswered clients.new + accepted.old) }
     ensures bound { accepted.new ≤ limit }
-    ensures honest { B.is_honest book.new → B.is_honest book.old }
+    ensures clean_disk { B.has_clean_disk book.new → B.has_clean_disk book.old }
 {
     for _ in 0..MOST_ACCEPTED {
         if *accepted >= limit {
             return Some(Duration::from_secs(TURN));
         }
-        if !has_room(lines) {
+        if !can_open_one(clients) {
             return Some(Duration::from_secs(TURN));
         }
         let stream = match port.accept() {
@@ -96,7 +96,7 @@ fn accept_waiting<C: Connection + Drop, P: Port<C>, K: Watch, B: Book>(
             Err(_) => return None,
         };
         *accepted += 1;
-        receive(alloc, site, port, stream, watch, lines, book);
+        receive(alloc, site, port, stream, watch, clients, book);
     }
     Some(Duration::ZERO)
 }
@@ -107,17 +107,17 @@ fn attend_reported<C: Connection + Drop, K: Watch, B: Book>(
     site: &Site,
     keys: &[usize],
     watch: &mut K,
-    lines: &mut Slab<Line<C>>,
+    clients: &mut Slab<Client<C>>,
     book: &mut B,
 )
-    ensures each { AreAttended C.Connection site.now B.Book keys.now lines.old lines.new book.old
+    ensures each { AreAttended C.Connection site.now B.Book keys.now clients.old clients.new book.old
         book.new (K.times watch.old) (K.times watch.new) }
-    ensures run { Advances site.now B.Book book.old book.new (unanswered lines.old)
-        (unanswered lines.new) }
-    ensures honest { B.is_honest book.new → B.is_honest book.old }
+    ensures run { Advances site.now B.Book book.old book.new (unanswered clients.old)
+        (unanswered clients.new) }
+    ensures clean_disk { B.has_clean_disk book.new → B.has_clean_disk book.old }
 {
     for key in keys {
-        let _ = attend_at(alloc, site, lines, *key, watch, book);
+        let _ = attend_at(alloc, site, clients, *key, watch, book);
     }
 }
 
@@ -129,30 +129,30 @@ fn turn<C: Connection + Drop, P: Port<C>, K: Watch, B: Book>(
     port: &mut P,
     watch: &mut K,
     limit: u64,
-    lines: &mut Slab<Line<C>>,
+    clients: &mut Slab<Client<C>>,
     accepted: &mut u64,
     book: &mut B,
 ) -> Option<Duration>
     requires bound { accepted.old ≤ limit }
-    ensures round { (came : List C) × (accepted.new ≡ accepted.old + length came)
-        × Adds (P.given port.old) (P.given port.new) came
+    ensures round { (arrived : List C) × (accepted.new ≡ accepted.old + length arrived)
+        × Adds (P.given port.old) (P.given port.new) arrived
         × ((now : Moment) × IsRound C.Connection site.now B.Book P.Port
-        (record { now = now; keys = P.reported port.old; came = came }) lines.old lines.new book.old
+        (record { now = now; keys = P.reported port.old; arrived = arrived }) clients.old clients.new book.old
         book.new (K.times watch.old) (K.times watch.new)) }
     ensures waits { IfSome result
-        (λ wait. (key : ℕ) → AsksAt lines.new key → as_nanos wait ≡ 0) }
+        (λ wait. (key : ℕ) → AsksAt clients.new key → as_nanos wait ≡ 0) }
     ensures told { P.told port.new ≡ P.told port.old }
-    ensures run { Advances site.now B.Book book.old book.new (unanswered lines.old + accepted.new)
-        (unanswered lines.new + accepted.old) }
+    ensures run { Advances site.now B.Book book.old book.new (unanswered clients.old + accepted.new)
+        (unanswered clients.new + accepted.old) }
     ensures bound { accepted.new ≤ limit }
-    ensures honest { B.is_honest book.new → B.is_honest book.old }
+    ensures clean_disk { B.has_clean_disk book.new → B.has_clean_disk book.old }
 {
-    attend_reported(alloc, site, port.keys(), watch, lines, book);
+    attend_reported(alloc, site, port.keys(), watch, clients, book);
     let moment = watch.now();
-    close_late(lines, moment);
-    think(alloc, site, lines, moment, watch, book);
-    let wait = accept_waiting(alloc, site, port, watch, limit, lines, accepted, book);
-    next_wait(lines, wait)
+    close_late(clients, moment);
+    think(alloc, site, clients, moment, watch, book);
+    let wait = accept_waiting(alloc, site, port, watch, limit, clients, accepted, book);
+    next_wait(clients, wait)
 }
 
 // Serves the connections that a port gives, until as many as the limit says came and are done with, or none can be accepted
@@ -171,13 +171,13 @@ fn serve_port<C: Connection + Drop, P: Port<C>, K: Watch, B: Book>(
         (K.times watch.old) (K.times watch.new)) }
     ensures served { HasServed site.now B.Book book.old book.new limit }
     ensures fault { IfErr result (λ fault. fault ≡ Fault) }
-    ensures honest { B.is_honest book.new → B.is_honest book.old }
+    ensures clean_disk { B.has_clean_disk book.new → B.has_clean_disk book.old }
 {
-    let mut lines = Slab::new(alloc);
+    let mut clients = Slab::new(alloc);
     let mut accepted = 0u64;
     let mut wait = Duration::from_secs(TURN);
     for _ in 0..u64::MAX {
-        if accepted >= limit && lines.is_empty() {
+        if accepted >= limit && clients.is_empty() {
             return Ok(());
         }
         match port.wait(wait) {
@@ -190,7 +190,7 @@ fn serve_port<C: Connection + Drop, P: Port<C>, K: Watch, B: Book>(
             port,
             watch,
             limit,
-            &mut lines,
+            &mut clients,
             &mut accepted,
             book,
         ) {
@@ -233,9 +233,9 @@ pub fn serve_on<R: Net + Clock + Eprint + Files, B: Book>(
     ensures ok { OnOk result (HasServed site.now B.Book book.old book.new (most_served limit)) }
     ensures err { IfErr result
         (IsUnserved site.now B.Book book.old book.new (most_served limit)) }
-    ensures honest { B.is_honest book.new → B.is_honest book.old }
+    ensures clean_disk { B.has_clean_disk book.new → B.has_clean_disk book.old }
 {
-    let mut port = Door::new(rt, alloc, listener)?;
+    let mut port = WatchedListener::new(rt, alloc, listener)?;
     let mut watch = Stopwatch::new(rt, backups)?;
     serve_port(alloc, &mut port, &mut watch, most_served(limit), site, book)
 }

@@ -3,15 +3,15 @@
 ghost use Rattle.std.specs.Prelude.{◌≡◌, ◌≢◌, ◌≤◌, ℕ, None, false, IfOk, IfSome, IsSome, string_bytes};
 ghost use Rattle.std.specs.Duration.{as_nanos};
 ghost use Rattle.shop_planning.specs.Thoughts.{posed_in};
-ghost use Rattle.shop_serve.specs.Lines.{AsksAt, NoneAsks, unanswered};
+ghost use Rattle.shop_serve.specs.Clients.{AsksAt, NoneAsks, unanswered};
 ghost use Rattle.shop_serve.specs.Making.{IsPlansAnswer};
 ghost use Rattle.shop_serve.specs.Serving.{Advances};
 ghost use Rattle.shop_serve.specs.Thinking.{IsRefused, IsThoughtAt, IsThoughtOnce, IsThoughtOut, Thinks};
 ghost use Rattle.shop_serve.specs.Times.{TellsNone};
 ghost use Rattle.shop_serve.specs.declared.thinking.Progress.TheVariants as progress;
 
+use crate::clients::{Client, attend_at, is_begun, put_answer};
 use crate::connections::Connection;
-use crate::lines::{Line, attend_at, is_begun, put_answer};
 use crate::sites::Site;
 use crate::watches::Watch;
 use shop_book::Book;
@@ -31,7 +31,7 @@ pub(crate) struct Thinking {
     pub(crate) last: Option<Instant>,
 }
 
-// A place in the row of questions: those that have to wait are behind the others, and each is behind those that wait longer.
+// A place in the row of questions: those that have to wait are after the others, and each is after those that wait longer.
 #[derive(Clone, Copy)]
 struct Place {
     has_to_wait: bool,
@@ -48,11 +48,11 @@ impl Place {
 }
 
 // The place of a connection's question, where others may be begun or not.
-fn place_of<C>(line: &Line<C>, is_full: bool) -> Option<Place>
-    ensures some { IsSome result → IsSome line.now.thought }
-    ensures none { result ≡ None → line.now.thought ≡ None }
+fn place_of<C>(client: &Client<C>, is_full: bool) -> Option<Place>
+    ensures some { IsSome result → IsSome client.now.thought }
+    ensures none { result ≡ None → client.now.thought ≡ None }
 {
-    match &line.thought {
+    match &client.thought {
         None => None,
         Some(thinking) => match thinking.last {
             Some(since) => Some(Place {
@@ -61,7 +61,7 @@ fn place_of<C>(line: &Line<C>, is_full: bool) -> Option<Place>
             }),
             None => Some(Place {
                 has_to_wait: is_full,
-                since: line.since,
+                since: client.since,
             }),
         },
     }
@@ -75,10 +75,10 @@ fn is_first(found: Option<(usize, Place)>, place: Place) -> bool
 }
 
 // How many questions were begun.
-fn count_begun<C>(lines: &Slab<Line<C>>) -> usize {
+fn count_begun<C>(clients: &Slab<Client<C>>) -> usize {
     let mut begun = 0usize;
-    for (_, line) in lines.iter() {
-        if is_begun(line) {
+    for (_, client) in clients.iter() {
+        if is_begun(client) {
             begun = begun.saturating_add(1);
         }
     }
@@ -87,14 +87,14 @@ fn count_begun<C>(lines: &Slab<Line<C>>) -> usize {
 
 // The key of the connection whose question is thought on next: of those that were begun, at most eight, and as long as they
 // are fewer of those that wait too, the one that waits longest since it was thought on or read.
-fn next_thought<C>(lines: &Slab<Line<C>>) -> Option<usize>
-    ensures some { IfSome result (AsksAt lines.now) }
-    ensures none { result ≡ None → NoneAsks lines.now }
+fn next_thought<C>(clients: &Slab<Client<C>>) -> Option<usize>
+    ensures some { IfSome result (AsksAt clients.now) }
+    ensures none { result ≡ None → NoneAsks clients.now }
 {
-    let is_full = count_begun(lines) >= MOST_THOUGHTS;
+    let is_full = count_begun(clients) >= MOST_THOUGHTS;
     let mut found: Option<(usize, Place)> = None;
-    for (key, line) in lines.iter() {
-        let place = match place_of(line, is_full) {
+    for (key, client) in clients.iter() {
+        let place = match place_of(client, is_full) {
             Some(place) => place,
             None => continue,
         };
@@ -131,17 +131,17 @@ pub(crate) enum Progress {
 }
 
 // Tells that memory was wanting for a connection's question, where there is memory for that.
-fn refuse<C, K: Watch>(alloc: Global, line: &mut Line<C>, watch: &mut K) -> Progress
+fn refuse<C, K: Watch>(alloc: Global, client: &mut Client<C>, watch: &mut K) -> Progress
     ensures goes_on { result ≢ progress.GoesOn }
     ensures answered { result ≡ progress.Answered
-        → IsRefused line.old line.new (K.times watch.old) (K.times watch.new) }
+        → IsRefused client.old client.new (K.times watch.old) (K.times watch.new) }
     ensures closed { result ≡ progress.NoMemory
         → TellsNone (K.times watch.old) (K.times watch.new) }
 {
     match plans_refused(alloc) {
         Ok(answer) => {
             watch.note(answer.as_str().as_bytes());
-            put_answer(line, answer.into_bytes(), watch.now());
+            put_answer(client, answer.into_bytes(), watch.now());
             Progress::Answered
         }
         Err(_) => Progress::NoMemory,
@@ -151,35 +151,35 @@ fn refuse<C, K: Watch>(alloc: Global, line: &mut Line<C>, watch: &mut K) -> Prog
 // Thinks once on a connection's question, and notes when. Where memory is wanting what was found is let go first.
 fn think_once<C, K: Watch>(
     alloc: Global,
-    line: &mut Line<C>,
+    client: &mut Client<C>,
     now: Instant,
     watch: &mut K,
 ) -> Progress
-    requires { IsSome line.old.thought }
-    ensures goes_on { result ≡ progress.GoesOn → IsThoughtOnce now line.old line.new
+    requires { IsSome client.old.thought }
+    ensures goes_on { result ≡ progress.GoesOn → IsThoughtOnce now client.old client.new
         × TellsNone (K.times watch.old) (K.times watch.new) }
     ensures answered { result ≡ progress.Answered
-        → IsThoughtOut line.old line.new (K.times watch.old) (K.times watch.new) }
+        → IsThoughtOut client.old client.new (K.times watch.old) (K.times watch.new) }
     ensures closed { result ≡ progress.NoMemory
         → TellsNone (K.times watch.old) (K.times watch.new) }
 {
-    let Some(mut thinking) = line.thought.take() else {
+    let Some(mut thinking) = client.thought.take() else {
         unreachable!()
     };
     thinking.last = Some(now);
     match advance(alloc, &mut thinking.thought) {
         Ok(None) => {
-            drop(line.thought.replace(thinking));
+            drop(client.thought.replace(thinking));
             Progress::GoesOn
         }
         Ok(Some(answer)) => {
             drop(thinking);
-            put_answer(line, answer.into_bytes(), watch.now());
+            put_answer(client, answer.into_bytes(), watch.now());
             Progress::Answered
         }
         Err(_) => {
             drop(thinking);
-            refuse(alloc, line, watch)
+            refuse(alloc, client, watch)
         }
     }
 }
@@ -187,24 +187,24 @@ fn think_once<C, K: Watch>(
 // Thinks once on the question of a key's connection, and closes it where memory is wanting. Tells what came of it.
 fn think_at<C: Drop, K: Watch>(
     alloc: Global,
-    lines: &mut Slab<Line<C>>,
+    clients: &mut Slab<Client<C>>,
     key: usize,
     now: Instant,
     watch: &mut K,
 ) -> Progress
-    requires { AsksAt lines.old key }
-    ensures at { IsThoughtAt result now key lines.old lines.new (K.times watch.old)
+    requires { AsksAt clients.old key }
+    ensures at { IsThoughtAt result now key clients.old clients.new (K.times watch.old)
         (K.times watch.new) }
-    ensures fewer { unanswered lines.new ≤ unanswered lines.old }
+    ensures fewer { unanswered clients.new ≤ unanswered clients.old }
 {
-    let Some(line) = lines.get_mut(key) else {
+    let Some(client) = clients.get_mut(key) else {
         return Progress::GoesOn;
     };
-    match think_once(alloc, line, now, watch) {
+    match think_once(alloc, client, now, watch) {
         Progress::GoesOn => Progress::GoesOn,
         Progress::Answered => Progress::Answered,
         Progress::NoMemory => {
-            drop(lines.try_remove(key));
+            drop(clients.try_remove(key));
             Progress::NoMemory
         }
     }
@@ -214,48 +214,48 @@ fn think_at<C: Drop, K: Watch>(
 pub(crate) fn think<C: Connection + Drop, K: Watch, B: Book>(
     alloc: Global,
     site: &Site,
-    lines: &mut Slab<Line<C>>,
+    clients: &mut Slab<Client<C>>,
     now: Instant,
     watch: &mut K,
     book: &mut B,
 )
-    ensures thinks { Thinks C.Connection site.now B.Book now lines.old lines.new book.old book.new
+    ensures thinks { Thinks C.Connection site.now B.Book now clients.old clients.new book.old book.new
         (K.times watch.old) (K.times watch.new) }
-    ensures run { Advances site.now B.Book book.old book.new (unanswered lines.old)
-        (unanswered lines.new) }
-    ensures honest { B.is_honest book.new → B.is_honest book.old }
+    ensures run { Advances site.now B.Book book.old book.new (unanswered clients.old)
+        (unanswered clients.new) }
+    ensures clean_disk { B.has_clean_disk book.new → B.has_clean_disk book.old }
 {
-    let Some(key) = next_thought(lines) else {
+    let Some(key) = next_thought(clients) else {
         return;
     };
-    match think_at(alloc, lines, key, now, watch) {
+    match think_at(alloc, clients, key, now, watch) {
         Progress::GoesOn => (),
         Progress::NoMemory => (),
         Progress::Answered => {
-            let _ = attend_at(alloc, site, lines, key, watch, book);
+            let _ = attend_at(alloc, site, clients, key, watch, book);
         }
     }
 }
 
 // For how long is waited, where that may be so long.
-fn time_to_wait<C>(lines: &Slab<Line<C>>, wait: Duration) -> Duration
-    ensures idle { NoneAsks lines.now → result ≡ wait }
-    ensures asks { (key : ℕ) → AsksAt lines.now key → as_nanos result ≡ 0 }
+fn time_to_wait<C>(clients: &Slab<Client<C>>, wait: Duration) -> Duration
+    ensures idle { NoneAsks clients.now → result ≡ wait }
+    ensures asks { (key : ℕ) → AsksAt clients.now key → as_nanos result ≡ 0 }
 {
-    if next_thought(lines).is_some() {
+    if next_thought(clients).is_some() {
         return Duration::ZERO;
     }
     wait
 }
 
 /// For how long is waited next, where one may wait: for no time, while a question is thought about.
-pub(crate) fn next_wait<C>(lines: &Slab<Line<C>>, wait: Option<Duration>) -> Option<Duration>
+pub(crate) fn next_wait<C>(clients: &Slab<Client<C>>, wait: Option<Duration>) -> Option<Duration>
     ensures never { wait ≡ None → result ≡ None }
-    ensures idle { NoneAsks lines.now → result ≡ wait }
-    ensures asks { IfSome result (λ w. (key : ℕ) → AsksAt lines.now key → as_nanos w ≡ 0) }
+    ensures idle { NoneAsks clients.now → result ≡ wait }
+    ensures asks { IfSome result (λ w. (key : ℕ) → AsksAt clients.now key → as_nanos w ≡ 0) }
 {
     match wait {
         None => None,
-        Some(wait) => Some(time_to_wait(lines, wait)),
+        Some(wait) => Some(time_to_wait(clients, wait)),
     }
 }

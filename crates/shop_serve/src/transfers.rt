@@ -1,19 +1,19 @@
 //! Bytes taken from a connection until they are a whole request, and the bytes of its answer handed over.
 
 ghost use Rattle.std.specs.Prelude.{◌≡◌, ◌≢◌, ◌⊎◌, ◌<◌, ◌≤◌, ◌++◌, ℕ, List, Option, [], length, take};
-ghost use Rattle.shop_serve.specs.Lines.{AwaitsMore, IsMute, StopsAt};
+ghost use Rattle.shop_serve.specs.Clients.{AwaitsMore, IsMute, StopsAt};
 ghost use Rattle.std.specs.Io.KnownBytes.{Appends, Consumes, IsAtEnd};
 ghost use Rattle.shop_request.specs.Reading.{IsHeadIn, IsReadOn};
-ghost use Rattle.shop_request.specs.Senses.{IsSettled};
-ghost use Rattle.shop_serve.specs.declared.transfers.Piece.TheVariants as piece;
+ghost use Rattle.shop_request.specs.Parses.{IsDetermined};
+ghost use Rattle.shop_serve.specs.declared.transfers.ReadOutcome.TheVariants as piece;
 ghost use Rattle.shop_serve.specs.declared.transfers.Given.TheVariants as given;
 ghost use Rattle.shop_serve.specs.declared.transfers.Rest.TheVariants as rest;
 ghost use Rattle.shop_serve.specs.declared.transfers.Taken.TheVariants as taken;
 
-use crate::connections::{Connection, Halt};
+use crate::connections::{Connection, Stall};
 use shop_request::{Head, Routes, is_whole, least_bytes};
 
-const ROOM: usize = 8192;
+const BUFFER_SIZE: usize = 8192;
 
 // More bytes than come of any request: fewer than 139264, and a piece.
 const MOST_BYTES: usize = 150_000;
@@ -23,7 +23,7 @@ const MOST_DROPS: u32 = 1024;
 
 /// What a read brought.
 #[derive(Clone, Copy, PartialEq, Eq)]
-pub(crate) enum Piece {
+pub(crate) enum ReadOutcome {
     More,
     End,
     Waits,
@@ -41,41 +41,41 @@ pub(crate) enum Taken {
 }
 
 // Takes a piece more, where there is one.
-fn take_piece<C: Connection>(stream: &mut C, came: &mut Vec<u8>) -> Piece
+fn take_piece<C: Connection>(stream: &mut C, received: &mut Vec<u8>) -> ReadOutcome
     ensures more { result ≡ piece.More → (p : List ℕ) × (0 < length p)
-        × (came.new.items ≡ came.old.items ++ p)
+        × (received.new.items ≡ received.old.items ++ p)
         × Consumes (C.remaining stream.old) (C.remaining stream.new) p }
-    ensures end { result ≡ piece.End → (came.new.items ≡ came.old.items)
+    ensures end { result ≡ piece.End → (received.new.items ≡ received.old.items)
         × IsAtEnd (C.remaining stream.new)
         × Consumes (C.remaining stream.old) (C.remaining stream.new) [] }
-    ensures waits { result ≡ piece.Waits → (came.new.items ≡ came.old.items)
+    ensures waits { result ≡ piece.Waits → (received.new.items ≡ received.old.items)
         × Consumes (C.remaining stream.old) (C.remaining stream.new) [] }
     ensures drained { result ≡ piece.Waits → C.is_drained stream.new }
     ensures lost { result ≡ piece.Lost → C.is_lost stream.new }
     ensures kept { C.contents stream.new ≡ C.contents stream.old }
 {
-    let mut room = [0; ROOM];
-    let count = match stream.read_some(&mut room) {
+    let mut buffer = [0; BUFFER_SIZE];
+    let count = match stream.read_some(&mut buffer) {
         Ok(count) => count,
-        Err(Halt::Waits) => return Piece::Waits,
-        Err(Halt::Lost) => return Piece::Lost,
+        Err(Stall::Waits) => return ReadOutcome::Waits,
+        Err(Stall::Lost) => return ReadOutcome::Lost,
     };
     if count == 0 {
-        return Piece::End;
+        return ReadOutcome::End;
     }
-    match came.extend_from_slice(&room[..count]) {
-        Ok(()) => Piece::More,
-        Err(_) => Piece::NoMemory,
+    match received.extend_from_slice(&buffer[..count]) {
+        Ok(()) => ReadOutcome::More,
+        Err(_) => ReadOutcome::NoMemory,
     }
 }
 
 // What there is at the end of what comes.
-fn at_end(came: &[u8]) -> Taken
-    ensures some { result ≡ taken.Whole → 0 < length came.now }
-    ensures none { result ≡ taken.Over → came.now ≡ [] }
+fn at_end(received: &[u8]) -> Taken
+    ensures some { result ≡ taken.Whole → 0 < length received.now }
+    ensures none { result ≡ taken.Over → received.now ≡ [] }
     ensures over { (result ≡ taken.Whole) ⊎ (result ≡ taken.Over) }
 {
-    if came.is_empty() {
+    if received.is_empty() {
         return Taken::Over;
     }
     Taken::Whole
@@ -86,42 +86,42 @@ fn at_end(came: &[u8]) -> Taken
 pub(crate) fn take_bytes<C: Connection>(
     routes: &Routes,
     stream: &mut C,
-    came: &mut Vec<u8>,
+    received: &mut Vec<u8>,
     needed: &mut usize,
     head: &mut Head,
 ) -> Taken
     ensures bytes { result ≢ taken.Over → result ≢ taken.NoMemory
-        → IsReadOn (C.remaining stream.old) (C.remaining stream.new) came.old.items came.new.items }
-    ensures some { result ≡ taken.Whole → 0 < length came.new.items }
-    ensures head { result ≡ taken.Whole → IsHeadIn came.new.items head.new }
-    ensures whole { result ≡ taken.Whole → IsSettled came.new.items
+        → IsReadOn (C.remaining stream.old) (C.remaining stream.new) received.old.items received.new.items }
+    ensures some { result ≡ taken.Whole → 0 < length received.new.items }
+    ensures head { result ≡ taken.Whole → IsHeadIn received.new.items head.new }
+    ensures whole { result ≡ taken.Whole → IsDetermined received.new.items
         ⊎ IsAtEnd (C.remaining stream.new) }
-    ensures waits { result ≡ taken.Waits → AwaitsMore came.old.items needed.old
-        → AwaitsMore came.new.items needed.new }
+    ensures waits { result ≡ taken.Waits → AwaitsMore received.old.items needed.old
+        → AwaitsMore received.new.items needed.new }
     ensures drained { result ≡ taken.Waits → C.is_drained stream.new }
     ensures over { result ≡ taken.Over
-        → IsMute C.Connection stream.old came.old.items stream.new came.new.items }
+        → IsMute C.Connection stream.old received.old.items stream.new received.new.items }
     ensures kept { C.contents stream.new ≡ C.contents stream.old }
 {
-    while came.len() < MOST_BYTES {
-        match take_piece(stream, came) {
-            Piece::NoMemory => return Taken::NoMemory,
-            Piece::Lost => return Taken::Over,
-            Piece::Waits => return Taken::Waits,
-            Piece::End => {
-                *head = Head::read(routes, came);
-                return at_end(came);
+    while received.len() < MOST_BYTES {
+        match take_piece(stream, received) {
+            ReadOutcome::NoMemory => return Taken::NoMemory,
+            ReadOutcome::Lost => return Taken::Over,
+            ReadOutcome::Waits => return Taken::Waits,
+            ReadOutcome::End => {
+                *head = Head::read(routes, received);
+                return at_end(received);
             }
-            Piece::More => (),
+            ReadOutcome::More => (),
         }
-        if came.len() < *needed {
+        if received.len() < *needed {
             continue;
         }
-        *head = Head::read(routes, came);
-        if is_whole(head, came) {
+        *head = Head::read(routes, received);
+        if is_whole(head, received) {
             return Taken::Whole;
         }
-        *needed = least_bytes(head, came);
+        *needed = least_bytes(head, received);
     }
     Taken::Over
 }
@@ -135,8 +135,8 @@ pub(crate) enum Given {
     NoMemory,
 }
 
-/// Hands over what is left of an answer, as far as it is taken: behind what was handed over before come the next of its
-/// bytes, and no others. Behind its last byte it is ended.
+/// Hands over what is left of an answer, as far as it is taken: after what was handed over before come the next of its
+/// bytes, and no others. After its last byte it is ended.
 pub(crate) fn hand_over<C: Connection>(stream: &mut C, answer: &[u8], sent: &mut usize) -> Given
     requires { sent.old ≤ length answer.now }
     ensures within { sent.new ≤ length answer.now }
@@ -152,15 +152,15 @@ pub(crate) fn hand_over<C: Connection>(stream: &mut C, answer: &[u8], sent: &mut
     while *sent < answer.len() {
         match stream.write_some(&answer[*sent..]) {
             Ok(count) => *sent += count,
-            Err(Halt::Waits) => return Given::Waits,
-            Err(Halt::Lost) => return Given::Lost,
+            Err(Stall::Waits) => return Given::Waits,
+            Err(Stall::Lost) => return Given::Lost,
         }
     }
     stream.end_writing();
     Given::Whole
 }
 
-/// What is left of a connection's input, behind what was dropped of it.
+/// What is left of a connection's input, after what was dropped of it.
 #[derive(Clone, Copy, PartialEq, Eq)]
 pub(crate) enum Rest {
     MayCome,
@@ -175,13 +175,13 @@ pub(crate) fn drop_rest<C: Connection>(stream: &mut C) -> Rest
     ensures kept { C.contents stream.new ≡ C.contents stream.old }
     ensures told { C.has_ended stream.old → C.has_ended stream.new }
 {
-    let mut room = [0; ROOM];
+    let mut buffer = [0; BUFFER_SIZE];
     for _ in 0..MOST_DROPS {
-        match stream.read_some(&mut room) {
+        match stream.read_some(&mut buffer) {
             Ok(0) => return Rest::Ended,
             Ok(_) => (),
-            Err(Halt::Waits) => return Rest::MayCome,
-            Err(Halt::Lost) => return Rest::Lost,
+            Err(Stall::Waits) => return Rest::MayCome,
+            Err(Stall::Lost) => return Rest::Lost,
         }
     }
     Rest::MayCome

@@ -16,7 +16,7 @@ use std::time::{Clock, Duration, Instant};
 /// What tells a server's time, and makes its backups.
 pub(crate) trait Watch {
     ghost use Rattle.std.specs.Prelude.{◌≡◌};
-    ghost use Rattle.shop_serve.specs.Times.{Copies, Times, Tells, TellsNone, ToldLast};
+    ghost use Rattle.shop_serve.specs.Times.{Copies, Times, Tells, TellsNone, ReportedLast};
 
     /// The times that it told so far, and what came of backups meanwhile, where they are known.
     ghost times: { Self → Times };
@@ -27,7 +27,7 @@ pub(crate) trait Watch {
 
     /// The time that was told last.
     fn last(&self) -> Instant
-        ensures { ToldLast (times self.now) result };
+        ensures { ReportedLast (times self.now) result };
 
     /// Stands still until the time is told next.
     fn stop(&mut self)

@@ -13,9 +13,9 @@ use Rattle.sqlite.specs.Listing.{understood}
 use Rattle.sqlite.specs.State.{State, mode_of}
 use Rattle.sqlite_schema.specs.declared.program.Program.{Program}
 use Rattle.sqlite.proofs.Callers.{runs_as, statement_of}
-use Rattle.shop_statements.specs.Layout.{IsShop, Loose, loosened}
+use Rattle.shop_statements.specs.Layout.{HasShopTables, Loose, loosened}
 use Rattle.shop_statements.specs.Beside.{IsNone, SparesRows, IsSameBeside, Spares}
-use Rattle.shop_statements.specs.Shown.{HasRun, Went}
+use Rattle.shop_statements.specs.Shown.{HasExecuted, Went}
 use Rattle.shop_statements.proofs.Steps.{on_ok_then}
 use Rattle.shop_statements.proofs.Terms.{Writes}
 use Rattle.shop_statements.proofs.Texts.{shop, shop_is}
@@ -59,7 +59,7 @@ pub spares_then : (own : List ℕ) (a b c : State) → Went a b → Went b c →
 spares_then own a b c went more one two clean inside is =
     let early = more.earlier clean in
     let first = one early inside is in
-    beside_then own a.now b.now c.now first (two clean (went.mode early inside) (subst IsShop (sym first.schema) is))
+    beside_then own a.now b.now c.now first (two clean (went.mode early inside) (subst HasShopTables (sym first.schema) is))
 
 pub spares_more : {E : Type 0} (r : Result (Unit {0}) E) (own more : List ℕ) (a b : State) → ((t : ℕ) → IsNone more t → IsNone own t) → OnOk r (Spares own a b) → OnOk r (Spares more a b)
 spares_more r own more a b fewer = on_ok_then r (λ h clean inside is. beside_more own more a.now b.now fewer (h clean inside is))
@@ -72,18 +72,18 @@ beside db after edit e = record {
   rows = record { tables = all_so (λ t p far. p (λ same. far.0 (sym same))) db.schema.tables e.tables; others = λ t far bare. e.others t (λ same. far.0 (sym same)) bare };
 }
 
-module _ {E : Type 0} (sql : List ℕ) (params : Row) (old new : State) (r : Result (Unit {0}) E) (at : ℕ) (t : Table) (loose : IsShop old.now.schema → Loose)
-    (placed : (h : IsShop old.now.schema) → slice_get (shop old.now.schema h).tables at ≡ Some (bare (loosened (loose h) t))) where
-  there : (h : IsShop old.now.schema) → slice_get old.now.schema.tables at ≡ Some (bare (loosened (loose h) t))
+module _ {E : Type 0} (sql : List ℕ) (params : Row) (old new : State) (r : Result (Unit {0}) E) (at : ℕ) (t : Table) (loose : HasShopTables old.now.schema → Loose)
+    (placed : (h : HasShopTables old.now.schema) → slice_get (shop old.now.schema h).tables at ≡ Some (bare (loosened (loose h) t))) where
+  there : (h : HasShopTables old.now.schema) → slice_get old.now.schema.tables at ≡ Some (bare (loosened (loose h) t))
   there h = ap (λ (s : Schema). slice_get s.tables at) (shop_is old.now.schema h) ∙ placed h
 
-  pub puts_beside : (terms : List Term) (width : ℕ) → ((h : IsShop old.now.schema) → Writes (shop old.now.schema h) sql (Insert at (Values terms width))) → OnOk r (HasRun sql params old new) → OnOk r (Spares (t.tree ∷ []) old new)
+  pub puts_beside : (terms : List Term) (width : ℕ) → ((h : HasShopTables old.now.schema) → Writes (shop old.now.schema h) sql (Insert at (Values terms width))) → OnOk r (HasExecuted sql params old new) → OnOk r (Spares (t.tree ∷ []) old new)
   puts_beside terms width is = on_ok_then r (λ ran clean inside h.
       let run = ran clean inside in
       let w = runs_as sql params old new (shop old.now.schema h) (shop_is old.now.schema h) _ (is h).command (is h).plain run.0 run.1 in
       beside old.now new.now _ (inserted old.step_limit (mode_of old) params old.now new.now w.tally at (loosened (loose h) t) (there h) (statement_of sql (understood (shop old.now.schema h) sql)) terms width (no_works old.now.schema h t.tree) w.changed))
 
-  pub sets_beside : (q : Program) → ((h : IsShop old.now.schema) → Writes (shop old.now.schema h) sql (Update at q)) → OnOk r (HasRun sql params old new) → OnOk r (Spares (t.tree ∷ []) old new)
+  pub sets_beside : (q : Program) → ((h : HasShopTables old.now.schema) → Writes (shop old.now.schema h) sql (Update at q)) → OnOk r (HasExecuted sql params old new) → OnOk r (Spares (t.tree ∷ []) old new)
   sets_beside q is = on_ok_then r (λ ran clean inside h.
       let run = ran clean inside in
       let w = runs_as sql params old new (shop old.now.schema h) (shop_is old.now.schema h) _ (is h).command (is h).plain run.0 run.1 in

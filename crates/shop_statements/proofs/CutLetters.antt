@@ -15,7 +15,7 @@ use Rattle.cut_tree.specs.Patterns.{Pattern, IsPlan}
 use Rattle.cut_tree.specs.Spelling.{tokens, token_text, turn_mark, text_of, IsToken, AllTokens, cuts_in}
 use Rattle.cut_tree.proofs.PieceWords.{own}
 use Rattle.cut_tree.proofs.ReadBack.{spells_itself}
-use Rattle.cut_tree.proofs.TreeFronts.{cuts_in-append}
+use Rattle.cut_tree.proofs.TreePrefixes.{cuts_in-append}
 use Rattle.cut_tree.proofs.WholeTexts.{cuts_in-tokens}
 use Rattle.shop_statements.specs.Found.{is_axis}
 

@@ -16,7 +16,7 @@ use Rattle.sqlite.specs.Query.{output}
 use Rattle.sqlite.specs.Program.{overlay}
 use Rattle.sqlite.proofs.Callers.{reads_as, one_permutation}
 use Rattle.sqlite.proofs.StateLemmas.{survives_then}
-use Rattle.shop_statements.specs.Layout.{IsShop}
+use Rattle.shop_statements.specs.Layout.{HasShopTables}
 use Rattle.shop_statements.specs.Rows.{AreRows}
 use Rattle.shop_statements.specs.Shown.{Books, Shows, Holds, Leaves, GivesRow, IsRowOf}
 use Rattle.shop_statements.specs.Selecting.{is_select}
@@ -32,7 +32,7 @@ use Rattle.shop_statements.proofs.Keys.{shown_as, none_permutation}
 use Rattle.shop_statements.proofs.Kept.{as_was_then, shown_open}
 
 -- the rows of the table that pass, as they are shown
-module _ (old new : State) (h : IsShop old.now.schema) (text : List ℕ) (params : Row) (tree : ℕ) (tests terms : List Term) (names : List (List ℕ))
+module _ (old new : State) (h : HasShopTables old.now.schema) (text : List ℕ) (params : Row) (tree : ℕ) (tests terms : List Term) (names : List (List ℕ))
     (is : Reads (shop old.now.schema h) text (from_table tree tests terms []) names) (low : overlay old.now.trees [] tree ≡ old.now.trees tree) where
   abbrev pub shows_of : Row → Row
   shows_of r = (output (from_table tree tests terms []) (params ∷ r ∷ [])).1

@@ -18,7 +18,7 @@ use Rattle.shop_records.specs.declared.records.Demand.{Demand}
 use Rattle.shop_records.specs.declared.records.Totals.{Totals}
 use Rattle.shop_records.specs.declared.imports.ImportRow.{ImportRow}
 use Rattle.shop_records.specs.declared.texts.Kept.{Kept}
-use Rattle.shop_statements.specs.Layout.{IsShop}
+use Rattle.shop_statements.specs.Layout.{HasShopTables}
 use Rattle.shop_statements.specs.Rows.{AreRows, AreOrders, IsKeyed, Stands, meta_row, meta_entries, material_row, part_row, job_row, demand_row, kept_row, import_row, totals_row}
 use Rattle.shop_statements.specs.Shown.{Books, Shows}
 use Rattle.shop_statements.proofs.Writing.{IsPut}
@@ -63,7 +63,7 @@ module _ (old new : State) (b : Books) (has : Shows old b) (left : List Row) (ro
 
   -- so the new ones do for books that differ in that table
   shows : (tree : ℕ) → IsPut old new tree left row → (c : Books) → Stands new.now.trees c.content c.totals → IsKeyed c.content → Shows new c
-  shows tree put c stands keyed = record { schema = subst IsShop (sym put.schema_is) has.schema; sound = put.sound; stands = stands; keyed = keyed }
+  shows tree put c stands keyed = record { schema = subst HasShopTables (sym put.schema_is) has.schema; sound = put.sound; stands = stands; keyed = keyed }
 
   pub meta_shown : (last_act last_demand : ℕ) → IsPut old new 0 left row → AreRows 1 (map meta_row (meta_entries (record b.content { last_act = last_act; last_demand = last_demand }))) (new.now.trees 0) → Shows new (record b { content = record b.content { last_act = last_act; last_demand = last_demand } })
   meta_shown last_act last_demand put rows =

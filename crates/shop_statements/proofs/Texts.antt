@@ -7,12 +7,12 @@ use Rattle.sqlite.specs.Source.TheVariants.{Values}
 use Rattle.sqlite.specs.Term.{Term, lit, col}
 use Rattle.sqlite_value.specs.declared.value.Value.TheVariants.{Null}
 use Rattle.sqlite.specs.Schema.{Schema}
-use Rattle.shop_statements.specs.Layout.{meta_table, materials_table, parts_table, jobs_table, orders_table, demands_table, kept_table, imports_table, totals_table, totals2_table, loosened, IsShop}
+use Rattle.shop_statements.specs.Layout.{meta_table, materials_table, parts_table, jobs_table, orders_table, demands_table, kept_table, imports_table, totals_table, totals2_table, loosened, HasShopTables}
 use Rattle.shop_statements.specs.Selecting.{is_select}
 use Rattle.shop_statements.proofs.Terms.{same, from_table, Reads, Writes}
 
 -- the same schema, with its first tables spelled out
-abbrev pub shop : (schema : Schema) → IsShop schema → Schema
+abbrev pub shop : (schema : Schema) → HasShopTables schema → Schema
 shop schema h =
     record {
       tables =
@@ -23,7 +23,7 @@ shop schema h =
       views = schema.views;
     }
 
-pub shop_is : (schema : Schema) (h : IsShop schema) → schema ≡ shop schema h
+pub shop_is : (schema : Schema) (h : HasShopTables schema) → schema ≡ shop schema h
 shop_is schema h = λ i. record { tables = h.tables i; indexes = schema.indexes; views = schema.views }
 
 -- a column equals a parameter
@@ -168,7 +168,7 @@ set_totals_text = codes "UPDATE totals2 SET received = ?2, stock = ?3, rack = ?4
 abbrev pub set_totals_terms : List Term
 set_totals_terms = col 1 0 ∷ col 1 0 ∷ col 1 1 ∷ col 0 1 ∷ col 0 2 ∷ col 0 3 ∷ col 0 4 ∷ col 0 5 ∷ col 0 6 ∷ col 0 7 ∷ []
 
-module _ (schema : Schema) (h : IsShop schema) where
+module _ (schema : Schema) (h : HasShopTables schema) where
   pub get_meta_is : Reads (shop schema h) get_meta_text (from_table 0 by_one get_meta_terms []) (codes "value" ∷ [])
   unfolding understood everything
   get_meta_is = record { command = refl; listing = refl; plain = (refl, refl) }

@@ -9,7 +9,7 @@ use Rattle.sqlite_schema.specs.Rules.{ParentKey, parent_key}
 use Rattle.sqlite_schema.specs.declared.schema.Action.TheVariants.{NoAction}
 use Rattle.sqlite_schema.specs.declared.schema.Keys.TheVariants.{Enforced}
 use Rattle.sqlite_schema.specs.declared.schema.Reference.{Reference}
-use Rattle.shop_statements.specs.Layout.{IsShop, Rests}
+use Rattle.shop_statements.specs.Layout.{HasShopTables, Rests}
 
 no_deed : (b : Bool) → deed_of Enforced b (if b then NoAction else NoAction) ≡ None
 no_deed true = refl
@@ -23,7 +23,7 @@ all_none : (f : Table → Reference → Option Work) (ts : List Table) → ((t :
 all_none f [] none rest = refl
 all_none f (t ∷ ts) none rest = rw (none_of f t t.references (none t) rest.0) (all_none f ts none rest.1)
 
-pub no_works : (schema : Schema) → IsShop schema → (tree : ℕ) (olds news : List Row) → works schema Enforced 0 tree olds news ≡ []
+pub no_works : (schema : Schema) → HasShopTables schema → (tree : ℕ) (olds news : List Row) → works schema Enforced 0 tree olds news ≡ []
 no_works schema is tree olds news = all_none (λ t r. work_for schema Enforced 0 tree olds news t r) schema.tables acts is.rests
   where
     by_deed : (child : Table) (ref : Reference) (b : Bool) → Rests ref → (key : Option ParentKey) → work_by 0 tree (pairs olds news) child ref (deed_for Enforced b ref) key ≡ None

@@ -24,9 +24,9 @@ use Rattle.sqlite.specs.State.{State, mode_of, Executes}
 use Rattle.sqlite_rules.specs.Calls.{ids_of}
 use Rattle.sqlite_rules.specs.Edit.{is_taken, put_all, numbered}
 use Rattle.sqlite.proofs.Callers.{runs_as, statement_of, one_permutation}
-use Rattle.shop_statements.specs.Layout.{IsShop}
+use Rattle.shop_statements.specs.Layout.{HasShopTables}
 use Rattle.shop_statements.specs.Rows.{AreRows}
-use Rattle.shop_statements.specs.Shown.{Books, Shows, Makes, HasRun}
+use Rattle.shop_statements.specs.Shown.{Books, Shows, Makes, HasExecuted}
 use Rattle.shop_statements.proofs.Terms.{from_table, Writes}
 use Rattle.shop_statements.proofs.Texts.{shop, shop_is}
 use Rattle.shop_statements.proofs.Selects.{selects, selected}
@@ -44,7 +44,7 @@ pub record IsPut (old new : State) (tree : ℕ) (left : List Row) (row : Row) : 
   pub free : is_taken left row ≡ false
   pub others : (t : ℕ) → (t == tree) ≡ false → IsNoIndex old.now.schema t → new.now.trees t ≡ old.now.trees t
 
-module _ (old new : State) (h : IsShop old.now.schema) (text : List ℕ) (params : Row) (at : ℕ) (base : Table) (placed : slice_get (shop old.now.schema h).tables at ≡ Some (bare base)) where
+module _ (old new : State) (h : HasShopTables old.now.schema) (text : List ℕ) (params : Row) (at : ℕ) (base : Table) (placed : slice_get (shop old.now.schema h).tables at ≡ Some (bare base)) where
   there : slice_get old.now.schema.tables at ≡ Some (bare base)
   there = ap (λ (s : Schema). slice_get s.tables at) (shop_is old.now.schema h) ∙ placed
 
@@ -108,7 +108,7 @@ module _ {K X : Type 0} {R : K → K → Ordering} (o : IsTotalOrder R) (same : 
       (added skip (Int it.id ∷ wrote) it.id _ _ refl it.rest put.free)))
 
 -- what a statement makes of shown books
-pub makes : {E : Type 0} (sql : List ℕ) (params : Row) (old new : State) (b after : Books) (r : Result (Unit {0}) E) → OnOk r (HasRun sql params old new)
+pub makes : {E : Type 0} (sql : List ℕ) (params : Row) (old new : State) (b after : Books) (r : Result (Unit {0}) E) → OnOk r (HasExecuted sql params old new)
     → ((count : ℕ) → Shows old b → Executes sql params old new (Ok count) → Shows new after) → OnOk r (Makes old new b after)
 makes sql params old new b after (Ok x) ran next = λ clean inside has. let run = ran clean inside in next run.0 has run.1
 makes sql params old new b after (Err e) ran next = tt

@@ -6,7 +6,7 @@ use Rattle.sqlite.specs.Schema.{Schema}
 use Rattle.sqlite.specs.Edit.{IsNoIndex}
 use Rattle.sqlite.specs.Effect.{Database}
 use Rattle.sqlite.specs.State.{State, HasCleanDisk}
-use Rattle.shop_statements.specs.Layout.{IsShop}
+use Rattle.shop_statements.specs.Layout.{HasShopTables}
 
 -- the tree is none of these
 abbrev pub IsNone : List ℕ → ℕ → Type 0
@@ -25,4 +25,4 @@ pub record IsSameBeside (own : List ℕ) (old new : Database) : Type 0 where
 
 -- steps inside a transaction change nothing but the tables with these trees
 abbrev pub Spares : List ℕ → State → State → Type 0
-Spares own old new = HasCleanDisk new → IsTrue old.in_transaction → IsShop old.now.schema → IsSameBeside own old.now new.now
+Spares own old new = HasCleanDisk new → IsTrue old.in_transaction → HasShopTables old.now.schema → IsSameBeside own old.now new.now

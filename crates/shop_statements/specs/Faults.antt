@@ -5,6 +5,6 @@ use Rattle.sqlite.specs.declared.error.ErrorCode.TheVariants.{OutOfMemory}
 use Rattle.shop_statements.specs.declared.faults.TableFault.{TableFault}
 use Rattle.shop_statements.specs.declared.faults.TableFault.TheVariants.{NoMemory, Store}
 
-abbrev pub fault_of : Error → TableFault
-fault_of (SqliteFailure OutOfMemory) = NoMemory
-fault_of _ = Store
+abbrev pub table_fault : Error → TableFault
+table_fault (SqliteFailure OutOfMemory) = NoMemory
+table_fault _ = Store

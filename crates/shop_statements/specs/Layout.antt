@@ -163,8 +163,8 @@ loosened l t =
 abbrev pub Rests : Reference → Type 0
 Rests ref = (ref.on_delete ≡ NoAction) × (ref.on_update ≡ NoAction)
 
--- Ours are the first ten, and others may stand behind them. No index of others has one of our trees, and no reference acts.
-pub record IsShop (schema : Schema) : Type 0 where
+-- Ours are the first ten, and others may stand after them. No index of others has one of our trees, and no reference acts.
+pub record HasShopTables (schema : Schema) : Type 0 where
   pub meta : Loose
   pub materials : Loose
   pub parts : Loose

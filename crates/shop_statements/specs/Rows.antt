@@ -67,7 +67,7 @@ abbrev pub form_material : Form → List ℕ
 form_material form.Csv = []
 form_material (form.Cgcut material) = material
 
--- ---- columns behind the key
+-- ---- columns after the key
 
 abbrev pub material_columns : Material → Row
 material_columns m =

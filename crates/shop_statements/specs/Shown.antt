@@ -12,7 +12,7 @@ use Rattle.sqlite_schema.specs.declared.schema.Schema.{Schema}
 use Rattle.cut_measure.specs.Codes.{code_cmp}
 use Rattle.shop_records.specs.Content.{Content, fresh}
 use Rattle.shop_records.specs.declared.records.Totals.{Totals}
-use Rattle.shop_statements.specs.Layout.{IsShop, shop_schema}
+use Rattle.shop_statements.specs.Layout.{HasShopTables, shop_schema}
 use Rattle.shop_statements.specs.Rows.{Stands, IsKeyed}
 
 -- what the tables stand for: a content, and a row of totals for each material
@@ -26,7 +26,7 @@ fresh_books = record { content = fresh; totals = empty }
 
 -- the rows that the connection sees stand for the books
 pub record Shows (s : State) (b : Books) : Type 0 where
-  pub schema : IsShop s.now.schema
+  pub schema : HasShopTables s.now.schema
   pub sound : IsDatabase s.now
   pub stands : Stands s.now.trees b.content b.totals
   pub keyed : IsKeyed b.content
@@ -46,7 +46,7 @@ Holds s b = HasCleanDisk s → IsTrue s.is_open → IsSettled s b
 
 -- The trees list a schema in which ours are the first tables, and these have the rows that stand for the books.
 abbrev pub StandsIn : Trees → Books → Type 0
-StandsIn db b = ((schema : Schema) × IsShop schema × IsSound schema db) × Stands db b.content b.totals × IsKeyed b.content
+StandsIn db b = ((schema : Schema) × HasShopTables schema × IsSound schema db) × Stands db b.content b.totals × IsKeyed b.content
 
 -- the connection was open, and where it saw its last commit it sees the same
 pub record IsAsWas (old new : State) : Type 0 where
@@ -102,5 +102,5 @@ abbrev pub GivesNumber : ℕ → Option Row → Type 0
 GivesNumber n row = row ≡ Some (Int (pos n) ∷ [])
 
 -- the statement ran inside a transaction
-abbrev pub HasRun : List ℕ → Row → State → State → Type 0
-HasRun sql params old new = HasCleanDisk new → IsTrue old.in_transaction → (count : ℕ) × Executes sql params old new (Ok count)
+abbrev pub HasExecuted : List ℕ → Row → State → State → Type 0
+HasExecuted sql params old new = HasCleanDisk new → IsTrue old.in_transaction → (count : ℕ) × Executes sql params old new (Ok count)

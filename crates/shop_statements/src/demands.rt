@@ -13,7 +13,7 @@ ghost use Rattle.shop_statements.specs.Changes.{with_demand};
 ghost use Rattle.shop_statements.specs.Shown.{Books, Makes, Ran, Within};
 ghost use Rattle.sqlite.specs.State.{HasCleanDisk};
 ghost use Rattle.shop_statements.specs.Found.{IsUnder, columns_of};
-ghost use Rattle.shop_statements.specs.Layout.{IsShop, demands_table};
+ghost use Rattle.shop_statements.specs.Layout.{HasShopTables, demands_table};
 ghost use Rattle.sqlite_value.specs.declared.value.Value.TheVariants.{Int};
 ghost use Rattle.std.specs.Prelude.{[], ◌∷◌, option_map, pos};
 
@@ -24,11 +24,11 @@ use crate::running::run;
 use shop_records::Demand;
 use sqlite::{Alter, Connection, Error, Row, Transaction, params};
 
-/// The demand of a number, of its columns; the columns behind them don't matter.
+/// The demand of a number, of its columns; the columns after them don't matter.
 pub fn read_demand(number: u32, row: &Row) -> Result<Demand, TableFault>
     ensures key { IfOk result (λ read. read.number ≡ number) }
-    ensures row { (demand : DemandRecord) (behind : Values) → demand.number ≡ number
-        → row.now ≡ demand_columns demand ++ behind → IfOk result (λ read. read ≡ demand) }
+    ensures row { (demand : DemandRecord) (after : Values) → demand.number ≡ number
+        → row.now ≡ demand_columns demand ++ after → IfOk result (λ read. read ≡ demand) }
     ensures exact { IfOk result (λ read. columns_of 10 0 row.now ≡ demand_columns read) }
 {
     Ok(Demand {
@@ -50,7 +50,7 @@ fn demand_row<S: Alter>(conn: &mut Connection<S>, number: u32) -> Result<Option<
         (λ books. IfOk result (IsRowOf
         (λ (demand : DemandRecord). demand.number ≡ number) demand_columns
         (demand_at books.content number))) }
-    ensures stands { HasCleanDisk (state S.Store conn.new) → IsShop conn.old.schema
+    ensures stands { HasCleanDisk (state S.Store conn.new) → HasShopTables conn.old.schema
         → IfOk result (λ found. IsUnder ((state S.Store conn.old).now.trees 9) 0
         (Int (pos number) ∷ []) 10 2 found) }
     ensures leaves { Leaves (state S.Store conn.old) (state S.Store conn.new) }
@@ -71,7 +71,7 @@ pub fn find_demand<S: Alter>(
     ensures row { OnBooks (state S.Store conn.old) (state S.Store conn.new)
         (λ books. IfOk result (λ row. row ≡ demand_at books.content number)) }
     ensures key { IfOk result (λ row. IfSome row (λ demand. demand.number ≡ number)) }
-    ensures stands { HasCleanDisk (state S.Store conn.new) → IsShop conn.old.schema
+    ensures stands { HasCleanDisk (state S.Store conn.new) → HasShopTables conn.old.schema
         → IfOk result (λ found. IsUnder ((state S.Store conn.old).now.trees 9) 0
         (Int (pos number) ∷ []) 10 2 (option_map demand_columns found)) }
     ensures leaves { Leaves (state S.Store conn.old) (state S.Store conn.new) }

@@ -14,9 +14,9 @@ pub enum TableFault {
 
 impl From<Error> for TableFault {
     ghost use Rattle.std.specs.Prelude.{◌≡◌};
-    ghost use Rattle.shop_statements.specs.Faults.{fault_of};
+    ghost use Rattle.shop_statements.specs.Faults.{table_fault};
 
-    ghost from_gives = { λ error fault. fault ≡ fault_of error };
+    ghost from_gives = { λ error fault. fault ≡ table_fault error };
 
     fn from(error: Error) -> TableFault {
         match error {

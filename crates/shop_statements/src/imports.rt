@@ -12,7 +12,7 @@ ghost use Rattle.shop_statements.specs.Changes.{with_import};
 ghost use Rattle.shop_statements.specs.Shown.{Books, Makes, Ran, Within};
 ghost use Rattle.sqlite.specs.State.{HasCleanDisk};
 ghost use Rattle.shop_statements.specs.Found.{IsUnder, columns_of};
-ghost use Rattle.shop_statements.specs.Layout.{IsShop, imports_table};
+ghost use Rattle.shop_statements.specs.Layout.{HasShopTables, imports_table};
 ghost use Rattle.sqlite_value.specs.declared.value.Value.TheVariants.{Text as Word};
 ghost use Rattle.std.specs.Prelude.{[], ◌∷◌, option_map};
 
@@ -42,7 +42,7 @@ fn import_row<S: Alter>(conn: &mut Connection<S>, order: Code) -> Result<Option<
         (λ books. IfOk result (IsRowOf
         (λ (import : ImportRecord). import.order ≡ order) import_columns
         (import_at books.content order))) }
-    ensures stands { HasCleanDisk (state S.Store conn.new) → IsShop conn.old.schema
+    ensures stands { HasCleanDisk (state S.Store conn.new) → HasShopTables conn.old.schema
         → IfOk result (λ found. IsUnder ((state S.Store conn.old).now.trees 13) 1
         (Word order ∷ []) 4 2 found) }
     ensures leaves { Leaves (state S.Store conn.old) (state S.Store conn.new) }
@@ -62,7 +62,7 @@ pub fn find_import<S: Alter>(
 ) -> Result<Option<ImportRow>, TableFault>
     ensures row { OnBooks (state S.Store conn.old) (state S.Store conn.new)
         (λ books. IfOk result (λ row. row ≡ import_at books.content order)) }
-    ensures stands { HasCleanDisk (state S.Store conn.new) → IsShop conn.old.schema
+    ensures stands { HasCleanDisk (state S.Store conn.new) → HasShopTables conn.old.schema
         → IfOk result (λ found. IsUnder ((state S.Store conn.old).now.trees 13) 1
         (Word order ∷ []) 4 2 (option_map import_columns found)) }
     ensures leaves { Leaves (state S.Store conn.old) (state S.Store conn.new) }

@@ -4,7 +4,7 @@ ghost use Rattle.std.specs.Prelude.{◌≡◌, ◌≤◌, ℕ, List, [], ◌∷�
 ghost use Rattle.sqlite.specs.State.{HasCleanDisk};
 ghost use Rattle.shop_statements.specs.Beside.{Spares};
 ghost use Rattle.shop_statements.specs.Found.{AreJobColumns, IsHead, IsJobUnder, IsStocked, IsUnder, columns_of, is_axis, job_in};
-ghost use Rattle.shop_statements.specs.Layout.{IsShop, jobs_table};
+ghost use Rattle.shop_statements.specs.Layout.{HasShopTables, jobs_table};
 ghost use Rattle.sqlite.specs.Held.{state};
 ghost use Rattle.sqlite_value.specs.declared.value.Value.TheVariants.{Int, Text as Word};
 ghost use Rattle.sqlite_value.specs.Order.{column};
@@ -39,7 +39,7 @@ fn job_row<S: Alter>(conn: &mut Connection<S>, number: u32) -> Result<Option<Row
     ensures row { OnBooks (state S.Store conn.old) (state S.Store conn.new)
         (λ books. IfOk result (IsRowOf (IsOwnJob books.content number) job_columns
         (job_at books.content number))) }
-    ensures stands { HasCleanDisk (state S.Store conn.new) → IsShop conn.old.schema
+    ensures stands { HasCleanDisk (state S.Store conn.new) → HasShopTables conn.old.schema
         → IfOk result (λ found. IsUnder ((state S.Store conn.old).now.trees 6) 0
         (Int (pos number) ∷ []) 4 2 found) }
     ensures leaves { Leaves (state S.Store conn.old) (state S.Store conn.new) }
@@ -165,7 +165,7 @@ pub fn find_stocked_job<S: Alter>(
     ensures row { OnBooks (state S.Store conn.old) (state S.Store conn.new)
         (λ books. IfOk result (λ found. (job_in found ≡ job_at books.content number)
         × IfSome found (IsStocked books.content))) }
-    ensures stands { HasCleanDisk (state S.Store conn.new) → IsShop conn.old.schema
+    ensures stands { HasCleanDisk (state S.Store conn.new) → HasShopTables conn.old.schema
         → IfOk result (λ found. IsJobUnder ((state S.Store conn.old).now.trees 6) number
         (job_in found)) }
     ensures leaves { Leaves (state S.Store conn.old) (state S.Store conn.new) }
@@ -186,7 +186,7 @@ pub fn find_job<S: Alter>(
 ) -> Result<Option<Job>, TableFault>
     ensures row { OnBooks (state S.Store conn.old) (state S.Store conn.new)
         (λ books. IfOk result (λ row. row ≡ job_at books.content number)) }
-    ensures stands { HasCleanDisk (state S.Store conn.new) → IsShop conn.old.schema
+    ensures stands { HasCleanDisk (state S.Store conn.new) → HasShopTables conn.old.schema
         → IfOk result (IsJobUnder ((state S.Store conn.old).now.trees 6) number) }
     ensures leaves { Leaves (state S.Store conn.old) (state S.Store conn.new) }
     ensures mode { conn.old.in_transaction ≡ false → conn.new.in_transaction ≡ false }

@@ -12,7 +12,7 @@ ghost use Rattle.shop_statements.specs.Changes.{with_kept};
 ghost use Rattle.shop_statements.specs.Shown.{Books, Makes, Ran, Within};
 ghost use Rattle.sqlite.specs.State.{HasCleanDisk};
 ghost use Rattle.shop_statements.specs.Found.{IsUnder, columns_of};
-ghost use Rattle.shop_statements.specs.Layout.{IsShop, kept_table};
+ghost use Rattle.shop_statements.specs.Layout.{HasShopTables, kept_table};
 ghost use Rattle.sqlite_value.specs.declared.value.Value.TheVariants.{Int};
 ghost use Rattle.std.specs.Prelude.{[], ◌∷◌, option_map, pos};
 
@@ -38,7 +38,7 @@ fn kept_row<S: Alter>(conn: &mut Connection<S>, pair: Pair) -> Result<Option<Row
     ensures row { OnBooks (state S.Store conn.old) (state S.Store conn.new)
         (λ books. IfOk result (IsRowOf (λ (kept : KeptRecord). Unit {0}) kept_columns
         (kept_at books.content pair))) }
-    ensures stands { HasCleanDisk (state S.Store conn.new) → IsShop conn.old.schema
+    ensures stands { HasCleanDisk (state S.Store conn.new) → HasShopTables conn.old.schema
         → IfOk result (λ found. IsUnder ((state S.Store conn.old).now.trees 11) 1
         (Int (pos pair.terminal) ∷ Int (pos pair.number) ∷ []) 2 3 found) }
     ensures leaves { Leaves (state S.Store conn.old) (state S.Store conn.new) }
@@ -56,7 +56,7 @@ fn kept_row<S: Alter>(conn: &mut Connection<S>, pair: Pair) -> Result<Option<Row
 pub fn find_kept<S: Alter>(conn: &mut Connection<S>, pair: Pair) -> Result<Option<Kept>, TableFault>
     ensures row { OnBooks (state S.Store conn.old) (state S.Store conn.new)
         (λ books. IfOk result (λ row. row ≡ kept_at books.content pair)) }
-    ensures stands { HasCleanDisk (state S.Store conn.new) → IsShop conn.old.schema
+    ensures stands { HasCleanDisk (state S.Store conn.new) → HasShopTables conn.old.schema
         → IfOk result (λ found. IsUnder ((state S.Store conn.old).now.trees 11) 1
         (Int (pos pair.terminal) ∷ Int (pos pair.number) ∷ []) 2 3
         (option_map kept_columns found)) }

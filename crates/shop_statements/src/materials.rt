@@ -13,7 +13,7 @@ ghost use Rattle.shop_statements.specs.Changes.{with_material};
 ghost use Rattle.shop_statements.specs.Shown.{Books, Makes, Ran, Within};
 ghost use Rattle.sqlite.specs.State.{HasCleanDisk};
 ghost use Rattle.shop_statements.specs.Found.{IsUnder, columns_of};
-ghost use Rattle.shop_statements.specs.Layout.{IsShop, materials_table};
+ghost use Rattle.shop_statements.specs.Layout.{HasShopTables, materials_table};
 ghost use Rattle.sqlite_value.specs.declared.value.Value.TheVariants.{Text as Word};
 ghost use Rattle.std.specs.Prelude.{[], ◌∷◌, option_map};
 
@@ -25,10 +25,10 @@ use cut_measure::Code;
 use shop_records::Material;
 use sqlite::{Alter, Connection, Error, Row, Transaction, params};
 
-/// The material of a code, of its columns; the columns behind them don't matter.
+/// The material of a code, of its columns; the columns after them don't matter.
 pub fn read_material(code: Code, row: &Row) -> Result<Material, TableFault>
-    ensures row { (material : MaterialRecord) (behind : Values) → material.code ≡ code
-        → row.now ≡ material_columns material ++ behind → IfOk result (λ read. read ≡ material) }
+    ensures row { (material : MaterialRecord) (after : Values) → material.code ≡ code
+        → row.now ≡ material_columns material ++ after → IfOk result (λ read. read ≡ material) }
     ensures exact { IfOk result (λ read. columns_of 4 0 row.now ≡ material_columns read) }
 {
     let kind = kind_in(row, 0)?;
@@ -44,7 +44,7 @@ fn material_row<S: Alter>(conn: &mut Connection<S>, code: Code) -> Result<Option
         (λ books. IfOk result (IsRowOf
         (λ (material : MaterialRecord). material.code ≡ code) material_columns
         (material_at books.content code))) }
-    ensures stands { HasCleanDisk (state S.Store conn.new) → IsShop conn.old.schema
+    ensures stands { HasCleanDisk (state S.Store conn.new) → HasShopTables conn.old.schema
         → IfOk result (λ found. IsUnder ((state S.Store conn.old).now.trees 2) 1
         (Word code ∷ []) 4 2 found) }
     ensures leaves { Leaves (state S.Store conn.old) (state S.Store conn.new) }
@@ -64,7 +64,7 @@ pub fn find_material<S: Alter>(
 ) -> Result<Option<Material>, TableFault>
     ensures row { OnBooks (state S.Store conn.old) (state S.Store conn.new)
         (λ books. IfOk result (λ row. row ≡ material_at books.content code)) }
-    ensures stands { HasCleanDisk (state S.Store conn.new) → IsShop conn.old.schema
+    ensures stands { HasCleanDisk (state S.Store conn.new) → HasShopTables conn.old.schema
         → IfOk result (λ found. IsUnder ((state S.Store conn.old).now.trees 2) 1
         (Word code ∷ []) 4 2 (option_map material_columns found)) }
     ensures leaves { Leaves (state S.Store conn.old) (state S.Store conn.new) }

@@ -9,7 +9,7 @@ ghost use Rattle.sqlite.specs.State.{HasCleanDisk};
 ghost use Rattle.shop_statements.specs.Beside.{Spares};
 ghost use Rattle.shop_statements.specs.Found.{IsNumberRow};
 ghost use Rattle.shop_statements.specs.Earlier.{OnBooksEarlier, earlier_entries, earlier_schema};
-ghost use Rattle.shop_statements.specs.Layout.{IsShop, meta_table};
+ghost use Rattle.shop_statements.specs.Layout.{HasShopTables, meta_table};
 ghost use Rattle.shop_statements.specs.Rows.{meta_entries};
 ghost use Rattle.shop_statements.specs.Shown.{Leaves, OnBooks, GivesNumber};
 ghost use Rattle.std.specs.Prelude.{OnOk};
@@ -30,7 +30,7 @@ pub fn number_row<S: Alter>(conn: &mut Connection<S>, word: &str) -> Result<Opti
     ensures earlier { OnBooksEarlier (state S.Store conn.old) (state S.Store conn.new)
         (λ books. (n : ℕ) → filter (λ e. eq_by_cmp code_cmp e.0 word.now)
         (earlier_entries books.content) ≡ (word.now, n) ∷ [] → IfOk result (GivesNumber n)) }
-    ensures stands { HasCleanDisk (state S.Store conn.new) → IsShop conn.old.schema
+    ensures stands { HasCleanDisk (state S.Store conn.new) → HasShopTables conn.old.schema
         ⊎ (conn.old.schema ≡ earlier_schema)
         → IfOk result (λ row. IfSome row (IsNumberRow (state S.Store conn.old) word.now)) }
     ensures leaves { Leaves (state S.Store conn.old) (state S.Store conn.new) }
@@ -45,7 +45,7 @@ fn number_of<S: Alter>(conn: &mut Connection<S>, word: &str) -> Result<u32, Tabl
         (λ books. (n : ℕ) → filter (λ e. eq_by_cmp code_cmp e.0 word.now)
         (meta_entries books.content) ≡ (word.now, n) ∷ []
         → IfOk result (λ number. number ≡ n)) }
-    ensures stands { HasCleanDisk (state S.Store conn.new) → IsShop conn.old.schema
+    ensures stands { HasCleanDisk (state S.Store conn.new) → HasShopTables conn.old.schema
         → IfOk result (λ number. IsNumberRow (state S.Store conn.old) word.now
         (Int (pos number) ∷ [])) }
     ensures leaves { Leaves (state S.Store conn.old) (state S.Store conn.new) }
@@ -61,7 +61,7 @@ fn number_of<S: Alter>(conn: &mut Connection<S>, word: &str) -> Result<u32, Tabl
 pub fn find_last_act<S: Alter>(conn: &mut Connection<S>) -> Result<u32, TableFault>
     ensures number { OnBooks (state S.Store conn.old) (state S.Store conn.new)
         (λ books. IfOk result (λ number. number ≡ books.content.last_act)) }
-    ensures stands { HasCleanDisk (state S.Store conn.new) → IsShop conn.old.schema
+    ensures stands { HasCleanDisk (state S.Store conn.new) → HasShopTables conn.old.schema
         → IfOk result (λ number. IsNumberRow (state S.Store conn.old) (codes "act")
         (Int (pos number) ∷ [])) }
     ensures leaves { Leaves (state S.Store conn.old) (state S.Store conn.new) }
@@ -74,7 +74,7 @@ pub fn find_last_act<S: Alter>(conn: &mut Connection<S>) -> Result<u32, TableFau
 pub fn find_last_demand<S: Alter>(conn: &mut Connection<S>) -> Result<u32, TableFault>
     ensures number { OnBooks (state S.Store conn.old) (state S.Store conn.new)
         (λ books. IfOk result (λ number. number ≡ books.content.last_demand)) }
-    ensures stands { HasCleanDisk (state S.Store conn.new) → IsShop conn.old.schema
+    ensures stands { HasCleanDisk (state S.Store conn.new) → HasShopTables conn.old.schema
         → IfOk result (λ number. IsNumberRow (state S.Store conn.old) (codes "demand")
         (Int (pos number) ∷ [])) }
     ensures leaves { Leaves (state S.Store conn.old) (state S.Store conn.new) }

@@ -8,7 +8,7 @@ ghost use Rattle.sqlite_value.specs.declared.value.Value.TheVariants.{Text as Wo
 ghost use Rattle.shop_records.specs.Content.{has_order};
 ghost use Rattle.shop_statements.specs.Beside.{Spares};
 ghost use Rattle.shop_statements.specs.Found.{has_key};
-ghost use Rattle.shop_statements.specs.Layout.{IsShop, orders_table};
+ghost use Rattle.shop_statements.specs.Layout.{HasShopTables, orders_table};
 ghost use Rattle.shop_statements.specs.Shown.{Leaves, OnBooks};
 ghost use Rattle.std.specs.Prelude.{OnOk};
 ghost use Rattle.shop_statements.specs.Changes.{with_order};
@@ -23,7 +23,7 @@ use sqlite::{Alter, Connection, Error, Row, Transaction, params};
 fn found_row<S: Alter>(conn: &mut Connection<S>, code: Code) -> Result<Option<Row>, Error>
     ensures there { OnBooks (state S.Store conn.old) (state S.Store conn.new)
         (λ books. IfOk result (λ row. is_some row ≡ has_order books.content code)) }
-    ensures stands { HasCleanDisk (state S.Store conn.new) → IsShop conn.old.schema
+    ensures stands { HasCleanDisk (state S.Store conn.new) → HasShopTables conn.old.schema
         → IfOk result (λ row. is_some row ≡ list_any (has_key (Word code ∷ []) 1)
         ((state S.Store conn.old).now.trees 7)) }
     ensures leaves { Leaves (state S.Store conn.old) (state S.Store conn.new) }
@@ -36,7 +36,7 @@ fn found_row<S: Alter>(conn: &mut Connection<S>, code: Code) -> Result<Option<Ro
 pub fn find_order<S: Alter>(conn: &mut Connection<S>, code: Code) -> Result<bool, TableFault>
     ensures there { OnBooks (state S.Store conn.old) (state S.Store conn.new)
         (λ books. IfOk result (λ there. there ≡ has_order books.content code)) }
-    ensures stands { HasCleanDisk (state S.Store conn.new) → IsShop conn.old.schema
+    ensures stands { HasCleanDisk (state S.Store conn.new) → HasShopTables conn.old.schema
         → IfOk result (λ there. there ≡ list_any (has_key (Word code ∷ []) 1)
         ((state S.Store conn.old).now.trees 7)) }
     ensures leaves { Leaves (state S.Store conn.old) (state S.Store conn.new) }

@@ -14,7 +14,7 @@ ghost use Rattle.shop_statements.specs.Shown.{Books, Makes, Ran, Within};
 ghost use Rattle.shop_statements.specs.Values.{IsPartValue};
 ghost use Rattle.sqlite.specs.State.{HasCleanDisk};
 ghost use Rattle.shop_statements.specs.Found.{IsUnder, columns_of};
-ghost use Rattle.shop_statements.specs.Layout.{IsShop, parts_table};
+ghost use Rattle.shop_statements.specs.Layout.{HasShopTables, parts_table};
 ghost use Rattle.sqlite_value.specs.declared.value.Value.TheVariants.{Int};
 ghost use Rattle.std.specs.Prelude.{[], ◌∷◌, option_map, pos};
 
@@ -48,7 +48,7 @@ fn part_row<S: Alter>(conn: &mut Connection<S>, name: PartName) -> Result<Option
     ensures row { OnBooks (state S.Store conn.old) (state S.Store conn.new)
         (λ books. IfOk result (IsRowOf (λ (part : PartRecord). part.name ≡ name) part_columns
         (part_at books.content name))) }
-    ensures stands { HasCleanDisk (state S.Store conn.new) → IsShop conn.old.schema
+    ensures stands { HasCleanDisk (state S.Store conn.new) → HasShopTables conn.old.schema
         → IfOk result (λ found. IsUnder ((state S.Store conn.old).now.trees 4) 1
         (Int (pos name.act) ∷ Int (pos name.node) ∷ []) 10 3 found) }
     ensures leaves { Leaves (state S.Store conn.old) (state S.Store conn.new) }
@@ -69,7 +69,7 @@ pub fn find_part<S: Alter>(
 ) -> Result<Option<Part>, TableFault>
     ensures row { OnBooks (state S.Store conn.old) (state S.Store conn.new)
         (λ books. IfOk result (λ row. row ≡ part_at books.content name)) }
-    ensures stands { HasCleanDisk (state S.Store conn.new) → IsShop conn.old.schema
+    ensures stands { HasCleanDisk (state S.Store conn.new) → HasShopTables conn.old.schema
         → IfOk result (λ found. IsUnder ((state S.Store conn.old).now.trees 4) 1
         (Int (pos name.act) ∷ Int (pos name.node) ∷ []) 10 3
         (option_map part_columns found)) }

@@ -3,7 +3,7 @@
 ghost use Rattle.std.specs.Prelude.{◌≡◌, OnOk};
 ghost use Rattle.sqlite.specs.Held.{state};
 ghost use Rattle.sqlite.specs.Values.{bound};
-ghost use Rattle.shop_statements.specs.Shown.{Ran, Within, HasRun};
+ghost use Rattle.shop_statements.specs.Shown.{Ran, Within, HasExecuted};
 
 use crate::TableFault;
 use sqlite::types::ValueRef;
@@ -19,7 +19,7 @@ pub(crate) fn run<S: Alter>(
     ensures ran { OnOk result
         (Ran (state S.Store tx.old.conn.now) (state S.Store tx.new.conn.now)) }
     ensures has_run { OnOk result
-        (HasRun sql.now (bound params.now) (state S.Store tx.old.conn.now)
+        (HasExecuted sql.now (bound params.now) (state S.Store tx.old.conn.now)
         (state S.Store tx.new.conn.now)) }
     ensures within { Within (state S.Store tx.old.conn.now) (state S.Store tx.new.conn.now) }
 {

@@ -10,10 +10,10 @@ ghost use Rattle.shop_statements.specs.Rows.{totals_columns, totals_row};
 ghost use Rattle.shop_statements.specs.Shown.{Leaves, OnBooks, IsRowOf};
 ghost use Rattle.std.specs.Prelude.{pos, Some, None, OnOk};
 ghost use Rattle.shop_statements.specs.Changes.{with_totals};
-ghost use Rattle.shop_statements.specs.Shown.{Books, HasRun, Makes, Ran, Within};
+ghost use Rattle.shop_statements.specs.Shown.{Books, HasExecuted, Makes, Ran, Within};
 ghost use Rattle.sqlite.specs.State.{HasCleanDisk};
 ghost use Rattle.shop_statements.specs.Found.{IsUnder, columns_of};
-ghost use Rattle.shop_statements.specs.Layout.{IsShop, totals2_table};
+ghost use Rattle.shop_statements.specs.Layout.{HasShopTables, totals2_table};
 ghost use Rattle.sqlite_value.specs.declared.value.Value.TheVariants.{Text as Word};
 ghost use Rattle.std.specs.Prelude.{[], ◌∷◌, option_map};
 
@@ -25,10 +25,10 @@ use cut_measure::Code;
 use shop_records::Totals;
 use sqlite::{Alter, Connection, Error, Row, Transaction, params};
 
-/// The totals, of their columns; the columns behind them don't matter.
+/// The totals, of their columns; the columns after them don't matter.
 pub fn read_totals(row: &Row) -> Result<Totals, TableFault>
-    ensures row { (totals : TotalsRecord) (behind : Values)
-        → row.now ≡ totals_columns totals ++ behind → IfOk result (λ read. read ≡ totals) }
+    ensures row { (totals : TotalsRecord) (after : Values)
+        → row.now ≡ totals_columns totals ++ after → IfOk result (λ read. read ≡ totals) }
     ensures exact { IfOk result (λ read. columns_of 7 0 row.now ≡ totals_columns read) }
 {
     Ok(Totals {
@@ -46,7 +46,7 @@ fn totals_row<S: Alter>(conn: &mut Connection<S>, material: Code) -> Result<Opti
     ensures row { OnBooks (state S.Store conn.old) (state S.Store conn.new)
         (λ books. IfOk result (IsRowOf (λ (totals : TotalsRecord). Unit {0}) totals_columns
         (get books.totals material))) }
-    ensures stands { HasCleanDisk (state S.Store conn.new) → IsShop conn.old.schema
+    ensures stands { HasCleanDisk (state S.Store conn.new) → HasShopTables conn.old.schema
         → IfOk result (λ found. IsUnder ((state S.Store conn.old).now.trees 17) 1
         (Word material ∷ []) 7 2 found) }
     ensures leaves { Leaves (state S.Store conn.old) (state S.Store conn.new) }
@@ -66,7 +66,7 @@ pub fn find_totals<S: Alter>(
 ) -> Result<Option<Totals>, TableFault>
     ensures row { OnBooks (state S.Store conn.old) (state S.Store conn.new)
         (λ books. IfOk result (λ row. row ≡ get books.totals material)) }
-    ensures stands { HasCleanDisk (state S.Store conn.new) → IsShop conn.old.schema
+    ensures stands { HasCleanDisk (state S.Store conn.new) → HasShopTables conn.old.schema
         → IfOk result (λ found. IsUnder ((state S.Store conn.old).now.trees 17) 1
         (Word material ∷ []) 7 2 (option_map totals_columns found)) }
     ensures leaves { Leaves (state S.Store conn.old) (state S.Store conn.new) }
@@ -124,7 +124,7 @@ fn run_totals<S: Alter>(
     ensures ran { OnOk result
         (Ran (state S.Store tx.old.conn.now) (state S.Store tx.new.conn.now)) }
     ensures has_run { OnOk result
-        (HasRun sql.now (totals_row (material, totals.now)) (state S.Store tx.old.conn.now)
+        (HasExecuted sql.now (totals_row (material, totals.now)) (state S.Store tx.old.conn.now)
         (state S.Store tx.new.conn.now)) }
     ensures within { Within (state S.Store tx.old.conn.now) (state S.Store tx.new.conn.now) }
 {

@@ -113,9 +113,9 @@ tied code = tied_itself nat_list_cmp_total code
 at_head : (e : List ℕ × Totals) (es : List (List ℕ × Totals)) → find code_cmp e.0 (e ∷ es) ≡ Some e.1
 at_head e es = ap (λ b. cond b (Some e.1) (find code_cmp e.0 es)) (ap is_eq (tied e.0))
 
--- what is found behind an entry is found with it
-in_front : (e : List ℕ × Totals) (es : List (List ℕ × Totals)) → T (below_all code_cmp e.0 es) → (code : List ℕ) (t : Totals) → find code_cmp code es ≡ Some t → find code_cmp code (e ∷ es) ≡ Some t
-in_front e es below code t is = by_code (eq_by_cmp code_cmp code e.0) refl
+-- what is found after an entry is found with it
+in_prefix : (e : List ℕ × Totals) (es : List (List ℕ × Totals)) → T (below_all code_cmp e.0 es) → (code : List ℕ) (t : Totals) → find code_cmp code es ≡ Some t → find code_cmp code (e ∷ es) ≡ Some t
+in_prefix e es below code t is = by_code (eq_by_cmp code_cmp code e.0) refl
   where
     by_code : (b : Bool) → eq_by_cmp code_cmp code e.0 ≡ b → cond b (Some e.1) (find code_cmp code es) ≡ Some t
     by_code true here =
@@ -165,7 +165,7 @@ module _ (b : Books) (sums : List Sums) (counted : (column : Column) (code : Lis
       every [] up h = tt
       every (e ∷ es) up h =
           let parts = two (below_all code_cmp e.0 es) (is_sorted code_cmp es) up in
-          (h e.0 e.1 (at_head e es), every es parts.1 (λ code t is. h code t (in_front e es parts.0 code t is)))
+          (h e.0 e.1 (at_head e es), every es parts.1 (λ code t is. h code t (in_prefix e es parts.0 code t is)))
 
 -- ---- what the pass tells
 

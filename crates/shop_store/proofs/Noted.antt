@@ -16,9 +16,9 @@ use Rattle.shop_rows.proofs.Listed.{tie}
 
 -- ---- parts that are put one after another
 
-pub kept_front : (xs ys : List Part) (at : Name → Option Part) → KeepMaterials at (xs ++ ys) → KeepMaterials at xs
-kept_front [] ys at h = tt
-kept_front (x ∷ xs) ys at h = (h.0, kept_front xs ys (finds_with name_cmp x.name x at) h.1)
+pub kept_prefix : (xs ys : List Part) (at : Name → Option Part) → KeepMaterials at (xs ++ ys) → KeepMaterials at xs
+kept_prefix [] ys at h = tt
+kept_prefix (x ∷ xs) ys at h = (h.0, kept_prefix xs ys (finds_with name_cmp x.name x at) h.1)
 
 pub kept_back : (xs ys : List Part) (at : Name → Option Part) → KeepMaterials at (xs ++ ys) → KeepMaterials (finds_with_all part_key name_cmp xs at) ys
 kept_back [] ys at h = h

@@ -10,18 +10,18 @@ use Rattle.shop_records.specs.declared.records.Part.{Part}
 use Rattle.shop_records.specs.Visits.{GoesOn, HasSeen, IsVisit}
 use Rattle.shop_store.specs.declared.takers.PartTaker.{PartTaker}
 use Rattle.shop_store.specs.SqlBooks.{told}
-use Rattle.shop_store.specs.NamedParts.{AreStanding, IsTaken}
+use Rattle.shop_store.specs.NamedParts.{AreListedParts, IsTaken}
 use Rattle.shop_store.specs.Takers.{TakesPart}
 use Rattle.sqlite_trees.specs.Tree.{Trees}
 use Rattle.sqlite_trees.specs.declared.store.Store.{Ghosts}
 use Rattle.sqlite.specs.Held.{Held, state}
-use Rattle.shop_statements.specs.Layout.{IsShop}
+use Rattle.shop_statements.specs.Layout.{HasShopTables}
 use Rattle.shop_tables.specs.RowsShown.{SeesCommit}
 use Rattle.sqlite.specs.Order.{Row}
 use Rattle.shop_tables.specs.Lending.{HandsOut}
 use Rattle.shop_tables.specs.ListedRows.{listed_part}
 use Rattle.shop_book.specs.declared.books.BookFault.{BookFault}
-use Rattle.shop_book.proofs.Handed.{take_front}
+use Rattle.shop_book.proofs.Handed.{take_prefix}
 use Rattle.shop_store.proofs.Telling.{as_told}
 use Rattle.shop_statements.specs.declared.faults.TableFault.{TableFault}
 
@@ -65,12 +65,12 @@ visit_of looks says more old new r lift visit = record { parts = visit.parts; on
 
 -- ---- parts that are found under their names
 
-pub one_more_stands : (m : Content) (code : List ℕ) (old new : List Part) → AreStanding m code old → IsTaken m code old new → AreStanding m code new
-one_more_stands m code old new standing taken = subst (AreStanding m code) (sym taken.1) (behind old standing)
+pub one_more_stands : (m : Content) (code : List ℕ) (old new : List Part) → AreListedParts m code old → IsTaken m code old new → AreListedParts m code new
+one_more_stands m code old new standing taken = subst (AreListedParts m code) (sym taken.1) (after old standing)
   where
-    behind : (parts : List Part) → AreStanding m code parts → AreStanding m code (parts ++ taken.0 ∷ [])
-    behind [] h = (taken.2, tt)
-    behind (p ∷ parts) h = (h.0, behind parts h.1)
+    after : (parts : List Part) → AreListedParts m code parts → AreListedParts m code (parts ++ taken.0 ∷ [])
+    after [] h = (taken.2, tt)
+    after (p ∷ parts) h = (h.0, after parts h.1)
 
 -- ---- parts that are handed out
 
@@ -109,7 +109,7 @@ module _ {X : Type 0} (test : X → Bool) (rows : List X) (i : ℕ) where
   pub enough_passed : (most : ℕ) (found : List X) → found ≡ filter test (take i rows) → most ≡ length found → found ≡ take most (filter test rows)
   enough_passed most found is full =
       sym (ap (take most) (ap (filter test) (sym (take-append-drop i rows)) ∙ filter-append test (take i rows) (drop i rows) ∙ ap (λ xs. xs ++ filter test (drop i rows)) (sym is))
-      ∙ take_front most found (filter test (drop i rows)) full)
+      ∙ take_prefix most found (filter test (drop i rows)) full)
 
   -- all were looked at, and no more passed than are wanted
   pub all_passed : (most : ℕ) (found : List X) → found ≡ filter test (take i rows) → length rows ≤ i → length found ≤ most → found ≡ take most (filter test rows)
@@ -124,7 +124,7 @@ no_visit looks says old (Err fault) is any = record { parts = []; on = true; vis
 
 -- ---- a reading that was left out
 
--- what is said of what was seen behind it is said of what was seen before
-pub unread_then : {S : Type 0} (g : Ghosts S) (What : Trees → Type 0) (old mid : Held S) → mid ≡ old → (IsShop (state g mid).now.schema → SeesCommit (state g mid) → What (state g mid).now.trees)
-    → IsShop (state g old).now.schema → SeesCommit (state g old) → What (state g old).now.trees
-unread_then g What old mid same = subst (λ h. IsShop (state g h).now.schema → SeesCommit (state g h) → What (state g h).now.trees) same
+-- what is said of what was seen after it is said of what was seen before
+pub unread_then : {S : Type 0} (g : Ghosts S) (What : Trees → Type 0) (old mid : Held S) → mid ≡ old → (HasShopTables (state g mid).now.schema → SeesCommit (state g mid) → What (state g mid).now.trees)
+    → HasShopTables (state g old).now.schema → SeesCommit (state g old) → What (state g old).now.trees
+unread_then g What old mid same = subst (λ h. HasShopTables (state g h).now.schema → SeesCommit (state g h) → What (state g h).now.trees) same

@@ -49,7 +49,7 @@ module _ {S : Type 0} (g : Ghosts S) where
   keeps_listing conn work failures counts old new read same lists leaves counted =
       let l = subst (λ h. Leaves (state g (conn old)) (state g h)) (sym same) leaves in
       record {
-        honest = λ clean. let s = l.survives.clean in omega (arith, s, clean);
+        clean_disk = λ clean. let s = l.survives.clean in omega (arith, s, clean);
         stays = λ clean m was. (
           record { lines = was.0.lines; totals = was.0.totals; sums = was.0.sums; holds = l.stays (books m was.0.totals) was.0.holds },
           λ again. lists (subst (λ h. HasCleanDisk (state g h)) same clean) m was.0 (was.1 (let s = l.survives.clean in omega (arith, s, clean))),

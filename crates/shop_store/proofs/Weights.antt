@@ -72,7 +72,7 @@ module _ {K X : Type 0} (key_of : X → K) (cmp : K → K → Ordering) (o : IsT
         | inr fewer ↦ inr (omega (arith, fewer, sum_by-cons weight e.1 (rows_in es), sum_by-cons weight e.1 xs))
       ]
 
-  -- rows behind a key are found behind an entry that no key behind it ties
+  -- rows after a key are found after an entry that no key after it ties
   further : (e : K × X) (es : List (K × X)) (key : K) → ((other : K) → cmp key other ≡ Less → eq_by_cmp cmp other e.0 ≡ false)
       → (xs : List X) → T (below_all cmp key (rows_of xs)) → AllByRecursion (IsAt (e ∷ es)) xs → AllByRecursion (IsAt es) xs
   further e es key apart [] up at = tt

@@ -27,7 +27,7 @@ use Rattle.shop_statements.specs.Shown.{Books, Holds}
 use Rattle.shop_statements.proofs.Finding.{code_total}
 use Rattle.shop_store.proofs.Weights.{all_or_fewer, weights, IsAt}
 use Rattle.shop_statements.specs.Values.{IsPartValue}
-use Rattle.shop_store.specs.NamedParts.{AreStanding, HaveCells}
+use Rattle.shop_store.specs.NamedParts.{AreListedParts, HaveCells}
 
 module _ (code : List ℕ) where
   abbrev cells : Part → ℕ
@@ -72,19 +72,19 @@ module _ (m : Content) (keyed : IsKeyed m) (code : List ℕ) where
   some_cells (e ∷ es) there up =
       let here : part_at m e.0 ≡ Some e.1 = there e.0 e.1 (ap (λ r. cond (is_eq r) (Some e.1) (find name_cmp e.0 es)) (tied_itself names_total e.0)) in (
         some_cell e.1 (keyed.values e.0 e.1 here),
-        some_cells es (λ name part is. there name part (behind name part is (eq_by_cmp name_cmp name e.0) refl)) (second _ _ up),
+        some_cells es (λ name part is. there name part (after name part is (eq_by_cmp name_cmp name e.0) refl)) (second _ _ up),
       )
     where
-      behind : (name : Name) (part : Part) → find name_cmp name es ≡ Some part → (b : Bool) → eq_by_cmp name_cmp name e.0 ≡ b → cond b (Some e.1) (find name_cmp name es) ≡ Some part
-      behind name part is false f = is
-      behind name part is true f =
+      after : (name : Name) (part : Part) → find name_cmp name es ≡ Some part → (b : Bool) → eq_by_cmp name_cmp name e.0 ≡ b → cond b (Some e.1) (find name_cmp name es) ≡ Some part
+      after name part is false f = is
+      after name part is true f =
           absurd (true≢false (sym (ap is_some (sym (missed es (first _ _ up)) ∙ ap (λ n. find name_cmp n es) (sym (names_exact name e.0 (tie _ f))) ∙ is))))
         where
           missed : (fs : List (Name × Part)) → T (below_all name_cmp e.0 fs) → find name_cmp e.0 fs ≡ None
           missed [] h = refl
           missed (x ∷ fs) h = ap (λ r. cond (is_eq r) (Some x.1) (find name_cmp e.0 fs)) (less _ (first _ _ h)) ∙ missed fs (second _ _ h)
 
-  at_entries : (parts : List Part) → AreStanding m code parts → AllByRecursion (IsAt part_key name_cmp names_total names_exact (is_listed code) (cells code) (entries m.parts)) parts
+  at_entries : (parts : List Part) → AreListedParts m code parts → AllByRecursion (IsAt part_key name_cmp names_total names_exact (is_listed code) (cells code) (entries m.parts)) parts
   at_entries [] standing = tt
   at_entries (p ∷ ps) standing =
       let stands = standing.0 in
@@ -94,7 +94,7 @@ module _ (m : Content) (keyed : IsKeyed m) (code : List ℕ) where
       )
 
   -- parts that stand and have the cells of the totals are all that stand
-  pub all_standing : (totals : Totals) → totals ≡ totals_of m code → (parts : List Part) → AreStanding m code parts → HaveCells code totals parts → parts ≡ parts_of m code
+  pub all_standing : (totals : Totals) → totals ≡ totals_of m code → (parts : List Part) → AreListedParts m code parts → HaveCells code totals parts → parts ≡ parts_of m code
   all_standing totals is parts standing have =
       elim (all_or_fewer part_key name_cmp names_total names_exact (is_listed code) (cells code) (entries m.parts) (entries_sorted m.parts) (some_cells (entries m.parts) (λ name part found. get-entries m.parts name ∙ found) (entries_sorted m.parts)) parts (tested _ have.rising) (at_entries parts standing)) [
         | inl same ↦ same

@@ -11,7 +11,7 @@ use Rattle.std.specs.FinMap.{FinMap, empty, entries_sorted, find, get, get-empty
 use Rattle.sqlite.specs.State.{State, HasCleanDisk}
 use Rattle.sqlite.specs.Effect.{Database}
 use Rattle.sqlite_trees.specs.Tree.{Trees}
-use Rattle.shop_statements.specs.Layout.{IsShop}
+use Rattle.shop_statements.specs.Layout.{HasShopTables}
 use Rattle.shop_tables.specs.Held.{books}
 use Rattle.shop_statements.specs.Shown.{Books, Holds, Leaves}
 use Rattle.sqlite_trees.proofs.ListLemmas.{filter-map}
@@ -25,7 +25,7 @@ use Rattle.shop_records.specs.declared.records.Job.{Job}
 use Rattle.shop_rows.specs.Keys.{demand_key, job_key}
 use Rattle.std.specs.FinMap.Entries.{find-put, find-where_key}
 use Rattle.shop_rows.specs.Open.{own_key, has, is_found, finds_with, finds_with_all, waits, ListsNumbers}
-use Rattle.shop_rows.specs.Rows.{entries_of, rise, row_at, IsPut, IsTaken}
+use Rattle.shop_rows.specs.Rows.{entries_of, rise, row_at, IsPut, IsTakenOut}
 use Rattle.shop_rows.proofs.Listed.{filter_filter, tie}
 use Rattle.shop_rows.proofs.Named.{same_keys}
 use Rattle.shop_tables.proofs.Firsts.{rekeyed}
@@ -65,8 +65,8 @@ module _ {X : Type 0} (key_of : X → ℕ) (m : FinMap nat_cmp X) (own : (number
         (λ number. finds number ∙ sym (passing_value_at number))
 
   -- where none stands under number 0, all that pass have greater numbers
-  pub behind_0 : (test : X → Bool) → get m 0 ≡ None → filter (λ row. nat_lt 0 (key_of row) && test row) (values m) ≡ filter test (values m)
-  behind_0 test none =
+  pub after_0 : (test : X → Bool) → get m 0 ≡ None → filter (λ row. nat_lt 0 (key_of row) && test row) (values m) ≡ filter test (values m)
+  after_0 test none =
       passing_found test (filter (λ row. nat_lt 0 (key_of row) && test row) (values m)) (passing_rise key_of nat_cmp nat_cmp_total nat_cmp-IsAntisymmetric (λ row. nat_lt 0 (key_of row) && test row) (values m) values_rise)
       (λ number. passing_value_at (λ row. nat_lt 0 (key_of row) && test row) number ∙ by_found number (get m number) refl)
     where
@@ -115,7 +115,7 @@ finds_put find_demand old new demand finds put_there unmade number =
     ]
 
 -- and with the one of a number taken that isn't
-pub finds_taken : (find_demand : ℕ → Option Demand) (old new : List Demand) (demand : Demand) → FindsOpen find_demand old → IsTaken demand_key nat_cmp demand.number old new → is_open demand ≡ false
+pub finds_taken : (find_demand : ℕ → Option Demand) (old new : List Demand) (demand : Demand) → FindsOpen find_demand old → IsTakenOut demand_key nat_cmp demand.number old new → is_open demand ≡ false
     → FindsOpen (finds_with nat_cmp demand.number demand find_demand) new
 finds_taken find_demand old new demand finds taken shut number =
     ap (find nat_cmp number) taken
@@ -157,9 +157,9 @@ and_true : (b : Bool) → (b && true) ≡ b
 and_true true = refl
 and_true false = refl
 
--- the numbers behind another one are those of the jobs behind it
-pub waiting_behind : (m : Content) (jobs : List ℕ) (demands : List Demand) → HasWork m jobs demands → (after : ℕ) → filter (nat_lt after) jobs ≡ map (λ (job : Job). job.act) (waiting_jobs m after)
-waiting_behind m jobs demands work after =
+-- the numbers after another one are those of the jobs after it
+pub waiting_after : (m : Content) (jobs : List ℕ) (demands : List Demand) → HasWork m jobs demands → (after : ℕ) → filter (nat_lt after) jobs ≡ map (λ (job : Job). job.act) (waiting_jobs m after)
+waiting_after m jobs demands work after =
     ap (filter (nat_lt after)) work.jobs ∙ filter-map (nat_lt after) (λ (job : Job). job.act) (filter waits (values m.jobs))
     ∙ ap (map (λ (job : Job). job.act))
     (filter_filter waits (λ (job : Job). nat_lt after job.act) (values m.jobs)
@@ -176,17 +176,17 @@ open_asked m jobs demands work after material =
 
 -- ---- what is found of them
 
--- the lists behind number 0, where they are whole and none stands under it
+-- the lists after number 0, where they are whole and none stands under it
 pub work_found : (m : Content) → HasNoNumber0 m → Own job_key m.jobs → Own demand_key m.demands → (most : ℕ) (jobs : List ℕ) (demands : List Demand) → jobs ≡ take most (map (λ (job : Job). job.act) (waiting_jobs m 0))
     → demands ≡ take most (open_demands m 0 None) → length jobs < most → length demands < most → HasWork m jobs demands
 work_found m none own_jobs own_demands most jobs demands are rows few_jobs few_demands = record {
   jobs =
       are ∙ all_taken most (map (λ (job : Job). job.act) (waiting_jobs m 0)) (subst (λ ns. length ns < most) are few_jobs)
-      ∙ ap (map (λ (job : Job). job.act)) (behind_0 job_key m.jobs own_jobs waits none.0);
+      ∙ ap (map (λ (job : Job). job.act)) (after_0 job_key m.jobs own_jobs waits none.0);
   demands =
       rows ∙ all_taken most (open_demands m 0 None) (subst (λ ds. length ds < most) rows few_demands)
       ∙ filter_agree (λ (demand : Demand). nat_lt 0 demand.number && true && is_open demand) (λ (demand : Demand). nat_lt 0 demand.number && is_open demand) (λ (demand : Demand). ap (λ b. b && is_open demand) (and_true (nat_lt 0 demand.number))) (values m.demands)
-      ∙ behind_0 demand_key m.demands own_demands is_open none.1;
+      ∙ after_0 demand_key m.demands own_demands is_open none.1;
   own_jobs = own_jobs;
   own_demands = own_demands;
 }
@@ -211,13 +211,13 @@ if_both P Q R (Some x) f p q = f x p q
 -- ---- what a reading saw before the next
 
 -- an answer of the rows that a connection saw after a reading is one of those that it saw before
-pub stands_still : {X E : Type 0} (r : Result X E) (old mid : State) → Leaves old mid → HasCleanDisk mid → SeesCommit old → IfOk r (λ _. IsTrue mid.is_open) → (What : Trees → X → Type 0) → IsShop old.now.schema
-    → (IsShop mid.now.schema → IfOk r (What mid.now.trees)) → IfOk r (What old.now.trees)
+pub stands_still : {X E : Type 0} (r : Result X E) (old mid : State) → Leaves old mid → HasCleanDisk mid → SeesCommit old → IfOk r (λ _. IsTrue mid.is_open) → (What : Trees → X → Type 0) → HasShopTables old.now.schema
+    → (HasShopTables mid.now.schema → IfOk r (What mid.now.trees)) → IfOk r (What old.now.trees)
 stands_still (Err e) old mid left clean sees up What h stands = tt
 stands_still (Ok x) old mid left clean sees up What h stands =
     let was = left.as_was clean up in
     let same : mid.now ≡ old.now = was.now (sees was.was_open) in
-    subst (λ (d : Database). What d.trees x) same (stands (subst (λ (d : Database). IsShop d.schema) (sym same) h))
+    subst (λ (d : Database). What d.trees x) same (stands (subst (λ (d : Database). HasShopTables d.schema) (sym same) h))
 
 -- what was listed before another reading
 pub lists_on : (old mid new : State) (before after : OpenWork) → (HasCleanDisk new → HasCleanDisk mid) → ListsRows old mid before after → ListsRows old new before after

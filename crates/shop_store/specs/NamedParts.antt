@@ -13,16 +13,16 @@ use Rattle.shop_rows.specs.declared.names.NameList.{NameList}
 use Rattle.shop_rows.specs.declared.names.OpenPart.{OpenPart}
 
 -- the part is the content's, and stands for the material
-abbrev pub Stands : Content → List ℕ → Part → Type 0
-Stands m code part = (name : Name) × (part_at m name ≡ Some part) × (is_listed code part ≡ true)
+abbrev pub IsListedPart : Content → List ℕ → Part → Type 0
+IsListedPart m code part = (name : Name) × (part_at m name ≡ Some part) × (is_listed code part ≡ true)
 
 -- each of these does
-abbrev pub AreStanding : Content → List ℕ → List Part → Type 0
-AreStanding m code parts = AllByRecursion (Stands m code) parts
+abbrev pub AreListedParts : Content → List ℕ → List Part → Type 0
+AreListedParts m code parts = AllByRecursion (IsListedPart m code) parts
 
--- one that does is behind those that were taken
+-- one that does is after those that were taken
 abbrev pub IsTaken : Content → List ℕ → List Part → List Part → Type 0
-IsTaken m code old new = (part : Part) × (new ≡ old ++ part ∷ []) × Stands m code part
+IsTaken m code old new = (part : Part) × (new ≡ old ++ part ∷ []) × IsListedPart m code part
 
 -- they rise by their names, and have the cells that these totals have in stock and on the rack
 pub record HaveCells (code : List ℕ) (totals : Totals) (parts : List Part) : Type 0 where

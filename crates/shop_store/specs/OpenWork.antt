@@ -12,7 +12,7 @@ use Rattle.shop_rows.specs.Keys.{demand_key}
 use Rattle.shop_rows.specs.Open.{waits}
 use Rattle.shop_rows.specs.Rows.{row_at}
 use Rattle.sqlite_trees.specs.Tree.{Trees}
-use Rattle.shop_statements.specs.Layout.{IsShop}
+use Rattle.shop_statements.specs.Layout.{HasShopTables}
 use Rattle.shop_tables.specs.Held.{HoldsContent}
 use Rattle.shop_tables.specs.ListedRows.{listed_demand, number_row}
 use Rattle.shop_tables.specs.RowsShown.{AreDemandRows, AreJobRows, SeesCommit}
@@ -47,7 +47,7 @@ IsReadFrom db work =
 -- What was listed stays, and what is listed now is of the rows that the connection saw.
 pub record ListsRows (old new : State) (before after : OpenWork) : Type 0 where
   pub kept : before.is_listed ≡ true → after ≡ before
-  pub read : HasCleanDisk new → IsShop old.now.schema → SeesCommit old → before.is_listed ≡ false → after.is_listed ≡ true → IsReadFrom old.now.trees after
+  pub read : HasCleanDisk new → HasShopTables old.now.schema → SeesCommit old → before.is_listed ≡ false → after.is_listed ≡ true → IsReadFrom old.now.trees after
 
 -- the connection holds the content, and what is listed beside it is the content's
 abbrev pub HoldsListed : State → OpenWork → Content → Type 0

@@ -100,7 +100,7 @@ fn are_sums_of_parts<S: Alter>(
     match lend_all_parts(conn, &mut adder)? {
         Lent::All => Ok(conclude(adder, totals, names)),
         Lent::Stopped => Ok(false),
-        Lent::Strange => Ok(false),
+        Lent::Invalid => Ok(false),
     }
 }
 

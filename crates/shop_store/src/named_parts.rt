@@ -5,17 +5,17 @@ ghost use Rattle.std.specs.Prelude.{◌≡◌, false, map, take, Some, None, Ok,
 ghost use Rattle.sqlite.specs.Held.{state};
 ghost use Rattle.sqlite.specs.State.{HasCleanDisk};
 ghost use Rattle.shop_records.specs.Content.{parts_of};
-ghost use Rattle.shop_records.specs.Lists.{is_behind, parts_behind};
+ghost use Rattle.shop_records.specs.Lists.{is_after, parts_after};
 ghost use Rattle.shop_records.specs.Visits.{IsVisit};
 ghost use Rattle.shop_tables.specs.Changing.{HasSums};
-ghost use Rattle.shop_statements.specs.Layout.{IsShop};
+ghost use Rattle.shop_statements.specs.Layout.{HasShopTables};
 ghost use Rattle.shop_statements.specs.Shown.{Leaves, OnBooks};
 ghost use Rattle.shop_tables.specs.Lending.{HandsOut};
 ghost use Rattle.shop_tables.specs.ListedRows.{listed_part};
 ghost use Rattle.shop_tables.specs.RowsShown.{ArePartRows, SeesCommit};
 ghost use Rattle.shop_rows.specs.Rows.{rise};
 ghost use Rattle.shop_statements.specs.declared.faults.TableFault.{TableFault as Fault};
-ghost use Rattle.shop_store.specs.NamedParts.{AreStanding, HaveCells, IsTaken};
+ghost use Rattle.shop_store.specs.NamedParts.{AreListedParts, HaveCells, IsTaken};
 
 use crate::passing::{Test, first_passing};
 use crate::sql::totals_of;
@@ -59,7 +59,7 @@ fn named_parts<S: Alter>(
     names: &[PartName],
 ) -> Result<Option<PartList>, TableFault>
     ensures standing { OnBooks (state S.Store conn.old) (state S.Store conn.new)
-        (λ books. IfOk result (λ found. IfSome found (AreStanding books.content material))) }
+        (λ books. IfOk result (λ found. IfSome found (AreListedParts books.content material))) }
     ensures leaves { Leaves (state S.Store conn.old) (state S.Store conn.new) }
     ensures mode { conn.old.in_transaction ≡ false → conn.new.in_transaction ≡ false }
 {
@@ -132,7 +132,7 @@ fn searched_parts<S: Alter>(
 ) -> Result<PartList, TableFault>
     ensures rows { OnBooks (state S.Store conn.old) (state S.Store conn.new)
         (λ books. IfOk result (λ rows. rows ≡ parts_of books.content material)) }
-    ensures stands { HasCleanDisk (state S.Store conn.new) → IsShop conn.old.schema
+    ensures stands { HasCleanDisk (state S.Store conn.new) → HasShopTables conn.old.schema
         → SeesCommit (state S.Store conn.old) → IfOk result
         (λ parts. ArePartRows material None None ((state S.Store conn.old).now.trees 4)
         (map listed_part parts)) }
@@ -159,7 +159,7 @@ pub fn listed_parts<S: Alter>(
 ) -> Result<PartList, TableFault>
     ensures rows { OnBooks (state S.Store conn.old) (state S.Store conn.new)
         (λ books. HasSums books → IfOk result (λ rows. rows ≡ parts_of books.content material)) }
-    ensures stands { HasCleanDisk (state S.Store conn.new) → IsShop conn.old.schema
+    ensures stands { HasCleanDisk (state S.Store conn.new) → HasShopTables conn.old.schema
         → SeesCommit (state S.Store conn.old) → names.entry ≡ None → IfOk result
         (λ parts. ArePartRows material None None ((state S.Store conn.old).now.trees 4)
         (map listed_part parts)) }
@@ -197,7 +197,7 @@ pub fn visit_listed<S: Alter, V: PartVisitor>(
         (λ what. OnBooks (state S.Store conn.old) (state S.Store conn.new)
         (λ books. HasSums books → what (parts_of books.content material))) visitor.old result
         visitor.new }
-    ensures stands { HasCleanDisk (state S.Store conn.new) → IsShop conn.old.schema
+    ensures stands { HasCleanDisk (state S.Store conn.new) → HasShopTables conn.old.schema
         → SeesCommit (state S.Store conn.old) → names.entry ≡ None → IfOk result
         (HandsOut V.looks (ArePartRows material None None
         ((state S.Store conn.old).now.trees 4)) visitor.old visitor.new) }
@@ -210,18 +210,18 @@ pub fn visit_listed<S: Alter, V: PartVisitor>(
     }
 }
 
-// A part whose name comes behind another one, or any where there is no other.
+// A part whose name comes after another one, or any where there is no other.
 #[derive(Drop)]
-struct IsBehind {
+struct IsAfter {
     after: Option<PartName>,
 }
 
-impl Test for IsBehind {
-    ghost use Rattle.shop_records.specs.Lists.{is_behind};
+impl Test for IsAfter {
+    ghost use Rattle.shop_records.specs.Lists.{is_after};
 
     type Row = Part;
 
-    ghost test = { λ behind part. is_behind behind.after part.name };
+    ghost test = { λ asked part. is_after asked.after part.name };
 
     fn passes(&self, part: &Part) -> bool {
         match self.after {
@@ -231,7 +231,7 @@ impl Test for IsBehind {
     }
 }
 
-/// The first standing parts of a material behind a name, looked for first under these names, if any are given: at most so many.
+/// The first standing parts of a material after a name, looked for first under these names, if any are given: at most so many.
 pub fn first_listed<S: Alter>(
     alloc: Global,
     conn: &mut Connection<S>,
@@ -242,8 +242,8 @@ pub fn first_listed<S: Alter>(
 ) -> Result<PartList, TableFault>
     ensures rows { OnBooks (state S.Store conn.old) (state S.Store conn.new)
         (λ books. HasSums books → IfOk result
-        (λ rows. rows ≡ take most (parts_behind books.content material after))) }
-    ensures stands { HasCleanDisk (state S.Store conn.new) → IsShop conn.old.schema
+        (λ rows. rows ≡ take most (parts_after books.content material after))) }
+    ensures stands { HasCleanDisk (state S.Store conn.new) → HasShopTables conn.old.schema
         → SeesCommit (state S.Store conn.old) → names.entry ≡ None → IfOk result
         (λ parts. ArePartRows material after (Some most)
         ((state S.Store conn.old).now.trees 4) (map listed_part parts)) }
@@ -253,6 +253,6 @@ pub fn first_listed<S: Alter>(
     let Some(parts) = whole_parts(alloc, conn, material, names)? else {
         return list_first_parts(alloc, conn, material, after, most);
     };
-    let rows = first_passing(alloc, parts.as_slice(), &IsBehind { after }, most)?;
+    let rows = first_passing(alloc, parts.as_slice(), &IsAfter { after }, most)?;
     Ok(rows)
 }

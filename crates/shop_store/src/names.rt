@@ -11,12 +11,12 @@ ghost use Rattle.shop_records.specs.Soundness.{Fits};
 ghost use Rattle.shop_rows.specs.Keys.{part_key};
 ghost use Rattle.shop_store.specs.NamedParts.{ListsOnly};
 ghost use Rattle.shop_rows.specs.Open.{names_of, room_of, finds_with_all, AreInOrder, HaveRoom, KeepMaterials, ListsParts};
-ghost use Rattle.shop_statements.specs.Layout.{IsShop};
+ghost use Rattle.shop_statements.specs.Layout.{HasShopTables};
 ghost use Rattle.shop_tables.specs.Held.{HoldsContent, LeavesOnly, LeavesOthers, StandsFor};
 
 use cut_measure::{Code, PartName};
 use shop_records::{Change, Part};
-use shop_rows::{NameList, list_all, list_in_place, make_room, names_behind, reserve_names};
+use shop_rows::{NameList, list_all, list_in_place, make_room, names_after, reserve_names};
 use shop_tables::{TableFault, commit_change};
 use sqlite::{Alter, Connection};
 use std::alloc::Global;
@@ -48,7 +48,7 @@ impl PartNames {
 
     /// The names of a material's standing parts, where to look them up takes less time than to go through all rows.
     pub fn few_of(&self, material: Code) -> Option<&[PartName]> {
-        let names = names_behind(&self.lists, material, None);
+        let names = names_after(&self.lists, material, None);
         if names.len() > self.rows / ROWS_A_LOOK {
             return None;
         }
@@ -132,7 +132,7 @@ pub fn commit_listed<S: Alter>(
         (λ db. StandsFor db (changed m change.now)) }
     ensures lasts { (m : Content) → HoldsContent (state S.Store conn.old) m → Fits m change.now
         → OnOk result (LeavesOnly (state S.Store conn.new) (changed m change.now)) }
-    ensures others { IsShop conn.old.schema
+    ensures others { HasShopTables conn.old.schema
         → LeavesOthers (state S.Store conn.old) (state S.Store conn.new) }
     ensures earlier { HasCleanDisk (state S.Store conn.new)
         → HasCleanDisk (state S.Store conn.old) }

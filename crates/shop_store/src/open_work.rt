@@ -14,7 +14,7 @@ ghost use Rattle.shop_rows.specs.Keys.{demand_key, job_key};
 ghost use Rattle.shop_rows.specs.Open.{own_key, finds_with, finds_with_all, waits, ListsNumbers};
 ghost use Rattle.shop_rows.specs.Rows.{rise};
 ghost use Rattle.shop_tables.specs.Held.{HoldsContent, LeavesOnly, LeavesOthers, StandsFor};
-ghost use Rattle.shop_statements.specs.Layout.{IsShop};
+ghost use Rattle.shop_statements.specs.Layout.{HasShopTables};
 ghost use Rattle.shop_statements.specs.Shown.{Leaves, OnBooks};
 ghost use Rattle.shop_tables.specs.ListedRows.{listed_demand, number_row};
 ghost use Rattle.shop_tables.specs.RowsShown.{AreDemandRows, AreJobRows, SeesCommit};
@@ -26,7 +26,7 @@ use crate::names::{PartNames, commit_listed};
 use crate::passing::{Test, first_passing};
 use cut_measure::Code;
 use shop_records::{Change, Demand, DemandList, Job, NumberList};
-use shop_rows::{copy_rows, first_rows, list_job, numbers_behind, put, rises, take_row};
+use shop_rows::{copy_rows, first_rows, list_job, numbers_after, put, rises, take_row};
 use shop_tables::{TableFault, find_demand, find_job, list_open_demands, list_waiting_jobs};
 use sqlite::{Alter, Connection};
 use std::alloc::{AllocError, Global};
@@ -37,7 +37,7 @@ const TOO_MANY: usize = 4294967295;
 
 // ---- they are listed
 
-// Whether a demand or a job stands under number 0, behind which every list begins. None does in a shop's books.
+// Whether a demand or a job stands under number 0, after which every list begins. None does in a shop's books.
 fn has_number_0<S: Alter>(alloc: Global, conn: &mut Connection<S>) -> Result<bool, TableFault>
     ensures none { OnBooks (state S.Store conn.old) (state S.Store conn.new)
         (λ books. IfOk result (λ there. there ≡ false → HasNoNumber0 books.content)) }
@@ -88,7 +88,7 @@ fn find_work<S: Alter>(
         → HoldsContent (state S.Store conn.old) m
         → IfOk result (λ found. IfSome found
         (λ work. HasWork m work.jobs.items work.demands.items)) }
-    ensures stands { HasCleanDisk (state S.Store conn.new) → IsShop conn.old.schema
+    ensures stands { HasCleanDisk (state S.Store conn.new) → HasShopTables conn.old.schema
         → SeesCommit (state S.Store conn.old) → IfOk result
         (λ found. IfSome found (IsReadFrom (state S.Store conn.old).now.trees)) }
     ensures leaves { Leaves (state S.Store conn.old) (state S.Store conn.new) }
@@ -159,7 +159,7 @@ fn first_numbers(
     requires { IsTrue (rise own_key nat_cmp jobs.now) }
     ensures { IfOk result (λ numbers. numbers ≡ take most (filter (nat_lt after) jobs.now)) }
 {
-    let numbers = numbers_behind(jobs, after);
+    let numbers = numbers_after(jobs, after);
     copy_rows(alloc, first_rows(numbers, most))
 }
 
@@ -178,7 +178,7 @@ pub fn first_waiting<S: Alter>(
     ensures work { HasCleanDisk (state S.Store conn.new) → (m : Content)
         → HoldsContent (state S.Store conn.old) m → KnowsWork work.old m → KnowsWork work.new m }
     ensures lists { ListsRows (state S.Store conn.old) (state S.Store conn.new) work.old work.new }
-    ensures stands { HasCleanDisk (state S.Store conn.new) → IsShop conn.old.schema
+    ensures stands { HasCleanDisk (state S.Store conn.new) → HasShopTables conn.old.schema
         → SeesCommit (state S.Store conn.old) → work.new.is_listed ≡ false
         → IfOk result (λ numbers. AreJobRows after most ((state S.Store conn.old).now.trees 6)
         (map number_row numbers)) }
@@ -210,7 +210,7 @@ pub fn first_open<S: Alter>(
     ensures work { HasCleanDisk (state S.Store conn.new) → (m : Content)
         → HoldsContent (state S.Store conn.old) m → KnowsWork work.old m → KnowsWork work.new m }
     ensures lists { ListsRows (state S.Store conn.old) (state S.Store conn.new) work.old work.new }
-    ensures stands { HasCleanDisk (state S.Store conn.new) → IsShop conn.old.schema
+    ensures stands { HasCleanDisk (state S.Store conn.new) → HasShopTables conn.old.schema
         → SeesCommit (state S.Store conn.old) → work.new.is_listed ≡ false
         → IfOk result (λ demands. AreDemandRows after material most
         ((state S.Store conn.old).now.trees 9) (map listed_demand demands)) }
@@ -324,7 +324,7 @@ pub fn commit_open<S: Alter>(
         (λ db. StandsFor db (changed m change.now)) }
     ensures lasts { (m : Content) → HoldsContent (state S.Store conn.old) m → Fits m change.now
         → OnOk result (LeavesOnly (state S.Store conn.new) (changed m change.now)) }
-    ensures others { IsShop conn.old.schema
+    ensures others { HasShopTables conn.old.schema
         → LeavesOthers (state S.Store conn.old) (state S.Store conn.new) }
     ensures earlier { HasCleanDisk (state S.Store conn.new)
         → HasCleanDisk (state S.Store conn.old) }

@@ -9,7 +9,7 @@ ghost use Rattle.shop_records.specs.Content.{Content, no_totals as nothing, part
 ghost use Rattle.shop_tables.specs.Adopting.{HasVersion, IsVacant, names_are_free};
 ghost use Rattle.shop_statements.specs.Earlier.{earlier_schema};
 ghost use Rattle.shop_tables.specs.Held.{HoldsContent, IsSettledAt, LeavesOnly, StandsFor};
-ghost use Rattle.shop_statements.specs.Layout.{no_schema, IsShop};
+ghost use Rattle.shop_statements.specs.Layout.{no_schema, HasShopTables};
 ghost use Rattle.shop_tables.specs.Changing.{HasSums};
 ghost use Rattle.shop_statements.specs.Shown.{Books, HasShopSchema, Holds, IsSettled, Leaves, OnBooks};
 ghost use Rattle.shop_store.specs.EarlierBooks.{HoldsEarlierContent, IsSettledEarlierAt};
@@ -48,7 +48,7 @@ pub struct SqlBook<S: Alter> {
     ghost outside: { conn.in_transaction ≡ false },
 }
 
-// The number behind the last act's.
+// The number after the last act's.
 fn next_act<S: Alter>(conn: &mut Connection<S>) -> Result<u32, TableFault>
     ensures number { OnBooks (state S.Store conn.old) (state S.Store conn.new)
         (λ books. IfOk result (λ number. number ≡ books.content.last_act + 1)) }
@@ -63,7 +63,7 @@ fn next_act<S: Alter>(conn: &mut Connection<S>) -> Result<u32, TableFault>
     }
 }
 
-// The number behind the last demand's.
+// The number after the last demand's.
 fn next_demand<S: Alter>(conn: &mut Connection<S>) -> Result<u32, TableFault>
     ensures number { OnBooks (state S.Store conn.old) (state S.Store conn.new)
         (λ books. IfOk result (λ number. number ≡ books.content.last_demand + 1)) }
@@ -210,10 +210,10 @@ impl<S: Alter> SqlBook<S> {
             (λ book. HasCleanDisk (state S.Store book.conn) → (b : Books)
             → IsSettled (state S.Store conn) b → HasSums b
             × Holds (state S.Store book.conn) b) }
-        ensures still { IsShop conn.schema
+        ensures still { HasShopTables conn.schema
             → EitherWay (λ book. book.conn)
             (λ after. Survives (state S.Store conn) (state S.Store after) (λ _. ⊥)) result }
-        ensures strange { IfErr result (λ back. back.0 ≡ WrongVersion → conn.schema ≢ no_schema) }
+        ensures foreign { IfErr result (λ back. back.0 ≡ WrongVersion → conn.schema ≢ no_schema) }
         ensures unwritten { IfErr result
             (λ back. back.0 ≡ WrongVersion → Leaves (state S.Store conn) (state S.Store back.1)) }
         ensures neither { IfErr result
@@ -239,13 +239,13 @@ impl<S: Alter> SqlBook<S> {
         ensures held_after { (m : Content) → IsSettledAt (state S.Store conn) m
             → IsTrue (state S.Store conn).is_open
             → EitherWay (λ book. book.conn) (λ after. LeavesOnly (state S.Store after) m) result }
-        ensures version { IsShop conn.schema
+        ensures version { HasShopTables conn.schema
             → IfOk result (λ book. HasCleanDisk (state S.Store book.conn)
             → HasVersion (state S.Store conn) 2) }
         ensures earlier_version { conn.schema ≡ earlier_schema
             → IfOk result (λ book. HasCleanDisk (state S.Store book.conn)
             → HasVersion (state S.Store conn) 1) }
-        ensures read_only { IsShop conn.schema
+        ensures read_only { HasShopTables conn.schema
             → EitherWay (λ book. book.conn)
             (λ after. Leaves (state S.Store conn) (state S.Store after)) result }
         ensures earlier_read_only { conn.schema ≡ earlier_schema
@@ -391,7 +391,7 @@ impl<S: Alter> Book for SqlBook<S> {
 
     ghost holds = { λ book m. HoldsListed (state S.Store book.conn) book.work m };
 
-    ghost is_honest = { λ book. HasCleanDisk (state S.Store book.conn) };
+    ghost has_clean_disk = { λ book. HasCleanDisk (state S.Store book.conn) };
 
     ghost failed = { λ book. book.failures };
 

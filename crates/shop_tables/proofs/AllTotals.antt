@@ -16,10 +16,10 @@ use Rattle.shop_records.specs.declared.changes.MaterialTotals.{MaterialTotals}
 use Rattle.shop_records.specs.declared.records.Totals.{Totals}
 use Rattle.shop_tables.specs.Listing.{AreAllTotals, AreCodes, code_row, key_of, listed_row, named}
 use Rattle.shop_statements.specs.Shown.{Books}
-use Rattle.shop_tables.specs.Strange.{Shows}
+use Rattle.shop_tables.specs.Invalid.{HasValue}
 use Rattle.shop_statements.proofs.Finding.{code_total, code_same}
 use Rattle.shop_statements.proofs.Lists.{map-map}
-use Rattle.shop_tables.proofs.StrangeRows.{shown_in}
+use Rattle.shop_tables.proofs.InvalidRows.{shown_in}
 
 -- ---- the keys of a map
 
@@ -96,23 +96,23 @@ module _ (codes rows : List Row) (cs : List (List ℕ)) (es : List (List ℕ × 
         other (subst (λ code. IsTrue (is_code code)) own (all-get_or (λ code. IsTrue (is_code code)) cs i [] all (omega (arith, inside, many_codes, same))))
 
     module _ (row : Row) (read : MaterialTotals) (is : row ≡ get_or codes i row) (reads : read ≡ named (get_or es i none)) where
-      own : Shows row 0 (Text read.material) → read.material ≡ get_or cs i []
+      own : HasValue row 0 (Text read.material) → read.material ≡ get_or cs i []
       own has = let e : Text read.material ≡ Text (get_or cs i []) = sym has.1 ∙ ap (λ r. column r 0) (code_is row is) in cc
 
       -- the codes were equal
-      pub one_more : (list : List MaterialTotals) → Shows row 0 (Text read.material) → list ≡ map named (take i es) → map key_of (take i es) ≡ take i cs
+      pub one_more : (list : List MaterialTotals) → HasValue row 0 (Text read.material) → list ≡ map named (take i es) → map key_of (take i es) ≡ take i cs
           → (list ++ read ∷ [] ≡ map named (take (i + 1) es)) × (map key_of (take (i + 1) es) ≡ take (i + 1) cs)
-      one_more list here so_far front =
+      one_more list here so_far prefix =
           let inner : i < length es = omega (arith, inside, many_rows) in
           let within : i < length cs = omega (arith, inside, many_codes, same) in
           let first : list ++ read ∷ [] ≡ map named (take i es) ++ named (get_or es i none) ∷ [] = λ k. so_far k ++ reads k ∷ [] in
           let key : key_of (get_or es i none) ≡ get_or cs i [] = ap (λ (r : MaterialTotals). r.material) (sym reads) ∙ own here in (
             first ∙ sym (map_more named es i none inner),
-            map_more key_of es i none inner ∙ (λ k. front k ++ key k ∷ []) ∙ sym (take_more cs i [] within),
+            map_more key_of es i none inner ∙ (λ k. prefix k ++ key k ∷ []) ∙ sym (take_more cs i [] within),
           )
 
       -- the codes weren't
-      pub apart : ¬ Shows row 0 (Text read.material) → ¬ (cs ≡ map key_of es)
+      pub apart : ¬ HasValue row 0 (Text read.material) → ¬ (cs ≡ map key_of es)
       apart other equal =
           let code : get_or cs i [] ≡ read.material = ap (λ ks. get_or ks i []) equal ∙ get_or-map key_of es i none [] (omega (arith, inside, many_rows)) ∙ ap (λ (r : MaterialTotals). r.material) (sym reads) in
           other (shown_in row (code_row read.material) (code_is row is ∙ ap code_row code) 0 (Text read.material) (omega arith) refl)
@@ -121,10 +121,10 @@ module _ (codes rows : List Row) (cs : List (List ℕ)) (es : List (List ℕ × 
   other_count other equal = other (many_codes ∙ ap length equal ∙ length-map es key_of ∙ sym many_rows)
 
   pub all_read : (i : ℕ) (list : List MaterialTotals) → length rows ≤ i → length codes ≡ length rows → list ≡ map named (take i es) → map key_of (take i es) ≡ take i cs → (list ≡ map named es) × (cs ≡ map key_of es)
-  all_read i list ended same so_far front =
+  all_read i list ended same so_far prefix =
       let whole : take i es ≡ es = take_all i es (omega (arith, ended, many_rows)) in (
         so_far ∙ ap (map named) whole,
-        sym (take_all i cs (omega (arith, ended, many_codes, same))) ∙ sym front ∙ ap (map key_of) whole,
+        sym (take_all i cs (omega (arith, ended, many_codes, same))) ∙ sym prefix ∙ ap (map key_of) whole,
       )
 
 -- the keys of a map are codes where what is found stands under one

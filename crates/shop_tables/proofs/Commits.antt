@@ -14,7 +14,7 @@ use Rattle.shop_records.specs.Content.{Content, changed}
 use Rattle.shop_records.specs.Soundness.{Fits}
 use Rattle.shop_records.specs.declared.changes.Change.{Change}
 use Rattle.shop_statements.specs.Beside.{IsSameBeside, SparesRows, Spares}
-use Rattle.shop_statements.specs.Layout.{IsShop, our_trees}
+use Rattle.shop_statements.specs.Layout.{HasShopTables, our_trees}
 use Rattle.shop_statements.specs.Rows.{Stands}
 use Rattle.shop_statements.specs.Shown.{Books, Shows, Holds, Ran, Makes, Within, StandsIn}
 use Rattle.shop_tables.specs.Changing.{HasSums, with_change}
@@ -28,7 +28,7 @@ stands_in s b h = ((s.now.schema, h.schema, h.sound), h.stands, h.keyed)
 
 pub shows_along : (old new : State) (b : Books) → old.now ≡ new.now → Shows old b → Shows new b
 shows_along old new b same h = record {
-  schema = subst (λ (d : Database). IsShop d.schema) same h.schema;
+  schema = subst (λ (d : Database). HasShopTables d.schema) same h.schema;
   sound = subst IsDatabase same h.sound;
   stands = subst (λ (d : Database). Stands d.trees b.content b.totals) same h.stands;
   keyed = h.keyed;
@@ -134,7 +134,7 @@ module _ {S : Type 0} (g : Ghosts S) (h : Held S) where
     pub dropped_others : (HasCleanDisk last → IsRolledBack done last) → Survives done last (λ _. ⊥) → LeavesOthers old last
     dropped_others back end = record { seen = undone_spares back; crash = left_spares (dropped done last SparesOld within end) }
 
-    module _ (is : IsShop old.now.schema) (spares : Spares our_trees begun done) (end : Survives done last (λ db. db ≡ done.now.trees)) where
+    module _ (is : HasShopTables old.now.schema) (spares : Spares our_trees begun done) (end : Survives done last (λ db. db ≡ done.now.trees)) where
       crash_others : HasCleanDisk last → IsTrue old.is_open → old.now ≡ old.committed → (db : Trees) → last.may_leave db → SparesOld db
       crash_others = left_spares (survives_begin g h last SparesOld
           (survives_then begun done last (λ _. ⊥) (λ db. db ≡ done.now.trees) SparesOld (λ _ db none. absurd none)

@@ -13,7 +13,7 @@ use Rattle.shop_statements.specs.declared.faults.TableFault.{TableFault}
 use Rattle.shop_tables.specs.declared.lending.Lent.{Lent}
 use Rattle.shop_tables.specs.declared.lending.Lent.TheVariants as lent
 use Rattle.shop_tables.proofs.EarlierRows.{earlier_parts_is, sees_earlier}
-use Rattle.shop_tables.proofs.Listed.{all_there_of, first_there_of, none_stranger_of, not_strange_by, visited_by}
+use Rattle.shop_tables.proofs.Listed.{all_there_of, first_there_of, none_stranger_of, not_invalid_by, visited_by}
 use Rattle.shop_tables.proofs.ListTexts.{all_parts_text}
 
 module _ {S : Type 0} (g : Ghosts S) (old new : Held S) (before : HasCleanDisk (state g new) → HasCleanDisk (state g old)) {V : Type 0} (looks : V → Part → Bool → V → Type 0) (was now : V) where
@@ -28,8 +28,8 @@ module _ {S : Type 0} (g : Ghosts S) (old new : Held S) (before : HasCleanDisk (
   pub visited_earlier : (r : Result Lent TableFault) → IsLent g all_parts_text [] old looks new was r now → IsVisit looks {Fault = TableFault} (λ what. OnBooksEarlier (state g old) (state g new) (λ b. what (values b.content.parts))) was (gone_through r) now
   visited_earlier r lent = let v = by_held r lent in record { parts = v.parts; on = v.on; visitor = v.visitor; answer = v.answer; begins = λ clean b held. v.begins clean b (before clean, held) }
 
-  pub not_strange_earlier : (r : Result Lent TableFault) → IsLent g all_parts_text [] old looks new was r now → OnBooksEarlier (state g old) (state g new) (λ b. IfOk r (λ how. ¬ (how ≡ lent.Strange)))
-  not_strange_earlier r it clean b held =
-      not_strange_by g all_parts_text [] (λ b. values b.content.parts) ShowsEarlier (λ s t b has. all_there_of s earlier_schema has.schema _ earlier_parts_is b.content has.keyed has.stands.parts t)
+  pub not_invalid_earlier : (r : Result Lent TableFault) → IsLent g all_parts_text [] old looks new was r now → OnBooksEarlier (state g old) (state g new) (λ b. IfOk r (λ how. ¬ (how ≡ lent.Invalid)))
+  not_invalid_earlier r it clean b held =
+      not_invalid_by g all_parts_text [] (λ b. values b.content.parts) ShowsEarlier (λ s t b has. all_there_of s earlier_schema has.schema _ earlier_parts_is b.content has.keyed has.stands.parts t)
       (λ s b has. first_there_of s earlier_schema has.schema _ earlier_parts_is b.content has.keyed has.stands.parts) old new Was (λ b w mid held. sees_earlier g all_parts_text [] old b w.0 w.1 mid held) looks was now r it
       (λ s b has. none_stranger_of s earlier_schema has.schema _ earlier_parts_is b.content has.keyed has.stands.parts) clean b (before clean, held)

@@ -19,7 +19,7 @@ use Rattle.shop_tables.specs.declared.lending.Lent.{Lent}
 use Rattle.shop_tables.specs.declared.lending.Lent.TheVariants as lent
 use Rattle.shop_statements.specs.Selecting.{is_select}
 use Rattle.shop_statements.specs.Shown.{Leaves}
-use Rattle.shop_tables.specs.Strange.{IsNoPart}
+use Rattle.shop_tables.specs.Invalid.{IsNoPart}
 use Rattle.shop_statements.proofs.Kept.{Stays, stays_open, stays_as_was, settled_stays, query_survives}
 use Rattle.shop_statements.proofs.Queries.{query_returns}
 use Rattle.shop_statements.proofs.Reading.{leaves_then}
@@ -133,7 +133,7 @@ module _ {S : Type 0} (g : Ghosts S) where
       told = failed _ r none;
       begins = λ _. inl refl;
       whole = λ _. failed _ r none;
-      strange = λ _. failed _ r none;
+      invalid = λ _. failed _ r none;
     }
 
     -- a fault
@@ -148,13 +148,13 @@ module _ {S : Type 0} (g : Ghosts S) where
       told = failed _ r none;
       begins = λ clean. starts now after it (late clean);
       whole = λ _. failed _ r none;
-      strange = λ _. failed _ r none;
+      invalid = λ _. failed _ r none;
     }
 
     -- a row that is no part's
-    pub strange_at : (now new : Held S) (after : V) (row : Row) → Going now after → Leaves (state g now) (state g new) → (HasCleanDisk (state g new) → Advances g now new (Some row)) → IsNoPart row
-        → IsLent g sql params first looks new before (Ok lent.Strange) after
-    strange_at now new after row it step on none = record {
+    pub invalid_at : (now new : Held S) (after : V) (row : Row) → Going now after → Leaves (state g now) (state g new) → (HasCleanDisk (state g new) → Advances g now new (Some row)) → IsNoPart row
+        → IsLent g sql params first looks new before (Ok lent.Invalid) after
+    invalid_at now new after row it step on none = record {
       given = it.given;
       parts = it.parts;
       read = it.read;
@@ -163,7 +163,7 @@ module _ {S : Type 0} (g : Ghosts S) where
       told = refl;
       begins = λ clean. starts now after it (omega (arith, step.survives.clean));
       whole = λ _ other. absurd (cc);
-      strange = λ clean _.
+      invalid = λ clean _.
           let more = on clean sql params it.given (it.at (omega (arith, step.survives.clean))).0 in (
             row,
             none,
@@ -182,7 +182,7 @@ module _ {S : Type 0} (g : Ghosts S) where
       told = refl;
       begins = λ clean. starts now after it (omega (arith, step.survives.clean));
       whole = λ clean _. ended now new after it (omega (arith, step.survives.clean)) (on clean);
-      strange = λ _ other. absurd (cc);
+      invalid = λ _ other. absurd (cc);
     }
 
     -- the visitor stopped at a row
@@ -199,5 +199,5 @@ module _ {S : Type 0} (g : Ghosts S) where
           let more = on clean sql params it.given (it.at (omega (arith, step.survives.clean))).0 in
           inr (new, seen_at now new after it step clean (given_open sql params new (it.given ++ row ∷ []) more), given_begin g sql params new (it.given ++ row ∷ []) more);
       whole = λ _ other. absurd (cc);
-      strange = λ _ other. absurd (cc);
+      invalid = λ _ other. absurd (cc);
     }

@@ -12,7 +12,7 @@ use Rattle.sqlite.proofs.Callers.{begins_as, reads_as}
 use Rattle.shop_records.specs.Visits.{HasSeen}
 use Rattle.shop_records.specs.declared.records.Part.{Part}
 use Rattle.shop_statements.specs.Found.{columns_of}
-use Rattle.shop_statements.specs.Layout.{IsShop}
+use Rattle.shop_statements.specs.Layout.{HasShopTables}
 use Rattle.shop_statements.specs.declared.faults.TableFault.{TableFault}
 use Rattle.shop_statements.proofs.Terms.{from_table}
 use Rattle.shop_statements.proofs.Texts.{shop, shop_is}
@@ -38,7 +38,7 @@ none_stops looks [] old new read seen = some_parts seen.0 seen.1 (sym seen.3)
     some_parts (p ∷ before) last is = absurd (cc)
 none_stops looks (p ∷ parts) old new read seen = absurd read
 
-module _ (code : List ℕ) (s : State) (h : IsShop s.now.schema) where
+module _ (code : List ℕ) (s : State) (h : HasShopTables s.now.schema) where
   answered : (rows : List Row) → IsProgramAnswer [] (from_table 4 parts_of_tests parts_of_terms parts_of_order) s.now.trees (Text code ∷ []) rows → ArePartRows code None None (s.now.trees 4) rows
   answered = shown_whole 4 parts_of_tests parts_of_terms parts_of_order s.now.trees (Text code ∷ []) refl _ (by_columns (1 ∷ 2 ∷ [])) _ (λ r. listed_tests code (column r 3) (column r 11)) (λ a b. refl) (λ r. refl)
 
@@ -55,17 +55,17 @@ module _ {S : Type 0} (g : Ghosts S) (code : List ℕ) (old new : Held S) {V : T
   Told on = HandsOut looks (ArePartRows code None None ((state g old).now.trees 4)) before after on
 
   -- what is told of what was seen later is told of what was seen before
-  module _ (h : IsShop (state g old).now.schema) (sees : SeesCommit (state g old)) (mid : Held S) (held : IsHeldAt g parts_of_text (Text code ∷ []) old mid) where
+  module _ (h : HasShopTables (state g old).now.schema) (sees : SeesCommit (state g old)) (mid : Held S) (held : IsHeldAt g parts_of_text (Text code ∷ []) old mid) where
     same : (state g mid).now ≡ (state g old).now
     same = held.as_was.now (sees held.as_was.was_open)
 
-    shop_then : IsShop (state g mid).now.schema
-    shop_then = subst (λ (d : Database). IsShop d.schema) (sym same) h
+    shop_then : HasShopTables (state g mid).now.schema
+    shop_then = subst (λ (d : Database). HasShopTables d.schema) (sym same) h
 
     back : (rows : List Row) → ArePartRows code None None ((state g mid).now.trees 4) rows → ArePartRows code None None ((state g old).now.trees 4) rows
     back rows = subst (λ (d : Database). ArePartRows code None None (d.trees 4) rows) same
 
-  pub hands_all : (r : Result Lent TableFault) → r ≡ Ok lent.All → Handed r → HasCleanDisk (state g new) → IsShop (state g old).now.schema → SeesCommit (state g old) → Told true
+  pub hands_all : (r : Result Lent TableFault) → r ≡ Ok lent.All → Handed r → HasCleanDisk (state g new) → HasShopTables (state g old).now.schema → SeesCommit (state g old) → Told true
   hands_all r is lent clean h sees =
       let it = rw is at lent in
       let all = it.whole clean refl in
@@ -81,7 +81,7 @@ module _ {S : Type 0} (g : Ghosts S) (code : List ℕ) (old new : Held S) {V : T
         whole = λ on. refl;
       }
 
-  pub hands_some : (r : Result Lent TableFault) → r ≡ Ok lent.Stopped → Handed r → HasCleanDisk (state g new) → IsShop (state g old).now.schema → SeesCommit (state g old) → Told false
+  pub hands_some : (r : Result Lent TableFault) → r ≡ Ok lent.Stopped → Handed r → HasCleanDisk (state g new) → HasShopTables (state g old).now.schema → SeesCommit (state g old) → Told false
   hands_some r is lent clean h sees =
       let it = rw is at lent in
       let seen = subst (λ b. HasSeen looks it.parts b before after) it.told it.visitor in

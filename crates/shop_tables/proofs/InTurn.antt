@@ -62,8 +62,8 @@ module _ {X : Type 0} {with_one : X → Books → Books} (with_list : List X →
   pub of_all : {a b : State} {r : Result (Unit {0}) TableFault} {Needs : Books → Type 0} (rows : List X) → Writes a b r Needs (with_all with_one rows) → Writes a b r Needs (with_list rows)
   of_all rows w = writes_so (λ x needs. needs) (list_is rows) w
 
-behind : {A : Type 0} (x : A) (xs : List A) → take (length (x ∷ xs) - 1) (drop 1 (x ∷ xs)) ≡ xs
-behind x xs = take_all (length (x ∷ xs) - 1) xs (omega arith)
+after : {A : Type 0} (x : A) (xs : List A) → take (length (x ∷ xs) - 1) (drop 1 (x ∷ xs)) ≡ xs
+after x xs = take_all (length (x ∷ xs) - 1) xs (omega arith)
 
 module _ {X : Type 0} {a b c : State} {r : Result (Unit {0}) TableFault} (Needs : X → Books → Type 0) (with_one : X → Books → Books) where
   pub first_then : (rows : List X) (row : X) → 1 ≤ length rows → row ≡ get_or rows 0 row → Writes a b (Ok tt) (Needs row) (with_one row)
@@ -72,4 +72,4 @@ module _ {X : Type 0} {a b c : State} {r : Result (Unit {0}) TableFault} (Needs 
   first_then [] row some is one more = absurd (omega arith)
   first_then (x ∷ rest) row some is one more =
       writes_then (subst (λ (w : X). Writes a b (Ok tt) (Needs w) (with_one w)) is one)
-      (subst (λ (ws : List X). Writes b c r (AreInTurn Needs with_one ws) (with_all with_one ws)) (behind x rest) more)
+      (subst (λ (ws : List X). Writes b c r (AreInTurn Needs with_one ws) (with_all with_one ws)) (after x rest) more)

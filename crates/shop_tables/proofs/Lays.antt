@@ -34,7 +34,7 @@ use Rattle.shop_records.specs.declared.records.Demand.{Demand}
 use Rattle.shop_records.specs.declared.records.Totals.{Totals}
 use Rattle.shop_records.specs.declared.imports.ImportRow.{ImportRow}
 use Rattle.shop_records.specs.declared.texts.Kept.{Kept}
-use Rattle.shop_statements.specs.Layout.{Loose, no_schema, laid, shop_schema, IsShop, meta_table, materials_table, parts_table, jobs_table, orders_table, demands_table, kept_table, imports_table, totals_table, totals2_table}
+use Rattle.shop_statements.specs.Layout.{Loose, no_schema, laid, shop_schema, HasShopTables, meta_table, materials_table, parts_table, jobs_table, orders_table, demands_table, kept_table, imports_table, totals_table, totals2_table}
 use Rattle.shop_statements.specs.Rows.{AreRows, IsKeyed, meta_row, meta_entries, material_row, part_row, job_row, order_row, demand_row, kept_row, import_row, totals_row}
 use Rattle.shop_tables.specs.Adopting.{MakesTables}
 use Rattle.shop_tables.specs.Laying.{Adds, AreRun, Does, IsRun, IsWritten, PutsFirstNumbers}
@@ -115,7 +115,7 @@ fill_is = record { command = refl; plain = (refl, refl) }
 abbrev loose : Table → Loose
 loose t = record { primary = t.primary; uniques = t.uniques; orders = t.orders; checks = t.checks; references = t.references }
 
-pub shop_is_shop : IsShop shop_schema
+pub shop_is_shop : HasShopTables shop_schema
 shop_is_shop = record {
   meta = loose meta_table;
   materials = loose materials_table;
@@ -176,7 +176,7 @@ fresh_keyed = record {
 puts_numbers : (old new : State) → old.now.schema ≡ shop_schema → IsRun FIRST_NUMBERS.now old new → PutsFirstNumbers old.now new.now
 puts_numbers old new has ran free =
     let w = runs_as FIRST_NUMBERS.now [] old new shop_schema has (Insert 0 (Values meta_terms 3)) fill_is.command fill_is.plain ran.count ran.executes in
-    let it : IsShop old.now.schema = subst IsShop (sym has) shop_is_shop in
+    let it : HasShopTables old.now.schema = subst HasShopTables (sym has) shop_is_shop in
     let e = inserted old.step_limit (mode_of old) [] old.now new.now w.tally 0 meta_table (ap (λ (c : Schema). slice_get c.tables 0) has) (statement_of FIRST_NUMBERS.now (understood shop_schema FIRST_NUMBERS.now)) meta_terms 3
     (no_works old.now.schema it 0) w.changed in (
       record { schema_is = e.schema_is ∙ has; sound = w.sound; others = λ t far bare. e.others t (unlike t 0 far) (subst (λ s. IsNoIndex s t) (sym has) bare) },
@@ -189,7 +189,7 @@ shows_fresh old new blank e numbers =
     let far = shop_is_shop.bare in
     let no = blank.none in
     record {
-      schema = subst IsShop (sym e.schema_is) shop_is_shop;
+      schema = subst HasShopTables (sym e.schema_is) shop_is_shop;
       sound = e.sound;
       stands = record {
         meta = numbers;

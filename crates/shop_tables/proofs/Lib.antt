@@ -5,7 +5,7 @@ pub mod Renewed
 pub mod InTurn
 pub mod Fitting
 pub mod Commits
-pub mod StrangeRows
+pub mod InvalidRows
 pub mod Going
 pub mod Listed
 pub mod Ordered

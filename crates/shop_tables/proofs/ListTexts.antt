@@ -11,7 +11,7 @@ use Rattle.sqlite_value.specs.declared.keys.Key.{Key}
 use Rattle.sqlite_value.specs.Keys.{ascending}
 use Rattle.sqlite_value.specs.declared.value.Value.TheVariants.{Int}
 use Rattle.sqlite.specs.Schema.{Schema}
-use Rattle.shop_statements.specs.Layout.{IsShop}
+use Rattle.shop_statements.specs.Layout.{HasShopTables}
 use Rattle.shop_statements.specs.Selecting.{is_select}
 use Rattle.shop_statements.proofs.Terms.{same, from_table, Reads}
 use Rattle.shop_statements.proofs.Texts.{shop}
@@ -84,11 +84,11 @@ open_demands_of_tests = above (col 1 0) (col 0 0) ∷ same (col 1 4) (col 0 2) �
 abbrev pub first_parts_text : List ℕ
 first_parts_text = codes "SELECT act, node, material, batch, root_act, root_node, x, y, w, h, state, detail FROM parts WHERE material = ?1 AND (state = 0 OR state = 1) ORDER BY act, node LIMIT ?2"
 
-abbrev pub parts_behind_text : List ℕ
-parts_behind_text = codes "SELECT act, node, material, batch, root_act, root_node, x, y, w, h, state, detail FROM parts WHERE material = ?1 AND (state = 0 OR state = 1) AND act >= ?2 AND (act > ?2 OR node > ?3) ORDER BY act, node LIMIT ?4"
+abbrev pub parts_after_text : List ℕ
+parts_after_text = codes "SELECT act, node, material, batch, root_act, root_node, x, y, w, h, state, detail FROM parts WHERE material = ?1 AND (state = 0 OR state = 1) AND act >= ?2 AND (act > ?2 OR node > ?3) ORDER BY act, node LIMIT ?4"
 
-abbrev pub parts_behind_tests : List Term
-parts_behind_tests =
+abbrev pub parts_after_tests : List Term
+parts_after_tests =
     same (col 1 3) (col 0 0) ∷ op2 Or (same (col 1 11) (lit (Int (pos 0)))) (same (col 1 11) (lit (Int (pos 1)))) ∷ op2 (Compare Ge Binary) (col 1 1) (col 0 1)
     ∷ op2 Or (above (col 1 1) (col 0 1)) (above (col 1 2) (col 0 2)) ∷ []
 
@@ -104,11 +104,11 @@ by_line = (col 1 3, ascending Binary) ∷ []
 abbrev pub first_orders_text : List ℕ
 first_orders_text = codes "SELECT ord FROM orders ORDER BY ord LIMIT ?1"
 
-abbrev pub orders_behind_text : List ℕ
-orders_behind_text = codes "SELECT ord FROM orders WHERE ord > ?1 ORDER BY ord LIMIT ?2"
+abbrev pub orders_after_text : List ℕ
+orders_after_text = codes "SELECT ord FROM orders WHERE ord > ?1 ORDER BY ord LIMIT ?2"
 
-abbrev pub orders_behind_tests : List Term
-orders_behind_tests = above (col 1 1) (col 0 0) ∷ []
+abbrev pub orders_after_tests : List Term
+orders_after_tests = above (col 1 1) (col 0 0) ∷ []
 
 abbrev pub waiting_jobs_text : List ℕ
 waiting_jobs_text = codes "SELECT job FROM jobs WHERE job > ?1 AND state = 0 ORDER BY job LIMIT ?2"
@@ -132,7 +132,7 @@ falling at = (col 1 at, record { collation = Binary; descending = true }) ∷ []
 abbrev pub last_number_tests : List Term
 last_number_tests = same (col 1 1) (col 0 0) ∷ []
 
-module _ (schema : Schema) (h : IsShop schema) where
+module _ (schema : Schema) (h : HasShopTables schema) where
   pub parts_of_is : Reads (shop schema h) parts_of_text (from_table 4 parts_of_tests parts_of_terms parts_of_order) (codes "act" ∷ codes "node" ∷ codes "material" ∷ codes "batch" ∷ codes "root_act" ∷ codes "root_node" ∷ codes "x" ∷ codes "y" ∷ codes "w" ∷ codes "h" ∷ codes "state" ∷ codes "detail" ∷ [])
   unfolding understood everything
   parts_of_is = record { command = refl; listing = refl; plain = (refl, refl) }
@@ -165,9 +165,9 @@ module _ (schema : Schema) (h : IsShop schema) where
   unfolding understood everything
   first_parts_is = record { command = refl; listing = refl; plain = (refl, refl) }
 
-  pub parts_behind_is : Reads (shop schema h) parts_behind_text (first_of (col 0 3) (from_table 4 parts_behind_tests parts_of_terms parts_of_order)) (codes "act" ∷ codes "node" ∷ codes "material" ∷ codes "batch" ∷ codes "root_act" ∷ codes "root_node" ∷ codes "x" ∷ codes "y" ∷ codes "w" ∷ codes "h" ∷ codes "state" ∷ codes "detail" ∷ [])
+  pub parts_after_is : Reads (shop schema h) parts_after_text (first_of (col 0 3) (from_table 4 parts_after_tests parts_of_terms parts_of_order)) (codes "act" ∷ codes "node" ∷ codes "material" ∷ codes "batch" ∷ codes "root_act" ∷ codes "root_node" ∷ codes "x" ∷ codes "y" ∷ codes "w" ∷ codes "h" ∷ codes "state" ∷ codes "detail" ∷ [])
   unfolding understood everything
-  parts_behind_is = record { command = refl; listing = refl; plain = (refl, refl) }
+  parts_after_is = record { command = refl; listing = refl; plain = (refl, refl) }
 
   pub lines_is : Reads (shop schema h) lines_text (from_table 9 lines_tests open_demands_terms by_line) (codes "ord" ∷ codes "line" ∷ codes "material" ∷ codes "w" ∷ codes "h" ∷ codes "turn" ∷ codes "worth" ∷ codes "wanted" ∷ codes "reserved" ∷ codes "made" ∷ codes "number" ∷ [])
   unfolding understood everything
@@ -177,9 +177,9 @@ module _ (schema : Schema) (h : IsShop schema) where
   unfolding understood everything
   first_orders_is = record { command = refl; listing = refl; plain = (refl, refl) }
 
-  pub orders_behind_is : Reads (shop schema h) orders_behind_text (first_of (col 0 1) (from_table 7 orders_behind_tests all_codes_terms by_code)) (codes "ord" ∷ [])
+  pub orders_after_is : Reads (shop schema h) orders_after_text (first_of (col 0 1) (from_table 7 orders_after_tests all_codes_terms by_code)) (codes "ord" ∷ [])
   unfolding understood everything
-  orders_behind_is = record { command = refl; listing = refl; plain = (refl, refl) }
+  orders_after_is = record { command = refl; listing = refl; plain = (refl, refl) }
 
   pub waiting_jobs_is : Reads (shop schema h) waiting_jobs_text (first_of (col 0 1) (from_table 6 waiting_jobs_tests waiting_jobs_terms by_rowid)) (codes "job" ∷ [])
   unfolding understood everything
@@ -221,9 +221,9 @@ pub first_parts_selects : is_select first_parts_text ≡ true
 unfolding everything
 first_parts_selects = refl
 
-pub parts_behind_selects : is_select parts_behind_text ≡ true
+pub parts_after_selects : is_select parts_after_text ≡ true
 unfolding everything
-parts_behind_selects = refl
+parts_after_selects = refl
 
 pub lines_selects : is_select lines_text ≡ true
 unfolding everything
@@ -233,9 +233,9 @@ pub first_orders_selects : is_select first_orders_text ≡ true
 unfolding everything
 first_orders_selects = refl
 
-pub orders_behind_selects : is_select orders_behind_text ≡ true
+pub orders_after_selects : is_select orders_after_text ≡ true
 unfolding everything
-orders_behind_selects = refl
+orders_after_selects = refl
 
 pub waiting_jobs_selects : is_select waiting_jobs_text ≡ true
 unfolding everything

@@ -38,7 +38,7 @@ use Rattle.shop_tables.specs.declared.lending.Lent.{Lent}
 use Rattle.shop_tables.specs.declared.lending.Lent.TheVariants as lent
 use Rattle.shop_statements.specs.Rows.{AreRows, IsKeyed, part_row, state_number}
 use Rattle.shop_statements.specs.Shown.{Books, Shows, Holds, OnBooks}
-use Rattle.shop_tables.specs.Strange.{IsNoPart}
+use Rattle.shop_tables.specs.Invalid.{IsNoPart}
 use Rattle.shop_statements.specs.Values.{IsPartValue}
 use Rattle.shop_statements.proofs.Finding.{name_total, name_same}
 use Rattle.shop_statements.proofs.Keys.{equal, equal-Text, and_true, as_number, same_number}
@@ -290,15 +290,15 @@ module _ {S : Type 0} (g : Ghosts S) (sql : List ℕ) (params : Row) (list : Boo
   pub visited_by : (r : Result Lent TableFault) → Handed r → Visited (gone_through r)
   visited_by (Ok lent.All) h = visits_all (Ok lent.All) refl h
   visited_by (Ok lent.Stopped) h = visits_some (Ok lent.Stopped) refl h
-  visited_by (Ok lent.Strange) h = visits_till (Ok lent.Strange) (gone_through (Ok lent.Strange)) tt h
+  visited_by (Ok lent.Invalid) h = visits_till (Ok lent.Invalid) (gone_through (Ok lent.Invalid)) tt h
   visited_by (Err e) h = visits_till (Err e) (gone_through (Err e)) tt h
 
   -- no row that can't be a part's is met
-  pub not_strange_by : (r : Result Lent TableFault) → Handed r → ((s : State) (b : Books) → Sees s b → (given : List Row) (row : Row) → Begins sql params s (given ++ row ∷ []) → ¬ IsNoPart row)
-      → HasCleanDisk (state g new) → (b : Books) → Was b → IfOk r (λ how. ¬ (how ≡ lent.Strange))
-  not_strange_by (Err e) h all clean b was = tt
-  not_strange_by (Ok how) h all clean b was = λ is.
-      let it = h.strange clean is in
+  pub not_invalid_by : (r : Result Lent TableFault) → Handed r → ((s : State) (b : Books) → Sees s b → (given : List Row) (row : Row) → Begins sql params s (given ++ row ∷ []) → ¬ IsNoPart row)
+      → HasCleanDisk (state g new) → (b : Books) → Was b → IfOk r (λ how. ¬ (how ≡ lent.Invalid))
+  not_invalid_by (Err e) h all clean b was = tt
+  not_invalid_by (Ok how) h all clean b was = λ is.
+      let it = h.invalid clean is in
       elim it.2 [ inl none ↦ some_rows h.given it.0 none | inr some ↦ all (state g some.0) b (sees b was some.0 some.1) h.given it.0 some.2 it.1 ]
 
 -- of held books
@@ -324,6 +324,6 @@ module _ {S : Type 0} (g : Ghosts S) (sql : List ℕ) (params : Row) (list : Boo
   pub visited : (r : Result Lent TableFault) → IsLent g sql params old looks new before r after → VisitedHeld (gone_through r)
   visited = visited_by g sql params list Shows whole_list first_of old new (Holds (state g old)) sees looks before after
 
-  pub not_strange : (r : Result Lent TableFault) → IsLent g sql params old looks new before r after → ((s : State) (b : Books) → Shows s b → (given : List Row) (row : Row) → Begins sql params s (given ++ row ∷ []) → ¬ IsNoPart row)
-      → OnBooks (state g old) (state g new) (λ b. IfOk r (λ how. ¬ (how ≡ lent.Strange)))
-  not_strange = not_strange_by g sql params list Shows whole_list first_of old new (Holds (state g old)) sees looks before after
+  pub not_invalid : (r : Result Lent TableFault) → IsLent g sql params old looks new before r after → ((s : State) (b : Books) → Shows s b → (given : List Row) (row : Row) → Begins sql params s (given ++ row ∷ []) → ¬ IsNoPart row)
+      → OnBooks (state g old) (state g new) (λ b. IfOk r (λ how. ¬ (how ≡ lent.Invalid)))
+  not_invalid = not_invalid_by g sql params list Shows whole_list first_of old new (Holds (state g old)) sees looks before after

@@ -56,9 +56,9 @@ pub record Blank (schema : Schema) (s : State) : Type 0 where
   pub schema_is : s.now.schema ≡ schema
   pub none : AllByRecursion (λ t. s.now.trees t.tree ≡ []) schema.tables
 
-none_behind : (trees : Trees) (ts : List Table) (t : Table) → AllByRecursion (λ u. trees u.tree ≡ []) ts → trees t.tree ≡ [] → AllByRecursion (λ u. trees u.tree ≡ []) (ts ++ t ∷ [])
-none_behind trees [] t h one = (one, tt)
-none_behind trees (u ∷ ts) t h one = (h.0, none_behind trees ts t h.1 one)
+none_after : (trees : Trees) (ts : List Table) (t : Table) → AllByRecursion (λ u. trees u.tree ≡ []) ts → trees t.tree ≡ [] → AllByRecursion (λ u. trees u.tree ≡ []) (ts ++ t ∷ [])
+none_after trees [] t h one = (one, tt)
+none_after trees (u ∷ ts) t h one = (h.0, none_after trees ts t h.1 one)
 
 still_none : (old new : Trees) (ts : List Table) → KeepsRows ts old new → AllByRecursion (λ u. old u.tree ≡ []) ts → AllByRecursion (λ u. new u.tree ≡ []) ts
 still_none old new [] same h = tt
@@ -68,7 +68,7 @@ still_none old new (t ∷ ts) same h = (same.0 ∙ h.0, still_none old new ts sa
 blank_then : (schema : Schema) (text : List ℕ) (table : Table) (old new : State) → MakesAs schema text table → Blank schema old → IsRun text old new → Blank (created schema table) new
 blank_then schema text table old new facts blank ran =
     let made = makes schema text table old new facts blank.schema_is ran in
-    record { schema_is = made.schema_is; none = none_behind new.now.trees schema.tables (record table { tree = next_tree schema }) (still_none old.now.trees new.now.trees schema.tables made.others blank.none) made.empty }
+    record { schema_is = made.schema_is; none = none_after new.now.trees schema.tables (record table { tree = next_tree schema }) (still_none old.now.trees new.now.trees schema.tables made.others blank.none) made.empty }
 
 -- ---- statements one after another
 
@@ -81,7 +81,7 @@ abbrev pub all_created : Schema → List (List ℕ × Table) → Schema
 all_created schema [] = schema
 all_created schema (x ∷ more) = all_created (created schema x.1) more
 
--- these texts, and others behind them
+-- these texts, and others after them
 abbrev pub texts_of : List (List ℕ × Table) → List (List ℕ) → List (List ℕ)
 texts_of [] last = last
 texts_of (x ∷ more) last = x.0 ∷ texts_of more last
@@ -116,7 +116,7 @@ module _ {S : Type 0} (g : Ghosts S) where
   }
   made_when texts old new b (Err e) earlier ran made = tt
 
-  -- one statement and those behind it
+  -- one statement and those after it
   pub first_run : {X : Type 0} (text_of : X → List ℕ) (texts : List X) (first : X) (rest : List X) (old mid new : Held S) (r : Result (Unit {0}) Error) → texts ≡ first ∷ rest → IsRun (text_of first) (state g old) (state g mid)
       → OnOk r (AreRun g (map text_of rest) mid new) → OnOk r (AreRun g (map text_of texts) old new)
   first_run text_of texts first rest old mid new (Ok done) is one more = subst (λ all. AreRun g (map text_of all) old new) (sym is) (mid, one, more)

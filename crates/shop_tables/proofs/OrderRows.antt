@@ -21,7 +21,7 @@ use Rattle.sqlite.proofs.Callers.{reads_as}
 use Rattle.cut_measure.specs.Codes.{code_cmp}
 use Rattle.shop_records.specs.Content.{demand_at}
 use Rattle.shop_records.specs.Elements.{IsIn}
-use Rattle.shop_records.specs.Lists.{is_code_behind, orders_behind}
+use Rattle.shop_records.specs.Lists.{is_code_after, orders_after}
 use Rattle.shop_records.specs.Soundness.{HasLines}
 use Rattle.shop_records.proofs.OrderCodes.{codes_are}
 use Rattle.shop_statements.specs.Rows.{demand_columns, demand_row, order_row}
@@ -38,7 +38,7 @@ use Rattle.shop_tables.specs.RowsShown.{is_above}
 use Rattle.shop_tables.proofs.FirstRows.{by_number}
 use Rattle.shop_tables.proofs.Firsts.{each_entry, first_answer}
 use Rattle.shop_tables.proofs.LinesInOrder.{Entry, are_lines, demand_of, is_of}
-use Rattle.shop_tables.proofs.ListTexts.{all_codes_terms, by_code, by_line, first_orders_is, first_orders_text, lines_is, lines_tests, lines_text, open_demands_terms, orders_behind_is, orders_behind_tests, orders_behind_text}
+use Rattle.shop_tables.proofs.ListTexts.{all_codes_terms, by_code, by_line, first_orders_is, first_orders_text, lines_is, lines_tests, lines_text, open_demands_terms, orders_after_is, orders_after_tests, orders_after_text}
 use Rattle.shop_tables.proofs.Ordered.{by_first, in_order}
 use Rattle.shop_tables.proofs.RowsAsShown.{sorted_from}
 
@@ -104,12 +104,12 @@ above-Text : (a after : List ℕ) → is_above (Text a) (Text after) ≡ is_lt (
 unfolding binary
 above-Text a after = told _ ∙ ap is_gt (value_cmp-Text a after) ∙ ap is_gt (code_total.antisymm a after) ∙ turned (code_cmp after a)
 
-abbrev is_behind : List ℕ → Row → Bool
-is_behind after d = is_above (column d 0) (Text after) && true
+abbrev is_after : List ℕ → Row → Bool
+is_after after d = is_above (column d 0) (Text after) && true
 
-behind_later : (after : List ℕ) (r : Row) → (is_above (column r 1) (Text after) && true) ≡ is_behind after (drop 1 r)
-behind_later after [] = refl
-behind_later after (x ∷ d) = refl
+after_later : (after : List ℕ) (r : Row) → (is_above (column r 1) (Text after) && true) ≡ is_after after (drop 1 r)
+after_later after [] = refl
+after_later after (x ∷ d) = refl
 
 one_later : (r : Row) → ◌≡◌ {A = Output} (column r 1 ∷ [], column r 1 ∷ []) (column (drop 1 r) 0 ∷ [], column (drop 1 r) 0 ∷ [])
 one_later [] = refl
@@ -126,31 +126,31 @@ module _ (old new : State) (b : Books) (has : Shows old b) (most : ℕ) where
   code_of e = e.0
 
   -- what is shown of the table's codes is what is listed of the books' orders
-  orders_as : (after : Option (List ℕ)) → map (λ e. (code_out e).1) (filter (λ e. is_code_behind after e.0) (entries codes_there)) ≡ map code_row (orders_behind b.content after)
+  orders_as : (after : Option (List ℕ)) → map (λ e. (code_out e).1) (filter (λ e. is_code_after after e.0) (entries codes_there)) ≡ map code_row (orders_after b.content after)
   orders_as after =
-      sym (map-map code_row code_of (filter (λ e. is_code_behind after e.0) (entries codes_there)))
-      ∙ ap (map code_row) (sym (filter-map code_of (is_code_behind after) (entries codes_there)) ∙ ap (filter (is_code_behind after)) (sym (codes_are b.content codes_there has.stands.orders.there)))
+      sym (map-map code_row code_of (filter (λ e. is_code_after after e.0) (entries codes_there)))
+      ∙ ap (map code_row) (sym (filter-map code_of (is_code_after after) (entries codes_there)) ∙ ap (filter (is_code_after after)) (sym (codes_are b.content codes_there has.stands.orders.there)))
 
-  pub lists_first_orders : (rows : List Row) → Shown first_orders_text (Int (pos most) ∷ []) old new rows → rows ≡ map code_row (take most (orders_behind b.content None))
+  pub lists_first_orders : (rows : List Row) → Shown first_orders_text (Int (pos most) ∷ []) old new rows → rows ≡ map code_row (take most (orders_after b.content None))
   lists_first_orders rows shown =
       let is = first_orders_is old.now.schema has.schema in
       let params = Int (pos most) ∷ [] in
       let a = (reads_as first_orders_text params old new (shop old.now.schema has.schema) (shop_is old.now.schema has.schema) _ is.command is.plain is.listing rows shown).answer in
       let first = first_answer 7 [] all_codes_terms by_code (col 0 0) old.now.trees params rows a in
-      let all : first.0 ≡ map code_row (orders_behind b.content None) =
+      let all : first.0 ≡ map code_row (orders_after b.content None) =
       in_order code_total code_same 7 [] all_codes_terms by_code code_out (λ e f. by_first e.0 f.0) 1 old.now.trees params refl order_row (λ _. true) (λ _. true) (λ r. refl) (λ e. refl)
       (λ d. (column d 0 ∷ [], column d 0 ∷ [])) one_later (λ e. refl) first.0 codes_there has.stands.orders.rows first.1
       ∙ orders_as None in
       first.2 ∙ ap (take most) all ∙ take-map code_row most _
 
-  pub lists_orders_behind : (after : List ℕ) (rows : List Row) → Shown orders_behind_text (Text after ∷ Int (pos most) ∷ []) old new rows → rows ≡ map code_row (take most (orders_behind b.content (Some after)))
-  lists_orders_behind after rows shown =
-      let is = orders_behind_is old.now.schema has.schema in
+  pub lists_orders_after : (after : List ℕ) (rows : List Row) → Shown orders_after_text (Text after ∷ Int (pos most) ∷ []) old new rows → rows ≡ map code_row (take most (orders_after b.content (Some after)))
+  lists_orders_after after rows shown =
+      let is = orders_after_is old.now.schema has.schema in
       let params = Text after ∷ Int (pos most) ∷ [] in
-      let a = (reads_as orders_behind_text params old new (shop old.now.schema has.schema) (shop_is old.now.schema has.schema) _ is.command is.plain is.listing rows shown).answer in
-      let first = first_answer 7 orders_behind_tests all_codes_terms by_code (col 0 1) old.now.trees params rows a in
-      let all : first.0 ≡ map code_row (orders_behind b.content (Some after)) =
-      in_order code_total code_same 7 orders_behind_tests all_codes_terms by_code code_out (λ e f. by_first e.0 f.0) 1 old.now.trees params refl order_row (λ e. is_code_behind (Some after) e.0) (is_behind after) (behind_later after) (λ e. and_true _ ∙ above-Text e.0 after)
+      let a = (reads_as orders_after_text params old new (shop old.now.schema has.schema) (shop_is old.now.schema has.schema) _ is.command is.plain is.listing rows shown).answer in
+      let first = first_answer 7 orders_after_tests all_codes_terms by_code (col 0 1) old.now.trees params rows a in
+      let all : first.0 ≡ map code_row (orders_after b.content (Some after)) =
+      in_order code_total code_same 7 orders_after_tests all_codes_terms by_code code_out (λ e f. by_first e.0 f.0) 1 old.now.trees params refl order_row (λ e. is_code_after (Some after) e.0) (is_after after) (after_later after) (λ e. and_true _ ∙ above-Text e.0 after)
       (λ d. (column d 0 ∷ [], column d 0 ∷ [])) one_later (λ e. refl) first.0 codes_there has.stands.orders.rows first.1
       ∙ orders_as (Some after) in
       first.2 ∙ ap (take most) all ∙ take-map code_row most _

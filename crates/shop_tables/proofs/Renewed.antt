@@ -29,7 +29,7 @@ use Rattle.sqlite_tied.specs.Compute.{everything}
 use Rattle.cut_measure.specs.Codes.{code_cmp}
 use Rattle.shop_records.specs.Content.{Content}
 use Rattle.shop_records.specs.declared.records.Totals.{Totals}
-use Rattle.shop_statements.specs.Layout.{shop_schema, IsShop, meta_table, totals_table, totals2_table}
+use Rattle.shop_statements.specs.Layout.{shop_schema, HasShopTables, meta_table, totals_table, totals2_table}
 use Rattle.shop_statements.specs.Rows.{AreOrders, AreRows, meta_row, meta_entries, totals_row}
 use Rattle.shop_statements.specs.Shown.{Books, Shows}
 use Rattle.shop_tables.specs.Adopting.{MakesTables}
@@ -80,8 +80,8 @@ number_is = record { command = refl; plain = (refl, refl) }
 -- ---- one statement over tables of version 2
 
 module _ (old new : State) (has : old.now.schema ≡ shop_schema) where
-  it : IsShop old.now.schema
-  it = subst IsShop (sym has) shop_is_shop
+  it : HasShopTables old.now.schema
+  it = subst HasShopTables (sym has) shop_is_shop
 
   at_place : (i : ℕ) → slice_get old.now.schema.tables i ≡ slice_get shop_schema.tables i
   at_place i = ap (λ (s : Schema). slice_get s.tables i) has
@@ -203,7 +203,7 @@ module _ {S : Type 0} (g : Ghosts S) where
       let along : (t : ℕ) → (t == 0) ≡ false → (t == 15) ≡ false → (t == 17) ≡ false → IsNoIndex shop_schema t → s1.now.trees t ≡ s0.now.trees t → s4.now.trees t ≡ s0.now.trees t =
       λ t no_meta no_totals no_new apart was. four.0.others t no_meta apart ∙ three.0.others t no_totals apart ∙ two.0.others t no_new apart ∙ was in
       let shows : Shows s4 b = record {
-        schema = subst IsShop (sym four.0.schema_is) shop_is_shop;
+        schema = subst HasShopTables (sym four.0.schema_is) shop_is_shop;
         sound = four.0.sound;
         stands = record {
           meta = four.1;

@@ -21,7 +21,7 @@ use Rattle.sqlite_store.specs.FileStore as store
 use Rattle.sqlite_wal.specs.Recovery.{Image}
 use Rattle.shop_records.specs.Content.{Content}
 use Rattle.shop_statements.specs.Earlier.{IsSettledEarlier, StandsEarlier, StandsInEarlier, earlier_schema}
-use Rattle.shop_statements.specs.Layout.{IsShop}
+use Rattle.shop_statements.specs.Layout.{HasShopTables}
 use Rattle.shop_statements.specs.Rows.{Stands}
 use Rattle.shop_statements.specs.Shown.{Books, IsSettled, Holds, StandsIn}
 use Rattle.shop_tables.specs.Held.{books, IsSettledAt, StandsFor}
@@ -41,7 +41,7 @@ found_settled old new files b copied opened found was clean =
     let trees : (file_state new).now.trees ≡ (file_state old).now.trees = ap (λ (d : Database). d.trees) o.0.clean ∙ finds_again old new files copied f ∙ ap (λ (d : Database). d.trees) (sym start.committed) in
     let schema : (file_state new).now.schema ≡ (file_state old).now.schema = one_schema (file_state old).now (file_state new).now start.shows.sound live trees in
     record {
-      shows = record { schema = subst IsShop (sym schema) start.shows.schema; sound = live; stands = subst (λ (t : Trees). Stands t b.content b.totals) (sym trees) start.shows.stands; keyed = start.shows.keyed };
+      shows = record { schema = subst HasShopTables (sym schema) start.shows.schema; sound = live; stands = subst (λ (t : Trees). Stands t b.content b.totals) (sym trees) start.shows.stands; keyed = start.shows.keyed };
       committed = o.0.clean;
     }
 
@@ -53,7 +53,7 @@ left_settled new b opened left =
     let listed : Database = record { schema = left.0.0; trees = (file_state new).committed.trees } in
     let schema : (file_state new).now.schema ≡ left.0.0 = one_schema listed (file_state new).now left.0.2 live trees in
     record {
-      shows = record { schema = subst IsShop (sym schema) left.0.1; sound = live; stands = subst (λ (t : Trees). Stands t b.content b.totals) (sym trees) left.1; keyed = left.2 };
+      shows = record { schema = subst HasShopTables (sym schema) left.0.1; sound = live; stands = subst (λ (t : Trees). Stands t b.content b.totals) (sym trees) left.1; keyed = left.2 };
       committed = opened.0.clean;
     }
 

@@ -33,7 +33,7 @@ use Rattle.shop_records.specs.declared.records.Material.{Material}
 use Rattle.shop_statements.specs.declared.faults.TableFault.{TableFault}
 use Rattle.shop_statements.specs.Found.{are_equal, columns_of}
 use Rattle.shop_statements.specs.Rows.{demand_columns, material_columns}
-use Rattle.shop_statements.specs.Layout.{IsShop}
+use Rattle.shop_statements.specs.Layout.{HasShopTables}
 use Rattle.shop_statements.proofs.Keys.{and_true}
 use Rattle.shop_statements.proofs.Lists.{map-map}
 use Rattle.shop_statements.proofs.Selects.{selects}
@@ -43,7 +43,7 @@ use Rattle.shop_tables.specs.ListedRows.{listed_demand, listed_material, number_
 use Rattle.shop_tables.specs.RowsShown.{AreDemandRows, AreJobRows, AreLastRows, AreLineRows, AreMaterialRows, AreOrderRows, ArePartRows, AreShown, GivesRows, by_columns, is_above, is_at_least, is_below}
 use Rattle.shop_tables.proofs.Firsts.{first_answer}
 use Rattle.shop_tables.proofs.FirstRows.{and_and, held_given}
-use Rattle.shop_tables.proofs.ListTexts.{all_codes_terms, all_materials_is, all_materials_terms, all_materials_text, by_code, by_line, by_rowid, falling, first_of, first_orders_is, first_orders_text, first_parts_is, first_parts_text, last_number_is, last_number_terms, last_number_tests, last_number_text, lines_is, lines_tests, lines_text, open_demands_is, open_demands_of_is, open_demands_of_tests, open_demands_of_text, open_demands_terms, open_demands_tests, open_demands_text, orders_behind_is, orders_behind_tests, orders_behind_text, parts_behind_is, parts_behind_tests, parts_behind_text, parts_of_order, parts_of_terms, parts_of_tests, waiting_jobs_is, waiting_jobs_terms, waiting_jobs_tests, waiting_jobs_text}
+use Rattle.shop_tables.proofs.ListTexts.{all_codes_terms, all_materials_is, all_materials_terms, all_materials_text, by_code, by_line, by_rowid, falling, first_of, first_orders_is, first_orders_text, first_parts_is, first_parts_text, last_number_is, last_number_terms, last_number_tests, last_number_text, lines_is, lines_tests, lines_text, open_demands_is, open_demands_of_is, open_demands_of_tests, open_demands_of_text, open_demands_terms, open_demands_tests, open_demands_text, orders_after_is, orders_after_tests, orders_after_text, parts_after_is, parts_after_tests, parts_after_text, parts_of_order, parts_of_terms, parts_of_tests, waiting_jobs_is, waiting_jobs_terms, waiting_jobs_tests, waiting_jobs_text}
 
 -- ---- a query on one table
 
@@ -97,7 +97,7 @@ either : (op more : CompareOp) (a b c d : Value) → is_true (binary Or (compare
 unfolding binary
 either op more a b c d = either_of _ _ _ _
 
--- a part's row behind a name
+-- a part's row after a name
 part_tests : (a b c d : Value) (code : List ℕ) (name : Name) → ((are_equal c (Text code)) && (is_true (binary Or (compared Eq d (Int (pos 0))) (compared Eq d (Int (pos 1)))) && (is_at_least a (Int (pos name.act)) && (is_true (binary Or (compared Gt a (Int (pos name.act))) (compared Gt b (Int (pos name.node)))) && true))))
     ≡ ((are_equal c (Text code) && (are_equal d (Int (pos 0)) || are_equal d (Int (pos 1)))) && (is_at_least a (Int (pos name.act)) && (is_above a (Int (pos name.act)) || is_above b (Int (pos name.node)))))
 part_tests a b c d code name = (λ i. are_equal c (Text code) && (either Eq Eq d (Int (pos 0)) d (Int (pos 1)) i && (is_at_least a (Int (pos name.act)) && (and_true _ ∙ either Gt Gt a (Int (pos name.act)) b (Int (pos name.node))) i))) ∙ and_and (are_equal c (Text code)) (are_equal d (Int (pos 0)) || are_equal d (Int (pos 1))) (is_at_least a (Int (pos name.act)) && (is_above a (Int (pos name.act)) || is_above b (Int (pos name.node))))
@@ -113,7 +113,7 @@ first_row shown (row ∷ rows) = (Some (shown row), refl)
 
 -- ---- what each list shows
 
-module _ (old new : State) (h : IsShop old.now.schema) where
+module _ (old new : State) (h : HasShopTables old.now.schema) where
   abbrev over : Schema
   over = shop old.now.schema h
 
@@ -130,12 +130,12 @@ module _ (old new : State) (h : IsShop old.now.schema) where
       shown_first 4 parts_of_tests parts_of_terms parts_of_order old.now.trees params refl _ (by_columns (1 ∷ 2 ∷ [])) _ (λ r. listed_tests code (column r 3) (column r 11)) (λ a b. refl) (λ r. refl) (col 0 1) most refl rows
       (reads_as first_parts_text params old new over (shop_is old.now.schema h) _ is.command is.plain is.listing rows shown).answer
 
-  pub parts_behind_shown : (code : List ℕ) (after : Name) (most : ℕ) (rows : List Row) → Shown parts_behind_text (Text code ∷ Int (pos after.act) ∷ Int (pos after.node) ∷ Int (pos most) ∷ []) old new rows → ArePartRows code (Some after) (Some most) (old.now.trees 4) rows
-  parts_behind_shown code after most rows shown =
-      let is = parts_behind_is old.now.schema h in
+  pub parts_after_shown : (code : List ℕ) (after : Name) (most : ℕ) (rows : List Row) → Shown parts_after_text (Text code ∷ Int (pos after.act) ∷ Int (pos after.node) ∷ Int (pos most) ∷ []) old new rows → ArePartRows code (Some after) (Some most) (old.now.trees 4) rows
+  parts_after_shown code after most rows shown =
+      let is = parts_after_is old.now.schema h in
       let params = Text code ∷ Int (pos after.act) ∷ Int (pos after.node) ∷ Int (pos most) ∷ [] in
-      shown_first 4 parts_behind_tests parts_of_terms parts_of_order old.now.trees params refl _ (by_columns (1 ∷ 2 ∷ [])) _ (λ r. part_tests (column r 1) (column r 2) (column r 3) (column r 11) code after) (λ a b. refl) (λ r. refl) (col 0 3) most refl rows
-      (reads_as parts_behind_text params old new over (shop_is old.now.schema h) _ is.command is.plain is.listing rows shown).answer
+      shown_first 4 parts_after_tests parts_of_terms parts_of_order old.now.trees params refl _ (by_columns (1 ∷ 2 ∷ [])) _ (λ r. part_tests (column r 1) (column r 2) (column r 3) (column r 11) code after) (λ a b. refl) (λ r. refl) (col 0 3) most refl rows
+      (reads_as parts_after_text params old new over (shop_is old.now.schema h) _ is.command is.plain is.listing rows shown).answer
 
   pub open_demands_shown : (after most : ℕ) (rows : List Row) → Shown open_demands_text (Int (pos after) ∷ Int (pos most) ∷ []) old new rows → AreDemandRows after None most (old.now.trees 9) rows
   open_demands_shown after most rows shown =
@@ -163,11 +163,11 @@ module _ (old new : State) (h : IsShop old.now.schema) where
       shown_first 7 [] all_codes_terms by_code old.now.trees (Int (pos most) ∷ []) refl _ (by_columns (1 ∷ [])) _ (λ r. refl) (λ a b. refl) (λ r. refl) (col 0 0) most refl rows
       (reads_as first_orders_text (Int (pos most) ∷ []) old new over (shop_is old.now.schema h) _ is.command is.plain is.listing rows shown).answer
 
-  pub orders_behind_shown : (code : List ℕ) (most : ℕ) (rows : List Row) → Shown orders_behind_text (Text code ∷ Int (pos most) ∷ []) old new rows → AreOrderRows (Some code) most (old.now.trees 7) rows
-  orders_behind_shown code most rows shown =
-      let is = orders_behind_is old.now.schema h in
-      shown_first 7 orders_behind_tests all_codes_terms by_code old.now.trees (Text code ∷ Int (pos most) ∷ []) refl _ (by_columns (1 ∷ [])) _ (λ r. and_true (is_above (column r 1) (Text code))) (λ a b. refl) (λ r. refl) (col 0 1) most refl rows
-      (reads_as orders_behind_text (Text code ∷ Int (pos most) ∷ []) old new over (shop_is old.now.schema h) _ is.command is.plain is.listing rows shown).answer
+  pub orders_after_shown : (code : List ℕ) (most : ℕ) (rows : List Row) → Shown orders_after_text (Text code ∷ Int (pos most) ∷ []) old new rows → AreOrderRows (Some code) most (old.now.trees 7) rows
+  orders_after_shown code most rows shown =
+      let is = orders_after_is old.now.schema h in
+      shown_first 7 orders_after_tests all_codes_terms by_code old.now.trees (Text code ∷ Int (pos most) ∷ []) refl _ (by_columns (1 ∷ [])) _ (λ r. and_true (is_above (column r 1) (Text code))) (λ a b. refl) (λ r. refl) (col 0 1) most refl rows
+      (reads_as orders_after_text (Text code ∷ Int (pos most) ∷ []) old new over (shop_is old.now.schema h) _ is.command is.plain is.listing rows shown).answer
 
   pub waiting_jobs_shown : (after most : ℕ) (rows : List Row) → Shown waiting_jobs_text (Int (pos after) ∷ Int (pos most) ∷ []) old new rows → AreJobRows after most (old.now.trees 6) rows
   waiting_jobs_shown after most rows shown =
@@ -194,7 +194,7 @@ module _ (old new : State) (h : IsShop old.now.schema) where
 
 module _ (sql : List ℕ) (params : Row) (old new : State) (of_books : Books → List Row → Type 0) (of_tables : Trees → List Row → Type 0) where
   pub gives : {E : Type 0} (r : Result (Vec Answered Global) E) → is_select sql ≡ true → (is_select sql ≡ true → Leaves old new) → (HasCleanDisk new → IfOk r (λ rows. Shown sql params old new rows.items))
-      → ((b : Books) → Shows old b → (rows : List Row) → Shown sql params old new rows → of_books b rows) → (IsShop old.now.schema → (rows : List Row) → Shown sql params old new rows → of_tables old.now.trees rows)
+      → ((b : Books) → Shows old b → (rows : List Row) → Shown sql params old new rows → of_books b rows) → (HasShopTables old.now.schema → (rows : List Row) → Shown sql params old new rows → of_tables old.now.trees rows)
       → GivesRows old new r of_books of_tables
   gives r is left shown books tables = record {
     rows = λ clean b was. held_given sql params old new is left b (of_books b) r clean was (λ rows has given. books b has rows given) (shown clean);
@@ -228,14 +228,14 @@ read_more row_of cut rows xs i was inside row is read same =
 
 -- ---- a row that is read whole
 
-own_code : (row : Row) (code : List ℕ) (read : Material) → ((m : Material) (behind : Row) → m.code ≡ code → row ≡ material_columns m ++ behind → read ≡ m) → columns_of 4 0 row ≡ material_columns read → read.code ≡ code
+own_code : (row : Row) (code : List ℕ) (read : Material) → ((m : Material) (after : Row) → m.code ≡ code → row ≡ material_columns m ++ after → read ≡ m) → columns_of 4 0 row ≡ material_columns read → read.code ≡ code
 own_code [] code read is exact = absurd (cc)
 own_code (a ∷ []) code read is exact = absurd (cc)
 own_code (a ∷ b ∷ []) code read is exact = absurd (cc)
 own_code (a ∷ b ∷ c ∷ []) code read is exact = absurd (cc)
-own_code (a ∷ b ∷ c ∷ d ∷ behind) code read is exact = ap (λ (m : Material). m.code) (is (record read { code = code }) behind refl (λ i. exact i ++ behind))
+own_code (a ∷ b ∷ c ∷ d ∷ after) code read is exact = ap (λ (m : Material). m.code) (is (record read { code = code }) after refl (λ i. exact i ++ after))
 
-pub material_read : (r : Result Material TableFault) (row : Row) (code : List ℕ) → ((m : Material) (behind : Row) → m.code ≡ code → row ≡ material_columns m ++ behind → IfOk r (λ read. read ≡ m))
+pub material_read : (r : Result Material TableFault) (row : Row) (code : List ℕ) → ((m : Material) (after : Row) → m.code ≡ code → row ≡ material_columns m ++ after → IfOk r (λ read. read ≡ m))
     → IfOk r (λ read. columns_of 4 0 row ≡ material_columns read) → column row 4 ≡ Text code → IfOk r (λ read. columns_of 5 0 row ≡ listed_material read)
 material_read (Ok read) row code is exact last = λ i. exact i ++ (last ∙ ap Text (sym (own_code row code read is exact))) i ∷ []
 material_read (Err e) row code is exact last = tt

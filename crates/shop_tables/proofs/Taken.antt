@@ -6,30 +6,30 @@ use Rattle.sqlite.specs.State.{State}
 use Rattle.sqlite.specs.Schema.{Schema}
 use Rattle.sqlite_schema.specs.Names.{same_name, table_named}
 use Rattle.shop_tables.specs.Adopting.{HasVersion, names_are_free, names_are_tables, names_are_earlier}
-use Rattle.shop_tables.specs.Strange.{Shows}
+use Rattle.shop_tables.specs.Invalid.{HasValue}
 use Rattle.shop_statements.specs.Found.{IsNumberRow}
 use Rattle.shop_statements.specs.Earlier.{earlier_schema}
-use Rattle.shop_statements.specs.Layout.{IsShop}
+use Rattle.shop_statements.specs.Layout.{HasShopTables}
 use Rattle.shop_statements.proofs.Texts.{shop, shop_is}
 use Rattle.shop_statements.proofs.Versions.{number_read}
 
 abbrev Placed : Schema → Type 0
 Placed s = (table_named s (codes "meta") ≡ Some 0) × (table_named s (codes "materials") ≡ Some 1) × (table_named s (codes "parts") ≡ Some 2) × (table_named s (codes "jobs") ≡ Some 3) × (table_named s (codes "orders") ≡ Some 4) × (table_named s (codes "demands") ≡ Some 5) × (table_named s (codes "kept") ≡ Some 6) × (table_named s (codes "imports") ≡ Some 7) × (table_named s (codes "totals") ≡ Some 8) × (table_named s (codes "totals2") ≡ Some 9)
 
-spelled : (schema : Schema) (h : IsShop schema) → Placed (shop schema h)
+spelled : (schema : Schema) (h : HasShopTables schema) → Placed (shop schema h)
 unfolding same_name
 spelled schema h = (refl, refl, refl, refl, refl, refl, refl, refl, refl, refl)
 
-placed : (schema : Schema) → IsShop schema → Placed schema
+placed : (schema : Schema) → HasShopTables schema → Placed schema
 placed schema h = subst Placed (sym (shop_is schema h)) (spelled schema h)
 
-pub taken : (schema : Schema) → IsShop schema → names_are_free schema ≡ false
+pub taken : (schema : Schema) → HasShopTables schema → names_are_free schema ≡ false
 taken schema h = rw (placed schema h).0 refl
 
-pub stand : (schema : Schema) → IsShop schema → names_are_tables schema ≡ true
+pub stand : (schema : Schema) → HasShopTables schema → names_are_tables schema ≡ true
 stand schema h = let f = placed schema h in rw (f.0, f.1, f.2, f.3, f.4, f.5, f.6, f.7, f.8, f.9) refl
 
-pub not_earlier : (schema : Schema) → IsShop schema → names_are_earlier schema ≡ false
+pub not_earlier : (schema : Schema) → HasShopTables schema → names_are_earlier schema ≡ false
 not_earlier schema h = let f = placed schema h in rw (f.0, f.1, f.2, f.3, f.4, f.5, f.6, f.7, f.8, f.9) refl
 
 -- and those that a schema of version 1 takes
@@ -45,7 +45,7 @@ earlier_stand schema is = ap names_are_earlier is
 -- ---- the version that is named
 
 -- a number from the version to the version is the version
-pub version_named : (s : State) (row : Row) (wanted : ℕ) → IsNumberRow s (codes "version") row → (n : ℕ) × (wanted ≤ n) × (n ≤ wanted) × Shows row 0 (Int (pos n)) → HasVersion s wanted
+pub version_named : (s : State) (row : Row) (wanted : ℕ) → IsNumberRow s (codes "version") row → (n : ℕ) × (wanted ≤ n) × (n ≤ wanted) × HasValue row 0 (Int (pos n)) → HasVersion s wanted
 version_named s row wanted it h =
     let same : h.0 ≡ wanted = let low = h.1 in let high = h.2 in omega (arith, low, high) in
     number_read s (codes "version") row (Int (pos wanted)) it (h.3.1 ∙ ap (λ n. Int (pos n)) same)

@@ -15,7 +15,7 @@ use Rattle.shop_statements.specs.Found.{columns_of}
 use Rattle.shop_statements.specs.Rows.{part_row}
 use Rattle.shop_tables.specs.ListedRows.{listed_part}
 use Rattle.shop_statements.specs.Shown.{Books, Holds, IsAsWas}
-use Rattle.shop_tables.specs.Strange.{IsNoPart}
+use Rattle.shop_tables.specs.Invalid.{IsNoPart}
 
 -- the part is the one that the row is of, which has its columns
 abbrev pub IsReadOf : Row → Part → Type 0
@@ -40,13 +40,13 @@ pub record HandsOut {V : Type 0} (looks : V → Part → Bool → V → Type 0) 
 abbrev pub went_on : Lent → Bool
 went_on lent.All = true
 went_on lent.Stopped = false
-went_on lent.Strange = true
+went_on lent.Invalid = true
 
 -- how far the parts were handed out; a row that is no part is a fault
 abbrev pub gone_through : Result Lent TableFault → Result Bool TableFault
 gone_through (Ok lent.All) = Ok true
 gone_through (Ok lent.Stopped) = Ok false
-gone_through (Ok lent.Strange) = Err fault.Store
+gone_through (Ok lent.Invalid) = Err fault.Store
 gone_through (Err e) = Err e
 
 module _ {S : Type 0} (g : Ghosts S) (sql : List ℕ) (params : Row) (old : Held S) where
@@ -76,4 +76,4 @@ module _ {S : Type 0} (g : Ghosts S) (sql : List ℕ) (params : Row) (old : Held
     pub told : IfOk result (λ how. on ≡ went_on how)
     pub begins : HasCleanDisk (state g new) → Starts given
     pub whole : HasCleanDisk (state g new) → IfOk result (λ how. how ≡ lent.All → Answers given)
-    pub strange : HasCleanDisk (state g new) → IfOk result (λ how. how ≡ lent.Strange → (row : Row) × IsNoPart row × Starts (given ++ row ∷ []))
+    pub invalid : HasCleanDisk (state g new) → IfOk result (λ how. how ≡ lent.Invalid → (row : Row) × IsNoPart row × Starts (given ++ row ∷ []))

@@ -1,7 +1,7 @@
 pub mod Faults
 pub mod Changing
 pub mod Held
-pub mod Strange
+pub mod Invalid
 pub mod Lending
 pub mod Listing
 pub mod Adopting

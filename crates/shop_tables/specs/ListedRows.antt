@@ -13,7 +13,7 @@ use Rattle.shop_statements.specs.Rows.{demand_columns, material_columns, part_ro
 abbrev pub number_row : ℕ → Row
 number_row number = Int (pos number) ∷ []
 
--- a material's row, its code behind it
+-- a material's row, its code after it
 abbrev pub listed_material : Material → Row
 listed_material material = material_columns material ++ code_row material.code
 
@@ -21,7 +21,7 @@ listed_material material = material_columns material ++ code_row material.code
 abbrev pub listed_part : Part → Row
 listed_part part = part_row (part.name, part)
 
--- a demand's row, its number behind it
+-- a demand's row, its number after it
 abbrev pub listed_demand : Demand → Row
 listed_demand demand = demand_columns demand ++ number_row demand.number
 

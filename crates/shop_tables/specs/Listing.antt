@@ -23,7 +23,7 @@ AreCodes texts = AllByRecursion (λ text. IsTrue (is_code text)) texts
 abbrev pub code_row : List ℕ → Row
 code_row code = Text code ∷ []
 
--- a row of totals, its code behind them
+-- a row of totals, its code after them
 abbrev pub listed_row : List ℕ × Totals → Row
 listed_row e = totals_columns e.1 ++ code_row e.0
 

@@ -17,7 +17,7 @@ use Rattle.sqlite.specs.declared.rows.Row.{Row as Answered}
 use Rattle.std.specs.declared.alloc.Global.{Global}
 use Rattle.cut_measure.specs.Names.{Name}
 use Rattle.shop_statements.specs.Found.{are_equal, columns_of}
-use Rattle.shop_statements.specs.Layout.{IsShop}
+use Rattle.shop_statements.specs.Layout.{HasShopTables}
 use Rattle.shop_statements.specs.Shown.{Books, Leaves, OnBooks}
 use Rattle.shop_tables.specs.ListedRows.{number_row}
 
@@ -37,7 +37,7 @@ pub record AreShown (shown : Row → Row) (order : Row → Row → Ordering) (mo
 -- What a query of rows says of held books, and of whatever rows are in the tables, and what it leaves.
 pub record GivesRows {E : Type 0} (old new : State) (result : Result (Vec Answered Global) E) (of_books : Books → List Row → Type 0) (of_tables : Trees → List Row → Type 0) : Type 0 where
   pub rows : OnBooks old new (λ books. IfOk result (λ rows. of_books books rows.items))
-  pub stands : HasCleanDisk new → IsShop old.now.schema → IfOk result (λ rows. of_tables old.now.trees rows.items)
+  pub stands : HasCleanDisk new → HasShopTables old.now.schema → IfOk result (λ rows. of_tables old.now.trees rows.items)
   pub was_open : HasCleanDisk new → IfOk result (λ _. IsTrue old.is_open)
   pub leaves : Leaves old new
 
@@ -61,7 +61,7 @@ is_at_least a b = is_true (binary (Compare Ge Binary) a b)
 abbrev pub AreMaterialRows : List Row → List Row → Type 0
 AreMaterialRows = AreShown (λ row. columns_of 4 2 row ++ columns_of 1 1 row) (by_columns (1 ∷ [])) None (λ _. true)
 
--- ---- parts of a material that stand or are reserved, behind a name if one is given, by their names
+-- ---- parts of a material that stand or are reserved, after a name if one is given, by their names
 
 abbrev pub stands_in : List ℕ → Row → Bool
 stands_in material row = are_equal (column row 3) (Text material) && (are_equal (column row 11) (Int (pos 0)) || are_equal (column row 11) (Int (pos 1)))
@@ -90,7 +90,7 @@ AreDemandRows after material most =
 abbrev pub AreLineRows : List ℕ → List Row → List Row → Type 0
 AreLineRows order = AreShown (λ row. columns_of 10 2 row ++ columns_of 1 0 row) (by_columns (3 ∷ [])) None (λ row. are_equal (column row 2) (Text order))
 
--- ---- orders behind a code if one is given, by their codes
+-- ---- orders after a code if one is given, by their codes
 
 abbrev pub is_code_past : Option (List ℕ) → Row → Bool
 is_code_past None row = true

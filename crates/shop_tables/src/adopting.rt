@@ -6,13 +6,13 @@ ghost use Rattle.sqlite.specs.Held.{state};
 ghost use Rattle.sqlite_catalog.specs.Change.{is_used};
 ghost use Rattle.shop_tables.specs.Adopting.{HasVersion, IsVacant, LeavesBooks, first_are_tables, is_table, names_are_free, names_are_tables, names_are_earlier};
 ghost use Rattle.shop_statements.specs.Earlier.{HoldsEarlier, IsSettledEarlier, earlier_schema};
-ghost use Rattle.shop_statements.specs.Layout.{no_schema, IsShop};
+ghost use Rattle.shop_statements.specs.Layout.{no_schema, HasShopTables};
 ghost use Rattle.shop_statements.specs.Shown.{Books, HasShopSchema, Holds, IsSettled, Leaves, StandsIn, fresh_books};
 ghost use Rattle.shop_tables.specs.declared.adopting.Adopted.TheVariants.{Made, Found, Earlier};
 ghost use Rattle.shop_tables.specs.declared.adopting.AdoptFault.TheVariants.{WrongVersion};
 
+use crate::invalid::has_number;
 use crate::laying::lay_tables;
-use crate::strange::has_number;
 use shop_statements::{TableFault, number_row};
 use sqlite::{Alter, Connection, Error};
 use sqlite_schema::schema::Schema;
@@ -40,10 +40,10 @@ pub enum AdoptFault {
 }
 
 impl From<Error> for AdoptFault {
-    ghost use Rattle.shop_statements.specs.Faults.{fault_of};
+    ghost use Rattle.shop_statements.specs.Faults.{table_fault};
     ghost use Rattle.shop_tables.specs.Faults.{adopt_fault_of};
 
-    ghost from_gives = { λ error fault. fault ≡ adopt_fault_of (fault_of error) };
+    ghost from_gives = { λ error fault. fault ≡ adopt_fault_of (table_fault error) };
 
     fn from(error: Error) -> AdoptFault {
         match TableFault::from(error) {
@@ -153,7 +153,7 @@ fn adopt_version<S: Alter>(
         → (b : Books) → Holds (state S.Store conn.old) b → ⊥ }
     ensures one { version ≡ 1 → result ≡ Err WrongVersion → HasCleanDisk (state S.Store conn.new)
         → (b : Books) → HoldsEarlier (state S.Store conn.old) b → ⊥ }
-    ensures named { IsShop conn.old.schema ⊎ (conn.old.schema ≡ earlier_schema)
+    ensures named { HasShopTables conn.old.schema ⊎ (conn.old.schema ≡ earlier_schema)
         → HasCleanDisk (state S.Store conn.new)
         → OnOk result (HasVersion (state S.Store conn.old) version) }
 {
@@ -177,11 +177,11 @@ fn adopt_taken<S: Alter>(conn: &mut Connection<S>) -> Result<Adopted, AdoptFault
     ensures made { result ≢ Ok Made }
     ensures neither { result ≡ Err WrongVersion → HasCleanDisk (state S.Store conn.new)
         → (b : Books) → IsSettled (state S.Store conn.old) b → ⊥ }
-    ensures one { result ≡ Ok Earlier → ¬ IsShop conn.old.schema }
+    ensures one { result ≡ Ok Earlier → ¬ HasShopTables conn.old.schema }
     ensures one_only { conn.old.schema ≡ earlier_schema → IfOk result (λ how. how ≡ Earlier) }
     ensures one_neither { result ≡ Err WrongVersion → HasCleanDisk (state S.Store conn.new)
         → (b : Books) → IsSettledEarlier (state S.Store conn.old) b → ⊥ }
-    ensures named { IsShop conn.old.schema → HasCleanDisk (state S.Store conn.new)
+    ensures named { HasShopTables conn.old.schema → HasCleanDisk (state S.Store conn.new)
         → OnOk result (HasVersion (state S.Store conn.old) 2) }
     ensures one_named { conn.old.schema ≡ earlier_schema → HasCleanDisk (state S.Store conn.new)
         → OnOk result (HasVersion (state S.Store conn.old) 1) }
@@ -219,21 +219,21 @@ pub fn adopt_tables<S: Alter>(conn: &mut Connection<S>) -> Result<Adopted, Adopt
     ensures made { result ≡ Ok Made → (b : Books) → IsSettled (state S.Store conn.old) b → ⊥ }
     ensures found { result ≡ Ok Found → (conn.old.schema ≢ no_schema)
         × Leaves (state S.Store conn.old) (state S.Store conn.new) }
-    ensures still { IsShop conn.old.schema
+    ensures still { HasShopTables conn.old.schema
         → Survives (state S.Store conn.old) (state S.Store conn.new) (λ _. ⊥) }
-    ensures strange { result ≡ Err WrongVersion → conn.old.schema ≢ no_schema }
+    ensures foreign { result ≡ Err WrongVersion → conn.old.schema ≢ no_schema }
     ensures unwritten { result ≡ Err WrongVersion
         → Leaves (state S.Store conn.old) (state S.Store conn.new) }
     ensures neither { result ≡ Err WrongVersion → HasCleanDisk (state S.Store conn.new)
         → (b : Books) → IsSettled (state S.Store conn.old) b → ⊥ }
-    ensures one { result ≡ Ok Earlier → (conn.old.schema ≢ no_schema) × (¬ IsShop conn.old.schema)
+    ensures one { result ≡ Ok Earlier → (conn.old.schema ≢ no_schema) × (¬ HasShopTables conn.old.schema)
         × Leaves (state S.Store conn.old) (state S.Store conn.new) }
     ensures one_only { conn.old.schema ≡ earlier_schema → IfOk result (λ how. how ≡ Earlier) }
     ensures one_leaves { conn.old.schema ≡ earlier_schema
         → Leaves (state S.Store conn.old) (state S.Store conn.new) }
     ensures one_neither { result ≡ Err WrongVersion → HasCleanDisk (state S.Store conn.new)
         → (b : Books) → IsSettledEarlier (state S.Store conn.old) b → ⊥ }
-    ensures named { IsShop conn.old.schema → HasCleanDisk (state S.Store conn.new)
+    ensures named { HasShopTables conn.old.schema → HasCleanDisk (state S.Store conn.new)
         → OnOk result (HasVersion (state S.Store conn.old) 2) }
     ensures one_named { conn.old.schema ≡ earlier_schema → HasCleanDisk (state S.Store conn.new)
         → OnOk result (HasVersion (state S.Store conn.old) 1) }

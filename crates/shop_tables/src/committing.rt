@@ -5,7 +5,7 @@ ghost use Rattle.sqlite.specs.State.{HasCleanDisk, Survives};
 ghost use Rattle.sqlite.specs.Held.{state};
 ghost use Rattle.shop_records.specs.Content.{Content, changed};
 ghost use Rattle.shop_records.specs.Soundness.{Fits};
-ghost use Rattle.shop_statements.specs.Layout.{IsShop};
+ghost use Rattle.shop_statements.specs.Layout.{HasShopTables};
 ghost use Rattle.shop_tables.specs.Held.{HoldsContent, StandsFor, LeavesOnly, LeavesOthers};
 
 use crate::changing::write_change;
@@ -32,7 +32,7 @@ pub fn commit_change<S: Alter>(
         (λ db. StandsFor db (changed m change.now)) }
     ensures lasts { (m : Content) → HoldsContent (state S.Store conn.old) m → Fits m change.now
         → OnOk result (LeavesOnly (state S.Store conn.new) (changed m change.now)) }
-    ensures others { IsShop conn.old.schema
+    ensures others { HasShopTables conn.old.schema
         → LeavesOthers (state S.Store conn.old) (state S.Store conn.new) }
     ensures earlier { HasCleanDisk (state S.Store conn.new)
         → HasCleanDisk (state S.Store conn.old) }

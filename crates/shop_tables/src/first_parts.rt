@@ -1,11 +1,11 @@
-//! The first listed parts of a material, from its first on or behind a name.
+//! The first listed parts of a material, from its first on or after a name.
 
 ghost use Rattle.std.specs.Prelude.{◌≡◌, false, map, take, Some, None, IfOk, IsTrue};
 ghost use Rattle.sqlite.specs.Held.{state};
 ghost use Rattle.sqlite.specs.State.{HasCleanDisk};
-ghost use Rattle.shop_statements.specs.Layout.{IsShop};
+ghost use Rattle.shop_statements.specs.Layout.{HasShopTables};
 ghost use Rattle.shop_tables.specs.RowsShown.{ArePartRows, GivesRows};
-ghost use Rattle.shop_records.specs.Lists.{parts_behind};
+ghost use Rattle.shop_records.specs.Lists.{parts_after};
 ghost use Rattle.shop_tables.specs.ListedRows.{listed_part};
 ghost use Rattle.shop_statements.specs.Shown.{Leaves, OnBooks};
 
@@ -23,7 +23,7 @@ fn first_rows<S: Alter>(
 ) -> Result<Vec<Row>, TableFault>
     ensures gives { GivesRows (state S.Store conn.old) (state S.Store conn.new) result
         (λ books rows. rows ≡ map listed_part
-        (take most (parts_behind books.content material None)))
+        (take most (parts_after books.content material None)))
         (λ db. ArePartRows material None (Some most) (db 4)) }
     ensures mode { conn.old.in_transaction ≡ false → conn.new.in_transaction ≡ false }
 {
@@ -36,7 +36,7 @@ fn first_rows<S: Alter>(
     Ok(rows)
 }
 
-fn rows_behind<S: Alter>(
+fn rows_after<S: Alter>(
     conn: &mut Connection<S>,
     material: Code,
     after: PartName,
@@ -44,7 +44,7 @@ fn rows_behind<S: Alter>(
 ) -> Result<Vec<Row>, TableFault>
     ensures gives { GivesRows (state S.Store conn.old) (state S.Store conn.new) result
         (λ books rows. rows ≡ map listed_part
-        (take most (parts_behind books.content material (Some after))))
+        (take most (parts_after books.content material (Some after))))
         (λ db. ArePartRows material (Some after) (Some most) (db 4)) }
     ensures mode { conn.old.in_transaction ≡ false → conn.new.in_transaction ≡ false }
 {
@@ -65,17 +65,17 @@ fn part_rows<S: Alter>(
 ) -> Result<Vec<Row>, TableFault>
     ensures gives { GivesRows (state S.Store conn.old) (state S.Store conn.new) result
         (λ books rows. rows ≡ map listed_part
-        (take most (parts_behind books.content material after)))
+        (take most (parts_after books.content material after)))
         (λ db. ArePartRows material after (Some most) (db 4)) }
     ensures mode { conn.old.in_transaction ≡ false → conn.new.in_transaction ≡ false }
 {
     match after {
-        Some(name) => rows_behind(conn, material, name, most),
+        Some(name) => rows_after(conn, material, name, most),
         None => first_rows(conn, material, most),
     }
 }
 
-/// The first standing and reserved parts of a material behind a name, or from its first on, by rising act and then node: at
+/// The first standing and reserved parts of a material after a name, or from its first on, by rising act and then node: at
 /// most so many.
 pub fn list_first_parts<S: Alter>(
     alloc: Global,
@@ -86,8 +86,8 @@ pub fn list_first_parts<S: Alter>(
 ) -> Result<PartList, TableFault>
     ensures rows { OnBooks (state S.Store conn.old) (state S.Store conn.new)
         (λ books. IfOk result (λ rows. rows
-        ≡ take most (parts_behind books.content material after))) }
-    ensures stands { HasCleanDisk (state S.Store conn.new) → IsShop conn.old.schema
+        ≡ take most (parts_after books.content material after))) }
+    ensures stands { HasCleanDisk (state S.Store conn.new) → HasShopTables conn.old.schema
         → IfOk result (λ parts. ArePartRows material after (Some most)
         ((state S.Store conn.old).now.trees 4) (map listed_part parts)) }
     ensures was_open { HasCleanDisk (state S.Store conn.new)

@@ -5,7 +5,7 @@ ghost use Rattle.std.specs.Option.{option_to_list};
 ghost use Rattle.sqlite.specs.State.{HasCleanDisk};
 ghost use Rattle.sqlite.specs.Held.{state};
 ghost use Rattle.shop_records.specs.Lists.{IsLastNumber};
-ghost use Rattle.shop_statements.specs.Layout.{IsShop};
+ghost use Rattle.shop_statements.specs.Layout.{HasShopTables};
 ghost use Rattle.shop_statements.specs.Shown.{Leaves, OnBooks};
 ghost use Rattle.shop_tables.specs.ListedRows.{IsLastRow};
 ghost use Rattle.shop_tables.specs.RowsShown.{AreLastRows, IsLastIn};
@@ -16,7 +16,7 @@ use sqlite::{Alter, Connection, Error, Row};
 fn last_row<S: Alter>(conn: &mut Connection<S>, terminal: u32) -> Result<Option<Row>, Error>
     ensures row { OnBooks (state S.Store conn.old) (state S.Store conn.new)
         (λ books. IfOk result (IsLastRow books.content terminal)) }
-    ensures stands { HasCleanDisk (state S.Store conn.new) → IsShop conn.old.schema
+    ensures stands { HasCleanDisk (state S.Store conn.new) → HasShopTables conn.old.schema
         → IfOk result (λ row. AreLastRows terminal ((state S.Store conn.old).now.trees 11)
         (option_to_list row)) }
     ensures leaves { Leaves (state S.Store conn.old) (state S.Store conn.new) }
@@ -36,7 +36,7 @@ pub fn find_last_number<S: Alter>(
 ) -> Result<u32, TableFault>
     ensures number { OnBooks (state S.Store conn.old) (state S.Store conn.new)
         (λ books. IfOk result (λ last. IsLastNumber books.content terminal last)) }
-    ensures stands { HasCleanDisk (state S.Store conn.new) → IsShop conn.old.schema
+    ensures stands { HasCleanDisk (state S.Store conn.new) → HasShopTables conn.old.schema
         → IfOk result (IsLastIn terminal ((state S.Store conn.old).now.trees 11)) }
     ensures leaves { Leaves (state S.Store conn.old) (state S.Store conn.new) }
     ensures mode { conn.old.in_transaction ≡ false → conn.new.in_transaction ≡ false }

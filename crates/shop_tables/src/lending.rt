@@ -6,17 +6,17 @@ ghost use Rattle.sqlite.specs.Values.{bound};
 ghost use Rattle.std.specs.FinMap.{values};
 ghost use Rattle.shop_statements.specs.Earlier.{OnBooksEarlier};
 ghost use Rattle.sqlite.specs.State.{HasCleanDisk};
-ghost use Rattle.shop_statements.specs.Layout.{IsShop};
+ghost use Rattle.shop_statements.specs.Layout.{HasShopTables};
 ghost use Rattle.shop_tables.specs.Lending.{HandsOut, IsLent, IsReadOf, gone_through};
 ghost use Rattle.shop_tables.specs.RowsShown.{ArePartRows, SeesCommit};
 ghost use Rattle.shop_statements.specs.Selecting.{is_select};
 ghost use Rattle.shop_statements.specs.Shown.{Leaves, OnBooks};
-ghost use Rattle.shop_tables.specs.Strange.{IsNoPart};
-ghost use Rattle.shop_tables.specs.declared.lending.Lent.TheVariants.{Strange};
+ghost use Rattle.shop_tables.specs.Invalid.{IsNoPart};
+ghost use Rattle.shop_tables.specs.declared.lending.Lent.TheVariants.{Invalid};
 ghost use Rattle.shop_records.specs.Content.{parts_of};
 ghost use Rattle.shop_records.specs.Visits.{IsVisit};
 
-use crate::strange::may_be_part;
+use crate::invalid::may_be_part;
 use cut_measure::Code;
 use shop_records::{Part, PartVisitor};
 use shop_statements::{TableFault, code_in, name_in, number_in, size_in, state_in};
@@ -34,7 +34,7 @@ pub enum Lent {
     /// Up to the part at which the visitor stopped.
     Stopped,
     /// Up to a row that stands for no part.
-    Strange,
+    Invalid,
 }
 
 // A part of which each column is shown, its name first.
@@ -56,7 +56,7 @@ pub(crate) fn read_whole(row: &Row) -> Result<Part, TableFault>
 // None where the row is no part's.
 fn read_lent(row: &Row) -> Result<Option<Part>, TableFault>
     ensures read { IfOk result (λ part. IfSome part (IsReadOf row.now)) }
-    ensures strange { IfOk result (λ part. IfNone part (IsNoPart row.now)) }
+    ensures invalid { IfOk result (λ part. IfNone part (IsNoPart row.now)) }
 {
     if !may_be_part(row) {
         return Ok(None);
@@ -85,7 +85,7 @@ pub(crate) fn lend<S: Alter, V: PartVisitor>(
             return Ok(Lent::All);
         };
         let Some(part) = read_lent(row)? else {
-            return Ok(Lent::Strange);
+            return Ok(Lent::Invalid);
         };
         if !visitor.part(&part) {
             return Ok(Lent::Stopped);
@@ -105,7 +105,7 @@ pub fn lend_parts<S: Alter, V: PartVisitor>(
     ensures visit { IsVisit V.looks
         (λ what. OnBooks (state S.Store conn.old) (state S.Store conn.new)
         (λ books. what (parts_of books.content material))) visitor.old result visitor.new }
-    ensures stands { HasCleanDisk (state S.Store conn.new) → IsShop conn.old.schema
+    ensures stands { HasCleanDisk (state S.Store conn.new) → HasShopTables conn.old.schema
         → SeesCommit (state S.Store conn.old)
         → IfOk result (HandsOut V.looks (ArePartRows material None None
         ((state S.Store conn.old).now.trees 4)) visitor.old visitor.new) }
@@ -121,13 +121,13 @@ pub fn lend_parts<S: Alter, V: PartVisitor>(
     match lent {
         Lent::All => Ok(true),
         Lent::Stopped => Ok(false),
-        Lent::Strange => Err(TableFault::Store),
+        Lent::Invalid => Err(TableFault::Store),
     }
 }
 
 /// Hands every part to a visitor, by rising act and then node, for as long as it answers true. What is told is how far it
-/// came; after an `Err` and before a strange row too the parts that were handed out begin all parts. Tables that stand for
-/// books have no strange row.
+/// came; after an `Err` and before an invalid row too the parts that were handed out begin all parts. Tables that stand for
+/// books have no invalid row.
 pub fn lend_all_parts<S: Alter, V: PartVisitor>(
     conn: &mut Connection<S>,
     visitor: &mut V,
@@ -136,14 +136,14 @@ pub fn lend_all_parts<S: Alter, V: PartVisitor>(
         (λ what. OnBooks (state S.Store conn.old) (state S.Store conn.new)
         (λ books. what (values books.content.parts))) visitor.old
         (gone_through result) visitor.new }
-    ensures strange { OnBooks (state S.Store conn.old) (state S.Store conn.new)
-        (λ _. IfOk result (λ how. how ≢ Strange)) }
+    ensures invalid { OnBooks (state S.Store conn.old) (state S.Store conn.new)
+        (λ _. IfOk result (λ how. how ≢ Invalid)) }
     ensures earlier { IsVisit V.looks
         (λ what. OnBooksEarlier (state S.Store conn.old) (state S.Store conn.new)
         (λ books. what (values books.content.parts))) visitor.old
         (gone_through result) visitor.new }
-    ensures earlier_strange { OnBooksEarlier (state S.Store conn.old) (state S.Store conn.new)
-        (λ _. IfOk result (λ how. how ≢ Strange)) }
+    ensures earlier_invalid { OnBooksEarlier (state S.Store conn.old) (state S.Store conn.new)
+        (λ _. IfOk result (λ how. how ≢ Invalid)) }
     ensures leaves { Leaves (state S.Store conn.old) (state S.Store conn.new) }
     ensures mode { conn.old.in_transaction ≡ false → conn.new.in_transaction ≡ false }
 {

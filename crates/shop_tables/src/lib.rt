@@ -5,6 +5,7 @@ mod adopting;
 mod changing;
 mod committing;
 mod first_parts;
+mod invalid;
 mod last_numbers;
 mod laws;
 mod laying;
@@ -17,7 +18,6 @@ mod order_lines;
 mod order_lists;
 mod renewing;
 mod reopening;
-mod strange;
 mod waiting_jobs;
 mod writing;
 

@@ -8,7 +8,7 @@ ghost use Rattle.shop_statements.specs.Earlier.{OnBooksEarlier};
 ghost use Rattle.shop_tables.specs.Listing.{AreAllTotals, AreCodes, code_row, key_of, listed_row, named};
 ghost use Rattle.shop_statements.specs.Shown.{Leaves, OnBooks};
 
-use crate::strange::{has_word, may_be_totals};
+use crate::invalid::{has_word, may_be_totals};
 use shop_records::MaterialTotals;
 use shop_statements::{TableFault, all_rows, code_in, read_totals};
 use sqlite::{Alter, Connection, Error, Row};
@@ -45,7 +45,7 @@ fn totals_rows<S: Alter>(conn: &mut Connection<S>) -> Result<Vec<Row>, Error>
     )
 }
 
-// The totals of a row, their material behind them.
+// The totals of a row, their material after them.
 fn read_named(row: &Row) -> Result<MaterialTotals, TableFault>
     ensures { (e : List ℕ × TotalsRecord) → row.now ≡ listed_row e
         → IfOk result (λ read. read ≡ named e) }

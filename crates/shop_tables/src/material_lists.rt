@@ -3,7 +3,7 @@
 ghost use Rattle.std.specs.Prelude.{◌≡◌, false, map, IfOk, IsTrue};
 ghost use Rattle.sqlite.specs.Held.{state};
 ghost use Rattle.sqlite.specs.State.{HasCleanDisk};
-ghost use Rattle.shop_statements.specs.Layout.{IsShop};
+ghost use Rattle.shop_statements.specs.Layout.{HasShopTables};
 ghost use Rattle.shop_tables.specs.RowsShown.{AreMaterialRows, GivesRows};
 ghost use Rattle.shop_records.specs.Lists.{materials_of};
 ghost use Rattle.shop_tables.specs.ListedRows.{listed_material};
@@ -35,7 +35,7 @@ pub fn list_materials<S: Alter>(
 ) -> Result<MaterialList, TableFault>
     ensures rows { OnBooks (state S.Store conn.old) (state S.Store conn.new)
         (λ books. IfOk result (λ rows. rows ≡ materials_of books.content)) }
-    ensures stands { HasCleanDisk (state S.Store conn.new) → IsShop conn.old.schema
+    ensures stands { HasCleanDisk (state S.Store conn.new) → HasShopTables conn.old.schema
         → IfOk result (λ materials. AreMaterialRows ((state S.Store conn.old).now.trees 2)
         (map listed_material materials)) }
     ensures was_open { HasCleanDisk (state S.Store conn.new)

@@ -3,7 +3,7 @@
 ghost use Rattle.std.specs.Prelude.{◌≡◌, false, map, take, Some, None, IfOk, IsTrue};
 ghost use Rattle.sqlite.specs.Held.{state};
 ghost use Rattle.sqlite.specs.State.{HasCleanDisk};
-ghost use Rattle.shop_statements.specs.Layout.{IsShop};
+ghost use Rattle.shop_statements.specs.Layout.{HasShopTables};
 ghost use Rattle.shop_tables.specs.RowsShown.{AreDemandRows, GivesRows};
 ghost use Rattle.shop_records.specs.Lists.{open_demands};
 ghost use Rattle.shop_tables.specs.ListedRows.{listed_demand};
@@ -86,7 +86,7 @@ pub fn list_open_demands<S: Alter>(
     ensures rows { OnBooks (state S.Store conn.old) (state S.Store conn.new)
         (λ books. IfOk result (λ rows. rows
         ≡ take most (open_demands books.content after material))) }
-    ensures stands { HasCleanDisk (state S.Store conn.new) → IsShop conn.old.schema
+    ensures stands { HasCleanDisk (state S.Store conn.new) → HasShopTables conn.old.schema
         → IfOk result (λ demands. AreDemandRows after material most
         ((state S.Store conn.old).now.trees 9) (map listed_demand demands)) }
     ensures was_open { HasCleanDisk (state S.Store conn.new)

@@ -3,7 +3,7 @@
 ghost use Rattle.std.specs.Prelude.{◌≡◌, false, map, IfOk, IsTrue};
 ghost use Rattle.sqlite.specs.Held.{state};
 ghost use Rattle.sqlite.specs.State.{HasCleanDisk};
-ghost use Rattle.shop_statements.specs.Layout.{IsShop};
+ghost use Rattle.shop_statements.specs.Layout.{HasShopTables};
 ghost use Rattle.shop_statements.specs.Shown.{Leaves, OnBooks};
 ghost use Rattle.shop_records.specs.Lists.{AreLines};
 ghost use Rattle.shop_records.specs.Soundness.{HasLines};
@@ -38,7 +38,7 @@ pub fn list_lines<S: Alter>(
 ) -> Result<DemandList, TableFault>
     ensures rows { OnBooks (state S.Store conn.old) (state S.Store conn.new)
         (λ books. HasLines books.content → IfOk result (AreLines books.content order)) }
-    ensures stands { HasCleanDisk (state S.Store conn.new) → IsShop conn.old.schema
+    ensures stands { HasCleanDisk (state S.Store conn.new) → HasShopTables conn.old.schema
         → IfOk result (λ lines. AreLineRows order ((state S.Store conn.old).now.trees 9)
         (map listed_demand lines)) }
     ensures was_open { HasCleanDisk (state S.Store conn.new)

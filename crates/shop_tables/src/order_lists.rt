@@ -1,11 +1,11 @@
-//! The codes of the first orders, from the first on or behind a code.
+//! The codes of the first orders, from the first on or after a code.
 
 ghost use Rattle.std.specs.Prelude.{◌≡◌, false, map, take, Some, None, IfOk, IsTrue};
 ghost use Rattle.sqlite.specs.Held.{state};
 ghost use Rattle.sqlite.specs.State.{HasCleanDisk};
-ghost use Rattle.shop_statements.specs.Layout.{IsShop};
+ghost use Rattle.shop_statements.specs.Layout.{HasShopTables};
 ghost use Rattle.shop_statements.specs.Shown.{Leaves, OnBooks};
-ghost use Rattle.shop_records.specs.Lists.{orders_behind};
+ghost use Rattle.shop_records.specs.Lists.{orders_after};
 ghost use Rattle.shop_tables.specs.Listing.{code_row};
 ghost use Rattle.shop_tables.specs.RowsShown.{AreOrderRows, GivesRows};
 
@@ -18,7 +18,7 @@ use std::alloc::Global;
 
 fn first_rows<S: Alter>(conn: &mut Connection<S>, most: usize) -> Result<Vec<Row>, TableFault>
     ensures gives { GivesRows (state S.Store conn.old) (state S.Store conn.new) result
-        (λ books rows. rows ≡ map code_row (take most (orders_behind books.content None)))
+        (λ books rows. rows ≡ map code_row (take most (orders_after books.content None)))
         (λ db. AreOrderRows None most (db 7)) }
     ensures mode { conn.old.in_transaction ≡ false → conn.new.in_transaction ≡ false }
 {
@@ -31,13 +31,13 @@ fn first_rows<S: Alter>(conn: &mut Connection<S>, most: usize) -> Result<Vec<Row
     Ok(rows)
 }
 
-fn rows_behind<S: Alter>(
+fn rows_after<S: Alter>(
     conn: &mut Connection<S>,
     after: Code,
     most: usize,
 ) -> Result<Vec<Row>, TableFault>
     ensures gives { GivesRows (state S.Store conn.old) (state S.Store conn.new) result
-        (λ books rows. rows ≡ map code_row (take most (orders_behind books.content (Some after))))
+        (λ books rows. rows ≡ map code_row (take most (orders_after books.content (Some after))))
         (λ db. AreOrderRows (Some after) most (db 7)) }
     ensures mode { conn.old.in_transaction ≡ false → conn.new.in_transaction ≡ false }
 {
@@ -56,17 +56,17 @@ fn order_rows<S: Alter>(
     most: usize,
 ) -> Result<Vec<Row>, TableFault>
     ensures gives { GivesRows (state S.Store conn.old) (state S.Store conn.new) result
-        (λ books rows. rows ≡ map code_row (take most (orders_behind books.content after)))
+        (λ books rows. rows ≡ map code_row (take most (orders_after books.content after)))
         (λ db. AreOrderRows after most (db 7)) }
     ensures mode { conn.old.in_transaction ≡ false → conn.new.in_transaction ≡ false }
 {
     match after {
-        Some(code) => rows_behind(conn, code, most),
+        Some(code) => rows_after(conn, code, most),
         None => first_rows(conn, most),
     }
 }
 
-/// The codes of the first orders behind a code, or from the first on, rising: at most so many.
+/// The codes of the first orders after a code, or from the first on, rising: at most so many.
 pub fn list_orders<S: Alter>(
     alloc: Global,
     conn: &mut Connection<S>,
@@ -74,8 +74,8 @@ pub fn list_orders<S: Alter>(
     most: usize,
 ) -> Result<CodeList, TableFault>
     ensures codes { OnBooks (state S.Store conn.old) (state S.Store conn.new)
-        (λ books. IfOk result (λ codes. codes ≡ take most (orders_behind books.content after))) }
-    ensures stands { HasCleanDisk (state S.Store conn.new) → IsShop conn.old.schema
+        (λ books. IfOk result (λ codes. codes ≡ take most (orders_after books.content after))) }
+    ensures stands { HasCleanDisk (state S.Store conn.new) → HasShopTables conn.old.schema
         → IfOk result (λ codes. AreOrderRows after most ((state S.Store conn.old).now.trees 7)
         (map code_row codes)) }
     ensures was_open { HasCleanDisk (state S.Store conn.new)

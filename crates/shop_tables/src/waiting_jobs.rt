@@ -3,7 +3,7 @@
 ghost use Rattle.std.specs.Prelude.{◌≡◌, false, map, take, IfOk, IsTrue};
 ghost use Rattle.sqlite.specs.Held.{state};
 ghost use Rattle.sqlite.specs.State.{HasCleanDisk};
-ghost use Rattle.shop_statements.specs.Layout.{IsShop};
+ghost use Rattle.shop_statements.specs.Layout.{HasShopTables};
 ghost use Rattle.shop_tables.specs.RowsShown.{AreJobRows, GivesRows};
 ghost use Rattle.shop_records.specs.Lists.{waiting_jobs};
 ghost use Rattle.shop_records.specs.declared.records.Job.{Job};
@@ -46,7 +46,7 @@ pub fn list_waiting_jobs<S: Alter>(
     ensures numbers { OnBooks (state S.Store conn.old) (state S.Store conn.new)
         (λ books. IfOk result (λ numbers. numbers
         ≡ take most (map (λ (job : Job). job.act) (waiting_jobs books.content after)))) }
-    ensures stands { HasCleanDisk (state S.Store conn.new) → IsShop conn.old.schema
+    ensures stands { HasCleanDisk (state S.Store conn.new) → HasShopTables conn.old.schema
         → IfOk result (λ numbers. AreJobRows after most ((state S.Store conn.old).now.trees 6)
         (map number_row numbers)) }
     ensures was_open { HasCleanDisk (state S.Store conn.new)

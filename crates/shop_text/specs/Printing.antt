@@ -37,9 +37,9 @@ abbrev pub IsFailure : Refusal → ℕ → ℕ → Type 0
 IsFailure refusal before after = ((refusal ≡ NoMemory) × (after ≡ before)) ⊎ ((refusal ≡ StoreFault) × (after ≡ one_more_failure before))
 
 -- a text is what it has to be, or there is none for this refusal, or a failure
-abbrev pub IsTold : {Z : Type 0} → ℕ → ℕ → Result (String Z) Refusal → Result (List ℕ) Refusal → Type 0
-IsTold before after (Ok text) said = said ≡ Ok (string_bytes text)
-IsTold before after (Err refusal) said = (said ≡ Err refusal) ⊎ IsFailure refusal before after
+abbrev pub IsTextMade : {Z : Type 0} → ℕ → ℕ → Result (String Z) Refusal → Result (List ℕ) Refusal → Type 0
+IsTextMade before after (Ok text) said = said ≡ Ok (string_bytes text)
+IsTextMade before after (Err refusal) said = (said ≡ Err refusal) ⊎ IsFailure refusal before after
 
 -- failures are counted where a refusal tells of them, and else not
 abbrev pub CountsRefusal : {T : Type 0} → Result T Refusal → ℕ → ℕ → Type 0

@@ -69,7 +69,7 @@ node_text kind step token.Rest found = Some (rest_text kind step)
 abbrev pub node_line : Kind → Step → Option Demand → Option (List ℕ)
 node_line kind step found = option_map (λ what. to_the_right 4 (decimal step.node) ++ codes " " ++ what ++ codes "\n") (node_text kind step step.what found)
 
--- one behind the other, where both are there
+-- one after the other, where both are there
 abbrev pub both : Option (List ℕ) → Option (List ℕ) → Option (List ℕ)
 both None next = None
 both (Some lines) None = None
@@ -146,6 +146,6 @@ AddsLine old new (Ok x) said = MatchOption said ⊥ (λ line. new ≡ old ++ lin
 AddsLine old new (Err refusal) said = IsUntold refusal said
 
 -- what has to be told is the text
-abbrev pub IsMade : {Z : Type 0} → Result (String Z) Refusal → Option (List ℕ) → Type 0
-IsMade (Ok text) said = said ≡ Some (string_bytes text)
-IsMade (Err refusal) said = IsUntold refusal said
+abbrev pub IsTicketMade : {Z : Type 0} → Result (String Z) Refusal → Option (List ℕ) → Type 0
+IsTicketMade (Ok text) said = said ≡ Some (string_bytes text)
+IsTicketMade (Err refusal) said = IsUntold refusal said

@@ -8,9 +8,9 @@ ghost use Rattle.shop_records.specs.Content.{demand_at};
 ghost use Rattle.shop_text.specs.declared.printing.PrintFault.TheVariants.{Refused, Write};
 ghost use Rattle.shop_book.specs.Kept.{Unchanged, OnContent};
 ghost use Rattle.shop_book.specs.Failures.{CountsFailure};
-ghost use Rattle.shop_text.specs.Printing.{IsTold, IsPrinted, CountsRefusal, CountsPrint};
+ghost use Rattle.shop_text.specs.Printing.{IsTextMade, IsPrinted, CountsRefusal, CountsPrint};
 ghost use Rattle.shop_streams.specs.Streams.{HasFailed};
-ghost use Rattle.shop_text.specs.Tickets.{AddsLine, AreNodesFound, IsMade, cut_text, demand_for, demand_text, job_line, job_state_text, node_line, node_lines, node_text, piece_text, rest_text, spot_text, steps_in, ticket_end, ticket_of, ticket_with, unit_line};
+ghost use Rattle.shop_text.specs.Tickets.{AddsLine, AreNodesFound, IsTicketMade, cut_text, demand_for, demand_text, job_line, job_state_text, node_line, node_lines, node_text, piece_text, rest_text, spot_text, steps_in, ticket_end, ticket_of, ticket_with, unit_line};
 
 use crate::printing::{PrintFault, print, push_number, push_part_start, push_place, push_size};
 use cut_measure::{Axis, Kind, write_mm};
@@ -233,7 +233,7 @@ fn ticket_lines(
     requires { AreSteps job.now.plan.tree job.now.plan.w job.now.plan.h job.now.plan.kerf
         (steps_in nodes.now) }
     ensures { (at : ℕ → Option DemandOf) → AreNodesFound at nodes.now
-        → IsMade result (ticket_with job.now part.now material.now at) }
+        → IsTicketMade result (ticket_with job.now part.now material.now at) }
 {
     let mut text = String::new(alloc);
     push_job(job, &mut text)?;
@@ -247,7 +247,7 @@ fn ticket_lines(
 /// where rows that no history gives contradict each other.
 pub fn ticket_text<B: Book>(alloc: Global, book: &mut B, number: u32) -> Result<String, Refusal>
     ensures told { OnContent B.Book book.old book.new
-        (λ m. IsTold (B.failed book.old) (B.failed book.new) result (ticket_of m number)) }
+        (λ m. IsTextMade (B.failed book.old) (B.failed book.new) result (ticket_of m number)) }
     ensures keeps { Unchanged B.Book (CountsRefusal result) book.old book.new }
 {
     let Some(job) = book.job(alloc, number)? else {

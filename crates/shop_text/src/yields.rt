@@ -6,7 +6,7 @@ ghost use Rattle.shop_records.specs.declared.refusals.Refusal.{Refusal as Refusa
 ghost use Rattle.shop_records.specs.Content.{totals_of, parts_of};
 ghost use Rattle.shop_book.specs.Kept.{Unchanged, OnContent};
 ghost use Rattle.shop_text.specs.declared.printing.PrintFault.TheVariants.{Refused, Write};
-ghost use Rattle.shop_text.specs.Printing.{IsTold, IsPrinted, CountsRefusal, CountsPrint};
+ghost use Rattle.shop_text.specs.Printing.{IsTextMade, IsPrinted, CountsRefusal, CountsPrint};
 ghost use Rattle.shop_streams.specs.Streams.{HasFailed};
 ghost use Rattle.shop_text.specs.Yields.{TakesLine, kind_text, line_end, part_line, per_mille, standing_text, total_line, total_lines, yield_head, yield_of};
 
@@ -129,7 +129,7 @@ impl PartVisitor for PartLines {
 /// store failed.
 pub fn report_text<B: Book>(alloc: Global, book: &mut B, code: Code) -> Result<String, Refusal>
     ensures told { OnContent B.Book book.old book.new
-        (λ m. IsTold (B.failed book.old) (B.failed book.new) result (yield_of m code)) }
+        (λ m. IsTextMade (B.failed book.old) (B.failed book.new) result (yield_of m code)) }
     ensures keeps { Unchanged B.Book (CountsRefusal result) book.old book.new }
 {
     let Some(material) = book.material(code)? else {

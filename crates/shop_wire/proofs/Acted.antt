@@ -22,16 +22,16 @@ use Rattle.shop_desk.specs.Handled.{HasAccount, LeftBy}
 use Rattle.shop_desk.proofs.Steps.{fault_step}
 use Rattle.shop_desk.proofs.Blame.{up_reply}
 use Rattle.shop_desk.proofs.Accounts.{account_same, account_step}
-use Rattle.shop_text.specs.Printing.{CountsRefusal, IsFailure, IsTold}
+use Rattle.shop_text.specs.Printing.{CountsRefusal, IsFailure, IsTextMade}
 use Rattle.shop_text.specs.Tickets.{ticket_of}
 use Rattle.shop_text.specs.Yields.{yield_of}
 use Rattle.shop_text.proofs.ToldTickets.{ticket_told, report_told}
 use Rattle.shop_request.specs.declared.routes.Route.{Route}
-use Rattle.shop_request.specs.declared.routes.Route.TheVariants.{Message, Plan, Plans, Bound, Backup, Totals, Rack, Trace, Demand, Ticket, Yield, Materials, Parts, PartsBehind, Demands, DemandsOf, Orders, OrdersBehind, OrderLines, Jobs, Job, Terminal}
+use Rattle.shop_request.specs.declared.routes.Route.TheVariants.{Message, Plan, Plans, Bound, Backup, Totals, Rack, Trace, Demand, Ticket, Yield, Materials, Parts, PartsAfter, Demands, DemandsOf, Orders, OrdersAfter, OrderLines, Jobs, Job, Terminal}
 use Rattle.shop_request.specs.Requests.{asking}
 use Rattle.shop_wire.specs.AnswerBytes.{Telling, replied, printed}
 use Rattle.shop_wire.specs.Replays.{ExchangesLead, IsNoMessage, PlansStep, line_message, with_reply}
-use Rattle.shop_wire.specs.Serves.{AskStep, HasServed, MessageStep, PrintStep, TellsText, asked_at, body_plans, code_at, numbered, text_at}
+use Rattle.shop_wire.specs.Serves.{AskStep, HasServedInput, MessageStep, PrintStep, TellsText, asked_at, body_plans, code_at, numbered, text_at}
 use Rattle.shop_wire.specs.Tellings.{IsToldOf, IsUnread, PrintsCounted, TellsCounted}
 use Rattle.shop_wire.proofs.Answered.{told_reply, unread_not_store}
 use Rattle.shop_wire.proofs.Crashes.{leads_one, leads_unread}
@@ -93,7 +93,7 @@ asked_agrees says agrees None = tt
 asked_agrees says agrees (Some x) = agrees x
 
 -- a text that was made, or the refusal that stands for it
-pub told_counted : {Z : Type 0} (r : Result (String Z) Refusal) (telling : Telling) (a b : ℕ) (said : Result (List ℕ) Refusal) → IsToldOf r telling → IsTold a b r said → TellsCounted said telling a b
+pub told_counted : {Z : Type 0} (r : Result (String Z) Refusal) (telling : Telling) (a b : ℕ) (said : Result (List ℕ) Refusal) → IsToldOf r telling → IsTextMade a b r said → TellsCounted said telling a b
 told_counted (Ok text) telling a b said is told = subst (λ t. TellsCounted said t a b) (sym is) told
 told_counted (Err refusal) telling a b said is told = subst (λ t. TellsCounted said t a b) (sym is) (refusal, refl, told)
 
@@ -137,7 +137,7 @@ module _ {B : Type 0} (book : Ghosts B) (before after : B) (m : Content) where
   pub message_served : (body : List ℕ) (message : MessageOf) (reply : Reply) (next : Content) → line_message body ≡ Some message → IsMessage message → Step json_texts m message reply next
       → book.holds after next → IsSound json_texts next → ((left : book.Left) → book.may_leave after left → LeftBy json_texts book.stands (book.may_leave before) m message reply next left)
       → (reply ≡ Refused StoreFault → StoreFailed (book.failed before) (book.failed after))
-      → HasServed book before after m (asking Message body) (replied reply)
+      → HasServedInput book before after m (asking Message body) (replied reply)
   message_served body message reply next is is_message step held sound crash blame =
       record {
         next = next;
@@ -151,7 +151,7 @@ module _ {B : Type 0} (book : Ghosts B) (before after : B) (m : Content) where
       }
 
   pub message_refused : (body : List ℕ) (refusal : Refusal) → IsUnread refusal (line_message body) → book.holds after m → IsSound json_texts m
-      → ((left : book.Left) → book.may_leave after left → book.may_leave before left) → HasServed book before after m (asking Message body) (replied (Refused refusal))
+      → ((left : book.Left) → book.may_leave after left → book.may_leave before left) → HasServedInput book before after m (asking Message body) (replied (Refused refusal))
   message_refused body refusal why held sound keeps =
       record {
         next = m;
@@ -167,7 +167,7 @@ module _ {B : Type 0} (book : Ghosts B) (before after : B) (m : Content) where
 
   module _ (held : book.holds after m) (sound : IsSound json_texts m) (keeps : (left : book.Left) → book.may_leave after left → book.may_leave before left) where
     pub asked_served : (route : Route) (text : List ℕ) (reply : Reply) → route ≢ Message → route ≢ Plans → route ≢ Ticket → route ≢ Yield → AskStep m (asked_at route text) reply m
-        → (reply ≡ Refused StoreFault → StoreFailed (book.failed before) (book.failed after)) → HasServed book before after m (asking route text) (replied reply)
+        → (reply ≡ Refused StoreFault → StoreFailed (book.failed before) (book.failed after)) → HasServedInput book before after m (asking route text) (replied reply)
     asked_served Message text reply a b c d step blame = absurd (a refl)
     asked_served Plans text reply a b c d step blame = absurd (b refl)
     asked_served Ticket text reply a b c d step blame = absurd (c refl)
@@ -181,24 +181,24 @@ module _ {B : Type 0} (book : Ghosts B) (before after : B) (m : Content) where
     asked_served Demand text reply a b c d step blame = record { next = m; step = step; held = held; sound = sound; crash = (refl, keeps); blame = λ e. blame (told_reply reply (Refused StoreFault) e); account = account_same json_texts m m refl }
     asked_served Materials text reply a b c d step blame = record { next = m; step = step; held = held; sound = sound; crash = (refl, keeps); blame = λ e. blame (told_reply reply (Refused StoreFault) e); account = account_same json_texts m m refl }
     asked_served Parts text reply a b c d step blame = record { next = m; step = step; held = held; sound = sound; crash = (refl, keeps); blame = λ e. blame (told_reply reply (Refused StoreFault) e); account = account_same json_texts m m refl }
-    asked_served PartsBehind text reply a b c d step blame = record { next = m; step = step; held = held; sound = sound; crash = (refl, keeps); blame = λ e. blame (told_reply reply (Refused StoreFault) e); account = account_same json_texts m m refl }
+    asked_served PartsAfter text reply a b c d step blame = record { next = m; step = step; held = held; sound = sound; crash = (refl, keeps); blame = λ e. blame (told_reply reply (Refused StoreFault) e); account = account_same json_texts m m refl }
     asked_served Demands text reply a b c d step blame = record { next = m; step = step; held = held; sound = sound; crash = (refl, keeps); blame = λ e. blame (told_reply reply (Refused StoreFault) e); account = account_same json_texts m m refl }
     asked_served DemandsOf text reply a b c d step blame = record { next = m; step = step; held = held; sound = sound; crash = (refl, keeps); blame = λ e. blame (told_reply reply (Refused StoreFault) e); account = account_same json_texts m m refl }
     asked_served Orders text reply a b c d step blame = record { next = m; step = step; held = held; sound = sound; crash = (refl, keeps); blame = λ e. blame (told_reply reply (Refused StoreFault) e); account = account_same json_texts m m refl }
-    asked_served OrdersBehind text reply a b c d step blame = record { next = m; step = step; held = held; sound = sound; crash = (refl, keeps); blame = λ e. blame (told_reply reply (Refused StoreFault) e); account = account_same json_texts m m refl }
+    asked_served OrdersAfter text reply a b c d step blame = record { next = m; step = step; held = held; sound = sound; crash = (refl, keeps); blame = λ e. blame (told_reply reply (Refused StoreFault) e); account = account_same json_texts m m refl }
     asked_served OrderLines text reply a b c d step blame = record { next = m; step = step; held = held; sound = sound; crash = (refl, keeps); blame = λ e. blame (told_reply reply (Refused StoreFault) e); account = account_same json_texts m m refl }
     asked_served Jobs text reply a b c d step blame = record { next = m; step = step; held = held; sound = sound; crash = (refl, keeps); blame = λ e. blame (told_reply reply (Refused StoreFault) e); account = account_same json_texts m m refl }
     asked_served Job text reply a b c d step blame = record { next = m; step = step; held = held; sound = sound; crash = (refl, keeps); blame = λ e. blame (told_reply reply (Refused StoreFault) e); account = account_same json_texts m m refl }
     asked_served Terminal text reply a b c d step blame = record { next = m; step = step; held = held; sound = sound; crash = (refl, keeps); blame = λ e. blame (told_reply reply (Refused StoreFault) e); account = account_same json_texts m m refl }
 
     pub plans_served : (body : List ℕ) (telling : Telling) → PlansStep m (body_plans body) telling m → (telling ≡ replied (Refused StoreFault) → StoreFailed (book.failed before) (book.failed after))
-        → HasServed book before after m (asking Plans body) telling
+        → HasServedInput book before after m (asking Plans body) telling
     plans_served body telling step blame = record { next = m; step = step; held = held; sound = sound; crash = (refl, keeps); blame = blame; account = account_same json_texts m m refl }
 
-    pub ticket_served : (part : List ℕ) (telling : Telling) → PrintsCounted (text_at m Ticket part) telling (book.failed before) (book.failed after) → HasServed book before after m (asking Ticket part) telling
+    pub ticket_served : (part : List ℕ) (telling : Telling) → PrintsCounted (text_at m Ticket part) telling (book.failed before) (book.failed after) → HasServedInput book before after m (asking Ticket part) telling
     ticket_served part telling h =
         record { next = m; step = printed_step m (text_at m Ticket part) telling _ _ h; held = held; sound = sound; crash = (refl, keeps); blame = printed_blame (text_at m Ticket part) telling _ _ (asked_agrees (ticket_of m) (λ number. ticket_told json_texts m number sound) (numbered part)) h; account = account_same json_texts m m refl }
 
-    pub yield_served : (part : List ℕ) (telling : Telling) → PrintsCounted (text_at m Yield part) telling (book.failed before) (book.failed after) → HasServed book before after m (asking Yield part) telling
+    pub yield_served : (part : List ℕ) (telling : Telling) → PrintsCounted (text_at m Yield part) telling (book.failed before) (book.failed after) → HasServedInput book before after m (asking Yield part) telling
     yield_served part telling h =
         record { next = m; step = printed_step m (text_at m Yield part) telling _ _ h; held = held; sound = sound; crash = (refl, keeps); blame = printed_blame (text_at m Yield part) telling _ _ (asked_agrees (yield_of m) (report_told m) (code_at part)) h; account = account_same json_texts m m refl }

@@ -17,9 +17,9 @@ use Rattle.shop_planning.specs.Faults.{CountsRefusal}
 use Rattle.shop_planning.specs.Questions.{AnswersPlans, IsPosed}
 use Rattle.shop_planning.specs.Thoughts.{posed_in}
 use Rattle.shop_request.specs.declared.routes.Route.TheVariants.{Plans}
-use Rattle.shop_request.specs.Requests.{HasSense, asking}
+use Rattle.shop_request.specs.Requests.{ParsesTo, asking}
 use Rattle.shop_wire.specs.AnswerBytes.{Telling, replied}
-use Rattle.shop_wire.specs.Serves.{HasServed, IsBegun, body_plans}
+use Rattle.shop_wire.specs.Serves.{HasServedInput, IsBegun, body_plans}
 use Rattle.shop_wire.specs.Tellings.{IsRead, IsUnread}
 use Rattle.shop_wire.proofs.Answered.{plans_answered_to, plans_unread, tells_refusal, unread_not_store}
 use Rattle.shop_wire.proofs.Acted.{plans_served, store_failed}
@@ -52,22 +52,22 @@ unread_counts T refusal o n why = record { store_fault = λ e. absurd (unread_no
 -- ---- a question that was posed, or is refused
 
 module _ {B : Type 0} (book : Ghosts B) (before after : B) (body : List ℕ) where
-  pub posed_begun : (question : PlansQuery) (left : Option (List ℕ)) (r : Result Thought Refusal) → body_plans body ≡ Some question → IfSome left (λ input. HasSense input (asking Plans body))
+  pub posed_begun : (question : PlansQuery) (left : Option (List ℕ)) (r : Result Thought Refusal) → body_plans body ≡ Some question → IfSome left (λ input. ParsesTo input (asking Plans body))
       → OnContent book before after (λ m. IfOk r (λ thought. IsPosed m question (posed_in thought))) → Unchanged book (CountsRefusal r) before after
       → IfOk r (λ thought. IsBegun book before after left (posed_in thought))
-  posed_begun question left (Ok thought) asks sense poses keeps =
+  posed_begun question left (Ok thought) asks parsed poses keeps =
       record {
         body = body;
         query = question;
-        sense = sense;
+        parsed = parsed;
         asks = asks;
-        run = λ honest m held sound. (keeps.stays honest m held, poses honest m held);
-        keeps = record { honest = keeps.honest; stays = keeps.stays; crash = keeps.crash; failures = keeps.failures.others (λ e. cc) };
+        run = λ clean_disk m held sound. (keeps.stays clean_disk m held, poses clean_disk m held);
+        keeps = record { clean_disk = keeps.clean_disk; stays = keeps.stays; crash = keeps.crash; failures = keeps.failures.others (λ e. cc) };
       }
-  posed_begun question left (Err refusal) asks sense poses keeps = tt
+  posed_begun question left (Err refusal) asks parsed poses keeps = tt
 
   refused_served : (question : PlansQuery) (refusal : Refusal) (m : Content) → body_plans body ≡ Some question → AnswersPlans m question (Err refusal) → book.holds after m → IsSound json_texts m
-      → ((left : book.Left) → book.may_leave after left → book.may_leave before left) → (refusal ≡ StoreFault → StoreFailed (book.failed before) (book.failed after)) → HasServed book before after m (asking Plans body) (replied (Refused refusal))
+      → ((left : book.Left) → book.may_leave after left → book.may_leave before left) → (refusal ≡ StoreFault → StoreFailed (book.failed before) (book.failed after)) → HasServedInput book before after m (asking Plans body) (replied (Refused refusal))
   refused_served question refusal m asks answers held sound keeps blame =
       plans_served book before after m held sound keeps body (replied (Refused refusal))
       (plans_answered_to m (body_plans body) question (replied (Refused refusal)) asks (tells_refusal m question refusal (replied (Refused refusal)) refl answers))
@@ -75,18 +75,18 @@ module _ {B : Type 0} (book : Ghosts B) (before after : B) (body : List ℕ) whe
 
   pub posed_refused : (question : PlansQuery) (r : Result Thought Refusal) → body_plans body ≡ Some question
       → OnContent book before after (λ m. IfErr r (λ refusal. AnswersPlans m question (Err refusal))) → Unchanged book (CountsRefusal r) before after
-      → IfErr r (λ refusal. OnContent book before after (λ m. IsSound json_texts m → HasServed book before after m (asking Plans body) (replied (Refused refusal))))
+      → IfErr r (λ refusal. OnContent book before after (λ m. IsSound json_texts m → HasServedInput book before after m (asking Plans body) (replied (Refused refusal))))
   posed_refused question (Ok thought) asks answers keeps = tt
-  posed_refused question (Err refusal) asks answers keeps = λ honest m held sound.
-      refused_served question refusal m asks (answers honest m held) (keeps.stays honest m held) sound (keeps.crash honest m held) (λ is. plans_blame Thought refusal (book.failed before) (book.failed after) is keeps.failures)
+  posed_refused question (Err refusal) asks answers keeps = λ clean_disk m held sound.
+      refused_served question refusal m asks (answers clean_disk m held) (keeps.stays clean_disk m held) sound (keeps.crash clean_disk m held) (λ is. plans_blame Thought refusal (book.failed before) (book.failed after) is keeps.failures)
 
   pub unread_served : (refusal : Refusal) (m : Content) → IsUnread refusal (body_plans body) → book.holds after m → IsSound json_texts m
-      → ((left : book.Left) → book.may_leave after left → book.may_leave before left) → HasServed book before after m (asking Plans body) (replied (Refused refusal))
+      → ((left : book.Left) → book.may_leave after left → book.may_leave before left) → HasServedInput book before after m (asking Plans body) (replied (Refused refusal))
   unread_served refusal m unread held sound keeps =
       plans_served book before after m held sound keeps body (replied (Refused refusal)) (plans_unread m (body_plans body) refusal (replied (Refused refusal)) unread refl)
       (λ e. absurd (unread_not_store refusal (body_plans body) unread (told_refusal refusal StoreFault (replied (Refused refusal)) refl e)))
 
   pub refused_told : (refusal : Refusal) (telling : Telling) → telling ≡ replied (Refused refusal)
-      → OnContent book before after (λ m. IsSound json_texts m → HasServed book before after m (asking Plans body) (replied (Refused refusal)))
-      → OnContent book before after (λ m. IsSound json_texts m → HasServed book before after m (asking Plans body) telling)
-  refused_told refusal telling told served = subst (λ t. OnContent book before after (λ m. IsSound json_texts m → HasServed book before after m (asking Plans body) t)) (sym told) served
+      → OnContent book before after (λ m. IsSound json_texts m → HasServedInput book before after m (asking Plans body) (replied (Refused refusal)))
+      → OnContent book before after (λ m. IsSound json_texts m → HasServedInput book before after m (asking Plans body) telling)
+  refused_told refusal telling told served = subst (λ t. OnContent book before after (λ m. IsSound json_texts m → HasServedInput book before after m (asking Plans body) t)) (sym told) served

@@ -11,11 +11,11 @@ use Rattle.shop_wire.specs.declared.faults.ReplayFault.TheVariants.{Read}
 use Rattle.shop_wire.specs.Lines.{AreLines}
 use Rattle.shop_wire.specs.Replays.{IsReplayed, IsReplayedFresh}
 
-module _ {B : Type 0} (book : Ghosts B) (before after : B) (honest : book.is_honest after) (held : book.holds before fresh) (sure : StoreFailed (book.failed before) (book.failed after) → ⊥) where
+module _ {B : Type 0} (book : Ghosts B) (before after : B) (clean_disk : book.has_clean_disk after) (held : book.holds before fresh) (sure : StoreFailed (book.failed before) (book.failed after) → ⊥) where
   pub from_fresh : (held_old held_new : Option (List ℕ)) (lines : List (List ℕ)) (unwritten : List ℕ)
       → IsReplayed book before after held_old held_new lines unwritten → IsReplayedFresh held_old held_new lines unwritten
   from_fresh held_old held_new lines unwritten r =
-      let one = r.run.in_turn honest fresh held (gives_sound json_texts [] fresh refl) in
+      let one = r.run.in_turn clean_disk fresh held (gives_sound json_texts [] fresh refl) in
       let later = one.account [] refl in
       record {
         tellings = r.tellings;

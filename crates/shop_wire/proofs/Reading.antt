@@ -7,7 +7,7 @@ use Rattle.std.specs.Io.KnownBytes.{Consumes, IsAtEnd, prepend_known}
 use Rattle.std.proofs.KnownBytes.{Consumes-trans, Consumes-nil}
 use Rattle.shop_wire.specs.Lines.{lines_of, HasNoFeed, GivesLine, kept_of, longest_line}
 use Rattle.shop_streams.specs.Streams.{most_counted, one_more}
-use Rattle.shop_wire.specs.declared.limits.TheConstants.{ROOM}
+use Rattle.shop_wire.specs.declared.limits.TheConstants.{BUFFER_SIZE}
 use Rattle.shop_wire.specs.Streams.{AreReads, CountTogether, TookBytes, IsLong, most_reads, work}
 use Rattle.shop_wire.proofs.LineLemmas.{first_line, last_line, HasNoFeed-append, kept_of-append}
 
@@ -20,9 +20,9 @@ pub record IsReading (before now : Option (List ℕ)) (line got : List ℕ) : Ty
 pub nothing_yet : (before : Option (List ℕ)) → IsReading before before [] []
 nothing_yet before = record { free = tt; kept = refl; taken = Consumes-nil before }
 
-pub taking : (p front more : List ℕ) (left : Option (List ℕ)) → p ≡ front ++ more → Consumes (prepend_known p left) (prepend_known more left) front
-taking p front more None is = tt
-taking p front more (Some xs) is = ap (λ l. l ++ xs) is ∙ append_assoc front more xs
+pub taking : (p prefix more : List ℕ) (left : Option (List ℕ)) → p ≡ prefix ++ more → Consumes (prepend_known p left) (prepend_known more left) prefix
+taking p prefix more None is = tt
+taking p prefix more (Some xs) is = ap (λ l. l ++ xs) is ∙ append_assoc prefix more xs
 
 kept_more : (line got part line' : List ℕ) → line ≡ kept_of got → line' ≡ line ++ take (longest_line + 1 - length line) part → line' ≡ kept_of (got ++ part)
 kept_more line got part line' kept is = is ∙ ap (λ l. l ++ take (longest_line + 1 - length l) part) kept ∙ sym (kept_of-append got part)
@@ -38,12 +38,12 @@ open_part before left p line line' got so_far free is =
 
 pub refilled : (before left left' : Option (List ℕ)) (p line got : List ℕ) → IsReading before (prepend_known [] left) line got → Consumes left left' p → IsReading before (prepend_known p left') line got
 refilled before left left' p line got so_far is =
-    record { free = so_far.free; kept = so_far.kept; taken = subst (Consumes before (prepend_known p left')) (append-nil got) (Consumes-trans before (prepend_known [] left) (prepend_known p left') got [] so_far.taken (came left left' is)) }
+    record { free = so_far.free; kept = so_far.kept; taken = subst (Consumes before (prepend_known p left')) (append-nil got) (Consumes-trans before (prepend_known [] left) (prepend_known p left') got [] so_far.taken (received left left' is)) }
   where
-    came : (a b : Option (List ℕ)) → Consumes a b p → Consumes (prepend_known [] a) (prepend_known p b) []
-    came None b h = tt
-    came (Some x) None h = absurd h
-    came (Some x) (Some y) h = h
+    received : (a b : Option (List ℕ)) → Consumes a b p → Consumes (prepend_known [] a) (prepend_known p b) []
+    received None b h = tt
+    received (Some x) None h = absurd h
+    received (Some x) (Some y) h = h
 
 pub at_the_end : (before left left' : Option (List ℕ)) (p line got : List ℕ) → IsReading before (prepend_known [] left) line got → Consumes left left' [] → p ≡ [] → IsReading before (prepend_known p left') line got
 at_the_end before left left' p line got so_far is none = refilled before left left' p line got so_far (subst (Consumes left left') (sym none) is)
@@ -149,5 +149,5 @@ same_ok a b e = cc
 pub kept_short : (line got : List ℕ) → line ≡ kept_of got → length line ≤ 131073
 kept_short line got is = omega (arith, ap length is, length-take (longest_line + 1) got)
 
-pub work_on : (r r' w : ℕ) (p p' got : List ℕ) → r' ≡ r + 1 → r' ≤ most_reads → length p' ≤ ROOM → work r p + length got ≤ w → work r' p' + length (got ++ p) ≤ w
+pub work_on : (r r' w : ℕ) (p p' got : List ℕ) → r' ≡ r + 1 → r' ≤ most_reads → length p' ≤ BUFFER_SIZE → work r p + length got ≤ w → work r' p' + length (got ++ p) ≤ w
 work_on r r' w p p' got is most few so_far = omega (arith, is, length-append got p)

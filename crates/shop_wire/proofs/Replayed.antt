@@ -4,7 +4,7 @@ use Rattle.std.specs.Prelude.{IfErr, ◌⊎◌, ⊤, map, zip, option_and_then}
 use Rattle.std.specs.List.{flat_map}
 use Rattle.shop_wire.specs.declared.faults.ReplayFault.{ReplayFault}
 use Rattle.shop_wire.specs.declared.faults.ReplayFault.TheVariants.{Read, Write, NoMemory}
-use Rattle.shop_wire.specs.declared.limits.TheConstants.{ROOM}
+use Rattle.shop_wire.specs.declared.limits.TheConstants.{BUFFER_SIZE}
 use Rattle.shop_wire.specs.Streams.{work, most_reads}
 use Rattle.std.specs.Io.KnownBytes.{Appends, IsAtEnd, prepend_known}
 use Rattle.std.proofs.KnownBytes.{Appends-trans, Appends-nil}
@@ -101,7 +101,7 @@ module _ {B : Type 0} (book : Ghosts B) where
 
   -- lines that were answered, of which some is held, and then more that is held but for some last bytes
   pub more_held : (before mid after : B) (a b : Option (List ℕ)) (lines more : List (List ℕ)) (held next lost : List ℕ)
-      → (book.is_honest after → book.is_honest mid) → CountsUp (book.failed before) (book.failed mid) → CountsUp (book.failed mid) (book.failed after)
+      → (book.has_clean_disk after → book.has_clean_disk mid) → CountsUp (book.failed before) (book.failed mid) → CountsUp (book.failed mid) (book.failed after)
       → IsReplayed book before mid a b lines held → IsReplayed book mid after (Some held) (Some next) more lost → IsReplayed book before after a b (lines ++ more) (next ++ lost)
   more_held before mid after a b lines more held next lost back up later first second =
       record {
@@ -149,7 +149,7 @@ module _ {B : Type 0} (book : Ghosts B) where
   one_whole : (before after : B) (whole : List ℕ) (telling : Telling) → AnswersOne LineStep line_message book before after (kept_of whole) telling
       → AnswersOne LineStep line_message book before after whole telling
   one_whole before after whole telling one =
-      record { answered = λ h m held sound. answered_whole before after m whole (telling ∷ []) (one.answered h m held sound); honest = one.honest; failures = one.failures }
+      record { answered = λ h m held sound. answered_whole before after m whole (telling ∷ []) (one.answered h m held sound); clean_disk = one.clean_disk; failures = one.failures }
 
   each_whole : (before after : B) (whole : List ℕ) (tellings : List Telling) → OneByOne (AnswersOne LineStep line_message book) before (kept_of whole ∷ []) tellings after
       → OneByOne (AnswersOne LineStep line_message book) before (whole ∷ []) tellings after
@@ -222,7 +222,7 @@ first_read left now lines those rest line p is =
 
 -- ---- at the start, and where it stops
 
-pub work_before : (reads : ℕ) (p : List ℕ) → reads ≡ 0 → p ≡ [] → 0 + work reads p ≤ most_reads * (ROOM + 1)
+pub work_before : (reads : ℕ) (p : List ℕ) → reads ≡ 0 → p ≡ [] → 0 + work reads p ≤ most_reads * (BUFFER_SIZE + 1)
 work_before reads p is none = omega (arith, is, ap length none)
 
 pub for_each_fault : {T E : Type 0} (r : Result T E) (P : E → Type 0) → ((e : E) → P e) → IfErr r P

@@ -10,11 +10,11 @@ use Rattle.shop_records.specs.Soundness.{IsSound}
 use Rattle.shop_forms.specs.Forms.{json_texts}
 use Rattle.shop_book.specs.declared.books.Book.{Ghosts}
 use Rattle.shop_desk.proofs.Accounts.{account_same}
-use Rattle.shop_request.specs.declared.faults.Fault.{Fault}
-use Rattle.shop_request.specs.Requests.{Sense, silent, faulty}
+use Rattle.shop_request.specs.declared.faults.RequestFault.{RequestFault}
+use Rattle.shop_request.specs.Requests.{ParseResult, silent, faulty}
 use Rattle.shop_wire.specs.declared.faults.WireFault.{WireFault}
 use Rattle.shop_wire.specs.AnswerBytes.{answer_bytes, fault_answer, replied}
-use Rattle.shop_wire.specs.Serves.{HasServed, IsServedAs}
+use Rattle.shop_wire.specs.Serves.{HasServedInput, IsServedAs}
 
 pub same_answer : (s t : ℕ) (f g b d : List ℕ) → s ≡ t → f ≡ g → b ≡ d → answer_bytes (record { status = s; fields = f; body = b }) ≡ answer_bytes (record { status = t; fields = g; body = d })
 same_answer s t f g b d p q r =
@@ -22,27 +22,27 @@ same_answer s t f g b d p q r =
     ∙ ap (λ l. answer_bytes (record { status = t; fields = g; body = l })) r
 
 module _ {B : Type 0} (book : Ghosts B) (at : B) (a b : Option (List ℕ)) where
-  silent_served : (m : Content) → book.holds at m → IsSound json_texts m → HasServed book at at m silent (replied (Refused BadMessage))
+  silent_served : (m : Content) → book.holds at m → IsSound json_texts m → HasServedInput book at at m silent (replied (Refused BadMessage))
   silent_served m held sound = record { next = m; step = refl; held = held; sound = sound; crash = (refl, λ left it. it); blame = λ e. absurd (cc e); account = account_same json_texts m m refl }
 
-  pub silent_told : (sense : Sense) → sense ≡ silent → IsServedAs book at at a a sense []
-  silent_told sense is =
+  pub silent_told : (parsed : ParseResult) → parsed ≡ silent → IsServedAs book at at a a parsed []
+  silent_told parsed is =
       subst (λ s. IsServedAs book at at a a s []) (sym is)
       (record { telling = replied (Refused BadMessage); bytes = []; told = refl; written = Appends-nil a; run = λ h m held sound. silent_served m held sound })
 
-  fault_served : (f : Fault) (m : Content) → book.holds at m → IsSound json_texts m → HasServed book at at m (faulty f) (replied (Refused BadMessage))
+  fault_served : (f : RequestFault) (m : Content) → book.holds at m → IsSound json_texts m → HasServedInput book at at m (faulty f) (replied (Refused BadMessage))
   fault_served f m held sound = record { next = m; step = refl; held = held; sound = sound; crash = (refl, λ left it. it); blame = λ e. absurd (cc e); account = account_same json_texts m m refl }
 
-  fault_told : (f : Fault) (sense : Sense) → sense ≡ faulty f → (done rest : List ℕ) → done ++ rest ≡ answer_bytes (fault_answer f) → Appends a b done → IsServedAs book at at a b sense rest
-  fault_told f sense is done rest told written =
+  fault_told : (f : RequestFault) (parsed : ParseResult) → parsed ≡ faulty f → (done rest : List ℕ) → done ++ rest ≡ answer_bytes (fault_answer f) → Appends a b done → IsServedAs book at at a b parsed rest
+  fault_told f parsed is done rest told written =
       subst (λ s. IsServedAs book at at a b s rest) (sym is)
       (record { telling = replied (Refused BadMessage); bytes = done; told = told; written = written; run = λ h m held sound. fault_served f m held sound })
 
-  pub fault_ok : (f : Fault) (sense : Sense) → sense ≡ faulty f → (r : Result (Unit {0}) WireFault) → OnOk r (Appends a b (answer_bytes (fault_answer f))) → OnOk r (IsServedAs book at at a b sense [])
-  fault_ok f sense is (Ok u) h = fault_told f sense is (answer_bytes (fault_answer f)) [] (append-nil (answer_bytes (fault_answer f))) h
-  fault_ok f sense is (Err e) h = tt
+  pub fault_ok : (f : RequestFault) (parsed : ParseResult) → parsed ≡ faulty f → (r : Result (Unit {0}) WireFault) → OnOk r (Appends a b (answer_bytes (fault_answer f))) → OnOk r (IsServedAs book at at a b parsed [])
+  fault_ok f parsed is (Ok u) h = fault_told f parsed is (answer_bytes (fault_answer f)) [] (append-nil (answer_bytes (fault_answer f))) h
+  fault_ok f parsed is (Err e) h = tt
 
-  pub fault_err : (f : Fault) (sense : Sense) → sense ≡ faulty f → (r : Result (Unit {0}) WireFault) → OnErr r ((done : List ℕ) × (rest : List ℕ) × (done ++ rest ≡ answer_bytes (fault_answer f)) × Appends a b done)
-      → OnErr r ((unwritten : List ℕ) × IsServedAs book at at a b sense unwritten)
-  fault_err f sense is (Ok u) h = tt
-  fault_err f sense is (Err e) h = (h.1, fault_told f sense is h.0 h.1 h.2 h.3)
+  pub fault_err : (f : RequestFault) (parsed : ParseResult) → parsed ≡ faulty f → (r : Result (Unit {0}) WireFault) → OnErr r ((done : List ℕ) × (rest : List ℕ) × (done ++ rest ≡ answer_bytes (fault_answer f)) × Appends a b done)
+      → OnErr r ((unwritten : List ℕ) × IsServedAs book at at a b parsed unwritten)
+  fault_err f parsed is (Ok u) h = tt
+  fault_err f parsed is (Err e) h = (h.1, fault_told f parsed is h.0 h.1 h.2 h.3)

@@ -6,12 +6,12 @@ use Rattle.shop_records.specs.declared.refusals.Refusal.TheVariants.{BadMessage,
 use Rattle.shop_records.specs.declared.messages.Reply.{Reply}
 use Rattle.shop_records.specs.declared.messages.Reply.TheVariants.{Refused}
 use Rattle.shop_records.specs.Messages.{refusal_in}
-use Rattle.shop_request.specs.declared.faults.Fault.{Fault}
-use Rattle.shop_request.specs.declared.faults.Fault.TheVariants as faults
+use Rattle.shop_request.specs.declared.faults.RequestFault.{RequestFault}
+use Rattle.shop_request.specs.declared.faults.RequestFault.TheVariants as faults
 use Rattle.shop_request.specs.declared.routes.Route.{Route}
 use Rattle.shop_request.specs.declared.routes.Route.TheVariants.{Plans, Backup}
 use Rattle.shop_request.specs.Routes.{takes_body}
-use Rattle.shop_request.specs.Requests.{Sense, silent, faulty, asking}
+use Rattle.shop_request.specs.Requests.{ParseResult, silent, faulty, asking}
 use Rattle.shop_forms.specs.Forms.{json_texts}
 
 -- what a status says in words
@@ -43,7 +43,7 @@ answer_bytes a =
 
 -- ---- faults
 
-abbrev pub fault_status : Fault → ℕ
+abbrev pub fault_status : RequestFault → ℕ
 fault_status faults.BadRequest = 400
 fault_status faults.NotFound = 404
 fault_status faults.OnlyGet = 405
@@ -53,7 +53,7 @@ fault_status faults.LargeBody = 413
 fault_status faults.LargeHead = 431
 
 -- another method is told which one there is
-abbrev pub fault_fields : Fault → List ℕ
+abbrev pub fault_fields : RequestFault → List ℕ
 fault_fields faults.OnlyGet = codes "Allow: GET" ++ head_line_end
 fault_fields faults.OnlyPost = codes "Allow: POST" ++ head_line_end
 fault_fields faults.BadRequest = []
@@ -62,7 +62,7 @@ fault_fields faults.NoLength = []
 fault_fields faults.LargeBody = []
 fault_fields faults.LargeHead = []
 
-abbrev pub fault_answer : Fault → Answer
+abbrev pub fault_answer : RequestFault → Answer
 fault_answer f = record { status = fault_status f; fields = fault_fields f; body = [] }
 
 -- ---- replies and texts
@@ -120,8 +120,8 @@ abbrev pub telling_answer : Route → Telling → Answer
 telling_answer route (replied reply) = reply_answer route reply
 telling_answer route (printed text) = text_answer route text
 
--- what is written where an input has this sense: nothing, the answer to a fault, or to a request that is told this
-abbrev pub bytes_of : Sense → Telling → List ℕ
+-- what is written where an input has this parse: nothing, the answer to a fault, or to a request that is told this
+abbrev pub bytes_of : ParseResult → Telling → List ℕ
 bytes_of silent telling = []
 bytes_of (faulty f) telling = answer_bytes (fault_answer f)
 bytes_of (asking route text) telling = answer_bytes (telling_answer route telling)

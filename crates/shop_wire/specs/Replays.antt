@@ -111,10 +111,11 @@ module _ {X : Type 0} (step : Content → X → Telling → Content → Type 0) 
   -- store is told of only where it failed at this very one.
   pub record AnswersOne {B : Type 0} (book : Ghosts B) (before after : B) (x : X) (telling : Telling) : Type 0 where
     pub answered : OnContent book before after (λ m. IsSound json_texts m → HasAnswered book before after m (x ∷ []) (telling ∷ []))
-    pub honest : book.is_honest after → book.is_honest before
+    pub clean_disk : book.has_clean_disk after → book.has_clean_disk before
     pub failures : CountsUp (book.failed before) (book.failed after)
 
-  -- All was answered one by one, and so in turn: each sound content that an honest book held before led to one that it holds now.
+  -- All was answered one by one, and so in turn: each sound content that a book with a clean disk held before led to one that
+  -- it holds now.
   pub record AnswersAll {B : Type 0} (book : Ghosts B) (before after : B) (asked : List X) (tellings : List Telling) : Type 0 where
     pub one_by_one : OneByOne (AnswersOne book) before asked tellings after
     pub in_turn : OnContent book before after (λ m. IsSound json_texts m → HasAnswered book before after m asked tellings)

@@ -31,9 +31,9 @@ use Rattle.shop_desk.specs.Handled.{HasAccount}
 use Rattle.shop_text.specs.Tickets.{ticket_of}
 use Rattle.shop_text.specs.Yields.{yield_of}
 use Rattle.shop_request.specs.declared.routes.Route.{Route}
-use Rattle.shop_request.specs.declared.routes.Route.TheVariants.{Message, Plan, Plans, Bound, Backup, Totals, Rack, Trace, Demand, Ticket, Yield, Materials, Parts, PartsBehind, Demands, DemandsOf, Orders, OrdersBehind, OrderLines, Jobs, Job, Terminal}
+use Rattle.shop_request.specs.declared.routes.Route.TheVariants.{Message, Plan, Plans, Bound, Backup, Totals, Rack, Trace, Demand, Ticket, Yield, Materials, Parts, PartsAfter, Demands, DemandsOf, Orders, OrdersAfter, OrderLines, Jobs, Job, Terminal}
 use Rattle.shop_request.specs.Routes.{takes_body}
-use Rattle.shop_request.specs.Requests.{Sense, silent, faulty, asking, HasSense}
+use Rattle.shop_request.specs.Requests.{ParseResult, silent, faulty, asking, ParsesTo}
 use Rattle.shop_wire.specs.Replays.{ExchangesLead, data_of, line_message, IsNoMessage, IsReplied, PlansStep, with_reply}
 use Rattle.shop_wire.specs.AnswerBytes.{Telling, replied, printed, bytes_of}
 
@@ -48,7 +48,7 @@ ranged least most text =
 abbrev pub numbered : List ℕ → Option ℕ
 numbered text = ranged 1 MOST_NUMBERS text
 
--- one behind which numbers are asked for: from 0 to 2147483647
+-- one after which numbers are asked for: from 0 to 2147483647
 abbrev pub number_before : List ℕ → Option ℕ
 number_before text = ranged 0 MOST_NUMBERS text
 
@@ -64,22 +64,22 @@ code_at part = if is_utf8 part then code_of part else None
 abbrev pub name_at : List ℕ → Option Name
 name_at part = if is_utf8 part then spelled_name part else None
 
--- what stands in front of the first slash, and behind it
-abbrev pub in_front : List ℕ → List ℕ
-in_front part = before_first (λ b. b == 47) part
+-- what stands in front of the first slash, and after it
+abbrev pub before_slash : List ℕ → List ℕ
+before_slash part = before_first (λ b. b == 47) part
 
-abbrev pub behind_slash : List ℕ → List ℕ
-behind_slash part = after_first (λ b. b == 47) part
+abbrev pub after_slash : List ℕ → List ℕ
+after_slash part = after_first (λ b. b == 47) part
 
--- the parts of a material behind a name: the bytes are both, with a slash between
+-- the parts of a material after a name: the bytes are both, with a slash between
 abbrev pub parts_asked : List ℕ → Option Query
 parts_asked text =
-    option_and_then (λ code. option_map (λ name. query.Parts code (Some name)) (spelled_name (behind_slash text))) (code_of (in_front text))
+    option_and_then (λ code. option_map (λ name. query.Parts code (Some name)) (spelled_name (after_slash text))) (code_of (before_slash text))
 
--- the open demands behind a number, of a material: the bytes are both, with a slash between
+-- the open demands after a number, of a material: the bytes are both, with a slash between
 abbrev pub demands_asked : List ℕ → Option Query
 demands_asked text =
-    option_and_then (λ after. option_map (λ code. query.Demands after (Some code)) (code_of (behind_slash text))) (number_before (in_front text))
+    option_and_then (λ after. option_map (λ code. query.Demands after (Some code)) (code_of (after_slash text))) (number_before (before_slash text))
 
 abbrev pub is_plan : Route → Bool
 is_plan Plan = true
@@ -111,11 +111,11 @@ path_query Trace part = option_map (λ name. query.Trace name) (name_at part)
 path_query Demand part = option_map (λ number. query.Demand number) (numbered part)
 path_query Materials part = Some query.Materials
 path_query Parts part = option_map (λ code. query.Parts code None) (code_at part)
-path_query PartsBehind part = if is_utf8 part then parts_asked part else None
+path_query PartsAfter part = if is_utf8 part then parts_asked part else None
 path_query Demands part = option_map (λ after. query.Demands after None) (number_before part)
 path_query DemandsOf part = if is_utf8 part then demands_asked part else None
 path_query Orders part = Some (query.Orders None)
-path_query OrdersBehind part = option_map (λ code. query.Orders (Some code)) (code_at part)
+path_query OrdersAfter part = option_map (λ code. query.Orders (Some code)) (code_at part)
 path_query OrderLines part = option_map (λ code. query.Lines code) (code_at part)
 path_query Jobs part = option_map (λ after. query.Jobs after) (number_before part)
 path_query Job part = option_map (λ number. query.Job number) (numbered part)
@@ -163,11 +163,11 @@ RequestStep old Trace text telling new = IsReplied telling (λ reply. AskStep ol
 RequestStep old Demand text telling new = IsReplied telling (λ reply. AskStep old (asked_at Demand text) reply new)
 RequestStep old Materials text telling new = IsReplied telling (λ reply. AskStep old (asked_at Materials text) reply new)
 RequestStep old Parts text telling new = IsReplied telling (λ reply. AskStep old (asked_at Parts text) reply new)
-RequestStep old PartsBehind text telling new = IsReplied telling (λ reply. AskStep old (asked_at PartsBehind text) reply new)
+RequestStep old PartsAfter text telling new = IsReplied telling (λ reply. AskStep old (asked_at PartsAfter text) reply new)
 RequestStep old Demands text telling new = IsReplied telling (λ reply. AskStep old (asked_at Demands text) reply new)
 RequestStep old DemandsOf text telling new = IsReplied telling (λ reply. AskStep old (asked_at DemandsOf text) reply new)
 RequestStep old Orders text telling new = IsReplied telling (λ reply. AskStep old (asked_at Orders text) reply new)
-RequestStep old OrdersBehind text telling new = IsReplied telling (λ reply. AskStep old (asked_at OrdersBehind text) reply new)
+RequestStep old OrdersAfter text telling new = IsReplied telling (λ reply. AskStep old (asked_at OrdersAfter text) reply new)
 RequestStep old OrderLines text telling new = IsReplied telling (λ reply. AskStep old (asked_at OrderLines text) reply new)
 RequestStep old Jobs text telling new = IsReplied telling (λ reply. AskStep old (asked_at Jobs text) reply new)
 RequestStep old Job text telling new = IsReplied telling (λ reply. AskStep old (asked_at Job text) reply new)
@@ -176,58 +176,58 @@ RequestStep old Ticket text telling new = PrintStep old (text_at old Ticket text
 RequestStep old Yield text telling new = PrintStep old (text_at old Yield text) telling new
 
 -- only a request does anything
-abbrev pub SenseStep : Content → Sense → Telling → Content → Type 0
-SenseStep old silent telling new = new ≡ old
-SenseStep old (faulty f) telling new = new ≡ old
-SenseStep old (asking route text) telling new = RequestStep old route text telling new
+abbrev pub ParsedStep : Content → ParseResult → Telling → Content → Type 0
+ParsedStep old silent telling new = new ≡ old
+ParsedStep old (faulty f) telling new = new ≡ old
+ParsedStep old (asking route text) telling new = RequestStep old route text telling new
 
 -- ---- what was served
 
 -- the message that an input is
-abbrev pub sense_message : Sense → Option MessageOf
-sense_message (asking Message body) = line_message body
-sense_message _ = None
+abbrev pub parse_message : ParseResult → Option MessageOf
+parse_message (asking Message body) = line_message body
+parse_message _ = None
 
 -- a message, with its reply
-abbrev pub exchanged : Sense → Telling → List (MessageOf × Reply)
-exchanged sense telling = with_reply (sense_message sense) telling
+abbrev pub exchanged : ParseResult → Telling → List (MessageOf × Reply)
+exchanged parsed telling = with_reply (parse_message parsed) telling
 
 -- The book held old and holds next, a step later. A crash leaves what it may leave after the message, if there was one. A
 -- failed store is told of only where it failed. Where a history gives old, one with the message, if it was accepted and isn't a
 -- repeat, gives next, and this is its account.
-pub record HasServed {B : Type 0} (book : Ghosts B) (before after : B) (old : Content) (sense : Sense) (telling : Telling) : Type 0 where
+pub record HasServedInput {B : Type 0} (book : Ghosts B) (before after : B) (old : Content) (parsed : ParseResult) (telling : Telling) : Type 0 where
   pub next : Content
-  pub step : SenseStep old sense telling next
+  pub step : ParsedStep old parsed telling next
   pub held : book.holds after next
   pub sound : IsSound json_texts next
-  pub crash : ExchangesLead book before after old (exchanged sense telling) next
+  pub crash : ExchangesLead book before after old (exchanged parsed telling) next
   pub blame : telling ≡ replied (Refused StoreFault) → StoreFailed (book.failed before) (book.failed after)
-  pub account : HasAccount json_texts old (map (λ e. e.0) (exchanged sense telling)) (map (λ e. e.1) (exchanged sense telling)) next
+  pub account : HasAccount json_texts old (map (λ e. e.0) (exchanged parsed telling)) (map (λ e. e.1) (exchanged parsed telling)) next
 
--- An input of this sense was served, and the answer written but for some last bytes; this is said of what was told.
-pub record IsAnswered (says : Telling → Type 0) (held_old held_new : Option (List ℕ)) (sense : Sense) (unwritten : List ℕ) : Type 0 where
+-- An input of this parse was served, and the answer written but for some last bytes; this is said of what was told.
+pub record IsAnswerWritten (says : Telling → Type 0) (held_old held_new : Option (List ℕ)) (parsed : ParseResult) (unwritten : List ℕ) : Type 0 where
   pub telling : Telling
   pub bytes : List ℕ
-  pub told : bytes ++ unwritten ≡ bytes_of sense telling
+  pub told : bytes ++ unwritten ≡ bytes_of parsed telling
   pub written : Appends held_old held_new bytes
   pub run : says telling
 
--- the sense was served by a book: each sound content that an honest book held before led to one that it holds now
-abbrev pub IsServedAs : {B : Type 0} → Ghosts B → B → B → Option (List ℕ) → Option (List ℕ) → Sense → List ℕ → Type 0
-IsServedAs book before after held_old held_new sense unwritten =
-    IsAnswered (λ telling. OnContent book before after (λ m. IsSound json_texts m → HasServed book before after m sense telling)) held_old held_new sense unwritten
+-- the parse was served by a book: each sound content that a book with a clean disk held before led to one that it holds now
+abbrev pub IsServedAs : {B : Type 0} → Ghosts B → B → B → Option (List ℕ) → Option (List ℕ) → ParseResult → List ℕ → Type 0
+IsServedAs book before after held_old held_new parsed unwritten =
+    IsAnswerWritten (λ telling. OnContent book before after (λ m. IsSound json_texts m → HasServedInput book before after m parsed telling)) held_old held_new parsed unwritten
 
 -- What an input stands for was served.
 abbrev pub IsServed : {B : Type 0} → Ghosts B → B → B → Option (List ℕ) → Option (List ℕ) → Option (List ℕ) → List ℕ → Type 0
 IsServed book before after left held_old held_new unwritten =
-    (sense : Sense) × IfSome left (λ input. HasSense input sense) × IsServedAs book before after held_old held_new sense unwritten
+    (parsed : ParseResult) × IfSome left (λ input. ParsesTo input parsed) × IsServedAs book before after held_old held_new parsed unwritten
 
--- The question for plans that an input asks at /plans, for whoever thinks about it: an honest book holds what it held, each such
--- content was asked it, and the book is left as it was.
+-- The question for plans that an input asks at /plans, for whoever thinks about it: a book with a clean disk holds what it
+-- held, each such content was asked it, and the book is left as it was.
 pub record IsBegun {B : Type 0} (book : Ghosts B) (before after : B) (left : Option (List ℕ)) (posed : Posed) : Type 0 where
   pub body : List ℕ
   pub query : PlansQuery
-  pub sense : IfSome left (λ input. HasSense input (asking Plans body))
+  pub parsed : IfSome left (λ input. ParsesTo input (asking Plans body))
   pub asks : body_plans body ≡ Some query
   pub run : OnContent book before after (λ m. IsSound json_texts m → book.holds after m × IsPosed m query posed)
   pub keeps : Unchanged book (λ old new. new ≡ old) before after

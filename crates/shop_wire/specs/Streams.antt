@@ -1,7 +1,7 @@
 -- How far a source was read, and when a source or a sink failed.
 use Rattle.std.specs.Prelude.{ℕ, ◌+◌, ◌-◌, ◌*◌, ◌≤◌, ◌⊎◌, List, length, Option, Some, None, ⊤, IfSome}
 use Rattle.shop_streams.specs.Streams.{most_counted}
-use Rattle.shop_wire.specs.declared.limits.TheConstants.{MOST_READS, ROOM}
+use Rattle.shop_wire.specs.declared.limits.TheConstants.{MOST_READS, BUFFER_SIZE}
 
 -- the most reads of a replay
 abbrev pub most_reads : ℕ
@@ -28,4 +28,4 @@ IsLong reads left = IfSome left (λ input. most_reads ≤ reads + length input)
 
 -- what reading can still do: each read brings at most 65536 bytes, and each byte is taken once
 abbrev pub work : ℕ → List ℕ → ℕ
-work reads bytes = (most_reads - reads) * (ROOM + 1) + length bytes
+work reads bytes = (most_reads - reads) * (BUFFER_SIZE + 1) + length bytes

@@ -16,9 +16,9 @@ telling_of (told.Reply reply text) = replied reply
 telling_of (told.Text text) = printed text
 
 -- a text that was told of a reply is its text
-abbrev pub IsPrinted : Told → Type 0
-IsPrinted (told.Reply reply text) = IfSome text (λ t. t ≡ json_texts.of_reply reply)
-IsPrinted (told.Text text) = ⊤
+abbrev pub HasPrintedText : Told → Type 0
+HasPrintedText (told.Reply reply text) = IfSome text (λ t. t ≡ json_texts.of_reply reply)
+HasPrintedText (told.Text text) = ⊤
 
 -- nothing was meant, or memory was wanting
 abbrev pub IsUnread : {B : Type 0} → Refusal → Option B → Type 0

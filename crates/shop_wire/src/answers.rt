@@ -7,7 +7,7 @@ ghost use Rattle.shop_forms.specs.Forms.{message_of, json_texts};
 ghost use Rattle.shop_book.specs.Kept.{OnContent};
 ghost use Rattle.shop_desk.specs.Faults.{CountsUp};
 ghost use Rattle.shop_wire.specs.Replays.{HasAnswered, LineStep, ValueStep, data_of, line_message, telling_line};
-ghost use Rattle.shop_wire.specs.Tellings.{IsPrinted, IsRead, telling_of};
+ghost use Rattle.shop_wire.specs.Tellings.{HasPrintedText, IsRead, telling_of};
 
 use crate::limits::LONGEST_LINE;
 use crate::plans::plans_told;
@@ -26,8 +26,8 @@ fn query_told<B: Book>(alloc: Global, book: &mut B, value: &Value) -> Told
         (λ m. IsSound json_texts m
         → HasAnswered ValueStep message_of B.Book book.old book.new m (view value.now ∷ [])
         (telling_of result ∷ [])) }
-    ensures printed { IsPrinted result }
-    ensures honest { B.is_honest book.new → B.is_honest book.old }
+    ensures printed { HasPrintedText result }
+    ensures clean_disk { B.has_clean_disk book.new → B.has_clean_disk book.old }
     ensures failures { CountsUp (B.failed book.old) (B.failed book.new) }
 {
     match read_query(alloc, value) {
@@ -45,8 +45,8 @@ fn value_told<B: Book>(alloc: Global, book: &mut B, value: &Value) -> Told
         (λ m. IsSound json_texts m
         → HasAnswered ValueStep message_of B.Book book.old book.new m (view value.now ∷ [])
         (telling_of result ∷ [])) }
-    ensures printed { IsPrinted result }
-    ensures honest { B.is_honest book.new → B.is_honest book.old }
+    ensures printed { HasPrintedText result }
+    ensures clean_disk { B.has_clean_disk book.new → B.has_clean_disk book.old }
     ensures failures { CountsUp (B.failed book.old) (B.failed book.new) }
 {
     match read_message(alloc, value) {
@@ -85,8 +85,8 @@ pub(crate) fn answer<B: Book>(alloc: Global, book: &mut B, line: &[u8]) -> Told
         (λ m. IsSound json_texts m
         → HasAnswered LineStep line_message B.Book book.old book.new m (line.now ∷ [])
         (telling_of result ∷ [])) }
-    ensures printed { IsPrinted result }
-    ensures honest { B.is_honest book.new → B.is_honest book.old }
+    ensures printed { HasPrintedText result }
+    ensures clean_disk { B.has_clean_disk book.new → B.has_clean_disk book.old }
     ensures failures { CountsUp (B.failed book.old) (B.failed book.new) }
 {
     match value_in(alloc, line) {
@@ -95,7 +95,7 @@ pub(crate) fn answer<B: Book>(alloc: Global, book: &mut B, line: &[u8]) -> Told
     }
 }
 
-// Puts a text behind what is held, and a line feed, as far as there is memory.
+// Puts a text after what is held, and a line feed, as far as there is memory.
 fn hold_line(held: &mut Vec<u8>, text: &str) -> Result<(), AllocError>
     ensures ok { OnOk result (held.new.items ≡ held.old.items ++ (text.now ++ 10 ∷ [])) }
     ensures err { OnErr result
@@ -108,9 +108,9 @@ fn hold_line(held: &mut Vec<u8>, text: &str) -> Result<(), AllocError>
     }
 }
 
-/// Puts what is told behind what is held as a line, as far as there is memory.
+/// Puts what is told after what is held as a line, as far as there is memory.
 pub(crate) fn hold_told(alloc: Global, told: Told, held: &mut Vec<u8>) -> Result<(), AllocError>
-    requires { IsPrinted told }
+    requires { HasPrintedText told }
     ensures ok { OnOk result (held.new.items ≡ held.old.items ++ telling_line (telling_of told)) }
     ensures err { OnErr result
         ((bytes rest : List ℕ) × (bytes ++ rest ≡ telling_line (telling_of told))

@@ -11,8 +11,8 @@ ghost use Rattle.shop_request.specs.Requests.{asking};
 ghost use Rattle.shop_request.specs.declared.routes.Route.TheVariants.{Message as AtMessage, Ticket as AtTicket, Yield as AtYield};
 ghost use Rattle.shop_wire.specs.AnswerBytes.{replied};
 ghost use Rattle.shop_wire.specs.Replays.{line_message};
-ghost use Rattle.shop_wire.specs.Serves.{AskStep, HasServed, asked_at, body_query, code_at, is_of, name_at, numbered, path_query, text_at};
-ghost use Rattle.shop_wire.specs.Tellings.{IsPrinted, IsRead, PrintsCounted, telling_of};
+ghost use Rattle.shop_wire.specs.Serves.{AskStep, HasServedInput, asked_at, body_query, code_at, is_of, name_at, numbered, path_query, text_at};
+ghost use Rattle.shop_wire.specs.Tellings.{HasPrintedText, IsRead, PrintsCounted, telling_of};
 
 use crate::answers::value_in;
 use crate::paths::{demands_at, number_before, number_of, parts_at, terminal_in};
@@ -45,9 +45,9 @@ fn message_in(alloc: Global, body: &[u8]) -> Result<Message, Refusal>
 fn message_reply<B: Book>(alloc: Global, book: &mut B, body: &[u8]) -> (Reply, Option<Text>)
     ensures served { OnContent B.Book book.old book.new
         (λ m. IsSound json_texts m
-        → HasServed B.Book book.old book.new m (asking AtMessage body.now) (replied result.0)) }
+        → HasServedInput B.Book book.old book.new m (asking AtMessage body.now) (replied result.0)) }
     ensures told { IfSome result.1 (λ text. text ≡ json_texts.of_reply result.0) }
-    ensures honest { B.is_honest book.new → B.is_honest book.old }
+    ensures clean_disk { B.has_clean_disk book.new → B.has_clean_disk book.old }
     ensures failures { CountsUp (B.failed book.old) (B.failed book.new) }
 {
     match message_in(alloc, body) {
@@ -60,9 +60,9 @@ fn message_reply<B: Book>(alloc: Global, book: &mut B, body: &[u8]) -> (Reply, O
 fn message_told<B: Book>(alloc: Global, book: &mut B, body: &[u8]) -> Told
     ensures served { OnContent B.Book book.old book.new
         (λ m. IsSound json_texts m
-        → HasServed B.Book book.old book.new m (asking AtMessage body.now) (telling_of result)) }
-    ensures printed { IsPrinted result }
-    ensures honest { B.is_honest book.new → B.is_honest book.old }
+        → HasServedInput B.Book book.old book.new m (asking AtMessage body.now) (telling_of result)) }
+    ensures printed { HasPrintedText result }
+    ensures clean_disk { B.has_clean_disk book.new → B.has_clean_disk book.old }
     ensures failures { CountsUp (B.failed book.old) (B.failed book.new) }
 {
     let (reply, text) = message_reply(alloc, book, body);
@@ -133,14 +133,14 @@ fn query_at(route: Route, part: &[u8]) -> Option<Query>
             material,
             after: None,
         }),
-        Route::PartsBehind => parts_at(part),
+        Route::PartsAfter => parts_at(part),
         Route::Demands => number_before(part).map(|after| Query::Demands {
             after,
             material: None,
         }),
         Route::DemandsOf => demands_at(part),
         Route::Orders => Some(Query::Orders { after: None }),
-        Route::OrdersBehind => code_in(part).map(|order| Query::Orders { after: Some(order) }),
+        Route::OrdersAfter => code_in(part).map(|order| Query::Orders { after: Some(order) }),
         Route::OrderLines => code_in(part).map(|order| Query::Lines { order }),
         Route::Jobs => number_before(part).map(|after| Query::Jobs { after }),
         Route::Job => number_in(part).map(|job| Query::Job { job }),
@@ -181,7 +181,7 @@ fn ticket_told<B: Book>(alloc: Global, book: &mut B, part: &[u8]) -> Told
     ensures answer { OnContent B.Book book.old book.new
         (λ m. PrintsCounted (text_at m AtTicket part.now) (telling_of result) (B.failed book.old)
         (B.failed book.new)) }
-    ensures printed { IsPrinted result }
+    ensures printed { HasPrintedText result }
     ensures keeps { Unchanged B.Book CountsUp book.old book.new }
 {
     match number_in(part) {
@@ -195,7 +195,7 @@ fn yield_told<B: Book>(alloc: Global, book: &mut B, part: &[u8]) -> Told
     ensures answer { OnContent B.Book book.old book.new
         (λ m. PrintsCounted (text_at m AtYield part.now) (telling_of result) (B.failed book.old)
         (B.failed book.new)) }
-    ensures printed { IsPrinted result }
+    ensures printed { HasPrintedText result }
     ensures keeps { Unchanged B.Book CountsUp book.old book.new }
 {
     match code_in(part) {
@@ -208,9 +208,9 @@ fn yield_told<B: Book>(alloc: Global, book: &mut B, part: &[u8]) -> Told
 pub(crate) fn respond<B: Book>(alloc: Global, book: &mut B, route: Route, text: &[u8]) -> Told
     ensures served { OnContent B.Book book.old book.new
         (λ m. IsSound json_texts m
-        → HasServed B.Book book.old book.new m (asking route text.now) (telling_of result)) }
-    ensures printed { IsPrinted result }
-    ensures honest { B.is_honest book.new → B.is_honest book.old }
+        → HasServedInput B.Book book.old book.new m (asking route text.now) (telling_of result)) }
+    ensures printed { HasPrintedText result }
+    ensures clean_disk { B.has_clean_disk book.new → B.has_clean_disk book.old }
     ensures failures { CountsUp (B.failed book.old) (B.failed book.new) }
 {
     match route {

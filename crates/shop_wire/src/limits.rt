@@ -7,7 +7,7 @@ pub(crate) const MOST_READS: u32 = 1_000_000_000;
 pub(crate) const LONGEST_LINE: usize = 131_072;
 
 /// The most bytes of one read.
-pub(crate) const ROOM: usize = 65_536;
+pub(crate) const BUFFER_SIZE: usize = 65_536;
 
 /// So many bytes of replies are written before the next line is answered.
 pub const MOST_HELD: usize = 65_536;

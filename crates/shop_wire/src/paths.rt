@@ -2,8 +2,8 @@
 
 ghost use Rattle.std.specs.Prelude.{◌≡◌};
 ghost use Rattle.shop_wire.specs.Serves as serves;
-ghost use Rattle.shop_wire.specs.Serves.{behind_slash, in_front, path_query, ranged};
-ghost use Rattle.shop_request.specs.declared.routes.Route.TheVariants.{DemandsOf, PartsBehind};
+ghost use Rattle.shop_wire.specs.Serves.{after_slash, before_slash, path_query, ranged};
+ghost use Rattle.shop_request.specs.declared.routes.Route.TheVariants.{DemandsOf, PartsAfter};
 
 use cut_measure::{MOST_NUMBERS, read_number};
 use shop_rules::{Code, PartName, Query};
@@ -20,7 +20,7 @@ pub(crate) fn number_of(part: &[u8], least: u32, most: u32) -> Option<u32>
     Some(number)
 }
 
-/// The number that a path says, behind which numbers are asked for.
+/// The number that a path says, after which numbers are asked for.
 pub(crate) fn number_before(part: &[u8]) -> Option<u32>
     ensures { result ≡ serves.number_before part.now }
 {
@@ -35,40 +35,40 @@ pub(crate) fn terminal_in(part: &[u8]) -> Option<u32>
 }
 
 // What stands in front of the first slash.
-fn in_front(text: &str) -> &str
-    ensures { result.now ≡ in_front text.now }
+fn before_slash(text: &str) -> &str
+    ensures { result.now ≡ before_slash text.now }
 {
     match text.split_once('/') {
-        Some((front, _)) => front,
+        Some((prefix, _)) => prefix,
         None => text,
     }
 }
 
-// What stands behind the first slash.
-fn behind(text: &str) -> &str
-    ensures { result.now ≡ behind_slash text.now }
+// What stands after the first slash.
+fn after_slash(text: &str) -> &str
+    ensures { result.now ≡ after_slash text.now }
 {
     match text.split_once('/') {
-        Some((_, behind)) => behind,
+        Some((_, after_slash)) => after_slash,
         None => "",
     }
 }
 
-// The query for a material's parts behind a name, in a text that says both.
+// The query for a material's parts after a name, in a text that says both.
 fn parts_asked(text: &str) -> Option<Query>
     ensures { result ≡ serves.parts_asked text.now }
 {
-    let material = Code::read(in_front(text))?;
-    let after = PartName::read(behind(text))?;
+    let material = Code::read(before_slash(text))?;
+    let after = PartName::read(after_slash(text))?;
     Some(Query::Parts {
         material,
         after: Some(after),
     })
 }
 
-/// The query for a material's parts behind a name, that a path says.
+/// The query for a material's parts after a name, that a path says.
 pub(crate) fn parts_at(part: &[u8]) -> Option<Query>
-    ensures { result ≡ path_query PartsBehind part.now }
+    ensures { result ≡ path_query PartsAfter part.now }
 {
     match str::from_utf8(part) {
         Ok(text) => parts_asked(text),
@@ -76,19 +76,19 @@ pub(crate) fn parts_at(part: &[u8]) -> Option<Query>
     }
 }
 
-// The query for a material's open demands behind a number, in a text that says both.
+// The query for a material's open demands after a number, in a text that says both.
 fn demands_asked(text: &str) -> Option<Query>
     ensures { result ≡ serves.demands_asked text.now }
 {
-    let after = number_before(in_front(text).as_bytes())?;
-    let material = Code::read(behind(text))?;
+    let after = number_before(before_slash(text).as_bytes())?;
+    let material = Code::read(after_slash(text))?;
     Some(Query::Demands {
         after,
         material: Some(material),
     })
 }
 
-/// The query for a material's open demands behind a number, that a path says.
+/// The query for a material's open demands after a number, that a path says.
 pub(crate) fn demands_at(part: &[u8]) -> Option<Query>
     ensures { result ≡ path_query DemandsOf part.now }
 {

@@ -10,12 +10,12 @@ ghost use Rattle.shop_desk.specs.Faults.{CountsUp, StoreFailed};
 ghost use Rattle.shop_plans.specs.declared.questions.PlansQuery.{PlansQuery as PlansQueryOf};
 ghost use Rattle.shop_planning.specs.Faults.{CountsRefusal};
 ghost use Rattle.shop_planning.specs.Thoughts.{posed_in};
-ghost use Rattle.shop_request.specs.Requests.{HasSense, asking};
+ghost use Rattle.shop_request.specs.Requests.{ParsesTo, asking};
 ghost use Rattle.shop_request.specs.declared.routes.Route.TheVariants.{Plans as AtPlans};
 ghost use Rattle.shop_wire.specs.AnswerBytes.{replied};
 ghost use Rattle.shop_wire.specs.Replays.{PlansStep, TellsPlans};
-ghost use Rattle.shop_wire.specs.Serves.{HasServed, IsBegun, body_plans};
-ghost use Rattle.shop_wire.specs.Tellings.{IsPrinted, IsRead, telling_of};
+ghost use Rattle.shop_wire.specs.Serves.{HasServedInput, IsBegun, body_plans};
+ghost use Rattle.shop_wire.specs.Tellings.{HasPrintedText, IsRead, telling_of};
 
 use crate::answers::value_in;
 use crate::told::{Told, refused};
@@ -29,7 +29,7 @@ use std::alloc::Global;
 fn question_told<B: Book>(alloc: Global, book: &mut B, question: &PlansQuery) -> Told
     ensures answer { OnContent B.Book book.old book.new
         (λ m. TellsPlans m question.now (telling_of result)) }
-    ensures printed { IsPrinted result }
+    ensures printed { HasPrintedText result }
     ensures keeps { Unchanged B.Book CountsUp book.old book.new }
     ensures store_fault { telling_of result ≡ replied (Refused StoreFault)
         → StoreFailed (B.failed book.old) (B.failed book.new) }
@@ -48,7 +48,7 @@ pub(crate) fn plans_told<B: Book>(
 ) -> Told
     ensures answer { (meant : Option PlansQueryOf) → IsRead (λ question. question) asked meant
         → OnContent B.Book book.old book.new (λ m. PlansStep m meant (telling_of result) m) }
-    ensures printed { IsPrinted result }
+    ensures printed { HasPrintedText result }
     ensures keeps { Unchanged B.Book CountsUp book.old book.new }
     ensures store_fault { (meant : Option PlansQueryOf) → IsRead (λ question. question) asked meant
         → telling_of result ≡ replied (Refused StoreFault)
@@ -73,9 +73,9 @@ fn plans_in(alloc: Global, body: &[u8]) -> Result<PlansQuery, Refusal>
 pub(crate) fn body_told<B: Book>(alloc: Global, book: &mut B, body: &[u8]) -> Told
     ensures served { OnContent B.Book book.old book.new
         (λ m. IsSound json_texts m
-        → HasServed B.Book book.old book.new m (asking AtPlans body.now) (telling_of result)) }
-    ensures printed { IsPrinted result }
-    ensures honest { B.is_honest book.new → B.is_honest book.old }
+        → HasServedInput B.Book book.old book.new m (asking AtPlans body.now) (telling_of result)) }
+    ensures printed { HasPrintedText result }
+    ensures clean_disk { B.has_clean_disk book.new → B.has_clean_disk book.old }
     ensures failures { CountsUp (B.failed book.old) (B.failed book.new) }
 {
     plans_told(alloc, book, plans_in(alloc, body))
@@ -88,12 +88,12 @@ pub(crate) fn pose_body<B: Book>(
     body: &[u8],
 ) -> Result<Thought, Refusal>
     ensures posed { (left : Option (List ℕ))
-        → IfSome left (λ input. HasSense input (asking AtPlans body.now))
+        → IfSome left (λ input. ParsesTo input (asking AtPlans body.now))
         → IfOk result (λ thought. IsBegun B.Book book.old book.new left (posed_in thought)) }
     ensures refused { IfErr result
         (λ refusal. OnContent B.Book book.old book.new
         (λ m. IsSound json_texts m
-        → HasServed B.Book book.old book.new m (asking AtPlans body.now)
+        → HasServedInput B.Book book.old book.new m (asking AtPlans body.now)
         (replied (Refused refusal)))) }
     ensures keeps { Unchanged B.Book (CountsRefusal result) book.old book.new }
 {

@@ -5,11 +5,11 @@ ghost use Rattle.std.specs.Io.KnownBytes.{Consumes, Keeps, IsAtEnd, prepend_know
 ghost use Rattle.shop_wire.specs.Lines.{HasNoFeed, GivesLine, kept_of, longest_line, pending};
 ghost use Rattle.shop_streams.specs.Streams.{HasFailed};
 ghost use Rattle.shop_wire.specs.Streams.{CountTogether, TookBytes, IsLong, most_reads, work};
-ghost use Rattle.shop_wire.specs.declared.limits.TheConstants.{ROOM};
+ghost use Rattle.shop_wire.specs.declared.limits.TheConstants.{BUFFER_SIZE};
 ghost use Rattle.shop_wire.specs.declared.faults.ReplayFault.TheVariants.{Read, NoMemory};
 
 use crate::faults::ReplayFault;
-use crate::limits::{LONGEST_LINE, MOST_READS, ROOM};
+use crate::limits::{BUFFER_SIZE, LONGEST_LINE, MOST_READS};
 use memchr::memchr;
 use shop_text::Source;
 use std::alloc::AllocError;
@@ -17,13 +17,13 @@ use std::alloc::AllocError;
 /// A buffer that is filled again once all of it was taken, and how far the source was read.
 #[derive(Drop)]
 pub(crate) struct LineReader {
-    buffer: [u8; ROOM],
+    buffer: [u8; BUFFER_SIZE],
     start: usize,
     end: usize,
     reads: u32,
     ended: bool,
     ghost within: { start ≤ end },
-    ghost most: { end ≤ ROOM },
+    ghost most: { end ≤ BUFFER_SIZE },
 }
 
 // Appends what belongs to a line, up to one byte over the longest.
@@ -47,7 +47,7 @@ impl LineReader {
         ensures goes_on { result.ended ≡ false }
     {
         LineReader {
-            buffer: [0; ROOM],
+            buffer: [0; BUFFER_SIZE],
             start: 0,
             end: 0,
             reads: 0,
@@ -107,7 +107,7 @@ impl LineReader {
             → Consumes (S.left source.old) (S.left source.new)
             (pending self.new.buffer self.new.start self.new.end)
             × (self.new.ended ≡ false) × (self.new.reads ≡ self.old.reads + 1)
-            × (length (pending self.new.buffer self.new.start self.new.end) ≤ ROOM)
+            × (length (pending self.new.buffer self.new.start self.new.end) ≤ BUFFER_SIZE)
             × (self.old.ended ≡ false)
             × TookBytes self.old.reads (S.left source.old) self.new.reads (S.left source.new) }
         ensures none { result ≡ Ok false → IsAtEnd (S.left source.new)

@@ -31,7 +31,7 @@ fn hold_answer<B: Book>(
         ((lines more : List (List ℕ)) × (lines ++ more ≡ line.now ∷ []) × (unwritten : List ℕ)
         × IsReplayed B.Book book.old book.new (Some held.old.items)
         (Some held.new.items) lines unwritten) }
-    ensures honest { B.is_honest book.new → B.is_honest book.old }
+    ensures clean_disk { B.has_clean_disk book.new → B.has_clean_disk book.old }
     ensures failures { CountsUp (B.failed book.old) (B.failed book.new) }
     ensures fault { IfErr result (λ fault. fault ≡ NoMemory) }
 {
@@ -111,7 +111,7 @@ fn answer_lines<S: Source, W: Sink, B: Book>(
         × (lost : List ℕ) × (fault ≡ Read → lost ≡ [])
         × IsReplayed B.Book book.old book.new (W.held sink.old) (W.held sink.new) lines
         (held.new.items ++ lost)) }
-    ensures honest { B.is_honest book.new → B.is_honest book.old }
+    ensures clean_disk { B.has_clean_disk book.new → B.has_clean_disk book.old }
     ensures failures { CountsUp (B.failed book.old) (B.failed book.new) }
     ensures reads { S.reads source.new ≤ S.reads source.old + most_reads }
     ensures read { result ≡ Err Read → HasFailed (S.failed source.old) (S.failed source.new)
@@ -154,7 +154,7 @@ pub fn replay<S: Source, W: Sink, B: Book>(
         (λ fault. (lines more : List (List ℕ)) × AreLines (S.left source.old) (lines ++ more)
         × (unwritten : List ℕ) × (fault ≡ Read → unwritten ≡ [])
         × IsReplayed B.Book book.old book.new (W.held sink.old) (W.held sink.new) lines unwritten) }
-    ensures honest { B.is_honest book.new → B.is_honest book.old }
+    ensures clean_disk { B.has_clean_disk book.new → B.has_clean_disk book.old }
     ensures failures { CountsUp (B.failed book.old) (B.failed book.new) }
     ensures reads { S.reads source.new ≤ S.reads source.old + most_reads }
     ensures read { result ≡ Err Read → HasFailed (S.failed source.old) (S.failed source.new)

@@ -4,7 +4,7 @@ ghost use Rattle.std.specs.Prelude.{◌≡◌, ◌≢◌, ◌⊎◌, ◌≤◌, 
 ghost use Rattle.std.specs.Io.KnownBytes.{Appends};
 ghost use Rattle.shop_desk.specs.Faults.{CountsUp};
 ghost use Rattle.shop_streams.specs.Streams.{HasFailed};
-ghost use Rattle.shop_request.specs.Requests.{HasSense, asking, most_request_reads, sense_of};
+ghost use Rattle.shop_request.specs.Requests.{ParsesTo, asking, most_request_reads, parse_of};
 ghost use Rattle.shop_wire.specs.AnswerBytes.{answer_bytes, fault_answer};
 ghost use Rattle.shop_planning.specs.Thoughts.{posed_in};
 ghost use Rattle.shop_planning.specs.declared.thought.Thought.{Thought as ThoughtOf};
@@ -19,7 +19,7 @@ use crate::telling::{fault_text, told_text};
 use crate::told::refused;
 use shop_book::Book;
 use shop_planning::Thought;
-use shop_request::{Fault, Inbound, Route, Routes, StreamFault, read_request};
+use shop_request::{Inbound, RequestFault, Route, Routes, StreamFault, read_request};
 use shop_text::{Sink, Source, write_all};
 use std::alloc::{AllocError, Global};
 
@@ -45,7 +45,7 @@ fn write_made<W: Sink>(sink: &mut W, text: Result<String, AllocError>) -> Result
 }
 
 // Answers a fault.
-fn answer_fault<W: Sink>(alloc: Global, fault: Fault, sink: &mut W) -> Result<(), WireFault>
+fn answer_fault<W: Sink>(alloc: Global, fault: RequestFault, sink: &mut W) -> Result<(), WireFault>
     ensures ok { OnOk result (Appends (W.held sink.old) (W.held sink.new)
         (answer_bytes (fault_answer fault))) }
     ensures err { OnErr result
@@ -72,7 +72,7 @@ fn answer_request<W: Sink, B: Book>(
     ensures err { OnErr result
         ((unwritten : List ℕ) × IsServedAs B.Book book.old book.new (W.held sink.old)
         (W.held sink.new) (asking route text.now) unwritten) }
-    ensures honest { B.is_honest book.new → B.is_honest book.old }
+    ensures clean_disk { B.has_clean_disk book.new → B.has_clean_disk book.old }
     ensures failures { CountsUp (B.failed book.old) (B.failed book.new) }
     ensures fault { IfErr result
         (λ fault. (fault ≡ NoMemory) ⊎ (fault ≡ Write)
@@ -94,11 +94,11 @@ fn answer_inbound<W: Sink, B: Book>(
     book: &mut B,
 ) -> Result<(), WireFault>
     ensures ok { OnOk result (IsServedAs B.Book book.old book.new (W.held sink.old)
-        (W.held sink.new) (sense_of inbound.now) []) }
+        (W.held sink.new) (parse_of inbound.now) []) }
     ensures err { OnErr result
         ((unwritten : List ℕ) × IsServedAs B.Book book.old book.new (W.held sink.old)
-        (W.held sink.new) (sense_of inbound.now) unwritten) }
-    ensures honest { B.is_honest book.new → B.is_honest book.old }
+        (W.held sink.new) (parse_of inbound.now) unwritten) }
+    ensures clean_disk { B.has_clean_disk book.new → B.has_clean_disk book.old }
     ensures failures { CountsUp (B.failed book.old) (B.failed book.new) }
     ensures fault { IfErr result
         (λ fault. (fault ≡ NoMemory) ⊎ (fault ≡ Write)
@@ -116,16 +116,16 @@ fn answer_inbound<W: Sink, B: Book>(
 fn read_one<'b, S: Source>(
     routes: &Routes,
     source: &mut S,
-    came: &'b mut Vec<u8>,
+    received: &'b mut Vec<u8>,
 ) -> Result<Inbound<'b>, WireFault>
-    ensures sense { IfOk result
-        (λ inbound. IfSome (S.left source.old) (λ input. HasSense input (sense_of inbound))) }
+    ensures parsed { IfOk result
+        (λ inbound. IfSome (S.left source.old) (λ input. ParsesTo input (parse_of inbound))) }
     ensures fault { IfErr result
         (λ fault. (fault ≡ NoMemory) ⊎ (fault ≡ Read)
         × HasFailed (S.failed source.old) (S.failed source.new)) }
     ensures reads { S.reads source.new ≤ S.reads source.old + most_request_reads }
 {
-    match read_request(routes, source, came) {
+    match read_request(routes, source, received) {
         Ok(inbound) => Ok(inbound),
         Err(StreamFault::Read) => Err(WireFault::Read),
         Err(StreamFault::NoMemory) => Err(WireFault::NoMemory),
@@ -150,7 +150,7 @@ pub fn serve_request<S: Source, W: Sink, B: Book>(
     ensures err { OnErr result (((book.new ≡ book.old) × (sink.new ≡ sink.old))
         ⊎ ((unwritten : List ℕ) × IsServed B.Book book.old book.new (S.left source.old)
         (W.held sink.old) (W.held sink.new) unwritten)) }
-    ensures honest { B.is_honest book.new → B.is_honest book.old }
+    ensures clean_disk { B.has_clean_disk book.new → B.has_clean_disk book.old }
     ensures failures { CountsUp (B.failed book.old) (B.failed book.new) }
     ensures reads { S.reads source.new ≤ S.reads source.old + most_request_reads }
     ensures read { result ≡ Err Read → HasFailed (S.failed source.old) (S.failed source.new)
@@ -158,8 +158,8 @@ pub fn serve_request<S: Source, W: Sink, B: Book>(
     ensures write { result ≡ Err Write → HasFailed (W.failed sink.old) (W.failed sink.new) }
     ensures worked { OnOk result (W.failed sink.new ≡ W.failed sink.old) }
 {
-    let mut came = Vec::new(alloc);
-    let inbound = match read_one(routes, source, &mut came) {
+    let mut received = Vec::new(alloc);
+    let inbound = match read_one(routes, source, &mut received) {
         Ok(inbound) => inbound,
         Err(fault) => return Err(fault),
     };
@@ -177,7 +177,7 @@ fn begin_plans<W: Sink, B: Book>(
     book: &mut B,
 ) -> Result<Option<Thought>, WireFault>
     ensures begun { (left : Option (List ℕ))
-        → IfSome left (λ input. HasSense input (asking AtPlans body.now))
+        → IfSome left (λ input. ParsesTo input (asking AtPlans body.now))
         → (thought : ThoughtOf) → result ≡ Ok (Some thought)
         → IsBegun B.Book book.old book.new left (posed_in thought) × (sink.new ≡ sink.old) }
     ensures answered { result ≡ Ok None
@@ -186,7 +186,7 @@ fn begin_plans<W: Sink, B: Book>(
     ensures err { OnErr result
         ((unwritten : List ℕ) × IsServedAs B.Book book.old book.new (W.held sink.old)
         (W.held sink.new) (asking AtPlans body.now) unwritten) }
-    ensures honest { B.is_honest book.new → B.is_honest book.old }
+    ensures clean_disk { B.has_clean_disk book.new → B.has_clean_disk book.old }
     ensures failures { CountsUp (B.failed book.old) (B.failed book.new) }
     ensures fault { IfErr result
         (λ fault. (fault ≡ NoMemory) ⊎ (fault ≡ Write)
@@ -206,7 +206,7 @@ fn begin_plans<W: Sink, B: Book>(
 
 // The body of a request at `/plans`.
 fn plans_body<'b>(inbound: &Inbound<'b>) -> Option<&'b [u8]>
-    ensures { IfSome result (λ body. sense_of inbound.now ≡ asking AtPlans body.now) }
+    ensures { IfSome result (λ body. parse_of inbound.now ≡ asking AtPlans body.now) }
 {
     match *inbound {
         Inbound::Asks(route, body) => match route {
@@ -228,16 +228,16 @@ pub fn begin_inbound<W: Sink, B: Book>(
     book: &mut B,
 ) -> Result<Option<Thought>, WireFault>
     ensures begun { (left : Option (List ℕ))
-        → IfSome left (λ input. HasSense input (sense_of inbound.now))
+        → IfSome left (λ input. ParsesTo input (parse_of inbound.now))
         → (thought : ThoughtOf) → result ≡ Ok (Some thought)
         → IsBegun B.Book book.old book.new left (posed_in thought) × (sink.new ≡ sink.old) }
     ensures answered { result ≡ Ok None
         → IsServedAs B.Book book.old book.new (W.held sink.old) (W.held sink.new)
-        (sense_of inbound.now) [] }
+        (parse_of inbound.now) [] }
     ensures err { OnErr result
         ((unwritten : List ℕ) × IsServedAs B.Book book.old book.new (W.held sink.old)
-        (W.held sink.new) (sense_of inbound.now) unwritten) }
-    ensures honest { B.is_honest book.new → B.is_honest book.old }
+        (W.held sink.new) (parse_of inbound.now) unwritten) }
+    ensures clean_disk { B.has_clean_disk book.new → B.has_clean_disk book.old }
     ensures failures { CountsUp (B.failed book.old) (B.failed book.new) }
     ensures fault { IfErr result
         (λ fault. (fault ≡ NoMemory) ⊎ (fault ≡ Write)
@@ -273,7 +273,7 @@ pub fn begin_request<S: Source, W: Sink, B: Book>(
     ensures err { OnErr result (((book.new ≡ book.old) × (sink.new ≡ sink.old))
         ⊎ ((unwritten : List ℕ) × IsServed B.Book book.old book.new (S.left source.old)
         (W.held sink.old) (W.held sink.new) unwritten)) }
-    ensures honest { B.is_honest book.new → B.is_honest book.old }
+    ensures clean_disk { B.has_clean_disk book.new → B.has_clean_disk book.old }
     ensures failures { CountsUp (B.failed book.old) (B.failed book.new) }
     ensures reads { S.reads source.new ≤ S.reads source.old + most_request_reads }
     ensures read { result ≡ Err Read → HasFailed (S.failed source.old) (S.failed source.new)
@@ -281,8 +281,8 @@ pub fn begin_request<S: Source, W: Sink, B: Book>(
     ensures write { result ≡ Err Write → HasFailed (W.failed sink.old) (W.failed sink.new) }
     ensures worked { OnOk result (W.failed sink.new ≡ W.failed sink.old) }
 {
-    let mut came = Vec::new(alloc);
-    let inbound = match read_one(routes, source, &mut came) {
+    let mut received = Vec::new(alloc);
+    let inbound = match read_one(routes, source, &mut received) {
         Ok(inbound) => inbound,
         Err(fault) => return Err(fault),
     };
@@ -304,7 +304,7 @@ pub fn serve_one<S: Source, W: Sink, B: Book>(
     ensures err { OnErr result (((book.new ≡ book.old) × (sink.new ≡ sink.old))
         ⊎ ((unwritten : List ℕ) × IsServed B.Book book.old book.new (S.left source.old)
         (W.held sink.old) (W.held sink.new) unwritten)) }
-    ensures honest { B.is_honest book.new → B.is_honest book.old }
+    ensures clean_disk { B.has_clean_disk book.new → B.has_clean_disk book.old }
     ensures failures { CountsUp (B.failed book.old) (B.failed book.new) }
     ensures reads { S.reads source.new ≤ S.reads source.old + most_request_reads }
     ensures read { result ≡ Err Read → HasFailed (S.failed source.old) (S.failed source.new)

@@ -2,7 +2,7 @@
 
 ghost use Rattle.std.specs.Prelude.{◌≡◌, ◌≤◌, ◌<◌, IfOk, IfSome, Ok, decimal, string_bytes};
 ghost use Rattle.shop_wire.specs.AnswerBytes.{answer_bytes, backup_answer, backup_text, fault_answer, fault_fields, fault_status, phrase, printed, refusal_status, replied, reply_answer, status_in, telling_answer, text_answer, text_fields, unfound};
-ghost use Rattle.shop_wire.specs.Tellings.{IsPrinted, telling_of};
+ghost use Rattle.shop_wire.specs.Tellings.{HasPrintedText, telling_of};
 ghost use Rattle.shop_records.specs.Messages.{refusal_in};
 ghost use Rattle.shop_records.specs.declared.messages.Reply.TheVariants.{Refused};
 ghost use Rattle.shop_records.specs.declared.refusals.Refusal.TheVariants.{NoMemory};
@@ -12,7 +12,7 @@ ghost use Rattle.shop_forms.specs.Forms.{json_texts};
 
 use crate::told::{Told, refused, text_of};
 use http::StatusCode;
-use shop_request::{Fault, Route};
+use shop_request::{RequestFault, Route};
 use shop_rules::{Refusal, Reply, Text};
 use std::alloc::{AllocError, Global};
 
@@ -74,27 +74,27 @@ fn answer_text(alloc: Global, number: u16, fields: &str, body: &str) -> Result<S
     Ok(text)
 }
 
-fn fault_status(fault: Fault) -> u16
+fn fault_status(fault: RequestFault) -> u16
     ensures value { result ≡ fault_status fault }
     ensures least { 100 ≤ result }
     ensures most { result < 1000 }
 {
     match fault {
-        Fault::BadRequest => 400,
-        Fault::NotFound => 404,
-        Fault::OnlyGet | Fault::OnlyPost => 405,
-        Fault::NoLength => 411,
-        Fault::LargeBody => 413,
-        Fault::LargeHead => 431,
+        RequestFault::BadRequest => 400,
+        RequestFault::NotFound => 404,
+        RequestFault::OnlyGet | RequestFault::OnlyPost => 405,
+        RequestFault::NoLength => 411,
+        RequestFault::LargeBody => 413,
+        RequestFault::LargeHead => 431,
     }
 }
 
-fn fault_fields(fault: Fault) -> &'static str
+fn fault_fields(fault: RequestFault) -> &'static str
     ensures { result.now ≡ fault_fields fault }
 {
     match fault {
-        Fault::OnlyGet => "Allow: GET\r\n",
-        Fault::OnlyPost => "Allow: POST\r\n",
+        RequestFault::OnlyGet => "Allow: GET\r\n",
+        RequestFault::OnlyPost => "Allow: POST\r\n",
         _ => "",
     }
 }
@@ -137,7 +137,7 @@ fn reply_status(route: Route, reply: &Reply) -> u16
 }
 
 /// The answer to a fault.
-pub(crate) fn fault_text(alloc: Global, fault: Fault) -> Result<String, AllocError>
+pub(crate) fn fault_text(alloc: Global, fault: RequestFault) -> Result<String, AllocError>
     ensures { IfOk result (λ text. string_bytes text ≡ answer_bytes (fault_answer fault)) }
 {
     let text = answer_text(alloc, fault_status(fault), fault_fields(fault), "")?;
@@ -186,7 +186,7 @@ fn text_answer_text(alloc: Global, route: Route, text: &str) -> Result<String, A
 
 /// The answer that tells this.
 pub(crate) fn told_text(alloc: Global, route: Route, told: Told) -> Result<String, AllocError>
-    requires { IsPrinted told }
+    requires { HasPrintedText told }
     ensures { IfOk result (λ text. string_bytes text
         ≡ answer_bytes (telling_answer route (telling_of told))) }
 {

@@ -5,7 +5,7 @@ ghost use Rattle.shop_records.specs.declared.messages.Reply.TheVariants.{Refused
 ghost use Rattle.shop_forms.specs.Forms.{json_texts};
 ghost use Rattle.shop_wire.specs.AnswerBytes.{replied};
 ghost use Rattle.shop_wire.specs.Replays.{telling_text};
-ghost use Rattle.shop_wire.specs.Tellings.{IsPrinted, IsToldOf, telling_of};
+ghost use Rattle.shop_wire.specs.Tellings.{HasPrintedText, IsToldOf, telling_of};
 
 use shop_rules::{Refusal, Reply, Text, reply_text};
 use std::alloc::{AllocError, Global};
@@ -21,7 +21,7 @@ pub(crate) enum Told {
 /// A refusal.
 pub(crate) fn refused(refusal: Refusal) -> Told
     ensures told { telling_of result ≡ replied (Refused refusal) }
-    ensures printed { IsPrinted result }
+    ensures printed { HasPrintedText result }
 {
     Told::Reply(Reply::Refused(refusal), None)
 }
@@ -29,7 +29,7 @@ pub(crate) fn refused(refusal: Refusal) -> Told
 /// A text, or the refusal that stands for it.
 pub(crate) fn told_of(made: Result<String, Refusal>) -> Told
     ensures told { IsToldOf made (telling_of result) }
-    ensures printed { IsPrinted result }
+    ensures printed { HasPrintedText result }
 {
     match made {
         Ok(text) => Told::Text(Text::of(text)),
@@ -50,7 +50,7 @@ pub(crate) fn text_of(alloc: Global, reply: &Reply, told: Option<Text>) -> Resul
 
 /// The text of what is told.
 pub(crate) fn text_told(alloc: Global, told: Told) -> Result<Text, AllocError>
-    requires { IsPrinted told }
+    requires { HasPrintedText told }
     ensures { IfOk result (λ text. text ≡ telling_text (telling_of told)) }
 {
     match told {

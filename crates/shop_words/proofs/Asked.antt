@@ -10,7 +10,7 @@ use Rattle.shop_words.specs.declared.words.Word.{Word}
 use Rattle.shop_words.specs.declared.words.Word.TheVariants as word
 use Rattle.shop_words.specs.declared.words.ImportAs.{ImportAs}
 use Rattle.shop_words.specs.declared.words.TheConstants.{MOST_CONNECTIONS}
-use Rattle.shop_words.specs.CommandLine.{names_message, AsAsked, HasNumber, IsLimit, IsNumber, IsWhole, IsWholeAsked, IsSingleAsked, IsImportAs, IsOrdersAsked, IsPlanAsked, IsServeAsked, IsTicketAsked, IsYieldAsked, IsCode, IsAsked, Asks, AsksNothing, word_text}
+use Rattle.shop_words.specs.CommandLine.{names_message, AsAsked, HasNumber, IsLimit, IsNumber, IsWhole, IsWholeAsked, IsSingleAsked, IsImportAs, IsOrdersAsked, IsPlanAsked, IsServeAsked, IsTicketAsked, IsYieldAsked, IsCode, IsAsked, AsksFor, AsksNothing, word_text}
 
 nothing : {X : Type 0} (found : Option X) (x : X) → found ≡ None → found ≡ Some x → ⊥
 nothing found x none some = subst (λ (o : Option _). IfSome o (λ _. ⊥)) (sym (sym some ∙ none)) tt
@@ -172,10 +172,10 @@ one_word v w same = sym (word_at-text v) ∙ ap word_at same ∙ word_at-text w
 
 -- what is asked under a command's name is asked of that command
 pub asked_of : (found : Option (Text × List Row)) (name : Text) (rows : List Row) → Some (name, rows) ≡ found → (w : Word) → name ≡ word_text w
-    → (request : Option Request) → MatchOption request ((r : Request) → IsAsked w rows r → ⊥) (IsAsked w rows) → MatchOption request (AsksNothing found) (Asks found)
+    → (request : Option Request) → MatchOption request ((r : Request) → IsAsked w rows r → ⊥) (IsAsked w rows) → MatchOption request (AsksNothing found) (AsksFor found)
 asked_of found name rows is w named None none =
     subst AsksNothing is (λ r asked. none r (subst (λ v. IsAsked v rows r) (one_word asked.0 w (sym asked.1 ∙ named)) asked.2))
-asked_of found name rows is w named (Some r) asked = subst (λ f. Asks f r) is (w, named, asked)
+asked_of found name rows is w named (Some r) asked = subst (λ f. AsksFor f r) is (w, named, asked)
 
 -- under another name nothing is asked
 pub asked_of_none : (found : Option (Text × List Row)) (name : Text) (rows : List Row) → Some (name, rows) ≡ found → ((w : Word) → name ≡ word_text w → ⊥) → AsksNothing found

@@ -164,8 +164,8 @@ abbrev pub IsArg : Rule → Arg → Type 0
 IsArg rule arg = (rule_of arg ≡ rule) × (arg.global ≡ false)
 
 -- a command of this form, without global arguments
-abbrev pub IsCommand : App → Command → Type 0
-IsCommand app command = (app_of command ≡ app) × ((fields_of command).has_globals ≡ false)
+abbrev pub IsAppCommand : App → Command → Type 0
+IsAppCommand app command = (app_of command ≡ app) × ((fields_of command).has_globals ≡ false)
 
 -- the number that an option's value stands for
 abbrev pub IsNumber : Option Text → ℕ → Type 0
@@ -277,10 +277,10 @@ HasKerf (PlanOrder file kerf step calls) = kerf ≤ MOST_KERF
 HasKerf _ = ⊤
 
 -- the command that was read, with its values, asks for this
-abbrev pub Asks : Option (Text × List Row) → Request → Type 0
-Asks None request = ⊥
-Asks (Some (name, rows)) request = (w : Word) × (name ≡ word_text w) × IsAsked w rows request
+abbrev pub AsksFor : Option (Text × List Row) → Request → Type 0
+AsksFor None request = ⊥
+AsksFor (Some (name, rows)) request = (w : Word) × (name ≡ word_text w) × IsAsked w rows request
 
 -- it asks for nothing
 abbrev pub AsksNothing : Option (Text × List Row) → Type 0
-AsksNothing found = (request : Request) → Asks found request → ⊥
+AsksNothing found = (request : Request) → AsksFor found request → ⊥

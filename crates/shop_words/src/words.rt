@@ -362,7 +362,7 @@ fn new_command<'a>(
     example: &'a str,
     arguments: &[Argument],
 ) -> Result<Command<'a>, AllocError>
-    ensures { IfOk result (line.IsCommand (line.command_app name.entry.now arguments.now)) }
+    ensures { IfOk result (line.IsAppCommand (line.command_app name.entry.now arguments.now)) }
 {
     let mut command = Command::new(alloc, name).about(about).after_help(example);
     for argument in arguments {
@@ -372,7 +372,7 @@ fn new_command<'a>(
 }
 
 fn replay_command<'a>(alloc: Global) -> Result<Command<'a>, AllocError>
-    ensures { IfOk result (line.IsCommand line.replay_app) }
+    ensures { IfOk result (line.IsAppCommand line.replay_app) }
 {
     new_command(
         alloc,
@@ -384,7 +384,7 @@ fn replay_command<'a>(alloc: Global) -> Result<Command<'a>, AllocError>
 }
 
 fn plan_command<'a>(alloc: Global) -> Result<Command<'a>, AllocError>
-    ensures { IfOk result (line.IsCommand line.plan_app) }
+    ensures { IfOk result (line.IsAppCommand line.plan_app) }
 {
     new_command(
         alloc,
@@ -402,7 +402,7 @@ fn plan_command<'a>(alloc: Global) -> Result<Command<'a>, AllocError>
 }
 
 fn orders_command<'a>(alloc: Global) -> Result<Command<'a>, AllocError>
-    ensures { IfOk result (line.IsCommand line.orders_app) }
+    ensures { IfOk result (line.IsAppCommand line.orders_app) }
 {
     new_command(
         alloc,
@@ -419,7 +419,7 @@ fn orders_command<'a>(alloc: Global) -> Result<Command<'a>, AllocError>
 }
 
 fn serve_command<'a>(alloc: Global) -> Result<Command<'a>, AllocError>
-    ensures { IfOk result (line.IsCommand line.serve_app) }
+    ensures { IfOk result (line.IsAppCommand line.serve_app) }
 {
     new_command(
         alloc,
@@ -438,7 +438,7 @@ fn serve_command<'a>(alloc: Global) -> Result<Command<'a>, AllocError>
 }
 
 fn ticket_command<'a>(alloc: Global) -> Result<Command<'a>, AllocError>
-    ensures { IfOk result (line.IsCommand line.ticket_app) }
+    ensures { IfOk result (line.IsAppCommand line.ticket_app) }
 {
     new_command(
         alloc,
@@ -450,7 +450,7 @@ fn ticket_command<'a>(alloc: Global) -> Result<Command<'a>, AllocError>
 }
 
 fn yield_command<'a>(alloc: Global) -> Result<Command<'a>, AllocError>
-    ensures { IfOk result (line.IsCommand line.yield_app) }
+    ensures { IfOk result (line.IsAppCommand line.yield_app) }
 {
     new_command(
         alloc,
@@ -463,7 +463,7 @@ fn yield_command<'a>(alloc: Global) -> Result<Command<'a>, AllocError>
 
 // The command of a word.
 fn command_for<'a>(alloc: Global, word: Word) -> Result<Command<'a>, AllocError>
-    ensures { IfOk result (line.IsCommand (line.word_app word)) }
+    ensures { IfOk result (line.IsAppCommand (line.word_app word)) }
 {
     match word {
         Word::Replay => replay_command(alloc),
@@ -716,7 +716,7 @@ fn request_in<'a>(word: Word, values: &ArgMatches<'a>) -> Option<Request<'a>>
 
 // What the command that was read asks for.
 fn request_read<'a>(matches: &ArgMatches<'a>) -> Option<Request<'a>>
-    ensures { line.AsAsked result (line.Asks (subcommand_rows_of matches.now)) }
+    ensures { line.AsAsked result (line.AsksFor (subcommand_rows_of matches.now)) }
 {
     let (name, values) = matches.subcommand()?;
     request_in(word_of(name)?, values)
@@ -726,7 +726,7 @@ fn request_read<'a>(matches: &ArgMatches<'a>) -> Option<Request<'a>>
 pub fn request_of<'a>(alloc: Global, words: &'a [String]) -> Result<Option<Request<'a>>, Error>
     ensures ok { IfOk result (λ found.
         (fault_of line.shop_app (map string_bytes words.entry.now) ≡ [])
-        × line.AsAsked found (line.Asks
+        × line.AsAsked found (line.AsksFor
         (subcommand_of line.shop_app (map string_bytes words.entry.now)))) }
     ensures err { IfErr result
         (HasKind (fault_of line.shop_app (map string_bytes words.entry.now))) }

@@ -3,8 +3,8 @@ use Rattle.cut_bars.specs.Levels.{Has, HasCell}
 use Rattle.cut_bars.proofs.DividedRooms.{division_same}
 use Rattle.cut_bars.proofs.divide.divide.Goals as goal
 
-pub divide_lists-requires-clause-small_front : goal.divide_lists-requires-clause-small_front
-divide_lists-requires-clause-small_front g c = (g.T.Number.limit, rw c.deref.ensures.value (rw c.in-Listed-Listed.is-0 at c.requires.small_front))
+pub divide_lists-requires-clause-small_prefix : goal.divide_lists-requires-clause-small_prefix
+divide_lists-requires-clause-small_prefix g c = (g.T.Number.limit, rw c.deref.ensures.value (rw c.in-Listed-Listed.is-0 at c.requires.small_prefix))
 
 pub divide_lists-requires-clause-small_back : goal.divide_lists-requires-clause-small_back
 divide_lists-requires-clause-small_back g c = (g.T.Number.limit, rw c.deref-in-Listed-Listed.ensures.value (rw c.in-Listed-Listed.is-1 at c.requires.small_back))
@@ -16,5 +16,5 @@ returns-in-Listed-Listed g c =
 pub returns : goal.returns
 returns g c =
     let f = g.T.Number.value in
-    division_same c.args.whole c.divide_tables.result (HasCell (map f c.in_ok-front.front.items)) (Has f c.args.front) (HasCell (map f c.in_ok-back.back.items)) (Has f c.args.back)
-    (rw c.deref-3.ensures.value at (rw c.deref-2.ensures.value at c.divide_tables.ensures)) c.in_ok-front.ensures.same c.in_ok-back.ensures.same
+    division_same c.args.whole c.divide_tables.result (HasCell (map f c.in_ok-prefix.prefix.items)) (Has f c.args.prefix) (HasCell (map f c.in_ok-back.back.items)) (Has f c.args.back)
+    (rw c.deref-3.ensures.value at (rw c.deref-2.ensures.value at c.divide_tables.ensures)) c.in_ok-prefix.ensures.same c.in_ok-back.ensures.same

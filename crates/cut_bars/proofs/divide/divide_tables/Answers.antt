@@ -8,24 +8,24 @@ use Rattle.cut_bars.proofs.divide.divide_tables.Goals as goal
 pub loop-room-init : goal.loop-room-init
 loop-room-init g c =
     let f = g.T.Number.value in
-    let front = value_at f c.args.front.now 0 c.index-front-0.result (omega (arith, c.requires.front)) c.index-front-0.is in
+    let prefix = value_at f c.args.prefix.now 0 c.index-prefix-0.result (omega (arith, c.requires.prefix)) c.index-prefix-0.is in
     let back = value_at f c.args.back.now 0 c.index-back-0.result (omega (arith, c.requires.back)) c.index-back-0.is in
-    tables_start c.args.whole g.T.Number.limit (map f c.args.front.now) (map f c.args.back.now) (same_length f c.args.front.now ∙ c.requires.front) (same_length f c.args.back.now ∙ c.requires.back) c.requires.small_front
-    c.requires.small_back c.worth-behind.result _ (omega (arith, back, c.worth-behind.ensures)) (omega (arith, front, c.worth.ensures))
+    tables_start c.args.whole g.T.Number.limit (map f c.args.prefix.now) (map f c.args.back.now) (same_length f c.args.prefix.now ∙ c.requires.prefix) (same_length f c.args.back.now ∙ c.requires.back) c.requires.small_prefix
+    c.requires.small_back c.worth-after.result _ (omega (arith, back, c.worth-after.ensures)) (omega (arith, prefix, c.worth.ensures))
 
 pub overflow_add-both : goal.overflow_add-both
 overflow_add-both g c =
     let f = g.T.Number.value in
     let at = c.args.whole - c.loop-room.room in
-    let front = value_at f c.args.front.now at c.index-front-at.result (omega (arith, c.requires.front)) c.index-front-at.is in
+    let prefix = value_at f c.args.prefix.now at c.index-prefix-at.result (omega (arith, c.requires.prefix)) c.index-prefix-at.is in
     let back = value_at f c.args.back.now c.loop-room.room c.index-back-room.result (omega arith) c.index-back-room.is in
-    let n = greater c.args.whole g.T.Number.limit (map f c.args.front.now) (map f c.args.back.now) (same_length f c.args.front.now ∙ c.requires.front) (same_length f c.args.back.now ∙ c.requires.back) c.requires.small_front
-    c.requires.small_back c.loop-room.room c.loop-room.behind c.max-behind.result c.loop-room.invariant.0 (omega (arith, back, c.worth-in-loop-room.ensures)) in
+    let n = greater c.args.whole g.T.Number.limit (map f c.args.prefix.now) (map f c.args.back.now) (same_length f c.args.prefix.now ∙ c.requires.prefix) (same_length f c.args.back.now ∙ c.requires.back) c.requires.small_prefix
+    c.requires.small_back c.loop-room.room c.loop-room.after c.max-after.result c.loop-room.invariant.0 (omega (arith, back, c.worth-in-loop-room.ensures)) in
     omega (
       arith,
-      front,
+      prefix,
       c.worth-cell.ensures,
-      cell_low (2 ^ 30) (map f c.args.front.now) c.args.whole at c.requires.small_front.low,
+      cell_low (2 ^ 30) (map f c.args.prefix.now) c.args.whole at c.requires.small_prefix.low,
       cell_low (2 ^ 30) (map f c.args.back.now) c.args.whole n.0 c.requires.small_back.low,
       n.1,
       n.2,
@@ -36,26 +36,26 @@ pub loop-room-preserved : goal.loop-room-preserved
 loop-room-preserved g c =
     let f = g.T.Number.value in
     let at = c.args.whole - c.loop-room.room in
-    let xs = map f c.args.front.now in
+    let xs = map f c.args.prefix.now in
     let ys = map f c.args.back.now in
-    let front_len = same_length f c.args.front.now ∙ c.requires.front in
+    let front_len = same_length f c.args.prefix.now ∙ c.requires.prefix in
     let back_len = same_length f c.args.back.now ∙ c.requires.back in
-    let front = value_at f c.args.front.now at c.index-front-at.result (omega (arith, c.requires.front)) c.index-front-at.is in
+    let prefix = value_at f c.args.prefix.now at c.index-prefix-at.result (omega (arith, c.requires.prefix)) c.index-prefix-at.is in
     let back = value_at f c.args.back.now c.loop-room.room c.index-back-room.result (omega arith) c.index-back-room.is in
-    let most : c.max-behind.result ≡ max (get_or (map f c.args.back.now) c.loop-room.room 0) c.loop-room.behind = omega (arith, back, c.worth-in-loop-room.ensures) in (
-      greatest_more c.args.whole g.T.Number.limit xs ys front_len back_len c.requires.small_front c.requires.small_back c.loop-room.room c.loop-room.behind c.max-behind.result c.loop-room.invariant.0 most,
+    let most : c.max-after.result ≡ max (get_or (map f c.args.back.now) c.loop-room.room 0) c.loop-room.after = omega (arith, back, c.worth-in-loop-room.ensures) in (
+      greatest_more c.args.whole g.T.Number.limit xs ys front_len back_len c.requires.small_prefix c.requires.small_back c.loop-room.room c.loop-room.after c.max-after.result c.loop-room.invariant.0 most,
       elim c.if-cell-ne0.branch [
         | then-cell-ne0 w ↦ rw w.found-is
-            (tables_more c.args.whole g.T.Number.limit xs ys front_len back_len c.requires.small_front c.requires.small_back c.loop-room.room c.loop-room.behind c.max-behind.result c.loop-room.found _ w.worthier-found.result
-            c.loop-room.invariant.0 most c.loop-room.invariant.1 (omega (arith, c.requires.back)) (omega (arith, front, c.worth-cell.ensures)) w.worthier-found.ensures (omega arith) (omega (arith, front, c.worth-cell.ensures)))
+            (tables_more c.args.whole g.T.Number.limit xs ys front_len back_len c.requires.small_prefix c.requires.small_back c.loop-room.room c.loop-room.after c.max-after.result c.loop-room.found _ w.worthier-found.result
+            c.loop-room.invariant.0 most c.loop-room.invariant.1 (omega (arith, c.requires.back)) (omega (arith, prefix, c.worth-cell.ensures)) w.worthier-found.ensures (omega arith) (omega (arith, prefix, c.worth-cell.ensures)))
         | else-cell-ne0 w ↦ rw w.found-is
-            (tables_skip c.args.whole g.T.Number.limit xs ys front_len back_len c.requires.small_front c.requires.small_back c.loop-room.room c.loop-room.found c.loop-room.invariant.1 (omega (arith, c.requires.back))
-            (omega (arith, front, c.worth-cell.ensures)))
+            (tables_skip c.args.whole g.T.Number.limit xs ys front_len back_len c.requires.small_prefix c.requires.small_back c.loop-room.room c.loop-room.found c.loop-room.invariant.1 (omega (arith, c.requires.back))
+            (omega (arith, prefix, c.worth-cell.ensures)))
       ],
     )
 
 pub returns : goal.returns
 returns g c =
     let f = g.T.Number.value in
-    tables_done c.args.whole g.T.Number.limit (map f c.args.front.now) (map f c.args.back.now) (same_length f c.args.front.now ∙ c.requires.front) (same_length f c.args.back.now ∙ c.requires.back) c.requires.small_front
+    tables_done c.args.whole g.T.Number.limit (map f c.args.prefix.now) (map f c.args.back.now) (same_length f c.args.prefix.now ∙ c.requires.prefix) (same_length f c.args.back.now ∙ c.requires.back) c.requires.small_prefix
     c.requires.small_back c.loop-room.room c.loop-room.found (omega (arith, c.requires.back)) c.loop-room.invariant.1

@@ -20,8 +20,8 @@ loop-i-preserved c =
           let last : list_any (λ v. same_pattern v.plan u.plan) (drop (i + 1) units) ≡ false = search rules in
           let line : told w.in_ok-line_of.field-0 ≡ plan_line units u.plan = w.in_ok-line_of.ensures ∙ ap f (sym found) in
           let items : c.if-not-comes_again.list.items ≡ c.loop-i.list.items ++ w.in_ok-line_of.field-0 ∷ [] = rw w.list-is w.in_ok-push.ensures.items in
-          let behind = map f (distinct (drop (i + 1) units)) in
-          ap (λ ls. map told ls ++ behind) items ∙ one_more c.loop-i.list.items _ _ behind line
+          let after = map f (distinct (drop (i + 1) units)) in
+          ap (λ ls. map told ls ++ after) items ∙ one_more c.loop-i.list.items _ _ after line
           ∙ ap (λ ls. map told c.loop-i.list.items ++ ls) (sym (for_good f _ _ u on last)) ∙ c.loop-i.invariant
       | else-not-comes_again w ↦
           let more : list_any (λ v. same_pattern v.plan u.plan) (drop (i + 1) units) ≡ true = search rules in

@@ -1,5 +1,5 @@
 use Rattle.std.proofs.Common.{◌≡◌}
-use Rattle.shop_backup.specs.Deeds.{Adds, passes}
+use Rattle.shop_backup.specs.Steps.{Adds, passes}
 use Rattle.shop_backup.proofs.backing.begin_next.Given as goal
 
 abbrev pub invariant-loop-before : goal.invariant-loop-before

@@ -7,7 +7,7 @@ use Rattle.shop_records.specs.declared.records.Demand.{Demand}
 use Rattle.shop_records.specs.Lists.{is_asked_for}
 use Rattle.shop_rows.specs.Keys.{demand_key}
 use Rattle.shop_rows.specs.Rows.{row_at}
-use Rattle.shop_book.proofs.Handed.{one_passes, passed_more, passed_rest, take_front}
+use Rattle.shop_book.proofs.Handed.{one_passes, passed_more, passed_rest, take_prefix}
 use Rattle.shop_book.proofs.memory_lists.first_asked.Goals as goal
 
 pub returns-then-most-as_slice : goal.returns-then-most-as_slice
@@ -19,7 +19,7 @@ returns-then-most-as_slice c =
     let same : length c.as_slice.result.now ≡ length c.loop-key.rows = ap length c.as_slice.ensures in
     let full : c.args.most ≡ length c.loop-key.rows = omega (arith, same, c.if-most-as_slice.true, c.loop-key.invariant.1) in
     sym (ap (take c.args.most) (passed_rest at test keys i ∙ ap (λ rows. rows ++ filter test (filter_map at (drop i keys))) (sym c.loop-key.invariant.0))
-    ∙ take_front c.args.most c.loop-key.rows (filter test (filter_map at (drop i keys))) full)
+    ∙ take_prefix c.args.most c.loop-key.rows (filter test (filter_map at (drop i keys))) full)
 
 pub loop-key-preserved : goal.loop-key-preserved
 loop-key-preserved c =

@@ -1,9 +1,9 @@
 use Rattle.std.proofs.Common.{subst}
-use Rattle.shop_commands.specs.Sinks.{AddsFront, change_of}
+use Rattle.shop_commands.specs.Sinks.{AddsPrefix, change_of}
 use Rattle.shop_commands.proofs.OrderFiles.{unwritten}
 use Rattle.shop_commands.proofs.orders.check_orders.Goals as goal
 
 pub returns-clause-err : goal.returns-clause-err
 returns-clause-err g c =
     let out = change_of g.W.Sink c.args.sink.now c.write_text.new.sink in
-    unwritten c.args.told _ _ out c.in_ok-line.ensures.ok (subst (AddsFront out) c.as_str.ensures.value c.write_text.ensures.front) c.write_text.result c.write_text.ensures.err
+    unwritten c.args.told _ _ out c.in_ok-line.ensures.ok (subst (AddsPrefix out) c.as_str.ensures.value c.write_text.ensures.prefix) c.write_text.result c.write_text.ensures.err

@@ -1,7 +1,7 @@
 use Rattle.std.proofs.Common.{ℕ, List, subst}
 use Rattle.std.specs.Prelude.{OnOk}
 use Rattle.shop_commands.specs.Plans.{IsFileWhole, IsFileWholeFault}
-use Rattle.shop_commands.specs.Sinks.{Adds, AddsFront, change_of}
+use Rattle.shop_commands.specs.Sinks.{Adds, AddsPrefix, change_of}
 use Rattle.shop_commands.proofs.Unwritten.{unwritten, written}
 use Rattle.shop_commands.proofs.performing.plan_order.Goals as goal
 
@@ -10,7 +10,7 @@ returns-clause-err g c =
     let out = change_of g.W.Sink c.args.sink.now c.write_text.new.sink in
     let made = λ (bytes : List ℕ). IsFileWhole bytes c.args.kerf c.args.step in
     let stops = λ (bytes : List ℕ). IsFileWholeFault bytes c.args.kerf c.args.step in
-    unwritten made stops _ _ out c.in_ok-lines.ensures.ok (subst (AddsFront out) c.as_str.ensures.value c.write_text.ensures.front) c.write_text.result c.write_text.ensures.err
+    unwritten made stops _ _ out c.in_ok-lines.ensures.ok (subst (AddsPrefix out) c.as_str.ensures.value c.write_text.ensures.prefix) c.write_text.result c.write_text.ensures.err
 
 pub returns-clause-ok : goal.returns-clause-ok
 returns-clause-ok g c =

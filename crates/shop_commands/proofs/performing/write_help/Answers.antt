@@ -7,5 +7,5 @@ pub returns-in-Err : goal.returns-in-Err
 returns-in-Err g c =
     let err = change_of g.E.Sink c.args.errors.now c.report_fault.new.errors in
     let told = subst (λ fault. TellsFault fault err) c.in-Err.ensures.err.0 c.report_fault.ensures.told in
-    let front = c.write_text.ensures.front in
-    inr (c.report_fault.ensures.status, (front.0, front.3), c.in-Err.ensures.err.1, told)
+    let prefix = c.write_text.ensures.prefix in
+    inr (c.report_fault.ensures.status, (prefix.0, prefix.3), c.in-Err.ensures.err.1, told)

@@ -10,9 +10,9 @@ use Rattle.shop_desk.proofs.decided.done.Goals as goal
 
 pub returns-clause-decision : goal.returns-clause-decision
 returns-clause-decision g c =
-    λ honest m held sound.
+    λ clean_disk m held sound.
     let is = c.in_ok-job.field-0 in
-    let rows = c.in_ok-job.ensures.rows honest m held in
+    let rows = c.in_ok-job.ensures.rows clean_disk m held in
     let found : AreDemandsFound (demand_at m) c.deref.result.now = rw c.deref.ensures.value rows.demands in
     end_decided m c.args.number is.job is.part is.material is.totals is.leaves.items rows All json_texts (Done c.args.number) refl refl
     (λ change totals j part material. IsDone j part material.limits totals (demand_at m) change) (λ change it. it) (g.B.Book.failed c.args.book.now) (g.B.Book.failed c.job_rows.new.book) c.decide_done.result

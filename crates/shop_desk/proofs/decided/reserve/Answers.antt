@@ -13,16 +13,16 @@ use Rattle.shop_desk.proofs.decided.reserve.Goals as goal
 
 pub returns-clause-decision : goal.returns-clause-decision
 returns-clause-decision g c =
-    λ honest m held sound.
-    let before_act = c.next_act.ensures.keeps.honest honest in
-    let before_leaves = c.leaves_for.ensures.keeps.honest before_act in
-    let before_material = c.material_for.ensures.keeps.honest before_leaves in
+    λ clean_disk m held sound.
+    let before_act = c.next_act.ensures.keeps.clean_disk clean_disk in
+    let before_leaves = c.leaves_for.ensures.keeps.clean_disk before_act in
+    let before_material = c.material_for.ensures.keeps.clean_disk before_leaves in
     let at_material = c.part.ensures.keeps.stays before_material m held in
     let at_leaves = c.material_for.ensures.keeps.stays before_leaves m at_material in
     let at_act = c.leaves_for.ensures.keeps.stays before_act m at_leaves in
     let is_row = c.in_ok-row.ensures.row before_material m held in
     let is_m = c.in_ok-material.ensures.row before_leaves m at_material in
-    let is_act = c.in_ok-act.ensures.number honest m at_act in
+    let is_act = c.in_ok-act.ensures.number clean_disk m at_act in
     let reads : Reads json_texts m (Reserve c.args.part c.args.tree.now) (reading_of c.in_ok-plan.plan) =
     subst (λ t. Reads json_texts m (Reserve c.args.part t) (reading_of c.in_ok-plan.plan)) c.as_str.ensures.value (c.in_ok-plan.ensures m c.args.part is_row is_m) in
     let found : AreDemandsFound (demand_at m) c.deref.result.now = rw c.deref.ensures.value (c.in_ok-leaves.ensures.found before_act m at_leaves) in

@@ -9,8 +9,8 @@ use Rattle.shop_desk.proofs.decided.scrap.Goals as goal
 
 pub returns-clause-decision : goal.returns-clause-decision
 returns-clause-decision g c =
-    λ honest m held sound.
-    let before_totals = c.totals_for.ensures.keeps.honest honest in
+    λ clean_disk m held sound.
+    let before_totals = c.totals_for.ensures.keeps.clean_disk clean_disk in
     turn_decided m c.args.part c.in_ok-row.row c.in_ok-totals.totals (c.in_ok-row.ensures.row before_totals m held)
-    (c.in_ok-totals.ensures.row honest m (c.part.ensures.keeps.stays before_totals m held)) json_texts (Scrap c.args.part) refl scrap_refusal state.Scrap reply.Scrap refl (λ change it. it)
+    (c.in_ok-totals.ensures.row clean_disk m (c.part.ensures.keeps.stays before_totals m held)) json_texts (Scrap c.args.part) refl scrap_refusal state.Scrap reply.Scrap refl (λ change it. it)
     (g.B.Book.failed c.args.book.now) (g.B.Book.failed c.totals_for.new.book) c.decide_scrap.result c.decide_scrap.ensures.decision

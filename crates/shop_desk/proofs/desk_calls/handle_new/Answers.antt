@@ -15,27 +15,27 @@ use Rattle.shop_desk.proofs.desk_calls.handle_new.Goals as goal
 
 pub returns-in-Err-clause-step : goal.returns-in-Err-clause-step
 returns-in-Err-clause-step g c =
-    λ _ is_message honest m held sound none.
+    λ _ is_message clean_disk m held sound none.
     decided json_texts g.B.Book.stands (g.B.Book.may_leave c.args.book.now) (g.B.Book.may_leave c.decide.new.book) (g.B.Book.holds c.decide.new.book)
-    m c.args.message.now c.in-Err.refusal (c.in-Err.ensures.decision honest m held sound).decision none sound (c.decide.ensures.keeps.stays honest m held) (c.decide.ensures.keeps.crash honest m held)
+    m c.args.message.now c.in-Err.refusal (c.in-Err.ensures.decision clean_disk m held sound).decision none sound (c.decide.ensures.keeps.stays clean_disk m held) (c.decide.ensures.keeps.crash clean_disk m held)
 
 pub returns-in_default-clause-step : goal.returns-in_default-clause-step
 returns-in_default-clause-step g c =
-    λ _ is_message honest m held sound none.
+    λ _ is_message clean_disk m held sound none.
     faulted json_texts g.B.Book.stands (g.B.Book.may_leave c.args.book.now) (g.B.Book.may_leave c.decide.new.book) (g.B.Book.holds c.decide.new.book)
-    m c.args.message.now _ (λ n s. n refl) sound (c.decide.ensures.keeps.stays honest m held) (c.decide.ensures.keeps.crash honest m held)
+    m c.args.message.now _ (λ n s. n refl) sound (c.decide.ensures.keeps.stays clean_disk m held) (c.decide.ensures.keeps.crash clean_disk m held)
 
 pub returns-in_default-keeping_message-clause-step : goal.returns-in_default-keeping_message-clause-step
 returns-in_default-keeping_message-clause-step g c =
-    λ _ is_message honest m held sound none.
+    λ _ is_message clean_disk m held sound none.
     faulted json_texts g.B.Book.stands (g.B.Book.may_leave c.args.book.now) (g.B.Book.may_leave c.decide.new.book) (g.B.Book.holds c.decide.new.book)
-    m c.args.message.now _ (λ n s. n refl) sound (c.decide.ensures.keeps.stays honest m held) (c.decide.ensures.keeps.crash honest m held)
+    m c.args.message.now _ (λ n s. n refl) sound (c.decide.ensures.keeps.stays clean_disk m held) (c.decide.ensures.keeps.crash clean_disk m held)
 
 -- the change that is committed keeps the message with both texts
 pub returns-in-Ok-commit-clause-step : goal.returns-in-Ok-commit-clause-step
 returns-in-Ok-commit-clause-step g c =
-    λ text is_message honest m held sound none.
-    let before = c.commit.ensures.honest honest in
+    λ text is_message clean_disk m held sound none.
+    let before = c.commit.ensures.clean_disk clean_disk in
     let kept = c.decide.ensures.keeps.stays before m held in
     let decision = (c.in-Ok.ensures.decision before m held sound).decision in
     let change = c.in-Ok-keeping_message.change in
@@ -47,7 +47,7 @@ returns-in-Ok-commit-clause-step g c =
     subst (λ answer. IsHandled json_texts g.B.Book.stands (g.B.Book.may_leave c.args.book.now) (g.B.Book.may_leave c.commit.new.self) (g.B.Book.holds c.commit.new.self) m c.args.message.now answer)
     (sym c.in-Ok-keeping_message.ensures.reply)
     (committed json_texts g.B.Book.stands (g.B.Book.may_leave c.args.book.now) (g.B.Book.may_leave c.decide.new.book) (g.B.Book.may_leave c.commit.new.self) (g.B.Book.holds c.commit.new.self)
-    m c.args.message.now decision.0 change made is_message none sound decision.1 decision.2 decision.3 row (c.in-Ok-commit.ensures.ok honest m kept fits) (c.in-Ok-commit.ensures.lasts honest m kept fits))
+    m c.args.message.now decision.0 change made is_message none sound decision.1 decision.2 decision.3 row (c.in-Ok-commit.ensures.ok clean_disk m kept fits) (c.in-Ok-commit.ensures.lasts clean_disk m kept fits))
 
 pub returns-in-Ok-commit-clause-failures : goal.returns-in-Ok-commit-clause-failures
 returns-in-Ok-commit-clause-failures g c =
@@ -56,8 +56,8 @@ returns-in-Ok-commit-clause-failures g c =
 
 pub returns-in-Err-commit-clause-step : goal.returns-in-Err-commit-clause-step
 returns-in-Err-commit-clause-step g c =
-    λ text is_message honest m held sound none.
-    let before = c.commit.ensures.honest honest in
+    λ text is_message clean_disk m held sound none.
+    let before = c.commit.ensures.clean_disk clean_disk in
     let kept = c.decide.ensures.keeps.stays before m held in
     let decision = (c.in-Ok.ensures.decision before m held sound).decision in
     let change = c.in-Ok-keeping_message.change in
@@ -68,15 +68,15 @@ returns-in-Err-commit-clause-step g c =
     let fits : Fits m change = subst (Fits m) (sym c.in-Ok-keeping_message.ensures.change) (fits_committed json_texts m c.args.message.now decision.0 made c.args.text c.in-Ok-reply_text.told (Refused BadMessage) c.in-Ok-reply_text.ensures none sound decision.1 decision.2 decision.3) in
     failed json_texts g.B.Book.stands (g.B.Book.may_leave c.args.book.now) (g.B.Book.may_leave c.decide.new.book) (g.B.Book.may_leave c.commit.new.self) (g.B.Book.holds c.commit.new.self)
     m c.args.message.now decision.0 change made is_message none sound decision.1 decision.2 decision.3 row c.from.result (is_fault json_texts c.from.result c.in-Err-commit.fault c.from.ensures)
-    (c.in-Err-commit.ensures.err honest m kept) (c.decide.ensures.keeps.crash before m held) (c.commit.ensures.crash honest m kept fits)
+    (c.in-Err-commit.ensures.err clean_disk m kept) (c.decide.ensures.keeps.crash before m held) (c.commit.ensures.crash clean_disk m kept fits)
 
 pub returns-in-Err-clause-store_fault : goal.returns-in-Err-clause-store_fault
 returns-in-Err-clause-store_fault g c =
-    λ is_message honest m held sound is. blamed json_texts m c.args.message.now (g.B.Book.failed c.args.book.now) (g.B.Book.failed c.decide.new.book) c.in-Err.refusal sound (c.in-Err.ensures.decision honest m held sound).blame is
+    λ is_message clean_disk m held sound is. blamed json_texts m c.args.message.now (g.B.Book.failed c.args.book.now) (g.B.Book.failed c.decide.new.book) c.in-Err.refusal sound (c.in-Err.ensures.decision clean_disk m held sound).blame is
 
 pub returns-in-Err-commit-clause-store_fault : goal.returns-in-Err-commit-clause-store_fault
 returns-in-Err-commit-clause-store_fault g c =
-    λ is_message honest m held sound is.
+    λ is_message clean_disk m held sound is.
     let first = g.B.Book.failed c.args.book.now in
     let decided = g.B.Book.failed c.decide.new.book in
     commit_blamed (Unit {0}) first decided (g.B.Book.failed c.commit.new.self) c.in-Err-commit.fault c.from.result (counted_made first decided c.in-Ok.change c.in-Ok.ensures.keeps.failures)
@@ -84,6 +84,6 @@ returns-in-Err-commit-clause-store_fault g c =
 
 pub returns-in-Ok-commit-clause-refused : goal.returns-in-Ok-commit-clause-refused
 returns-in-Ok-commit-clause-refused g c =
-    λ honest m held.
+    λ clean_disk m held.
     subst (λ answer. IfSome (refusal_in answer) (λ refusal. g.B.Book.holds c.commit.new.self m)) (sym c.in-Ok-keeping_message.ensures.reply)
     (none_refused c.in-Ok.change.reply _ c.in-Ok.ensures.told)

@@ -8,16 +8,16 @@ use Rattle.shop_desk.proofs.desk_calls.handle_with_text.Goals as goal
 
 pub returns-in_default-clause-step : goal.returns-in_default-clause-step
 returns-in_default-clause-step g c =
-    λ honest m held sound.
+    λ clean_disk m held sound.
     faulted json_texts g.B.Book.stands (g.B.Book.may_leave c.args.book.now) (g.B.Book.may_leave c.args.book.now) (g.B.Book.holds c.args.book.now)
     m c.args.message.now _ (λ n s. n refl) sound held (λ left it. it)
 
 pub returns-in-Ok-None-clause-step : goal.returns-in-Ok-None-clause-step
 returns-in-Ok-None-clause-step g c =
-    λ honest m held sound.
-    let before = c.handle_new.ensures.honest honest in
+    λ clean_disk m held sound.
+    let before = c.handle_new.ensures.clean_disk clean_disk in
     let none : kept_at m (pair_of c.args.message.now) ≡ None = sym (c.in-Ok-None.ensures.row before m held) ∙ c.in-Ok-None.field-0-is in
-    let handled = c.handle_new.ensures.step c.in-Ok.ensures.text c.message_text.ensures.message honest m (c.kept.ensures.keeps.stays before m held) sound none in
+    let handled = c.handle_new.ensures.step c.in-Ok.ensures.text c.message_text.ensures.message clean_disk m (c.kept.ensures.keeps.stays before m held) sound none in
     record {
       next = handled.next;
       step = handled.step;
@@ -29,21 +29,21 @@ returns-in-Ok-None-clause-step g c =
 
 pub returns-in-Ok-Some-clause-step : goal.returns-in-Ok-Some-clause-step
 returns-in-Ok-Some-clause-step g c =
-    λ honest m held sound.
-    let some : kept_at m (pair_of c.args.message.now) ≡ Some c.in-Ok-Some.kept = sym (c.in-Ok-Some.ensures.row honest m held) ∙ c.in-Ok-Some.field-0-is in
+    λ clean_disk m held sound.
+    let some : kept_at m (pair_of c.args.message.now) ≡ Some c.in-Ok-Some.kept = sym (c.in-Ok-Some.ensures.row clean_disk m held) ∙ c.in-Ok-Some.field-0-is in
     repeated json_texts g.B.Book.stands (g.B.Book.may_leave c.args.book.now) (g.B.Book.may_leave c.kept.new.self) (g.B.Book.holds c.kept.new.self)
     m c.args.message.now c.answer_again.result c.in-Ok-Some.kept some
     (c.answer_again.ensures c.args.message.now c.in-Ok.ensures.text (pair_of c.args.message.now) (sound.kept (pair_of c.args.message.now) c.in-Ok-Some.kept some)).0
-    sound (c.kept.ensures.keeps.stays honest m held) (c.kept.ensures.keeps.crash honest m held)
+    sound (c.kept.ensures.keeps.stays clean_disk m held) (c.kept.ensures.keeps.crash clean_disk m held)
 
 pub returns-in-Ok-Some-clause-store_fault : goal.returns-in-Ok-Some-clause-store_fault
 returns-in-Ok-Some-clause-store_fault g c =
-    λ honest m held sound is.
-    let some : kept_at m (pair_of c.args.message.now) ≡ Some c.in-Ok-Some.kept = sym (c.in-Ok-Some.ensures.row honest m held) ∙ c.in-Ok-Some.field-0-is in
+    λ clean_disk m held sound is.
+    let some : kept_at m (pair_of c.args.message.now) ≡ Some c.in-Ok-Some.kept = sym (c.in-Ok-Some.ensures.row clean_disk m held) ∙ c.in-Ok-Some.field-0-is in
     absurd ((c.answer_again.ensures c.args.message.now c.in-Ok.ensures.text (pair_of c.args.message.now) (sound.kept (pair_of c.args.message.now) c.in-Ok-Some.kept some)).1 is)
 
 pub returns-in-Err-clause-step : goal.returns-in-Err-clause-step
 returns-in-Err-clause-step g c =
-    λ honest m held sound.
+    λ clean_disk m held sound.
     faulted json_texts g.B.Book.stands (g.B.Book.may_leave c.args.book.now) (g.B.Book.may_leave c.kept.new.self) (g.B.Book.holds c.kept.new.self)
-    m c.args.message.now c.from.result (is_fault json_texts c.from.result c.in-Err.fault c.from.ensures) sound (c.kept.ensures.keeps.stays honest m held) (c.kept.ensures.keeps.crash honest m held)
+    m c.args.message.now c.from.result (is_fault json_texts c.from.result c.in-Err.fault c.from.ensures) sound (c.kept.ensures.keeps.stays clean_disk m held) (c.kept.ensures.keeps.crash clean_disk m held)

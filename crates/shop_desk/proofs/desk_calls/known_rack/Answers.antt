@@ -6,6 +6,6 @@ use Rattle.shop_desk.proofs.desk_calls.known_rack.Goals as goal
 
 pub returns-in-Ok-true-clause-answer : goal.returns-in-Ok-true-clause-answer
 returns-in-Ok-true-clause-answer g c =
-    λ honest m held n s.
+    λ clean_disk m held n s.
     ap (Rack c.args.material)
-    (rack_taken (parts_of m c.args.material) _ c.in-Ok-true.field-0 _ c.visit_parts.new.visitor c.in-Ok-true.field-0-test (λ what it. it honest m held) c.in-Ok-true.ensures.visit c.new.ensures)
+    (rack_taken (parts_of m c.args.material) _ c.in-Ok-true.field-0 _ c.visit_parts.new.visitor c.in-Ok-true.field-0-test (λ what it. it clean_disk m held) c.in-Ok-true.ensures.visit c.new.ensures)

@@ -5,7 +5,7 @@ use Rattle.shop_records.specs.declared.messages.Message.{Message}
 use Rattle.shop_records.specs.declared.messages.Reply.{Reply}
 use Rattle.shop_forms.specs.Forms.{json_texts}
 use Rattle.shop_desk.specs.Handled.{AreHandled}
-use Rattle.shop_desk.proofs.Handling.{handled_more, handled_honest, handled_up, handled_run}
+use Rattle.shop_desk.proofs.Handling.{handled_more, handled_clean_disk, handled_up, handled_run}
 use Rattle.shop_desk.proofs.desk_calls.run.Goals as goal
 
 pub loop-message-init : goal.loop-message-init
@@ -34,7 +34,7 @@ loop-message-preserved g c =
             step = c.handle-reply.ensures.step;
             refused = c.handle-reply.ensures.refused;
             is_message = c.handle-reply.ensures.message;
-            honest = c.handle-reply.ensures.honest;
+            clean_disk = c.handle-reply.ensures.clean_disk;
             failures = c.handle-reply.ensures.failures;
             store_fault = c.handle-reply.ensures.store_fault;
           })));
@@ -51,8 +51,8 @@ returns-clause-handled g c =
 pub returns-clause-run : goal.returns-clause-run
 returns-clause-run g c = handled_run json_texts g.B.Book c.args.book.now c.loop-message.book c.args.messages.now c.loop-message.replies.items (returns-clause-handled g c)
 
-pub returns-clause-honest : goal.returns-clause-honest
-returns-clause-honest g c = handled_honest json_texts g.B.Book c.args.book.now c.loop-message.book c.args.messages.now c.loop-message.replies.items (returns-clause-handled g c)
+pub returns-clause-clean_disk : goal.returns-clause-clean_disk
+returns-clause-clean_disk g c = handled_clean_disk json_texts g.B.Book c.args.book.now c.loop-message.book c.args.messages.now c.loop-message.replies.items (returns-clause-handled g c)
 
 pub returns-clause-failures : goal.returns-clause-failures
 returns-clause-failures g c = handled_up json_texts g.B.Book c.args.book.now c.loop-message.book c.args.messages.now c.loop-message.replies.items (returns-clause-handled g c)

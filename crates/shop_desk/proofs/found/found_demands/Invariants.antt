@@ -9,5 +9,5 @@ invariant-loop-number g l =
     record {
       keeps : Unchanged g.B.Book (λ before after. after ≡ before) l.fn.book l.book;
       numbers : numbers_in l.found ≡ take l.number-index l.numbers;
-      found : g.B.Book.is_honest l.book → (m : Content) → g.B.Book.holds l.fn.book m → AreFound (demand_at m) l.found;
+      found : g.B.Book.has_clean_disk l.book → (m : Content) → g.B.Book.holds l.fn.book m → AreFound (demand_at m) l.found;
     }

@@ -12,9 +12,9 @@ loop-leaf-preserved g c =
     let one = c.in_ok-demand.ensures.keeps in
     record {
       keeps = record {
-        honest = λ honest. before.honest (one.honest honest);
-        stays = λ honest m held. one.stays honest m (before.stays (one.honest honest) m held);
-        crash = λ honest m held left may. before.crash (one.honest honest) m held left (one.crash honest m (before.stays (one.honest honest) m held) left may);
+        clean_disk = λ clean_disk. before.clean_disk (one.clean_disk clean_disk);
+        stays = λ clean_disk m held. one.stays clean_disk m (before.stays (one.clean_disk clean_disk) m held);
+        crash = λ clean_disk m held left may. before.crash (one.clean_disk clean_disk) m held left (one.crash clean_disk m (before.stays (one.clean_disk clean_disk) m held) left may);
         failures = one.failures ∙ before.failures;
       };
       leaves =
@@ -22,10 +22,10 @@ loop-leaf-preserved g c =
           ∙ more_taken (λ (f : FoundLeaf). f.leaf) c.loop-leaf.found.items _ c.deref-leaf-items.result.now c.loop-leaf.leaf-index c.loop-leaf-test.true c.loop-leaf.invariant.leaves
           (get_or_default c.deref-leaf-items.result.now c.loop-leaf.leaf-index _ _ c.loop-leaf-test.true);
       numbered = subst (All IsNumbered) (sym c.in_ok-push_leaf.ensures) (one_more IsNumbered c.loop-leaf.found.items _ c.loop-leaf.invariant.numbered c.in_ok-demand.ensures.key);
-      found = λ honest m held.
-          let all : AreDemandsFound (demand_at m) c.loop-leaf.found.items = c.loop-leaf.invariant.found (one.honest honest) m held in
+      found = λ clean_disk m held.
+          let all : AreDemandsFound (demand_at m) c.loop-leaf.found.items = c.loop-leaf.invariant.found (one.clean_disk clean_disk) m held in
           let seen : AreDemandsFound (demand_at m) c.deref.result.now = rw c.deref.ensures.value all in
           subst (AreDemandsFound (demand_at m)) (sym c.in_ok-push_leaf.ensures)
           (one_more (λ (f : FoundLeaf). f.demand ≡ demand_at m f.leaf.demand) c.loop-leaf.found.items _ all
-          (c.in_ok-demand.ensures.row honest m (before.stays (one.honest honest) m held) seen));
+          (c.in_ok-demand.ensures.row clean_disk m (before.stays (one.clean_disk clean_disk) m held) seen));
     }

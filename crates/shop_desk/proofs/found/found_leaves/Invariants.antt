@@ -11,5 +11,5 @@ invariant-loop-leaf g l =
       keeps : Unchanged g.B.Book (λ before after. after ≡ before) l.fn.book l.book;
       leaves : leaves_in l.found.items ≡ take l.leaf-index l.leaf-items;
       numbered : All IsNumbered l.found.items;
-      found : g.B.Book.is_honest l.book → (m : Content) → g.B.Book.holds l.fn.book m → AreDemandsFound (demand_at m) l.found.items;
+      found : g.B.Book.has_clean_disk l.book → (m : Content) → g.B.Book.holds l.fn.book m → AreDemandsFound (demand_at m) l.found.items;
     }

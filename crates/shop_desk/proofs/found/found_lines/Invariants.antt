@@ -9,5 +9,5 @@ invariant-loop-line g l =
     record {
       keeps : Unchanged g.B.Book (λ before after. after ≡ before) l.fn.book l.book;
       lines : lines_in l.found.items ≡ take l.line-index l.lines;
-      found : g.B.Book.is_honest l.book → (m : Content) → g.B.Book.holds l.fn.book m → AreMaterialsFound (material_at m) l.found.items;
+      found : g.B.Book.has_clean_disk l.book → (m : Content) → g.B.Book.holds l.fn.book m → AreMaterialsFound (material_at m) l.found.items;
     }

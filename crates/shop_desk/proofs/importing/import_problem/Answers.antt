@@ -12,10 +12,10 @@ use Rattle.shop_desk.proofs.importing.import_problem.Goals as goal
 
 pub returns-clause-decision : goal.returns-clause-decision
 returns-clause-decision g c =
-    λ honest m held new.
-    let before_found = c.found_lines.ensures.keeps.honest honest in
-    let before_first = c.next_demand.ensures.keeps.honest before_found in
-    let before_rows = c.receipt_rows.ensures.keeps.honest before_first in
+    λ clean_disk m held new.
+    let before_found = c.found_lines.ensures.keeps.clean_disk clean_disk in
+    let before_first = c.next_demand.ensures.keeps.clean_disk before_found in
+    let before_rows = c.receipt_rows.ensures.keeps.clean_disk before_first in
     let at_rows = c.order.ensures.keeps.stays before_rows m held in
     let at_first = c.receipt_rows.ensures.keeps.stays before_first m at_rows in
     let at_found = c.next_demand.ensures.keeps.stays before_found m at_first in
@@ -23,7 +23,7 @@ returns-clause-decision g c =
     let rows = c.in_ok-known.ensures.rows before_first m at_rows in
     let is_lines = c.in_ok-found.ensures.lines ∙ c.as_slice-2.ensures ∙ c.in_ok-lines.ensures ∙ ap (problem_lines c.args.material) c.as_slice.ensures in
     let lines : lines_in c.deref.result.now ≡ problem_lines c.args.material c.in-Some.problem.pieces = rw c.deref.ensures.value is_lines in
-    let found : AreMaterialsFound (material_at m) c.deref.result.now = rw c.deref.ensures.value (c.in_ok-found.ensures.found honest m at_found) in
+    let found : AreMaterialsFound (material_at m) c.deref.result.now = rw c.deref.ensures.value (c.in_ok-found.ensures.found clean_disk m at_found) in
     let spelled : IsProblem c.args.text.now c.in-Some.problem.size c.in-Some.problem.pieces =
     subst (λ o. MatchOption o ((size : Extent) (pieces : List Piece) → IsProblem c.args.text.now size pieces → ⊥) (λ p. IsProblem c.args.text.now p.size p.pieces)) c.in-Some.is c.in_ok-problem.ensures.spelled in
     problem_decided json_texts m c.args.order c.args.text.now c.in_ok-used.used (c.in_ok-used.ensures.row before_rows m held) (lines_in c.deref.result.now) c.in_ok-first.first c.in_ok-body.body c.in_ok-body.ensures

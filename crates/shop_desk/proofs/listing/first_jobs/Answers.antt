@@ -7,11 +7,11 @@ use Rattle.shop_answers.proofs.ListingReply.{first_listed, more_listed}
 use Rattle.shop_desk.proofs.listing.first_jobs.Goals as goal
 
 pub returns-clause-jobs : goal.returns-clause-jobs
-returns-clause-jobs g c = λ honest m held.
+returns-clause-jobs g c = λ clean_disk m held.
     let all = job_numbers (waiting_jobs m c.args.after) in
-    let before = c.in_ok-rows.ensures.keeps.honest honest in
+    let before = c.in_ok-rows.ensures.keeps.clean_disk clean_disk in
     let is : c.in_ok-numbers.numbers ≡ take (MOST_TOLD + 1) all = c.in_ok-numbers.ensures.rows before m held in (
-      c.in_ok-rows.ensures.rows honest m (c.in_ok-numbers.ensures.keeps.stays before m held)
+      c.in_ok-rows.ensures.rows clean_disk m (c.in_ok-numbers.ensures.keeps.stays before m held)
           ∙ ap (filter_map (job_row_at m)) (c.first_told.ensures ∙ first_listed c.as_slice.result.now all (c.as_slice.ensures ∙ is)),
       c.are_more.ensures ∙ more_listed c.as_slice-2.result.now all (c.as_slice-2.ensures ∙ is),
     )

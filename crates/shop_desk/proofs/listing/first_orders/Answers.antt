@@ -4,9 +4,9 @@ use Rattle.shop_desk.proofs.listing.first_orders.Goals as goal
 
 pub returns-clause-orders : goal.returns-clause-orders
 returns-clause-orders g c =
-    λ honest m held.
-    let before = c.in_ok-rows.ensures.keeps.honest honest in
+    λ clean_disk m held.
+    let before = c.in_ok-rows.ensures.keeps.clean_disk clean_disk in
     let told : c.first_told.result.now ≡ first_told c.in_ok-codes.codes = c.first_told.ensures ∙ ap first_told c.as_slice.ensures in (
       c.in_ok-codes.ensures.rows before m held,
-      subst (λ codes. AreOrderRows m codes c.in_ok-rows.rows) told (c.in_ok-rows.ensures.rows honest m (c.in_ok-codes.ensures.keeps.stays before m held)),
+      subst (λ codes. AreOrderRows m codes c.in_ok-rows.rows) told (c.in_ok-rows.ensures.rows clean_disk m (c.in_ok-codes.ensures.keeps.stays before m held)),
     )

@@ -8,14 +8,14 @@ loop-number-preserved g c =
     let one = c.in_ok-found.ensures.keeps in
     record {
       keeps = record {
-        honest = λ honest. before.honest (one.honest honest);
-        stays = λ honest m held. one.stays honest m (before.stays (one.honest honest) m held);
-        crash = λ honest m held left may. before.crash (one.honest honest) m held left (one.crash honest m (before.stays (one.honest honest) m held) left may);
+        clean_disk = λ clean_disk. before.clean_disk (one.clean_disk clean_disk);
+        stays = λ clean_disk m held. one.stays clean_disk m (before.stays (one.clean_disk clean_disk) m held);
+        crash = λ clean_disk m held left may. before.crash (one.clean_disk clean_disk) m held left (one.crash clean_disk m (before.stays (one.clean_disk clean_disk) m held) left may);
         failures = one.failures ∙ before.failures;
       };
-      rows = λ honest m held.
+      rows = λ clean_disk m held.
           c.in_ok-push_job.ensures
           ∙ row_more m c.args.numbers.now c.loop-number.number-index c.loop-number.rows c.in_ok-found.found c.loop-number-test.true
-          (c.loop-number.invariant.rows (one.honest honest) m held)
-          (c.in_ok-found.ensures.found honest m (before.stays (one.honest honest) m held));
+          (c.loop-number.invariant.rows (one.clean_disk clean_disk) m held)
+          (c.in_ok-found.ensures.found clean_disk m (before.stays (one.clean_disk clean_disk) m held));
     }

@@ -9,5 +9,5 @@ abbrev pub invariant-loop-number : goal.invariant-loop-number
 invariant-loop-number g l =
     record {
       keeps : Unchanged g.B.Book (λ before after. after ≡ before) l.fn.book l.book;
-      rows : g.B.Book.is_honest l.book → (m : Content) → g.B.Book.holds l.fn.book m → l.rows ≡ filter_map (job_row_at m) (take l.number-index l.numbers);
+      rows : g.B.Book.has_clean_disk l.book → (m : Content) → g.B.Book.holds l.fn.book m → l.rows ≡ filter_map (job_row_at m) (take l.number-index l.numbers);
     }

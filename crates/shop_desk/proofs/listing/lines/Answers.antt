@@ -4,7 +4,7 @@ use Rattle.shop_desk.proofs.listing.lines.Goals as goal
 
 pub returns-in-Ok-true-clause-answer : goal.returns-in-Ok-true-clause-answer
 returns-in-Ok-true-clause-answer g c =
-    λ honest m held n s.
-    let before = c.known_lines.ensures.keeps.honest honest in
+    λ clean_disk m held n s.
+    let before = c.known_lines.ensures.keeps.clean_disk clean_disk in
     subst (λ there. IsLinesAnswer m c.args.order there c.known_lines.result) (sym c.in-Ok-true.field-0-test ∙ c.in-Ok-true.ensures.row before m held)
-    (c.known_lines.ensures.answer honest m (c.order.ensures.keeps.stays before m held) n s)
+    (c.known_lines.ensures.answer clean_disk m (c.order.ensures.keeps.stays before m held) n s)

@@ -8,13 +8,13 @@ loop-order-preserved g c =
     let one = c.in_ok-row.ensures.keeps in
     record {
       keeps = record {
-        honest = λ honest. before.honest (one.honest honest);
-        stays = λ honest m held. one.stays honest m (before.stays (one.honest honest) m held);
-        crash = λ honest m held left may. before.crash (one.honest honest) m held left (one.crash honest m (before.stays (one.honest honest) m held) left may);
+        clean_disk = λ clean_disk. before.clean_disk (one.clean_disk clean_disk);
+        stays = λ clean_disk m held. one.stays clean_disk m (before.stays (one.clean_disk clean_disk) m held);
+        crash = λ clean_disk m held left may. before.crash (one.clean_disk clean_disk) m held left (one.crash clean_disk m (before.stays (one.clean_disk clean_disk) m held) left may);
         failures = one.failures ∙ before.failures;
       };
-      rows = λ honest m held.
+      rows = λ clean_disk m held.
           order_more m c.args.orders.now c.loop-order.order-index c.order-item.result c.loop-order.rows c.push.new.self c.in_ok-row.row c.loop-order-test.true c.order-item.is
-          (c.loop-order.invariant.rows (one.honest honest) m held)
-          (c.in_ok-row.ensures.row honest m (before.stays (one.honest honest) m held)) c.in_ok-push.ensures.ok;
+          (c.loop-order.invariant.rows (one.clean_disk clean_disk) m held)
+          (c.in_ok-row.ensures.row clean_disk m (before.stays (one.clean_disk clean_disk) m held)) c.in_ok-push.ensures.ok;
     }

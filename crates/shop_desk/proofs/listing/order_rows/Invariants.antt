@@ -8,5 +8,5 @@ abbrev pub invariant-loop-order : goal.invariant-loop-order
 invariant-loop-order g l =
     record {
       keeps : Unchanged g.B.Book (λ before after. after ≡ before) l.fn.book l.book;
-      rows : g.B.Book.is_honest l.book → (m : Content) → g.B.Book.holds l.fn.book m → AreOrderRows m (take l.order-index l.orders) l.rows;
+      rows : g.B.Book.has_clean_disk l.book → (m : Content) → g.B.Book.holds l.fn.book m → AreOrderRows m (take l.order-index l.orders) l.rows;
     }

@@ -4,6 +4,6 @@ use Rattle.shop_desk.proofs.listing.row_of_order.Goals as goal
 
 pub returns-clause-row : goal.returns-clause-row
 returns-clause-row g c =
-    λ honest m held.
-    let all = c.in_ok-lines.ensures.rows honest m held in
+    λ clean_disk m held.
+    let all = c.in_ok-lines.ensures.rows clean_disk m held in
     record { lines = c.in_ok-lines.lines; all = all; is = c.order_row.ensures (rw c.as_slice.ensures all.rising) ∙ ap (order_row c.args.order) c.as_slice.ensures }

@@ -13,8 +13,8 @@ returns-in-None-clause-ok g c =
     let said : c.deref.result.now ≡ shop_messages c.args.entries.now = c.deref.ensures.value ∙ c.in_ok-messages.ensures in (
       replies,
       subst (All IsAccepted) c.deref-2.ensures.value c.in-None.ensures,
-      λ honest m held sound.
-          subst (λ (ms : List Message). HasRun json_texts g.B.Book c.args.book.now c.run.new.book m ms replies) said (c.in_ok-replies.ensures.run honest m held sound),
+      λ clean_disk m held sound.
+          subst (λ (ms : List Message). HasRun json_texts g.B.Book c.args.book.now c.run.new.book m ms replies) said (c.in_ok-replies.ensures.run clean_disk m held sound),
     )
 
 pub returns-clause-err : goal.returns-clause-err
@@ -23,6 +23,6 @@ returns-clause-err g c =
     let said : c.deref.result.now ≡ shop_messages c.args.entries.now = c.deref.ensures.value ∙ c.in_ok-messages.ensures in (
       replies,
       subst (λ (rs : List Reply). IsFirstRefused rs c.in-Some.refused) c.deref-2.ensures.value c.in-Some.ensures,
-      λ honest m held sound.
-          subst (λ (ms : List Message). HasRun json_texts g.B.Book c.args.book.now c.run.new.book m ms replies) said (c.in_ok-replies.ensures.run honest m held sound),
+      λ clean_disk m held sound.
+          subst (λ (ms : List Message). HasRun json_texts g.B.Book c.args.book.now c.run.new.book m ms replies) said (c.in_ok-replies.ensures.run clean_disk m held sound),
     )

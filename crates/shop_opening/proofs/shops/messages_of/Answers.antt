@@ -6,14 +6,14 @@ use Rattle.shop_records.specs.declared.messages.Message.{Message}
 use Rattle.shop_opening.specs.Shops.{message_of, messages_from}
 use Rattle.shop_opening.proofs.shops.messages_of.Goals as goal
 
--- the message of the next entry goes behind those before it
+-- the message of the next entry goes after those before it
 more : (items later : List Message) (entries : List MaterialEntry) (number i : ℕ) (d : MaterialEntry) → i < length entries
     → later ≡ items ++ message_of number (get_or entries i d) ∷ []
     → later ++ messages_from (number + 1) (drop (i + 1) entries) ≡ items ++ messages_from number (drop i entries)
 more items later entries number i d within is =
     let next : number + 1 ≡ suc number = omega arith in
-    let behind : i + 1 ≡ suc i = omega arith in
-    ap₂ (λ a b. later ++ messages_from a (drop b entries)) next behind ∙
+    let after : i + 1 ≡ suc i = omega arith in
+    ap₂ (λ a b. later ++ messages_from a (drop b entries)) next after ∙
     ap (λ l. l ++ messages_from (suc number) (drop (suc i) entries)) is
     ∙ append_assoc items (message_of number (get_or entries i d) ∷ []) (messages_from (suc number) (drop (suc i) entries))
     ∙ ap (λ l. items ++ messages_from number l) (sym (drop-cons entries i d within))

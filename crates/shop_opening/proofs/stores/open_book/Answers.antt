@@ -48,5 +48,5 @@ returns-in-Err-adopt-clause-tables g c =
     let left = c.in-Err-adopt.ensures in
     record {
       leaves = λ m shown. leaves_shown conn last image c.in-Ok.ensures.opened c.in-Ok.ensures.found left.earlier m shown (λ file. inl refl) left.held_after left.renewed_crash left.crash;
-      version = λ is clean m shown. never_found conn last image c.in-Ok.ensures.opened c.in-Ok.ensures.found left.earlier m shown clean (left.neither is clean) (left.not_earlier is clean) (left.strange is);
+      version = λ is clean m shown. never_found conn last image c.in-Ok.ensures.opened c.in-Ok.ensures.found left.earlier m shown clean (left.neither is clean) (left.not_earlier is clean) (left.foreign is);
     }

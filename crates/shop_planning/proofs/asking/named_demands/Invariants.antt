@@ -9,5 +9,5 @@ abbrev pub invariant-loop-number : goal.invariant-loop-number
 invariant-loop-number g l =
     record {
       keeps : Unchanged g.B.Book (λ before after. after ≡ before) l.fn.book l.book;
-      found : g.B.Book.is_honest l.book → (m : Content) → g.B.Book.holds l.fn.book m → l.found.items ≡ map (found_demand m) (take l.number-index l.numbers);
+      found : g.B.Book.has_clean_disk l.book → (m : Content) → g.B.Book.holds l.fn.book m → l.found.items ≡ map (found_demand m) (take l.number-index l.numbers);
     }

@@ -9,5 +9,5 @@ invariant-loop-name g l =
     record {
       keeps : Unchanged g.B.Book (λ before after. after ≡ before) l.fn.book l.book;
       each : length l.found.items ≡ l.name-index;
-      found : g.B.Book.is_honest l.book → (m : Content) → g.B.Book.holds l.fn.book m → l.found.items ≡ map (part_at m) (take l.name-index l.names);
+      found : g.B.Book.has_clean_disk l.book → (m : Content) → g.B.Book.holds l.fn.book m → l.found.items ≡ map (part_at m) (take l.name-index l.names);
     }

@@ -16,8 +16,8 @@ loop-i-preserved c =
       | then-not-is_among+in_ok-push w ↦
           let first : list_any (are_alike part) (take i parts) ≡ false = search rules in
           let items : c.if-not-is_among.sizes.items ≡ c.loop-i.sizes.items ++ w.part_size.result ∷ [] = rw w.sizes-is w.in_ok-push.ensures.items in
-          let behind = map (part_size parts) (firsts are_alike (take (i + 1) parts) (drop (i + 1) parts)) in
-          ap (λ l. l ++ behind) (items ∙ ap (λ s. c.loop-i.sizes.items ++ s ∷ []) w.part_size.ensures)
+          let after = map (part_size parts) (firsts are_alike (take (i + 1) parts) (drop (i + 1) parts)) in
+          ap (λ l. l ++ after) (items ∙ ap (λ s. c.loop-i.sizes.items ++ s ∷ []) w.part_size.ensures)
           ∙ kept are_alike (part_size parts) parts i part within is c.loop-i.sizes.items (part_sizes parts) first c.loop-i.invariant
       | else-not-is_among w ↦
           let again : list_any (are_alike part) (take i parts) ≡ true = search rules in

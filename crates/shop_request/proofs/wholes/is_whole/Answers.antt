@@ -1,15 +1,15 @@
 use Rattle.std.proofs.Common.{◌≡◌, ◌++◌, [], ap, length, arith, subst, append-nil}
 use Rattle.std.proofs.lemmas.Bool.{leb-true, leb-false}
-use Rattle.shop_request.specs.Senses.{IsUnfinished}
+use Rattle.shop_request.specs.Parses.{IsUnfinished}
 use Rattle.shop_request.proofs.wholes.is_whole.Goals as goal
 
-pub returns-clause-settled : goal.returns-clause-settled
-returns-clause-settled c whole = let enough = leb-true _ _ whole in c.least_bytes.ensures.settled (omega (arith, enough))
+pub returns-clause-determined : goal.returns-clause-determined
+returns-clause-determined c whole = let enough = leb-true _ _ whole in c.least_bytes.ensures.determined (omega (arith, enough))
 
 pub returns-clause-waits : goal.returns-clause-waits
 returns-clause-waits c waits =
-    let came = c.args.came.now in
-    let same : came ++ [] ≡ came = append-nil came in
+    let received = c.args.received.now in
+    let same : received ++ [] ≡ received = append-nil received in
     let short = leb-false _ _ waits in
     subst IsUnfinished same (c.least_bytes.ensures.waits [] (omega (arith, ap length same, short)))
 

@@ -1,7 +1,7 @@
 use Rattle.std.proofs.Common.{Bool, subst}
 use Rattle.cut_measure.specs.Names.{name_cmp}
 use Rattle.shop_records.specs.Content.{is_listed}
-use Rattle.shop_rows.specs.Open.{finds_with, IsKeySettled}
+use Rattle.shop_rows.specs.Open.{finds_with, SetsKey}
 use Rattle.shop_rows.specs.declared.names.OpenPart.{OpenPart}
 use Rattle.shop_rows.proofs.Listed.{listed, found_own}
 use Rattle.shop_rows.proofs.names.list_part.Goals as goal
@@ -10,5 +10,5 @@ pub returns-clause-lists : goal.returns-clause-lists
 returns-clause-lists c = λ find lists is.
     let part = c.args.part.now in
     listed part (finds_with name_cmp part.name part find) c.unlist.new.lists.items c.settle_key.new.lists.items (c.unlist.ensures.others find lists is) (found_own part find)
-    (subst (λ (key : OpenPart). IsKeySettled key (is_listed part.material part) c.unlist.new.lists.items c.settle_key.new.lists.items) c.of.ensures
-    (subst (λ (b : Bool). IsKeySettled c.of.result b c.unlist.new.lists.items c.settle_key.new.lists.items) c.is_listed-is_there.ensures c.settle_key.ensures.settled))
+    (subst (λ (key : OpenPart). SetsKey key (is_listed part.material part) c.unlist.new.lists.items c.settle_key.new.lists.items) c.of.ensures
+    (subst (λ (b : Bool). SetsKey c.of.result b c.unlist.new.lists.items c.settle_key.new.lists.items) c.is_listed-is_there.ensures c.settle_key.ensures.settled))

@@ -8,4 +8,4 @@ each g P f h [] = tt
 each g P f h (a ∷ xs) = λ r f' called. let m = h a r f' called in (m.0, subst (λ f''. ReturnsEach g P f'' xs) (sym m.1) (each g P f h xs))
 
 pub returns-clause-position : goal.returns-clause-position
-returns-clause-position g c = c.binary_search_by.ensures.position (λ row. g.R.Key.RowKey.cmp (g.R.Row.key_of row) c.args.key) (record { at = each _ _ _ (λ a r f' called. (search rules, search rules)) })
+returns-clause-position g c = c.binary_search_by.ensures.position (λ row. g.R.Key.RowKey.cmp (g.R.KeyedRow.key_of row) c.args.key) (record { at = each _ _ _ (λ a r f' called. (search rules, search rules)) })

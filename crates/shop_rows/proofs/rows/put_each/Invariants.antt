@@ -6,8 +6,8 @@ use Rattle.shop_rows.proofs.rows.put_each.Given as goal
 abbrev pub invariant-loop-row : goal.invariant-loop-row
 invariant-loop-row g l =
     record {
-      rising : IsTrue (rise g.R.Row.key_of g.R.Key.RowKey.cmp l.rows.items);
+      rising : IsTrue (rise g.R.KeyedRow.key_of g.R.Key.RowKey.cmp l.rows.items);
       room : vec_len l.rows + (length l.added - l.row-index) ≤ vec_capacity l.rows;
-      rest : put_each g.R.Row.key_of g.R.Key.RowKey.cmp (drop l.row-index l.added) (entries_of g.R.Row.key_of g.R.Key.RowKey.cmp l.rows.items)
-          ≡ put_each g.R.Row.key_of g.R.Key.RowKey.cmp l.added (entries_of g.R.Row.key_of g.R.Key.RowKey.cmp l.fn.rows.items);
+      rest : put_each g.R.KeyedRow.key_of g.R.Key.RowKey.cmp (drop l.row-index l.added) (entries_of g.R.KeyedRow.key_of g.R.Key.RowKey.cmp l.rows.items)
+          ≡ put_each g.R.KeyedRow.key_of g.R.Key.RowKey.cmp l.added (entries_of g.R.KeyedRow.key_of g.R.Key.RowKey.cmp l.fn.rows.items);
     }

@@ -8,16 +8,16 @@ use Rattle.shop_rows.proofs.rows.rises.Goals.{in-Less, in_default}
 pub returns : goal.returns
 returns g c =
     let rows = c.args.rows.now in
-    sym (met _ (rise_by_steps g.R.Row.key_of g.R.Key.RowKey.cmp g.met.R.Key.RowKey.total g.met.R.Key.RowKey.exact rows (λ k d within.
+    sym (met _ (rise_by_steps g.R.KeyedRow.key_of g.R.Key.RowKey.cmp g.met.R.Key.RowKey.total g.met.R.Key.RowKey.exact rows (λ k d within.
     let before : k + 1 < c.loop-i.i = omega arith in
-    subst (λ n. g.R.Key.RowKey.cmp (g.R.Row.key_of (get_or rows k d)) (g.R.Row.key_of (get_or rows n d)) ≡ Less) (add-one k) (c.loop-i.invariant.1 k d before))))
+    subst (λ n. g.R.Key.RowKey.cmp (g.R.KeyedRow.key_of (get_or rows k d)) (g.R.KeyedRow.key_of (get_or rows n d)) ≡ Less) (add-one k) (c.loop-i.invariant.1 k d before))))
 
 pub returns-then-not-matches : goal.returns-then-not-matches
 returns-then-not-matches g c =
     let rows = c.args.rows.now in
     let i = c.loop-i.i in
     let x = c.index-rows-i.result in
-    let key_of = g.R.Row.key_of in
+    let key_of = g.R.KeyedRow.key_of in
     let cmp = g.R.Key.RowKey.cmp in
     let next : c.index-rows-i-in-loop-i.result ≡ get_or rows i x = c.index-rows-i-in-loop-i.is ∙ get_or_default rows i c.index-rows-i-in-loop-i.result x c.loop-i-test.true in
     sym (no_rise key_of cmp g.met.R.Key.RowKey.total g.met.R.Key.RowKey.exact rows (i - 1) i x (omega (arith, c.loop-i.invariant.0)) c.loop-i-test.true (λ less. elim c.match-matches.branch [

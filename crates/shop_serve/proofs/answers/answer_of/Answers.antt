@@ -4,7 +4,7 @@ use Rattle.shop_serve.proofs.answers.answer_of.Goals as goal
 
 pub returns-in-Ok-clause-step : goal.returns-in-Ok-clause-step
 returns-in-Ok-clause-step g c =
-    one_ruled c.args.site.now g.B.Book c.args.book.now c.args.came.now c.rule-ruling.result c.requires.some c.rule-ruling.ensures
+    one_ruled c.args.site.now g.B.Book c.args.book.now c.args.received.now c.rule-ruling.result c.requires.some c.rule-ruling.ensures
     (no_route c.rule-ruling.result (sym c.is_routed.ensures ∙ c.if-is_routed.false))
 
 pub returns-in-Err-clause-step : goal.returns-in-Err-clause-step

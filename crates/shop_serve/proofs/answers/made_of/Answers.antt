@@ -5,5 +5,5 @@ use Rattle.shop_serve.proofs.answers.made_of.Goals as goal
 
 pub returns-in-Made-clause-made : goal.returns-in-Made-clause-made
 returns-in-Made-clause-made g c =
-    made-alone c.args.site.now g.B.Book c.args.book.now c.answer_of.new.book (g.K.Watch.times c.args.watch.now) c.args.came.now c.in-Made.made
-    (subst (IsNext c.args.site.now g.B.Book c.args.book.now c.answer_of.new.book c.args.came.now) c.in-Made.is c.in_ok-made.ensures.made)
+    made-alone c.args.site.now g.B.Book c.args.book.now c.answer_of.new.book (g.K.Watch.times c.args.watch.now) c.args.received.now c.in-Made.made
+    (subst (IsNext c.args.site.now g.B.Book c.args.book.now c.answer_of.new.book c.args.received.now) c.in-Made.is c.in_ok-made.ensures.made)

@@ -2,7 +2,7 @@ use Rattle.std.proofs.Common.{◌≡◌, ◌∙◌, ◌++◌, ◌∷◌, [], Lis
 use Rattle.std.specs.Fmt.{decimal}
 use Rattle.std.proofs.lemmas.Fmt.{decimal_digit}
 use Rattle.std.proofs.lemmas.Result.{IfOk-weaker}
-use Rattle.shop_request.specs.declared.faults.Fault.TheVariants as faults
+use Rattle.shop_request.specs.declared.faults.RequestFault.TheVariants as faults
 use Rattle.shop_wire.specs.AnswerBytes.{answer_bytes, fault_answer}
 use Rattle.shop_serve.proofs.answers.own_answer.Goals as goal
 

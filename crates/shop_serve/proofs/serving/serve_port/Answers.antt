@@ -1,6 +1,6 @@
 use Rattle.std.proofs.Common.{◌∙◌, ◌+◌, refl, sym, subst, arith}
 use Rattle.std.proofs.lemmas.Bool.{eqb-true}
-use Rattle.shop_serve.specs.Lines.{unanswered}
+use Rattle.shop_serve.specs.Clients.{unanswered}
 use Rattle.shop_serve.specs.Times.{Adds}
 use Rattle.shop_serve.proofs.Gathered.{rounds-none, rounds-all, rounds-one}
 use Rattle.shop_serve.proofs.Slots.{none-open, unanswered-empty}
@@ -10,10 +10,10 @@ use Rattle.shop_serve.proofs.serving.serve_port.Goals as goal
 pub loop-init : goal.loop-init
 loop-init g c =
     record {
-      all = rounds-none g.C.Connection c.args.site.now g.B.Book _ (g.P.Port.told c.args.port.now) (g.P.Port.given c.args.port.now) c.new-lines.result c.args.book.now (g.K.Watch.times c.args.watch.now);
-      run = stays c.args.site.now g.B.Book c.args.book.now 0 (unanswered c.new-lines.result) (omega (arith, unanswered-empty c.new-lines.result c.new-lines.ensures.empty));
+      all = rounds-none g.C.Connection c.args.site.now g.B.Book _ (g.P.Port.told c.args.port.now) (g.P.Port.given c.args.port.now) c.new-clients.result c.args.book.now (g.K.Watch.times c.args.watch.now);
+      run = stays c.args.site.now g.B.Book c.args.book.now 0 (unanswered c.new-clients.result) (omega (arith, unanswered-empty c.new-clients.result c.new-clients.ensures.empty));
       bound = omega arith;
-      honest = λ honest. honest;
+      clean_disk = λ clean_disk. clean_disk;
     }
 
 pub loop-preserved : goal.loop-preserved
@@ -22,15 +22,15 @@ loop-preserved g c =
     let more = c.turn.ensures in
     record {
       all = rounds-one g.C.Connection c.args.site.now g.B.Book _ (g.P.Port.told c.args.port.now) (g.P.Port.told c.loop.port) (g.P.Port.told c.turn.new.port) (g.P.Port.given c.args.port.now) (g.P.Port.given c.loop.port) (g.P.Port.given c.turn.new.port)
-          c.loop.accepted c.turn.new.accepted c.new-lines.result c.loop.lines c.turn.new.lines c.args.book.now c.loop.book c.turn.new.book
+          c.loop.accepted c.turn.new.accepted c.new-clients.result c.loop.clients c.turn.new.clients c.args.book.now c.loop.book c.turn.new.book
           (g.K.Watch.times c.args.watch.now) (g.K.Watch.times c.loop.watch) (g.K.Watch.times c.turn.new.watch) more.round.3.0 (g.P.Port.reported c.wait.new.self) more.round.0
           (subst (λ t. Adds (g.P.Port.told c.loop.port) t (g.P.Port.reported c.wait.new.self)) (sym more.told) c.in-Ok.ensures.told)
           (subst (λ t. Adds t (g.P.Port.given c.turn.new.port) more.round.0) c.wait.ensures.given more.round.2)
           more.round.1 more.round.3.1 so_far.all;
-      run = advances_more c.args.site.now g.B.Book c.args.book.now c.loop.book c.turn.new.book c.loop.accepted (unanswered c.loop.lines)
-          (unanswered c.loop.lines + c.turn.new.accepted) (unanswered c.turn.new.lines + c.loop.accepted) c.turn.new.accepted (unanswered c.turn.new.lines) (omega arith) more.honest so_far.run more.run;
+      run = advances_more c.args.site.now g.B.Book c.args.book.now c.loop.book c.turn.new.book c.loop.accepted (unanswered c.loop.clients)
+          (unanswered c.loop.clients + c.turn.new.accepted) (unanswered c.turn.new.clients + c.loop.accepted) c.turn.new.accepted (unanswered c.turn.new.clients) (omega arith) more.clean_disk so_far.run more.run;
       bound = more.bound;
-      honest = λ honest. so_far.honest (more.honest honest);
+      clean_disk = λ clean_disk. so_far.clean_disk (more.clean_disk clean_disk);
     }
 
 pub returns-then-is_empty-clause-all : goal.returns-then-is_empty-clause-all
@@ -38,35 +38,35 @@ returns-then-is_empty-clause-all g c =
     let so_far = c.loop.invariant in
     record {
       rounds = so_far.all.0;
-      first = c.new-lines.result;
-      last = c.loop.lines;
-      run = rounds-all g.C.Connection c.args.site.now g.B.Book _ (g.P.Port.told c.args.port.now) (g.P.Port.told c.loop.port) (g.P.Port.given c.args.port.now) (g.P.Port.given c.loop.port) c.loop.accepted c.new-lines.result c.loop.lines c.args.book.now c.loop.book (g.K.Watch.times c.args.watch.now) (g.K.Watch.times c.loop.watch) so_far.all;
-      none = λ key. rw c.new-lines.ensures.empty refl;
-      closed = λ key. none-open c.loop.lines.slots (eqb-true _ _ (sym c.is_empty.ensures ∙ c.if-is_empty.true)) key;
+      first = c.new-clients.result;
+      last = c.loop.clients;
+      run = rounds-all g.C.Connection c.args.site.now g.B.Book _ (g.P.Port.told c.args.port.now) (g.P.Port.told c.loop.port) (g.P.Port.given c.args.port.now) (g.P.Port.given c.loop.port) c.loop.accepted c.new-clients.result c.loop.clients c.args.book.now c.loop.book (g.K.Watch.times c.args.watch.now) (g.K.Watch.times c.loop.watch) so_far.all;
+      none = λ key. rw c.new-clients.ensures.empty refl;
+      closed = λ key. none-open c.loop.clients.slots (eqb-true _ _ (sym c.is_empty.ensures ∙ c.if-is_empty.true)) key;
       count = sym so_far.all.1 ∙ omega (arith, so_far.bound, c.if-accepted-limit.true);
       reported = so_far.all.2;
-      came = so_far.all.3;
+      arrived = so_far.all.3;
     }
 
 pub returns-then-is_empty-clause-served : goal.returns-then-is_empty-clause-served
 returns-then-is_empty-clause-served g c =
-    advanced c.args.site.now g.B.Book c.args.book.now c.loop.book c.loop.accepted (unanswered c.loop.lines) c.args.limit c.loop.invariant.bound c.loop.invariant.run
+    advanced c.args.site.now g.B.Book c.args.book.now c.loop.book c.loop.accepted (unanswered c.loop.clients) c.args.limit c.loop.invariant.bound c.loop.invariant.run
 
 pub returns-in-Err-clause-served : goal.returns-in-Err-clause-served
 returns-in-Err-clause-served g c =
-    advanced c.args.site.now g.B.Book c.args.book.now c.loop.book c.loop.accepted (unanswered c.loop.lines) c.args.limit c.loop.invariant.bound c.loop.invariant.run
+    advanced c.args.site.now g.B.Book c.args.book.now c.loop.book c.loop.accepted (unanswered c.loop.clients) c.args.limit c.loop.invariant.bound c.loop.invariant.run
 
 pub returns-clause-served : goal.returns-clause-served
 returns-clause-served g c =
-    advanced c.args.site.now g.B.Book c.args.book.now c.loop.book c.loop.accepted (unanswered c.loop.lines) c.args.limit c.loop.invariant.bound c.loop.invariant.run
+    advanced c.args.site.now g.B.Book c.args.book.now c.loop.book c.loop.accepted (unanswered c.loop.clients) c.args.limit c.loop.invariant.bound c.loop.invariant.run
 
 pub returns-in-None-clause-served : goal.returns-in-None-clause-served
 returns-in-None-clause-served g c =
     let so_far = c.loop.invariant in
     let more = c.turn.ensures in
-    advanced c.args.site.now g.B.Book c.args.book.now c.turn.new.book c.turn.new.accepted (unanswered c.turn.new.lines) c.args.limit more.bound
-    (advances_more c.args.site.now g.B.Book c.args.book.now c.loop.book c.turn.new.book c.loop.accepted (unanswered c.loop.lines)
-    (unanswered c.loop.lines + c.turn.new.accepted) (unanswered c.turn.new.lines + c.loop.accepted) c.turn.new.accepted (unanswered c.turn.new.lines) (omega arith) more.honest so_far.run more.run)
+    advanced c.args.site.now g.B.Book c.args.book.now c.turn.new.book c.turn.new.accepted (unanswered c.turn.new.clients) c.args.limit more.bound
+    (advances_more c.args.site.now g.B.Book c.args.book.now c.loop.book c.turn.new.book c.loop.accepted (unanswered c.loop.clients)
+    (unanswered c.loop.clients + c.turn.new.accepted) (unanswered c.turn.new.clients + c.loop.accepted) c.turn.new.accepted (unanswered c.turn.new.clients) (omega arith) more.clean_disk so_far.run more.run)
 
-pub returns-in-None-clause-honest : goal.returns-in-None-clause-honest
-returns-in-None-clause-honest g c honest = c.loop.invariant.honest (c.turn.ensures.honest honest)
+pub returns-in-None-clause-clean_disk : goal.returns-in-None-clause-clean_disk
+returns-in-None-clause-clean_disk g c clean_disk = c.loop.invariant.clean_disk (c.turn.ensures.clean_disk clean_disk)

@@ -1,5 +1,5 @@
 use Rattle.std.proofs.Common.{◌≤◌}
-use Rattle.shop_serve.specs.Lines.{unanswered}
+use Rattle.shop_serve.specs.Clients.{unanswered}
 use Rattle.shop_serve.specs.Serving.{Advances}
 use Rattle.shop_serve.proofs.Gathered.{RoundsSoFar}
 use Rattle.shop_serve.proofs.serving.serve_port.Given as goal
@@ -8,8 +8,8 @@ abbrev pub invariant-loop : goal.invariant-loop
 invariant-loop g l =
     record {
       all : RoundsSoFar g.C.Connection l.site g.B.Book g.P.Port (g.P.Port.told l.fn.port) (g.P.Port.told l.port) (g.P.Port.given l.fn.port) (g.P.Port.given l.port)
-          l.accepted l.initial.lines l.lines l.fn.book l.book (g.K.Watch.times l.fn.watch) (g.K.Watch.times l.watch);
-      run : Advances l.site g.B.Book l.fn.book l.book l.accepted (unanswered l.lines);
+          l.accepted l.initial.clients l.clients l.fn.book l.book (g.K.Watch.times l.fn.watch) (g.K.Watch.times l.watch);
+      run : Advances l.site g.B.Book l.fn.book l.book l.accepted (unanswered l.clients);
       bound : l.accepted ≤ l.limit;
-      honest : g.B.Book.is_honest l.book → g.B.Book.is_honest l.fn.book;
+      clean_disk : g.B.Book.has_clean_disk l.book → g.B.Book.has_clean_disk l.fn.book;
     }

@@ -3,4 +3,4 @@ use Rattle.shop_serve.proofs.thinking.next_thought.Given as goal
 
 abbrev pub invariant-loop-key : goal.invariant-loop-key
 invariant-loop-key g l =
-    (goal.iterator-loop-key g).can_next l.key-iterator × (goal.iterator-loop-key g).is_finite l.key-iterator × IsFoundSo l.lines l.key-iterator l.found
+    (goal.iterator-loop-key g).can_next l.key-iterator × (goal.iterator-loop-key g).is_finite l.key-iterator × IsFoundSo l.clients l.key-iterator l.found

@@ -1,5 +1,5 @@
 use Rattle.std.proofs.Common.{inl, refl, arith}
-use Rattle.shop_serve.specs.Lines.{unanswered}
+use Rattle.shop_serve.specs.Clients.{unanswered}
 use Rattle.shop_serve.proofs.Turns.{stays}
 use Rattle.shop_serve.proofs.thinking.think.Goals as goal
 
@@ -7,10 +7,10 @@ pub returns-in_default-clause-thinks : goal.returns-in_default-clause-thinks
 returns-in_default-clause-thinks g c = inl (c.next_thought.ensures.none c.in_default.is, refl, refl, refl)
 
 pub returns-in_default-clause-run : goal.returns-in_default-clause-run
-returns-in_default-clause-run g c = stays c.args.site.now g.B.Book c.args.book.now (unanswered c.args.lines.now) (unanswered c.args.lines.now) (omega arith)
+returns-in_default-clause-run g c = stays c.args.site.now g.B.Book c.args.book.now (unanswered c.args.clients.now) (unanswered c.args.clients.now) (omega arith)
 
 pub returns-in-GoesOn-clause-run : goal.returns-in-GoesOn-clause-run
-returns-in-GoesOn-clause-run g c = stays c.args.site.now g.B.Book c.args.book.now (unanswered c.args.lines.now) (unanswered c.think_at.new.lines) c.think_at.ensures.fewer
+returns-in-GoesOn-clause-run g c = stays c.args.site.now g.B.Book c.args.book.now (unanswered c.args.clients.now) (unanswered c.think_at.new.clients) c.think_at.ensures.fewer
 
 pub returns-in-NoMemory-clause-run : goal.returns-in-NoMemory-clause-run
-returns-in-NoMemory-clause-run g c = stays c.args.site.now g.B.Book c.args.book.now (unanswered c.args.lines.now) (unanswered c.think_at.new.lines) c.think_at.ensures.fewer
+returns-in-NoMemory-clause-run g c = stays c.args.site.now g.B.Book c.args.book.now (unanswered c.args.clients.now) (unanswered c.think_at.new.clients) c.think_at.ensures.fewer

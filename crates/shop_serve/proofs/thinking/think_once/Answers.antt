@@ -13,7 +13,7 @@ returns-in-Ok-None-clause-goes_on g c done = (
     asks = sym c.in-Some.ensures.value;
     same = c.advance.ensures.asks;
     last = refl;
-    kept = ap (λ t. record c.args.line.now { thought = t }) c.replace.ensures.after;
+    kept = ap (λ t. record c.args.client.now { thought = t }) c.replace.ensures.after;
   },
   refl,
 )

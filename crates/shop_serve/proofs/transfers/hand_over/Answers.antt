@@ -1,7 +1,7 @@
 use Rattle.std.proofs.Common.{◌≡◌, ◌∙◌, ◌-◌, ◌+◌, ◌++◌, ℕ, length, take, drop, sym, ap, subst, arith, length-drop, take-add}
 use Rattle.std.specs.Io.KnownBytes.{Appends}
 use Rattle.std.proofs.KnownBytes.{Appends-trans}
-use Rattle.shop_request.proofs.Behind.{rest_whole}
+use Rattle.shop_request.proofs.After.{rest_whole}
 use Rattle.shop_serve.proofs.transfers.hand_over.Goals as goal
 
 pub loop-sent-preserved : goal.loop-sent-preserved

@@ -3,7 +3,7 @@ use Rattle.sqlite.specs.Held.{state}
 use Rattle.shop_tables.specs.Lending.{gone_through}
 use Rattle.shop_store.proofs.Counting.{added_all, stopped_at}
 use Rattle.shop_store.proofs.Checked.{leaves_itself}
-use Rattle.shop_tables.specs.declared.lending.Lent.TheVariants.{Strange}
+use Rattle.shop_tables.specs.declared.lending.Lent.TheVariants.{Invalid}
 use Rattle.shop_store.proofs.checking.are_sums_of_parts.Goals as goal
 
 pub returns-in_err-adder-clause-leaves : goal.returns-in_err-adder-clause-leaves
@@ -29,9 +29,9 @@ returns-in-Stopped-clause-sums g c clean b was list =
     stopped_at b c.args.totals.now c.in_ok-adder.adder c.lend_all_parts.new.visitor (gone_through c.lend_all_parts.result) list c.in_ok-adder.ensures.narrow c.in_ok-adder.ensures.none c.in_ok-adder.ensures.there
     (ap gone_through (c.in_ok-lend_all_parts.was ∙ ap Ok c.in-Stopped.is)) (record { parts = v.parts; on = v.on; visitor = v.visitor; answer = v.answer; begins = v.begins clean b was })
 
-pub returns-in-Strange-clause-sums : goal.returns-in-Strange-clause-sums
-returns-in-Strange-clause-sums g c clean b was list =
-    absurd (subst (λ r. IfOk r (λ how. ¬ (how ≡ Strange))) (c.in_ok-lend_all_parts.was ∙ ap Ok c.in-Strange.is) (c.lend_all_parts.ensures.strange clean b was) refl)
+pub returns-in-Invalid-clause-sums : goal.returns-in-Invalid-clause-sums
+returns-in-Invalid-clause-sums g c clean b was list =
+    absurd (subst (λ r. IfOk r (λ how. ¬ (how ≡ Invalid))) (c.in_ok-lend_all_parts.was ∙ ap Ok c.in-Invalid.is) (c.lend_all_parts.ensures.invalid clean b was) refl)
 
 pub returns-in-Stopped-clause-earlier : goal.returns-in-Stopped-clause-earlier
 returns-in-Stopped-clause-earlier g c clean b was list =
@@ -39,6 +39,6 @@ returns-in-Stopped-clause-earlier g c clean b was list =
     stopped_at b c.args.totals.now c.in_ok-adder.adder c.lend_all_parts.new.visitor (gone_through c.lend_all_parts.result) list c.in_ok-adder.ensures.narrow c.in_ok-adder.ensures.none c.in_ok-adder.ensures.there
     (ap gone_through (c.in_ok-lend_all_parts.was ∙ ap Ok c.in-Stopped.is)) (record { parts = v.parts; on = v.on; visitor = v.visitor; answer = v.answer; begins = v.begins clean b was })
 
-pub returns-in-Strange-clause-earlier : goal.returns-in-Strange-clause-earlier
-returns-in-Strange-clause-earlier g c clean b was list =
-    absurd (subst (λ r. IfOk r (λ how. ¬ (how ≡ Strange))) (c.in_ok-lend_all_parts.was ∙ ap Ok c.in-Strange.is) (c.lend_all_parts.ensures.earlier_strange clean b was) refl)
+pub returns-in-Invalid-clause-earlier : goal.returns-in-Invalid-clause-earlier
+returns-in-Invalid-clause-earlier g c clean b was list =
+    absurd (subst (λ r. IfOk r (λ how. ¬ (how ≡ Invalid))) (c.in_ok-lend_all_parts.was ∙ ap Ok c.in-Invalid.is) (c.lend_all_parts.ensures.earlier_invalid clean b was) refl)

@@ -1,5 +1,5 @@
 use Rattle.std.proofs.Common.{List, Some, IfOk, filter, map, take, ap, ◌∙◌}
-use Rattle.shop_records.specs.Lists.{is_behind}
+use Rattle.shop_records.specs.Lists.{is_after}
 use Rattle.shop_records.specs.declared.records.Part.{Part}
 use Rattle.shop_statements.proofs.Reading.{leaves_then}
 use Rattle.shop_store.proofs.named_parts.first_listed.Goals as goal
@@ -15,7 +15,7 @@ returns-in_default-clause-rows g c clean b was sums = c.list_first_parts.ensures
 
 pub returns-clause-rows : goal.returns-clause-rows
 returns-clause-rows g c clean b was sums =
-    c.in_ok-rows.ensures ∙ ap (λ (parts : List Part). take c.args.most (filter (λ (part : Part). is_behind c.args.after part.name) parts)) (c.as_slice.ensures ∙ rw c.in-Some.is at (c.in_ok-parts.ensures.rows clean b was sums))
+    c.in_ok-rows.ensures ∙ ap (λ (parts : List Part). take c.args.most (filter (λ (part : Part). is_after c.args.after part.name) parts)) (c.as_slice.ensures ∙ rw c.in-Some.is at (c.in_ok-parts.ensures.rows clean b was sums))
 
 pub returns-in_default-clause-stands : goal.returns-in_default-clause-stands
 returns-in_default-clause-stands g c clean h sees unnamed =

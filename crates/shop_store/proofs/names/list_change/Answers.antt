@@ -4,7 +4,7 @@ use Rattle.cut_measure.specs.Names.{Name, name_cmp}
 use Rattle.shop_records.specs.declared.records.Part.{Part}
 use Rattle.shop_rows.specs.Keys.{part_key}
 use Rattle.shop_rows.specs.Open.{finds_with_all, ListsParts}
-use Rattle.shop_store.proofs.Noted.{finds_append, kept_back, kept_front}
+use Rattle.shop_store.proofs.Noted.{finds_append, kept_back, kept_prefix}
 use Rattle.shop_store.proofs.names.list_change.Goals as goal
 
 pub list_some-requires-clause-room : goal.list_some-requires-clause-room
@@ -21,4 +21,4 @@ returns-clause-lists c = λ find lists keep.
     let moved = option_to_list c.args.moved.now in
     let parts = c.args.parts.now in
     subst (λ (at : Name → Option Part). ListsParts at c.list_all.new.lists.items) (finds_append moved parts find)
-    (c.list_all.ensures.lists (finds_with_all part_key name_cmp moved find) (c.list_some.ensures.lists find lists (kept_front moved parts find keep)) (kept_back moved parts find keep))
+    (c.list_all.ensures.lists (finds_with_all part_key name_cmp moved find) (c.list_some.ensures.lists find lists (kept_prefix moved parts find keep)) (kept_back moved parts find keep))

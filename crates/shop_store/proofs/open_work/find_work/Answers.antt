@@ -3,7 +3,7 @@ use Rattle.std.proofs.lemmas.Option.{IfSome_then}
 use Rattle.sqlite.specs.Held.{state}
 use Rattle.sqlite.specs.State.{HasCleanDisk}
 use Rattle.sqlite.specs.Effect.{Database}
-use Rattle.shop_statements.specs.Layout.{IsShop}
+use Rattle.shop_statements.specs.Layout.{HasShopTables}
 use Rattle.shop_statements.proofs.Reading.{leaves_then}
 use Rattle.shop_tables.specs.Held.{books}
 use Rattle.shop_tables.specs.ListedRows.{listed_demand, number_row}
@@ -38,8 +38,8 @@ returns-clause-stands g c clean h sees =
     let settled = sees (c.in_ok-has_number_0.ensures.open after_0) in
     let at_jobs : one.now ≡ old.now = (c.has_number_0.ensures.leaves.as_was after_0 (c.in_ok-jobs.ensures.was_open after_jobs)).now settled in
     let at_demands : two.now ≡ old.now = ((leaves_then old one two c.has_number_0.ensures.leaves c.list_waiting_jobs.ensures.leaves).as_was after_jobs (c.in_ok-demands.ensures.was_open clean)).now settled in
-    let jobs = subst (λ (d : Database). AreJobRows 0 TOO_MANY (d.trees 6) (map number_row c.in_ok-jobs.jobs)) at_jobs (c.in_ok-jobs.ensures.stands after_jobs (subst (λ (d : Database). IsShop d.schema) (sym at_jobs) h)) in
-    let demands = subst (λ (d : Database). AreDemandRows 0 None TOO_MANY (d.trees 9) (map listed_demand c.in_ok-demands.demands)) at_demands (c.in_ok-demands.ensures.stands clean (subst (λ (d : Database). IsShop d.schema) (sym at_demands) h)) in
+    let jobs = subst (λ (d : Database). AreJobRows 0 TOO_MANY (d.trees 6) (map number_row c.in_ok-jobs.jobs)) at_jobs (c.in_ok-jobs.ensures.stands after_jobs (subst (λ (d : Database). HasShopTables d.schema) (sym at_jobs) h)) in
+    let demands = subst (λ (d : Database). AreDemandRows 0 None TOO_MANY (d.trees 9) (map listed_demand c.in_ok-demands.demands)) at_demands (c.in_ok-demands.ensures.stands clean (subst (λ (d : Database). HasShopTables d.schema) (sym at_demands) h)) in
     IfSome_then c.in_ok-work.work c.in_ok-work.ensures.same
     (λ work same. (
       subst (AreJobRows 0 TOO_MANY (old.now.trees 6)) (ap (map number_row) (sym (same.0 ∙ c.as_slice.ensures))) jobs,

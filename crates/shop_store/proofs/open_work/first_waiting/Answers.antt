@@ -4,7 +4,7 @@ use Rattle.sqlite.specs.State.{HasCleanDisk}
 use Rattle.shop_tables.specs.Held.{books}
 use Rattle.shop_tables.specs.ListedRows.{number_row}
 use Rattle.shop_tables.specs.RowsShown.{AreJobRows}
-use Rattle.shop_store.proofs.Work.{lists_on, stands_still, waiting_behind}
+use Rattle.shop_store.proofs.Work.{lists_on, stands_still, waiting_after}
 use Rattle.shop_store.proofs.open_work.first_waiting.Goals as goal
 
 pub returns-then-not-work-clause-numbers : goal.returns-then-not-work-clause-numbers
@@ -17,7 +17,7 @@ returns-clause-numbers g c clean m was knows =
     let work = c.list_work.new.work in
     let has = c.list_work.ensures.work clean m was knows c.if-not-work.false in
     c.in_ok-numbers.ensures ∙ ap (λ (numbers : List ℕ). take c.args.most (filter (nat_lt c.args.after) numbers)) c.deref.ensures.value
-    ∙ ap (take c.args.most) (waiting_behind m work.jobs.items work.demands.items has c.args.after)
+    ∙ ap (take c.args.most) (waiting_after m work.jobs.items work.demands.items has c.args.after)
 
 pub returns-then-not-work-clause-stands : goal.returns-then-not-work-clause-stands
 returns-then-not-work-clause-stands g c clean h sees unlisted =

@@ -1,7 +1,7 @@
 use Rattle.std.proofs.Common.{◌≡◌, ◌∙◌, pos, [], ◌∷◌, Some, None, refl, sym, arith, true≢false}
 use Rattle.sqlite_value.specs.declared.value.Value.TheVariants.{Int}
 use Rattle.sqlite.specs.Held.{state}
-use Rattle.shop_tables.proofs.StrangeRows.{shown_in}
+use Rattle.shop_tables.proofs.InvalidRows.{shown_in}
 use Rattle.shop_tables.proofs.Taken.{version_named}
 use Rattle.shop_tables.proofs.adopting.adopt_version.Goals as goal
 

@@ -1,12 +1,12 @@
 use Rattle.std.proofs.Common.{refl, ap, sym, map, ◌∙◌, take}
 use Rattle.std.proofs.lemmas.Result.{IfOk-weaker}
 use Rattle.shop_statements.specs.Found.{columns_of}
-use Rattle.shop_records.specs.Lists.{parts_behind}
+use Rattle.shop_records.specs.Lists.{parts_after}
 use Rattle.shop_tables.proofs.first_parts.list_first_parts.Goals as goal
 use Rattle.shop_tables.proofs.RowsAsShown.{always, shown_read}
 
 pub returns-clause-rows : goal.returns-clause-rows
-returns-clause-rows g c clean b was = c.read_rows.ensures.values (take c.args.most (parts_behind b.content c.args.material c.args.after)) (c.deref.ensures.value ∙ c.in_ok-rows.ensures.gives.rows clean b was)
+returns-clause-rows g c clean b was = c.read_rows.ensures.values (take c.args.most (parts_after b.content c.args.material c.args.after)) (c.deref.ensures.value ∙ c.in_ok-rows.ensures.gives.rows clean b was)
 
 pub returns-clause-stands : goal.returns-clause-stands
 returns-clause-stands g c clean h =

@@ -5,7 +5,7 @@ use Rattle.sqlite.specs.Values.{bound}
 use Rattle.shop_tables.specs.Lending.{IsLent}
 use Rattle.shop_tables.specs.declared.lending.Lent.TheVariants as lent
 use Rattle.shop_statements.specs.Shown.{Leaves}
-use Rattle.shop_tables.proofs.Going.{started, no_answer, leaves_stays, none_lent, broken_off, strange_at, all_lent, stopped_at, went_to}
+use Rattle.shop_tables.proofs.Going.{started, no_answer, leaves_stays, none_lent, broken_off, invalid_at, all_lent, stopped_at, went_to}
 use Rattle.shop_statements.proofs.Kept.{fails_stays, query_survives}
 use Rattle.shop_statements.proofs.Reading.{leaves_then}
 use Rattle.shop_tables.proofs.lending.lend.Goals as goal
@@ -62,7 +62,7 @@ pub returns-in_default-2 : goal.returns-in_default-2
 returns-in_default-2 g c =
     let ends : c.advance.new.self.conn.now ≡ c.conn-in_default-2-1.given.0 = sym (c.conn-in_default-2-1.given.1 (sym (c.advance.ensures.same_reference ∙ c.rows.invariant.0 ∙ c.in_ok-rows.ensures.same_reference)) ∙ c.drop-rows-in_default-2.ensures) in
     record {
-      lent = subst (λ h. IsLent g.S.Store c.args.sql.now (bound c.args.params.now) c.args.conn.now g.V.PartVisitor.looks h c.args.visitor.now (Ok lent.Strange) c.rows.visitor) ends (let row : Some c.in-Some.row.now ≡ row_if c.advance.new.self.has_row c.advance.new.self.conn.now = c.in-Some.ensures in strange_at g.S.Store g.V.PartVisitor.looks c.args.sql.now (bound c.args.params.now) c.args.conn.now c.args.visitor.now c.rows.rows.conn.now c.advance.new.self.conn.now c.rows.visitor c.in-Some.row.now c.rows.invariant.2 (leaves_stays (state g.S.Store c.rows.rows.conn.now) (state g.S.Store c.advance.new.self.conn.now) c.advance.ensures.survives (λ clean. inl (c.in_ok-advance.ensures.same clean))) (λ clean. subst (λ o. Advances g.S.Store c.rows.rows.conn.now c.advance.new.self.conn.now o) (sym row) (c.in_ok-advance.ensures.ok clean)) (rw c.in_default-2.is at c.in_ok-part.ensures.strange));
+      lent = subst (λ h. IsLent g.S.Store c.args.sql.now (bound c.args.params.now) c.args.conn.now g.V.PartVisitor.looks h c.args.visitor.now (Ok lent.Invalid) c.rows.visitor) ends (let row : Some c.in-Some.row.now ≡ row_if c.advance.new.self.has_row c.advance.new.self.conn.now = c.in-Some.ensures in invalid_at g.S.Store g.V.PartVisitor.looks c.args.sql.now (bound c.args.params.now) c.args.conn.now c.args.visitor.now c.rows.rows.conn.now c.advance.new.self.conn.now c.rows.visitor c.in-Some.row.now c.rows.invariant.2 (leaves_stays (state g.S.Store c.rows.rows.conn.now) (state g.S.Store c.advance.new.self.conn.now) c.advance.ensures.survives (λ clean. inl (c.in_ok-advance.ensures.same clean))) (λ clean. subst (λ o. Advances g.S.Store c.rows.rows.conn.now c.advance.new.self.conn.now o) (sym row) (c.in_ok-advance.ensures.ok clean)) (rw c.in_default-2.is at c.in_ok-part.ensures.invalid));
       leaves = subst (λ h. Leaves (state g.S.Store c.args.conn.now) (state g.S.Store h)) ends (leaves_then _ _ _ c.rows.invariant.2.leaves (leaves_stays (state g.S.Store c.rows.rows.conn.now) (state g.S.Store c.advance.new.self.conn.now) c.advance.ensures.survives (λ clean. inl (c.in_ok-advance.ensures.same clean))));
       mode = λ outside. subst (λ h. h.in_transaction ≡ false) ends (c.advance.ensures.mode (c.rows.invariant.1 outside));
     }

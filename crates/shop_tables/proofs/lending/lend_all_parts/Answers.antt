@@ -1,9 +1,9 @@
 use Rattle.std.proofs.Common.{[], arith}
 use Rattle.sqlite.specs.Held.{state}
 use Rattle.sqlite.specs.State.{HasCleanDisk}
-use Rattle.shop_tables.proofs.EarlierParts.{not_strange_earlier, visited_earlier}
+use Rattle.shop_tables.proofs.EarlierParts.{not_invalid_earlier, visited_earlier}
 use Rattle.std.specs.FinMap.{values}
-use Rattle.shop_tables.proofs.Listed.{all_there, first_there, none_stranger, not_strange, visited}
+use Rattle.shop_tables.proofs.Listed.{all_there, first_there, none_stranger, not_invalid, visited}
 use Rattle.shop_tables.proofs.ListTexts.{all_parts_text, all_parts_selects}
 use Rattle.shop_tables.proofs.lending.lend_all_parts.Goals as goal
 
@@ -15,9 +15,9 @@ returns-clause-visit g c =
     visited g.S.Store all_parts_text [] (λ b. values b.content.parts) (λ s t b has. all_there s b has t) (λ s b has. first_there s b has) c.args.conn.now c.lend.new.conn g.V.PartVisitor.looks c.args.visitor.now c.lend.new.visitor c.lend.result
     c.lend.ensures.lent
 
-pub returns-clause-strange : goal.returns-clause-strange
-returns-clause-strange g c =
-    not_strange g.S.Store all_parts_text [] (λ b. values b.content.parts) (λ s t b has. all_there s b has t) (λ s b has. first_there s b has) c.args.conn.now c.lend.new.conn g.V.PartVisitor.looks c.args.visitor.now c.lend.new.visitor c.lend.result
+pub returns-clause-invalid : goal.returns-clause-invalid
+returns-clause-invalid g c =
+    not_invalid g.S.Store all_parts_text [] (λ b. values b.content.parts) (λ s t b has. all_there s b has t) (λ s b has. first_there s b has) c.args.conn.now c.lend.new.conn g.V.PartVisitor.looks c.args.visitor.now c.lend.new.visitor c.lend.result
     c.lend.ensures.lent (λ s b has. none_stranger s b has)
 
 pub returns-clause-earlier : goal.returns-clause-earlier
@@ -25,7 +25,7 @@ returns-clause-earlier g c =
     let before : HasCleanDisk (state g.S.Store c.lend.new.conn) → HasCleanDisk (state g.S.Store c.args.conn.now) = λ clean. omega (arith, c.lend.ensures.leaves.survives.clean) in
     visited_earlier g.S.Store c.args.conn.now c.lend.new.conn before g.V.PartVisitor.looks c.args.visitor.now c.lend.new.visitor c.lend.result c.lend.ensures.lent
 
-pub returns-clause-earlier_strange : goal.returns-clause-earlier_strange
-returns-clause-earlier_strange g c =
+pub returns-clause-earlier_invalid : goal.returns-clause-earlier_invalid
+returns-clause-earlier_invalid g c =
     let before : HasCleanDisk (state g.S.Store c.lend.new.conn) → HasCleanDisk (state g.S.Store c.args.conn.now) = λ clean. omega (arith, c.lend.ensures.leaves.survives.clean) in
-    not_strange_earlier g.S.Store c.args.conn.now c.lend.new.conn before g.V.PartVisitor.looks c.args.visitor.now c.lend.new.visitor c.lend.result c.lend.ensures.lent
+    not_invalid_earlier g.S.Store c.args.conn.now c.lend.new.conn before g.V.PartVisitor.looks c.args.visitor.now c.lend.new.visitor c.lend.result c.lend.ensures.lent

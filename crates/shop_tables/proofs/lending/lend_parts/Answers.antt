@@ -24,8 +24,8 @@ returns-in-Stopped-clause-visit g c =
     visited_some g.S.Store parts_of_text (Text c.args.material ∷ []) (λ b. parts_of b.content c.args.material) (λ s t b has. all_listed s c.args.material b has t) (λ s b has. first_listed s c.args.material b has) c.args.conn.now c.lend.new.conn g.V.PartVisitor.looks c.args.visitor.now c.lend.new.visitor c.lend.result (c.in_ok-lent.was ∙ ap Ok c.in-Stopped.is)
     (rw (c.params-to_sql.ensures, c.as_str.ensures.value) at c.lend.ensures.lent)
 
-pub returns-in-Strange-clause-visit : goal.returns-in-Strange-clause-visit
-returns-in-Strange-clause-visit g c =
+pub returns-in-Invalid-clause-visit : goal.returns-in-Invalid-clause-visit
+returns-in-Invalid-clause-visit g c =
     visited_till g.S.Store parts_of_text (Text c.args.material ∷ []) (λ b. parts_of b.content c.args.material) (λ s t b has. all_listed s c.args.material b has t) (λ s b has. first_listed s c.args.material b has) c.args.conn.now c.lend.new.conn g.V.PartVisitor.looks c.args.visitor.now c.lend.new.visitor c.lend.result _ tt
     (rw (c.params-to_sql.ensures, c.as_str.ensures.value) at c.lend.ensures.lent)
 

@@ -1,12 +1,12 @@
 use Rattle.std.proofs.Common.{refl, ap, sym, map, ◌∙◌, take}
 use Rattle.std.proofs.lemmas.Result.{IfOk-weaker}
 use Rattle.shop_statements.specs.Found.{columns_of}
-use Rattle.shop_records.specs.Lists.{orders_behind}
+use Rattle.shop_records.specs.Lists.{orders_after}
 use Rattle.shop_tables.proofs.order_lists.list_orders.Goals as goal
 use Rattle.shop_tables.proofs.RowsAsShown.{always, shown_read}
 
 pub returns-clause-codes : goal.returns-clause-codes
-returns-clause-codes g c clean b was = c.read_rows.ensures.values (take c.args.most (orders_behind b.content c.args.after)) (c.deref.ensures.value ∙ c.in_ok-rows.ensures.gives.rows clean b was)
+returns-clause-codes g c clean b was = c.read_rows.ensures.values (take c.args.most (orders_after b.content c.args.after)) (c.deref.ensures.value ∙ c.in_ok-rows.ensures.gives.rows clean b was)
 
 pub returns-clause-stands : goal.returns-clause-stands
 returns-clause-stands g c clean h =

@@ -9,5 +9,5 @@ invariant-loop-step g l =
     record {
       keeps : Unchanged g.B.Book (λ before after. after ≡ before) l.fn.book l.book;
       steps : steps_in l.nodes.items ≡ take l.step-index l.step-items;
-      found : g.B.Book.is_honest l.book → (m : Content) → g.B.Book.holds l.fn.book m → AreNodesFound (demand_at m) l.nodes.items;
+      found : g.B.Book.has_clean_disk l.book → (m : Content) → g.B.Book.holds l.fn.book m → AreNodesFound (demand_at m) l.nodes.items;
     }

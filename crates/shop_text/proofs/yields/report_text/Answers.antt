@@ -5,11 +5,11 @@ use Rattle.shop_text.proofs.yields.report_text.Goals as goal
 
 pub returns-clause-told : goal.returns-clause-told
 returns-clause-told g c =
-    λ honest m held.
-    let still = c.in_ok-visit_parts.ensures.keeps.honest honest in
-    let before = c.in_ok-totals.ensures.keeps.honest still in
+    λ clean_disk m held.
+    let still = c.in_ok-visit_parts.ensures.keeps.clean_disk clean_disk in
+    let before = c.in_ok-totals.ensures.keeps.clean_disk still in
     let first = c.in_ok-material.ensures.keeps.stays before m held in
     let second = c.in_ok-totals.ensures.keeps.stays still m first in
     let row = c.in_ok-material.ensures.row before m held in
-    let lines = lines_taken (parts_of m c.args.code) _ _ _ c.visit_parts.new.visitor c.if-not-branch.false (λ what it. it honest m second) c.in_ok-visit_parts.ensures.visit in
+    let lines = lines_taken (parts_of m c.args.code) _ _ _ c.visit_parts.new.visitor c.if-not-branch.false (λ what it. it clean_disk m second) c.in_ok-visit_parts.ensures.visit in
     reported m c.args.code c.in-Some.material c.in_ok-totals.totals _ _ _ _ (sym c.in-Some.is ∙ row) (c.in_ok-totals.ensures.sums still m first) c.new.ensures.bytes c.in_ok-push_head.ensures lines c.in_ok-push_str.ensures.bytes

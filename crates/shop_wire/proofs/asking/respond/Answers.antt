@@ -1,37 +1,37 @@
 use Rattle.std.proofs.Common.{sym, subst}
 use Rattle.shop_desk.proofs.Blame.{up_reply}
 use Rattle.shop_request.specs.Requests.{asking}
-use Rattle.shop_wire.specs.Serves.{HasServed}
+use Rattle.shop_wire.specs.Serves.{HasServedInput}
 use Rattle.shop_wire.specs.Tellings.{telling_of}
 use Rattle.shop_wire.proofs.Acted.{asked_served, ticket_served, yield_served}
 use Rattle.shop_wire.proofs.asking.respond.Goals as goal
 
 pub returns-in-Message-clause-served : goal.returns-in-Message-clause-served
-returns-in-Message-clause-served g c = λ honest m held sound.
-    subst (λ r. HasServed g.B.Book c.args.book.now c.message_told.new.book m (asking r c.args.text.now) (telling_of c.message_told.result)) (sym c.in-Message.is)
-    (c.message_told.ensures.served honest m held sound)
+returns-in-Message-clause-served g c = λ clean_disk m held sound.
+    subst (λ r. HasServedInput g.B.Book c.args.book.now c.message_told.new.book m (asking r c.args.text.now) (telling_of c.message_told.result)) (sym c.in-Message.is)
+    (c.message_told.ensures.served clean_disk m held sound)
 
 pub returns-in-Plans-clause-served : goal.returns-in-Plans-clause-served
-returns-in-Plans-clause-served g c = λ honest m held sound.
-    subst (λ r. HasServed g.B.Book c.args.book.now c.body_told.new.book m (asking r c.args.text.now) (telling_of c.body_told.result)) (sym c.in-Plans.is)
-    (c.body_told.ensures.served honest m held sound)
+returns-in-Plans-clause-served g c = λ clean_disk m held sound.
+    subst (λ r. HasServedInput g.B.Book c.args.book.now c.body_told.new.book m (asking r c.args.text.now) (telling_of c.body_told.result)) (sym c.in-Plans.is)
+    (c.body_told.ensures.served clean_disk m held sound)
 
 pub returns-in-Ticket-clause-served : goal.returns-in-Ticket-clause-served
-returns-in-Ticket-clause-served g c = λ honest m held sound.
-    subst (λ r. HasServed g.B.Book c.args.book.now c.ticket_told.new.book m (asking r c.args.text.now) (telling_of c.ticket_told.result)) (sym c.in-Ticket.is)
-    (ticket_served g.B.Book c.args.book.now c.ticket_told.new.book m (c.ticket_told.ensures.keeps.stays honest m held) sound (c.ticket_told.ensures.keeps.crash honest m held) c.args.text.now (telling_of c.ticket_told.result)
-    (c.ticket_told.ensures.answer honest m held))
+returns-in-Ticket-clause-served g c = λ clean_disk m held sound.
+    subst (λ r. HasServedInput g.B.Book c.args.book.now c.ticket_told.new.book m (asking r c.args.text.now) (telling_of c.ticket_told.result)) (sym c.in-Ticket.is)
+    (ticket_served g.B.Book c.args.book.now c.ticket_told.new.book m (c.ticket_told.ensures.keeps.stays clean_disk m held) sound (c.ticket_told.ensures.keeps.crash clean_disk m held) c.args.text.now (telling_of c.ticket_told.result)
+    (c.ticket_told.ensures.answer clean_disk m held))
 
 pub returns-in-Yield-clause-served : goal.returns-in-Yield-clause-served
-returns-in-Yield-clause-served g c = λ honest m held sound.
-    subst (λ r. HasServed g.B.Book c.args.book.now c.yield_told.new.book m (asking r c.args.text.now) (telling_of c.yield_told.result)) (sym c.in-Yield.is)
-    (yield_served g.B.Book c.args.book.now c.yield_told.new.book m (c.yield_told.ensures.keeps.stays honest m held) sound (c.yield_told.ensures.keeps.crash honest m held) c.args.text.now (telling_of c.yield_told.result)
-    (c.yield_told.ensures.answer honest m held))
+returns-in-Yield-clause-served g c = λ clean_disk m held sound.
+    subst (λ r. HasServedInput g.B.Book c.args.book.now c.yield_told.new.book m (asking r c.args.text.now) (telling_of c.yield_told.result)) (sym c.in-Yield.is)
+    (yield_served g.B.Book c.args.book.now c.yield_told.new.book m (c.yield_told.ensures.keeps.stays clean_disk m held) sound (c.yield_told.ensures.keeps.crash clean_disk m held) c.args.text.now (telling_of c.yield_told.result)
+    (c.yield_told.ensures.answer clean_disk m held))
 
 pub returns-in_default-clause-served : goal.returns-in_default-clause-served
-returns-in_default-clause-served g c = λ honest m held sound.
-    asked_served g.B.Book c.args.book.now c.ask_reply.new.book m (c.ask_reply.ensures.keeps.stays honest m held) sound (c.ask_reply.ensures.keeps.crash honest m held) c.args.route c.args.text.now c.ask_reply.result
-    c.in_default.not-Message c.in_default.not-Plans c.in_default.not-Ticket c.in_default.not-Yield (c.ask_reply.ensures.answer honest m held) c.ask_reply.ensures.store_fault
+returns-in_default-clause-served g c = λ clean_disk m held sound.
+    asked_served g.B.Book c.args.book.now c.ask_reply.new.book m (c.ask_reply.ensures.keeps.stays clean_disk m held) sound (c.ask_reply.ensures.keeps.crash clean_disk m held) c.args.route c.args.text.now c.ask_reply.result
+    c.in_default.not-Message c.in_default.not-Plans c.in_default.not-Ticket c.in_default.not-Yield (c.ask_reply.ensures.answer clean_disk m held) c.ask_reply.ensures.store_fault
 
 pub returns-in_default-clause-failures : goal.returns-in_default-clause-failures
 returns-in_default-clause-failures g c = up_reply (g.B.Book.failed c.args.book.now) (g.B.Book.failed c.ask_reply.new.book) c.ask_reply.result c.ask_reply.ensures.keeps.failures

@@ -6,14 +6,14 @@ use Rattle.shop_wire.specs.Tellings.{telling_of}
 use Rattle.shop_wire.proofs.asking.yield_told.Goals as goal
 
 pub returns-in-Some-clause-answer : goal.returns-in-Some-clause-answer
-returns-in-Some-clause-answer g c = λ honest m held.
+returns-in-Some-clause-answer g c = λ clean_disk m held.
     text_asked _ _ _ _ _ (ap (option_map (yield_of m)) (sym c.code_in.ensures ∙ c.in-Some.is))
-    (told_counted c.report_text.result (telling_of c.told_of.result) _ _ _ c.told_of.ensures.told (c.report_text.ensures.told honest m held))
+    (told_counted c.report_text.result (telling_of c.told_of.result) _ _ _ c.told_of.ensures.told (c.report_text.ensures.told clean_disk m held))
 
 pub returns-in-Some-clause-keeps : goal.returns-in-Some-clause-keeps
 returns-in-Some-clause-keeps g c =
     let k = c.report_text.ensures.keeps in
-    record { honest = k.honest; stays = k.stays; crash = k.crash; failures = up_told c.report_text.result _ _ k.failures }
+    record { clean_disk = k.clean_disk; stays = k.stays; crash = k.crash; failures = up_told c.report_text.result _ _ k.failures }
 
 pub returns-in-None-clause-answer : goal.returns-in-None-clause-answer
-returns-in-None-clause-answer g c = λ honest m held. none_asked _ _ _ _ (ap (option_map (yield_of m)) (sym c.code_in.ensures ∙ c.in-None.is)) c.refused.ensures.told
+returns-in-None-clause-answer g c = λ clean_disk m held. none_asked _ _ _ _ (ap (option_map (yield_of m)) (sym c.code_in.ensures ∙ c.in-None.is)) c.refused.ensures.told

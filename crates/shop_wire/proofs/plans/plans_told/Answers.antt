@@ -5,11 +5,11 @@ use Rattle.shop_wire.proofs.Begun.{asked_none, asked_some, told_refusal}
 use Rattle.shop_wire.proofs.plans.plans_told.Goals as goal
 
 pub returns-in-Ok-clause-answer : goal.returns-in-Ok-clause-answer
-returns-in-Ok-clause-answer g c = λ meant read honest m held.
-    plans_answered_to m meant c.in-Ok.question (telling_of c.question_told.result) (asked_some c.args.asked meant c.in-Ok.question c.in-Ok.is read) (c.question_told.ensures.answer honest m held)
+returns-in-Ok-clause-answer g c = λ meant read clean_disk m held.
+    plans_answered_to m meant c.in-Ok.question (telling_of c.question_told.result) (asked_some c.args.asked meant c.in-Ok.question c.in-Ok.is read) (c.question_told.ensures.answer clean_disk m held)
 
 pub returns-in-Err-clause-answer : goal.returns-in-Err-clause-answer
-returns-in-Err-clause-answer g c = λ meant read honest m held.
+returns-in-Err-clause-answer g c = λ meant read clean_disk m held.
     plans_unread m meant c.in-Err.refusal (telling_of c.refused.result) (asked_none c.args.asked meant c.in-Err.refusal c.in-Err.is read) c.refused.ensures.told
 
 pub returns-in-Err-clause-store_fault : goal.returns-in-Err-clause-store_fault

@@ -2,11 +2,11 @@ use Rattle.shop_wire.proofs.Begun.{posed_begun, posed_refused, unread_served}
 use Rattle.shop_wire.proofs.plans.pose_body.Goals as goal
 
 pub returns-in-Ok-clause-posed : goal.returns-in-Ok-clause-posed
-returns-in-Ok-clause-posed g c = λ left sense.
-    posed_begun g.B.Book c.args.book.now c.pose.new.book c.args.body.now c.in-Ok.question left c.pose.result c.in-Ok.ensures sense c.pose.ensures.answer c.pose.ensures.keeps
+returns-in-Ok-clause-posed g c = λ left parsed.
+    posed_begun g.B.Book c.args.book.now c.pose.new.book c.args.body.now c.in-Ok.question left c.pose.result c.in-Ok.ensures parsed c.pose.ensures.answer c.pose.ensures.keeps
 
 pub returns-in-Ok-clause-refused : goal.returns-in-Ok-clause-refused
 returns-in-Ok-clause-refused g c = posed_refused g.B.Book c.args.book.now c.pose.new.book c.args.body.now c.in-Ok.question c.pose.result c.in-Ok.ensures c.pose.ensures.refused c.pose.ensures.keeps
 
 pub returns-in-Err-clause-refused : goal.returns-in-Err-clause-refused
-returns-in-Err-clause-refused g c = λ honest m held sound. unread_served g.B.Book c.args.book.now c.args.book.now c.args.body.now c.in-Err.refusal m c.in-Err.ensures held sound (λ left it. it)
+returns-in-Err-clause-refused g c = λ clean_disk m held sound. unread_served g.B.Book c.args.book.now c.args.book.now c.args.body.now c.in-Err.refusal m c.in-Err.ensures held sound (λ left it. it)

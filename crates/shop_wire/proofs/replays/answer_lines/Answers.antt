@@ -17,7 +17,7 @@ loop-line-init g c =
       subst (λ p. HasRead left (prepend_known p left) []) (sym none) (none_read left),
       refl,
       subst (IsReplayed g.B.Book c.args.book.now c.args.book.now (g.W.Sink.held c.args.sink.now) (g.W.Sink.held c.args.sink.now) []) (sym c.requires) (none_replayed g.B.Book c.args.book.now (g.W.Sink.held c.args.sink.now)),
-      (λ honest. honest),
+      (λ clean_disk. clean_disk),
       up_same (g.B.Book.failed c.args.book.now) (g.B.Book.failed c.args.book.now) refl,
       omega (arith, c.new-reader.ensures.reads),
       (λ ended. absurd (cc (sym c.new-reader.ensures.goes_on ∙ ended))),
@@ -60,7 +60,7 @@ returns-in_err-hold_answer-clause-err g c =
     let part = part_replayed g.B.Book c.loop-line.book c.hold_answer.new.book (Some c.loop-line.held.items) (Some c.hold_answer.new.held.items)
     line.0 stopped.3 stopped.0 stopped.1 (stopped.2 ∙ ap (λ l. l ∷ []) (c.deref.ensures.value ∙ line.1)) stopped.4 in
     let all = more_held g.B.Book c.args.book.now c.loop-line.book c.hold_answer.new.book (g.W.Sink.held c.args.sink.now) (g.W.Sink.held c.loop-line.sink)
-    so_far.0 part.0 c.loop-line.held.items c.hold_answer.new.held.items stopped.3 c.hold_answer.ensures.honest so_far.5 c.hold_answer.ensures.failures so_far.3 part.3 in
+    so_far.0 part.0 c.loop-line.held.items c.hold_answer.new.held.items stopped.3 c.hold_answer.ensures.clean_disk so_far.5 c.hold_answer.ensures.failures so_far.3 part.3 in
     let first = first_read left next so_far.0 part.0 part.1 line.0 (line_read left now next so_far.0 line.0 so_far.1 line.2) part.2 in
     let exit = err_from_is_err_and c.from_residual-in_err-hold_answer.result c.from_residual-in_err-hold_answer.ensures.1 in
     for_the_fault c.from_residual-in_err-hold_answer.result _ exit.0 exit.1
@@ -78,7 +78,7 @@ returns-in_err-flush_if_due-clause-err g c =
     let one = whole_replayed g.B.Book c.loop-line.book c.hold_answer.new.book (Some c.loop-line.held.items) (Some c.hold_answer.new.held.items) line.0 [] kept in
     let held = subst (IsReplayed g.B.Book c.args.book.now c.hold_answer.new.book (g.W.Sink.held c.args.sink.now) (g.W.Sink.held c.loop-line.sink) (so_far.0 ++ line.0 ∷ [])) (append-nil c.hold_answer.new.held.items)
     (more_held g.B.Book c.args.book.now c.loop-line.book c.hold_answer.new.book (g.W.Sink.held c.args.sink.now) (g.W.Sink.held c.loop-line.sink)
-    so_far.0 (line.0 ∷ []) c.loop-line.held.items c.hold_answer.new.held.items [] c.hold_answer.ensures.honest so_far.5 c.hold_answer.ensures.failures so_far.3 one) in
+    so_far.0 (line.0 ∷ []) c.loop-line.held.items c.hold_answer.new.held.items [] c.hold_answer.ensures.clean_disk so_far.5 c.hold_answer.ensures.failures so_far.3 one) in
     let part = c.in_err-flush_if_due.ensures.err in
     let all = passed_on g.B.Book c.args.book.now c.hold_answer.new.book (g.W.Sink.held c.args.sink.now) (g.W.Sink.held c.loop-line.sink) (g.W.Sink.held c.flush_if_due.new.sink)
     (so_far.0 ++ line.0 ∷ []) c.hold_answer.new.held.items part.0 part.1 part.2 part.3 held in
@@ -107,14 +107,14 @@ loop-line-preserved g c =
     let one = whole_replayed g.B.Book c.loop-line.book c.hold_answer.new.book (Some c.loop-line.held.items) (Some c.hold_answer.new.held.items) line.0 [] kept in
     let held = subst (IsReplayed g.B.Book c.args.book.now c.hold_answer.new.book (g.W.Sink.held c.args.sink.now) (g.W.Sink.held c.loop-line.sink) (so_far.0 ++ line.0 ∷ [])) (append-nil c.hold_answer.new.held.items)
     (more_held g.B.Book c.args.book.now c.loop-line.book c.hold_answer.new.book (g.W.Sink.held c.args.sink.now) (g.W.Sink.held c.loop-line.sink)
-    so_far.0 (line.0 ∷ []) c.loop-line.held.items c.hold_answer.new.held.items [] c.hold_answer.ensures.honest so_far.5 c.hold_answer.ensures.failures so_far.3 one) in
+    so_far.0 (line.0 ∷ []) c.loop-line.held.items c.hold_answer.new.held.items [] c.hold_answer.ensures.clean_disk so_far.5 c.hold_answer.ensures.failures so_far.3 one) in
     let part = c.in_ok-flush_if_due.ensures.ok in (
       so_far.0 ++ line.0 ∷ [],
       line_read left now next so_far.0 line.0 so_far.1 line.2,
       ap (λ n. n + 1) so_far.2 ∙ sym (length-append so_far.0 (line.0 ∷ [])),
       passed_on g.B.Book c.args.book.now c.hold_answer.new.book (g.W.Sink.held c.args.sink.now) (g.W.Sink.held c.loop-line.sink) (g.W.Sink.held c.flush_if_due.new.sink)
           (so_far.0 ++ line.0 ∷ []) c.hold_answer.new.held.items part.0 c.flush_if_due.new.held.items part.1 part.2 held,
-      (λ honest. so_far.4 (c.hold_answer.ensures.honest honest)),
+      (λ clean_disk. so_far.4 (c.hold_answer.ensures.clean_disk clean_disk)),
       up_more (g.B.Book.failed c.args.book.now) (g.B.Book.failed c.loop-line.book) (g.B.Book.failed c.hold_answer.new.book) so_far.5 c.hold_answer.ensures.failures,
       c.next_line.ensures.most,
       c.in_ok-next_line.ensures.ended,

@@ -4,7 +4,7 @@ use Rattle.cut_tree.specs.Nodes.{tree_of}
 use Rattle.cut_tree.specs.Spelling.{words, tokens}
 use Rattle.cut_tree.proofs.WholeTexts.{spelled_text, cuts_in-tokens, demands_read}
 use Rattle.std.proofs.lemmas.Result.{err_from_is_err_and}
-use Rattle.cut_tree.proofs.FirstWords.{read_fault, behind_fault, all_taken}
+use Rattle.cut_tree.proofs.FirstWords.{read_fault, after_fault, all_taken}
 use Rattle.cut_tree.proofs.SpelledTexts.{spelled_numbers}
 use Rattle.cut_tree.proofs.plan.Plan.parse.Goals as goal
 
@@ -32,10 +32,10 @@ returns-in_err-read-clause-fault c =
 pub returns-then-read-words-clause-fault : goal.returns-then-read-words-clause-fault
 returns-then-read-words-clause-fault c =
     let r = c.in_ok-read.ensures.ok in
-    rw (c.behind.ensures.token, ← c.w.ensures.value, ← c.h.ensures.value)
-    (behind_fault (map (λ w. w.now) c.as_slice-words.result.now) c.args.text.now c.w.result c.h.result c.args.kerf c.in_ok-read.read.next c.in_ok-read.read.cuts c.behind.result.cause
+    rw (c.after.ensures.token, ← c.w.ensures.value, ← c.h.ensures.value)
+    (after_fault (map (λ w. w.now) c.as_slice-words.result.now) c.args.text.now c.w.result c.h.result c.args.kerf c.in_ok-read.read.next c.in_ok-read.read.cuts c.after.result.cause
     (tree_of c.in_ok-read.read.node) (ap (map (λ w. w.now)) c.as_slice-words.ensures.value ∙ c.in-Ok.ensures)
-    (omega (arith, c.in_ok-read.ensures.near, r.few_cuts)) r c.behind.ensures.cause)
+    (omega (arith, c.in_ok-read.ensures.near, r.few_cuts)) r c.after.ensures.cause)
 
 pub returns-in-Ok-of-clause-spelled : goal.returns-in-Ok-of-clause-spelled
 returns-in-Ok-of-clause-spelled c =

@@ -27,7 +27,7 @@ returns-clause-rows c =
     let book = c.self.inside in
     let test = λ (demand : Demand). is_asked_for asked demand.material in
     let stands = λ (demand : Demand). nat_lt after demand.number && is_open demand in
-    let keys : c.numbers_behind-keys.result.now ≡ filter (nat_lt after) book.lists.demands.items = c.numbers_behind-keys.ensures ∙ ap (filter (nat_lt after)) c.deref.ensures.value in
+    let keys : c.numbers_after-keys.result.now ≡ filter (nat_lt after) book.lists.demands.items = c.numbers_after-keys.ensures ∙ ap (filter (nat_lt after)) c.deref.ensures.value in
     c.in_ok-rows.ensures ∙ (λ i. take most (filter test (demands_named (keys i) (c.deref-2.ensures.value i))))
     ∙ ap (λ rows. take most (filter test rows))
     (numbered_are demand_key is_open after book.lists.demands.items book.demands.items c.self.invariant.demand_keys c.self.invariant.demands c.self.invariant.open_demands)

@@ -14,7 +14,7 @@ returns-clause-rows c =
     let after = c.args.after in
     let most = c.args.most in
     let book = c.self.inside in
-    c.in_ok-rows.ensures ∙ c.first_rows.ensures ∙ ap (take most) (c.numbers_behind-keys.ensures ∙ ap (filter (nat_lt after)) c.deref.ensures.value
+    c.in_ok-rows.ensures ∙ c.first_rows.ensures ∙ ap (take most) (c.numbers_after-keys.ensures ∙ ap (filter (nat_lt after)) c.deref.ensures.value
     ∙ numbers_are job_key waits after book.lists.jobs.items book.jobs.items c.self.invariant.job_keys c.self.invariant.jobs c.self.invariant.waiting
     ∙ ap (λ (jobs : List Job). map job_key (filter (λ job. nat_lt after job.act && waits job) jobs)) (sym (values-rows job_key nat_cmp book.jobs.items c.self.invariant.jobs)))
     ∙ ap (λ book. take most (map job_key (waiting_jobs book.content after))) c.self.view_is

@@ -1,5 +1,5 @@
 use Rattle.std.proofs.Common.{subst}
-use Rattle.shop_request.specs.Heads.{front}
+use Rattle.shop_request.specs.Heads.{prefix}
 use Rattle.shop_request.specs.Reading.{IsFound}
 use Rattle.shop_request.proofs.Guarding.{refused_ruling, unfinished_ruling}
 use Rattle.shop_request.proofs.guards.Guard.rule.Goals as goal
@@ -7,10 +7,10 @@ use Rattle.shop_request.proofs.guards.Guard.rule.Goals as goal
 pub returns-in-Unfinished : goal.returns-in-Unfinished
 returns-in-Unfinished c =
     let guard = c.args.self.now in
-    let part = subst (IsFound (front c.args.came.now) c.args.head.now.headers) c.in-Unfinished.is c.requires.found in
-    unfinished_ruling guard.port guard.has_page guard.has_backups c.args.came.now part.0 part.1
+    let part = subst (IsFound (prefix c.args.received.now) c.args.head.now.headers) c.in-Unfinished.is c.requires.found in
+    unfinished_ruling guard.port guard.has_page guard.has_backups c.args.received.now part.0 part.1
 
 pub returns-in-Refused : goal.returns-in-Refused
 returns-in-Refused c =
     let guard = c.args.self.now in
-    refused_ruling guard.port guard.has_page guard.has_backups c.args.came.now c.in-Refused.field-0 (subst (IsFound (front c.args.came.now) c.args.head.now.headers) c.in-Refused.is c.requires.found)
+    refused_ruling guard.port guard.has_page guard.has_backups c.args.received.now c.in-Refused.field-0 (subst (IsFound (prefix c.args.received.now) c.args.head.now.headers) c.in-Refused.is c.requires.found)

@@ -12,10 +12,10 @@ returns c =
     let headers = c.args.headers.now in
     let spans = c.args.spans.now in
     let of = c.requires.head in
-    subst (HasRuling port has_page has_backups c.args.came.now) (sym c.rule_parts.ensures)
+    subst (HasRuling port has_page has_backups c.args.received.now) (sym c.rule_parts.ensures)
     (subst
-    (λ b. HasRuling port has_page has_backups c.args.came.now (ruled_parts port has_page has_backups c.of.result.now c.target_text.result.now spans.version (map (header_bytes b) (take spans.headers headers))))
-    (sym c.front_of-front.ensures)
-    (whole_ruling port has_page has_backups c.args.came.now headers spans of.0 c.requires.room of.1 c.of.result.now c.target_text.result.now
-    (c.of.ensures ∙ ap (λ b. span_bytes b spans.method) c.front_of-front.ensures)
-    (c.target_text.ensures ∙ c.of-2.ensures ∙ ap (λ b. span_bytes b spans.path) c.front_of-front.ensures)))
+    (λ b. HasRuling port has_page has_backups c.args.received.now (ruled_parts port has_page has_backups c.of.result.now c.target_text.result.now spans.version (map (header_bytes b) (take spans.headers headers))))
+    (sym c.prefix_of-prefix.ensures)
+    (whole_ruling port has_page has_backups c.args.received.now headers spans of.0 c.requires.room of.1 c.of.result.now c.target_text.result.now
+    (c.of.ensures ∙ ap (λ b. span_bytes b spans.method) c.prefix_of-prefix.ensures)
+    (c.target_text.ensures ∙ c.of-2.ensures ∙ ap (λ b. span_bytes b spans.path) c.prefix_of-prefix.ensures)))

@@ -65,8 +65,8 @@ returns-in-Ok-Found-clause-still g c it =
     either_way (λ book. book.conn) _ (λ h leaves. survives_then (state g.S.Store c.args.conn) (state g.S.Store c.adopt_tables.new.conn) (state g.S.Store h) (λ _. ⊥) (λ _. ⊥) (λ _. ⊥) (λ _ db none. none) (λ _ db none. none) (c.in-Ok-Found.ensures.still it) leaves.survives)
     c.checked.result c.checked.ensures.leaves
 
-pub returns-in-Ok-Found-clause-strange : goal.returns-in-Ok-Found-clause-strange
-returns-in-Ok-Found-clause-strange g c = if_back (λ book. book.conn) _ (λ back leaves outside is. (c.in-Ok-Found.ensures.found (ap Ok c.in-Ok-Found.field-0-is)).0) c.checked.result c.checked.ensures.leaves c.checked.ensures.mode
+pub returns-in-Ok-Found-clause-foreign : goal.returns-in-Ok-Found-clause-foreign
+returns-in-Ok-Found-clause-foreign g c = if_back (λ book. book.conn) _ (λ back leaves outside is. (c.in-Ok-Found.ensures.found (ap Ok c.in-Ok-Found.field-0-is)).0) c.checked.result c.checked.ensures.leaves c.checked.ensures.mode
 
 pub returns-in-Ok-Found-clause-unwritten : goal.returns-in-Ok-Found-clause-unwritten
 returns-in-Ok-Found-clause-unwritten g c =
@@ -114,8 +114,8 @@ returns-in-Ok-Earlier-clause-sums g c = if_book (λ book. book.conn) _ (λ book 
 pub returns-in-Ok-Earlier-clause-still : goal.returns-in-Ok-Earlier-clause-still
 returns-in-Ok-Earlier-clause-still g c it = absurd ((c.in-Ok-Earlier.ensures.one (ap Ok c.in-Ok-Earlier.field-0-is)).1 it)
 
-pub returns-in-Ok-Earlier-clause-strange : goal.returns-in-Ok-Earlier-clause-strange
-returns-in-Ok-Earlier-clause-strange g c = if_back (λ book. book.conn) _ (λ back early outside is. (c.in-Ok-Earlier.ensures.one (ap Ok c.in-Ok-Earlier.field-0-is)).0) c.renewed.result c.renewed.ensures.earlier c.renewed.ensures.mode
+pub returns-in-Ok-Earlier-clause-foreign : goal.returns-in-Ok-Earlier-clause-foreign
+returns-in-Ok-Earlier-clause-foreign g c = if_back (λ book. book.conn) _ (λ back early outside is. (c.in-Ok-Earlier.ensures.one (ap Ok c.in-Ok-Earlier.field-0-is)).0) c.renewed.result c.renewed.ensures.earlier c.renewed.ensures.mode
 
 pub returns-in-Ok-Earlier-clause-unwritten : goal.returns-in-Ok-Earlier-clause-unwritten
 returns-in-Ok-Earlier-clause-unwritten g c = if_back (λ book. book.conn) _ (λ back early leaves is. leaves_then _ _ _ (c.in-Ok-Earlier.ensures.one (ap Ok c.in-Ok-Earlier.field-0-is)).2 (leaves is)) c.renewed.result c.renewed.ensures.earlier c.renewed.ensures.unwritten

@@ -32,5 +32,5 @@ pub returns-clause-lasts : goal.returns-clause-lasts
 returns-clause-lasts g c clean m was fits =
     rw c.count_fault.ensures.answer (on_ok_told _ (λ only. subst (λ h. LeavesOnly (state g.S.Store h) (changed m c.args.change)) (sym c.count_fault.ensures.conn) only clean) (c.commit_open-answer.ensures.lasts m was.0 fits))
 
-pub returns-clause-honest : goal.returns-clause-honest
-returns-clause-honest g c clean = c.commit_open-answer.ensures.earlier (subst (λ h. HasCleanDisk (state g.S.Store h)) c.count_fault.ensures.conn clean)
+pub returns-clause-clean_disk : goal.returns-clause-clean_disk
+returns-clause-clean_disk g c clean = c.commit_open-answer.ensures.earlier (subst (λ h. HasCleanDisk (state g.S.Store h)) c.count_fault.ensures.conn clean)

@@ -1,5 +1,0 @@
-use Rattle.shop_request.proofs.Uniqueness as lemmas
-use Rattle.shop_request.proofs.laws.one_sense.Goals as goal
-
-pub returns : goal.returns
-returns c = lemmas.one_sense

@@ -1,0 +1,241 @@
+-- Open connections: which have no answer yet, and what it is to attend to one.
+use Rattle.std.specs.Prelude.{◌≡◌, ◌≢◌, ◌⊎◌, ◌<◌, ◌≤◌, ◌-◌, ◌*◌, ◌++◌, leb, ◌&&◌, if◌then◌else◌, ℕ, List, [], ◌∷◌, length, take, Option, Some, None, IfSome, IsSome, IsSomeAnd, Bool, false, is_none, is_some, count_by}
+use Rattle.std.specs.Io.KnownBytes.{Appends, IsAtEnd}
+use Rattle.std.specs.Time.{instant_nanos}
+use Rattle.std.specs.declared.time.Instant.{Instant}
+use Rattle.slab.specs.Slab.{Slab, get, slab_len, Updates, HasRoomFor}
+use Rattle.shop_book.specs.declared.books.Book.{Ghosts}
+use Rattle.shop_request.specs.Reading.{IsReadOn}
+use Rattle.shop_request.specs.Requests.{most_request_reads}
+use Rattle.shop_request.specs.Parses.{IsDetermined, IsUnfinished}
+use Rattle.shop_serve.specs.declared.connections.Connection.{Ghosts as ConnectionGhosts}
+use Rattle.shop_serve.specs.declared.ports.Port.{Ghosts as PortGhosts}
+use Rattle.shop_serve.specs.declared.clients.Fate.{Fate}
+use Rattle.shop_serve.specs.declared.clients.Fate.TheVariants.{NoMemory}
+use Rattle.shop_serve.specs.declared.clients.Client.{Client}
+use Rattle.shop_serve.specs.declared.clients.TheConstants.{PATIENCE, GRACE, MOST_CLIENTS}
+use Rattle.shop_serve.specs.declared.thinking.Thinking.{Thinking}
+use Rattle.shop_planning.specs.Thoughts.{posed_in}
+use Rattle.shop_serve.specs.Making.{IsAsked}
+use Rattle.shop_serve.specs.declared.sites.Site.{Site}
+use Rattle.shop_serve.specs.Serving.{HasServed, IsAnsweredThen}
+use Rattle.shop_serve.specs.Times.{Times, Tells, TellsNone, ReportedLast}
+
+-- what came is an unfinished request, and so is all that goes on from it with fewer bytes than are needed
+pub record AwaitsMore (received : List ℕ) (needed : ℕ) : Type 0 where
+  pub here : IsUnfinished received
+  pub later : (more : List ℕ) → length (received ++ more) < needed → IsUnfinished (received ++ more)
+
+-- a question was thought on
+abbrev pub was_thought_on : Option Thinking → Bool
+was_thought_on None = false
+was_thought_on (Some thinking) = is_some thinking.last
+
+module _ {C : Type 0} where
+  -- a connection that is open and has no answer yet, and no question
+  abbrev pub is_unanswered : Option (Client C) → Bool
+  is_unanswered None = false
+  is_unanswered (Some client) = is_none client.answer && is_none client.thought
+
+  -- how many of these connections have no answer yet, and no question
+  abbrev pub unanswered : Slab (Client C) → ℕ
+  unanswered clients = count_by is_unanswered clients.slots
+
+  abbrev pub is_begun : Client C → Bool
+  is_begun client = was_thought_on client.thought
+
+  -- it had its seconds, from the time when it was accepted or its answer was made; a question has none
+  abbrev pub is_late : Instant → Client C → Bool
+  is_late now client = is_none client.thought && leb (PATIENCE * 1000000000) (instant_nanos now - instant_nanos client.since)
+
+  -- a connection of this key has a question
+  abbrev pub AsksAt : Slab (Client C) → ℕ → Type 0
+  AsksAt clients key = (client : Client C) × (get clients key ≡ Some client) × IsSome client.thought
+
+  -- none has one
+  abbrev pub NoneAsks : Slab (Client C) → Type 0
+  NoneAsks clients = (key : ℕ) → AsksAt clients key → ⊥
+
+  -- a connection, unless it had its time
+  abbrev pub in_time : Instant → Option (Client C) → Option (Client C)
+  in_time now None = None
+  in_time now (Some client) = if is_late now client then None else Some client
+
+  -- those that had their time are closed, and no others
+  abbrev pub ClosesLate : Instant → Slab (Client C) → Slab (Client C) → Type 0
+  ClosesLate now old new = (key : ℕ) → get new key ≡ in_time now (get old key)
+
+  -- it took its whole answer
+  abbrev pub IsSpent : Client C → Type 0
+  IsSpent client = IsSomeAnd client.answer (λ answer. length answer.items ≤ client.sent)
+
+  -- no answer of it is on its way: it has none yet, and its question wasn't thought on; or it took all of it
+  abbrev pub MayGo : Client C → Type 0
+  MayGo client = ((client.answer ≡ None) × (is_begun client ≡ false)) ⊎ IsSpent client
+
+  -- each that is open has an answer on its way, or its question was thought on
+  abbrev pub NoneMayGo : Slab (Client C) → Type 0
+  NoneMayGo clients = (key : ℕ) (client : Client C) → get clients key ≡ Some client → MayGo client → ⊥
+
+  -- The connection of this key may go, and is the oldest that may: no other that may was accepted, or got its answer, before it.
+  pub record IsOldest (clients : Slab (Client C)) (key : ℕ) : Type 0 where
+    pub client : Client C
+    pub there : get clients key ≡ Some client
+    pub goes : MayGo client
+    pub first : (other : ℕ) (another : Client C) → get clients other ≡ Some another → MayGo another → instant_nanos client.since ≤ instant_nanos another.since
+
+  -- one connection more may be open, be it in another's place
+  abbrev pub CanOpenOne : Slab (Client C) → Type 0
+  CanOpenOne clients = (slab_len clients < MOST_CLIENTS) ⊎ ((key : ℕ) × IsOldest clients key)
+
+  -- none is closed while fewer than may be are open; else the oldest that may go is, and no other
+  abbrev pub MakesRoom : Slab (Client C) → Slab (Client C) → Type 0
+  MakesRoom old new =
+      ((slab_len old < MOST_CLIENTS) × (new.slots ≡ old.slots)) ⊎ ((MOST_CLIENTS ≤ slab_len old) × (key : ℕ) × IsOldest old key × Updates old new key None)
+
+  -- It isn't opened, though room was made: it can't be watched, or memory for one more is wanting.
+  pub record IsTurnedAway {P : Type 0} (port : PortGhosts P C) (old new : Slab (Client C)) : Type 0 where
+    pub room : Slab (Client C)
+    pub made : MakesRoom old room
+    pub same : new.slots ≡ room.slots
+    pub why : ((p : P) × port.is_deaf p) ⊎ (HasRoomFor room 1 → ⊥)
+
+  -- it was accepted now: nothing came of it, and it has no question and no answer
+  pub record IsFresh (now : Instant) (stream : C) (client : Client C) : Type 0 where
+    pub own : client.stream ≡ stream
+    pub since : client.since ≡ now
+    pub received : client.received.items ≡ []
+    pub needed : client.needed ≡ 0
+    pub asks : client.thought ≡ None
+    pub waits : client.answer ≡ None
+
+  -- it is open under a key that was free, once room was made for it, and is watched under this key
+  pub record IsOpened {P : Type 0} (port : PortGhosts P C) (now : Instant) (stream : C) (key : ℕ) (old new : Slab (Client C)) : Type 0 where
+    pub room : Slab (Client C)
+    pub made : MakesRoom old room
+    pub client : Client C
+    pub fresh : IsFresh now stream client
+    pub free : get room key ≡ None
+    pub there : Updates room new key (Some client)
+    pub watched : (p : P) × port.is_watched p stream key
+
+-- a connection took the bytes of its answer from one place to another, and no others
+abbrev pub TakesAnswer : {C : Type 0} → ConnectionGhosts C → List ℕ → C → ℕ → C → ℕ → Type 0
+TakesAnswer connection answer old sent new more =
+    (before : Option (List ℕ)) → Appends before (connection.contents old) (take sent answer) → Appends before (connection.contents new) (take more answer)
+
+-- where a connection stops that takes its answer: after the last byte, and it was told that this is the end; or before, as it
+-- takes no more
+abbrev pub StopsAt : {C : Type 0} → ConnectionGhosts C → List ℕ → C → ℕ → Type 0
+StopsAt connection answer new sent = ((sent ≡ length answer) × connection.has_ended new) ⊎ ((sent < length answer) × connection.is_full new)
+
+-- Why no request can come of a connection: it is lost; or it ended before a byte came; or more came than of any request.
+abbrev pub IsMute : {C : Type 0} → ConnectionGhosts C → C → List ℕ → C → List ℕ → Type 0
+IsMute connection old before new after =
+    connection.is_lost new
+    ⊎ (IsReadOn (connection.remaining old) (connection.remaining new) before after
+    × ((after ≡ []) × IsAtEnd (connection.remaining new) ⊎ (most_request_reads ≤ length after)))
+
+-- A connection whose question was read then isn't there for its answer: it is lost; or its input is at its end, and was so later
+-- than right after its request.
+abbrev pub IsForsaken : {C : Type 0} → ConnectionGhosts C → Times → Instant → C → Type 0
+IsForsaken connection seen read stream =
+    connection.is_lost stream
+    ⊎ (IsAtEnd (connection.remaining stream)
+    × ((now : Instant) × ReportedLast seen now × (GRACE * 1000000 < instant_nanos now - instant_nanos read)))
+
+module _ {C : Type 0} (connection : ConnectionGhosts C) (site : Site) {B : Type 0} (book : Ghosts B) where
+  -- A connection with an answer: it keeps it, takes more of it, to its end, which it is told, or until it takes no more, and
+  -- nothing else is done. Its seconds go on.
+  pub record IsHandedOn (old new : Client C) (before after : B) (seen seeing : Times) (answer : List ℕ) : Type 0 where
+    pub same : after ≡ before
+    pub unread : TellsNone seen seeing
+    pub since : new.since ≡ old.since
+    pub received : new.received ≡ old.received
+    pub asks : new.thought ≡ old.thought
+    pub kept : new.answer ≡ old.answer
+    pub takes : TakesAnswer connection answer old.stream old.sent new.stream new.sent
+    pub stops : StopsAt connection answer new.stream new.sent
+
+  -- The answer to all that came of a connection, once that was whole or at its end. It took all of it, and was told its end; or its
+  -- first bytes, until it took no more. Its seconds begin anew, at the time that is read then.
+  pub record IsAnsweredWhole (old new : Client C) (rest : Option (List ℕ)) (before after : B) (seen seeing : Times) (answer : List ℕ) : Type 0 where
+    pub whole : IsDetermined new.received.items ⊎ IsAtEnd rest
+    pub answered : IsAnsweredThen site book before after seen seeing new.since new.received.items answer
+    pub takes : TakesAnswer connection answer old.stream 0 new.stream new.sent
+    pub stops : StopsAt connection answer new.stream new.sent
+
+  -- The question that is all that came of a connection, once that was whole or at its end: this is what it asks of the content.
+  -- It waits to be thought on, since the time that is read then. Nothing is done, and the connection took nothing.
+  pub record IsBegunWhole (old new : Client C) (rest : Option (List ℕ)) (before after : B) (seen seeing : Times) (thinking : Thinking) : Type 0 where
+    pub since : Tells seen seeing new.since
+    pub whole : IsDetermined new.received.items ⊎ IsAtEnd rest
+    pub asked : IsAsked site book before after new.received.items (posed_in thinking.thought)
+    pub waits : thinking.last ≡ None
+    pub none : new.answer ≡ None
+    pub took : connection.contents new.stream ≡ connection.contents old.stream
+
+  -- A connection whose question is thought about: it keeps that and waits, and what still came of it was dropped. Nothing is done.
+  pub record IsHeeded (old new : Client C) (before after : B) (seen seeing : Times) : Type 0 where
+    pub same : after ≡ before
+    pub unread : TellsNone seen seeing
+    pub kept : new ≡ record old { stream = new.stream }
+    pub took : connection.contents new.stream ≡ connection.contents old.stream
+
+  -- It has no answer yet and took nothing, nothing is done, and nothing more came of it. What came is still an unfinished
+  -- request, where it was one before. Its seconds go on, whatever came.
+  pub record IsLeftWaiting (old new : Client C) (before after : B) (seen seeing : Times) : Type 0 where
+    pub same : after ≡ before
+    pub unread : TellsNone seen seeing
+    pub since : new.since ≡ old.since
+    pub took : connection.contents new.stream ≡ connection.contents old.stream
+    pub drained : connection.is_drained new.stream
+    pub read : IsReadOn (connection.remaining old.stream) (connection.remaining new.stream) old.received.items new.received.items
+    pub awaits : AwaitsMore old.received.items old.needed → AwaitsMore new.received.items new.needed
+
+  -- A connection without an answer and a question: what came of it goes on by what it gave. It is left waiting, or it is answered,
+  -- or its question is begun.
+  pub record IsHeard (old new : Client C) (before after : B) (seen seeing : Times) : Type 0 where
+    pub rest : Option (List ℕ)
+    pub read : IsReadOn (connection.remaining old.stream) rest old.received.items new.received.items
+    pub waits : new.answer ≡ None → new.thought ≡ None → IsLeftWaiting old new before after seen seeing
+    pub begun : IfSome new.thought (IsBegunWhole old new rest before after seen seeing)
+    pub answered : IfSome new.answer (λ answer. IsAnsweredWhole old new rest before after seen seeing answer.items)
+
+  -- a connection was attended to, and stays open
+  abbrev pub IsAttended : Client C → Client C → B → B → (seen seeing : Times) → Type 0
+  IsAttended old new before after seen seeing =
+      IfSome old.answer (λ answer. IsHandedOn old new before after seen seeing answer.items)
+      × (old.answer ≡ None → IsSome old.thought → IsHeeded old new before after seen seeing)
+      × (old.answer ≡ None → old.thought ≡ None → IsHeard old new before after seen seeing)
+
+  -- No request can come of it, or it can't take its answer: it is lost, or told to have taken more than that; or it isn't there for
+  -- the answer to its question.
+  abbrev pub IsSpoiled : Times → Client C → Client C → Type 0
+  IsSpoiled seen old new =
+      ((old.answer ≡ None) × (old.thought ≡ None) × IsMute connection old.stream old.received.items new.stream new.received.items)
+      ⊎ IsSomeAnd old.answer (λ answer. connection.is_lost new.stream ⊎ (length answer.items < old.sent))
+      ⊎ IsSome old.thought × IsForsaken connection seen old.since new.stream
+
+  -- why a connection is closed that is attended to: it took its whole answer, or is spoiled; or memory was wanting
+  abbrev pub IsClosedBy : Fate → Client C → B → B → (seen seeing : Times) → Type 0
+  IsClosedBy fate client before after seen seeing =
+      (fate ≡ NoMemory) ⊎ ((left : Client C) × (IsAttended client left before after seen seeing × IsSpent left ⊎ IsSpoiled seen client left))
+
+  -- The connection of a key was attended to, if there is one, and is closed or stays; no other was. At most one request was
+  -- served, and none where it had an answer or a question.
+  pub record IsAttendedAt (fate : Fate) (key : ℕ) (old new : Slab (Client C)) (before after : B) (seen seeing : Times) : Type 0 where
+    pub others : (other : ℕ) → other ≢ key → get new other ≡ get old other
+    pub absent : get old key ≡ None → (get new key ≡ None) × (after ≡ before)
+    pub there : (client : Client C) → get old key ≡ Some client → IfSome (get new key) (λ left. IsAttended client left before after seen seeing)
+    pub closed : (client : Client C) → get old key ≡ Some client → get new key ≡ None → IsClosedBy fate client before after seen seeing
+    pub once : (client : Client C) → get old key ≡ Some client → is_unanswered (Some client) ≡ false → after ≡ before
+    pub one : HasServed site book before after 1
+    pub clean_disk : book.has_clean_disk after → book.has_clean_disk before
+
+  -- the connections of these keys were attended to, one after another
+  abbrev pub AreAttended : List ℕ → Slab (Client C) → Slab (Client C) → B → B → (seen seeing : Times) → Type 0
+  AreAttended [] old new before after seen seeing = (new ≡ old) × (after ≡ before) × TellsNone seen seeing
+  AreAttended (key ∷ keys) old new before after seen seeing =
+      (fate : Fate) × (clients : Slab (Client C)) × (mid : B) × (between : Times) × IsAttendedAt fate key old clients before mid seen between
+      × AreAttended keys clients new mid after between seeing

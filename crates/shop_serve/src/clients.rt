@@ -1,0 +1,440 @@
+//! The open connections: since when each has its seconds, what came of it, the question that it asks, and how much of its
+//! answer was handed over.
+
+ghost use Rattle.std.specs.Prelude.{◌≡◌, ◌≢◌, ◌⊎◌, ◌<◌, ◌≤◌, ◌+◌, ◌-◌, ◌*◌, ◌↔◌, length, None, Some, true, false, IfSome, IsSome, IsSomeAnd};
+ghost use Rattle.std.specs.Time.{instant_nanos};
+ghost use Rattle.std.specs.Io.KnownBytes.{IsAtEnd};
+ghost use Rattle.shop_request.specs.Reading.{IsReadOn};
+ghost use Rattle.shop_request.specs.Parses.{IsDetermined};
+ghost use Rattle.shop_serve.specs.Clients.{AwaitsMore, ClosesLate, IsAttended, IsAttendedAt, CanOpenOne, IsClosedBy, IsForsaken, IsMute, IsOldest, IsOpened, IsSpoiled, IsTurnedAway, MakesRoom, MayGo, NoneMayGo, StopsAt, TakesAnswer, is_begun, is_late, is_unanswered, unanswered};
+ghost use Rattle.shop_serve.specs.Making.{IsAsked, put_answer, put_made, put_thought};
+ghost use Rattle.shop_planning.specs.Thoughts.{posed_in};
+ghost use Rattle.shop_serve.specs.declared.clients.Fate.TheVariants as fate;
+ghost use Rattle.shop_serve.specs.Serving.{Advances, HasServed, IsAnsweredThen};
+ghost use Rattle.shop_serve.specs.Times.{Tells, TellsNone};
+ghost use Rattle.shop_serve.specs.declared.transfers.Given.TheVariants as given;
+ghost use Rattle.shop_serve.specs.declared.transfers.Taken.TheVariants as taken;
+
+use crate::answers::{Made, made_of};
+use crate::connections::Connection;
+use crate::ports::Port;
+use crate::sites::Site;
+use crate::thinking::Thinking;
+use crate::transfers::{Given, Rest, Taken, drop_rest, hand_over, take_bytes};
+use crate::watches::Watch;
+use shop_book::Book;
+use shop_planning::Thought;
+use shop_request::Head;
+use slab::Slab;
+use std::alloc::Global;
+use std::time::{Duration, Instant};
+
+/// How many seconds a connection has to send its request, from when it was accepted, and then to take its answer.
+pub const PATIENCE: u64 = 10;
+
+/// How many milliseconds after its request a connection may end what it sends, and still wait for the answer to its question.
+pub const GRACE: u64 = 200;
+
+// How each answer to a request begins that was read to its last byte and done.
+const DONE: &[u8] = b"HTTP/1.1 200 ";
+
+/// The most connections that are open at once.
+pub const MOST_CLIENTS: usize = 256;
+
+/// An open connection: when it was accepted, its question was read or its answer was made, the bytes that came, how many are
+/// needed at least, the question that is thought about, and the answer with how much of it was handed over.
+#[derive(Drop)]
+pub(crate) struct Client<C> {
+    pub(crate) stream: C,
+    pub(crate) since: Instant,
+    pub(crate) received: Vec<u8>,
+    pub(crate) needed: usize,
+    pub(crate) thought: Option<Thinking>,
+    pub(crate) answer: Option<Vec<u8>>,
+    pub(crate) sent: usize,
+}
+
+/// What comes of a connection that is attended to: it stays, or is closed, since it is over or memory was wanting.
+#[derive(Clone, Copy, PartialEq, Eq)]
+pub(crate) enum Fate {
+    Stays,
+    Over,
+    NoMemory,
+}
+
+// Hands over what is left of the answer, as far as it is taken. After its last byte it is ended.
+fn answer_on<C: Connection>(client: &mut Client<C>) -> Given
+    ensures kept { (client.new.received ≡ client.old.received) × (client.new.answer ≡ client.old.answer) }
+    ensures since { client.new.since ≡ client.old.since }
+    ensures thought { client.new.thought ≡ client.old.thought }
+    ensures idle { client.old.answer ≡ None → (client.new ≡ client.old) × (result ≡ given.Waits) }
+    ensures takes { result ≢ given.Lost
+        → IfSome client.old.answer (λ answer.
+        TakesAnswer C.Connection answer.items client.old.stream client.old.sent client.new.stream
+        client.new.sent) }
+    ensures whole { result ≡ given.Whole
+        → IsSomeAnd client.new.answer (λ answer. client.new.sent ≡ length answer.items) }
+    ensures full { result ≡ given.Waits → IsSome client.old.answer → C.is_full client.new.stream }
+    ensures stops { result ≢ given.Lost
+        → IfSome client.old.answer (λ answer.
+        StopsAt C.Connection answer.items client.new.stream client.new.sent) }
+    ensures lost { result ≡ given.Lost → C.is_lost client.new.stream
+        ⊎ IsSomeAnd client.old.answer (λ answer. length answer.items < client.old.sent) }
+    ensures memory { result ≢ given.NoMemory }
+{
+    let Some(answer) = &client.answer else {
+        return Given::Waits;
+    };
+    if client.sent > answer.len() {
+        return Given::Lost;
+    }
+    hand_over(&mut client.stream, answer, &mut client.sent)
+}
+
+/// Puts an answer into a connection. It has its seconds to take it from now on.
+pub(crate) fn put_answer<C>(client: &mut Client<C>, answer: Vec<u8>, now: Instant)
+    ensures { client.new ≡ put_answer client.old answer now }
+{
+    drop(client.thought.take());
+    client.answer = Some(answer);
+    client.sent = 0;
+    client.since = now;
+}
+
+// Puts a question into a connection, which waits to be thought on.
+fn put_thought<C>(client: &mut Client<C>, thought: Thought, now: Instant)
+    ensures { client.new ≡ put_thought client.old thought now }
+{
+    drop(
+        client.thought.replace(Thinking {
+            thought,
+            last: None,
+        }),
+    );
+    client.answer = None;
+    client.sent = 0;
+    client.since = now;
+}
+
+// Puts what was made of its request into a connection.
+fn put_made<C>(client: &mut Client<C>, made: Made, now: Instant)
+    ensures { client.new ≡ put_made client.old made now }
+{
+    match made {
+        Made::Answer(answer) => put_answer(client, answer, now),
+        Made::Thought(thought) => put_thought(client, thought, now),
+    }
+}
+
+// Takes what has come of a request, and has it answered, be it by a backup, or its question begun once it is whole.
+fn ask<C: Connection, K: Watch, B: Book>(
+    alloc: Global,
+    site: &Site,
+    client: &mut Client<C>,
+    watch: &mut K,
+    book: &mut B,
+) -> Taken
+    requires waits { client.old.answer ≡ None }
+    requires asks { client.old.thought ≡ None }
+    ensures read { result ≢ taken.Over → result ≢ taken.NoMemory
+        → IsReadOn (C.remaining client.old.stream)
+        (C.remaining client.new.stream) client.old.received.items client.new.received.items }
+    ensures kept { C.contents client.new.stream ≡ C.contents client.old.stream }
+    ensures waits { result ≡ taken.Waits → (client.new.answer ≡ None)
+        × (client.new.thought ≡ None) × (book.new ≡ book.old) × C.is_drained client.new.stream }
+    ensures goes_on { result ≡ taken.Waits → (client.new.since ≡ client.old.since)
+        × TellsNone (K.times watch.old) (K.times watch.new) }
+    ensures since { result ≡ taken.Whole → IsSome client.new.thought
+        → Tells (K.times watch.old) (K.times watch.new) client.new.since }
+    ensures awaits { result ≡ taken.Waits → AwaitsMore client.old.received.items client.old.needed
+        → AwaitsMore client.new.received.items client.new.needed }
+    ensures over { result ≡ taken.Over
+        → IsMute C.Connection client.old.stream client.old.received.items client.new.stream
+        client.new.received.items }
+    ensures begins { result ≡ taken.Whole → (IsSome client.new.answer × (client.new.thought ≡ None)
+        ⊎ IsSome client.new.thought × (client.new.answer ≡ None)) × (client.new.sent ≡ 0) }
+    ensures whole { result ≡ taken.Whole → IsDetermined client.new.received.items
+        ⊎ IsAtEnd (C.remaining client.new.stream) }
+    ensures own { IfSome client.new.answer
+        (λ answer. IsAnsweredThen site.now B.Book book.old book.new (K.times watch.old)
+        (K.times watch.new) client.new.since client.new.received.items answer.items) }
+    ensures asked { IfSome client.new.thought
+        (λ t. (t.last ≡ None) × IsAsked site.now B.Book book.old book.new client.new.received.items
+        (posed_in t.thought)) }
+    ensures one { HasServed site.now B.Book book.old book.new 1 }
+    ensures clean_disk { B.has_clean_disk book.new → B.has_clean_disk book.old }
+{
+    let mut head = Head::new();
+    match take_bytes(
+        &site.routes,
+        &mut client.stream,
+        &mut client.received,
+        &mut client.needed,
+        &mut head,
+    ) {
+        Taken::NoMemory => return Taken::NoMemory,
+        Taken::Over => return Taken::Over,
+        Taken::Waits => return Taken::Waits,
+        Taken::Whole => (),
+    }
+    watch.stop();
+    let Some(made) = made_of(alloc, site, &head, &client.received, watch, book) else {
+        return Taken::NoMemory;
+    };
+    put_made(client, made, watch.now());
+    Taken::Whole
+}
+
+// Drops what still comes of a connection whose question is thought about. It is lost where its input ends, unless that ends
+// right after its request: then it may still wait for the answer.
+fn heed<C: Connection, K: Watch>(client: &mut Client<C>, watch: &K) -> Given
+    ensures kept { client.new ≡ record client.old { stream = client.new.stream } }
+    ensures contents { C.contents client.new.stream ≡ C.contents client.old.stream }
+    ensures lost { result ≡ given.Lost
+        → IsForsaken C.Connection (K.times watch.now) client.old.since client.new.stream }
+    ensures known { (result ≡ given.Waits) ⊎ (result ≡ given.Lost) }
+{
+    match drop_rest(&mut client.stream) {
+        Rest::MayCome => Given::Waits,
+        Rest::Lost => Given::Lost,
+        Rest::Ended => at_end(client.since, watch.last()),
+    }
+}
+
+// What an end of the input says, after a question that was read then.
+fn at_end(read: Instant, now: Instant) -> Given
+    ensures lost { result ≡ given.Lost
+        → GRACE * 1000000 < instant_nanos now - instant_nanos read }
+    ensures known { (result ≡ given.Waits) ⊎ (result ≡ given.Lost) }
+{
+    if now.duration_since(read) > Duration::from_millis(GRACE) {
+        return Given::Lost;
+    }
+    Given::Waits
+}
+
+// Takes what has come of a request, has it answered once it is whole, and hands over its answer as far as it is taken. One
+// whose question is thought about waits.
+fn attend<C: Connection, K: Watch, B: Book>(
+    alloc: Global,
+    site: &Site,
+    client: &mut Client<C>,
+    watch: &mut K,
+    book: &mut B,
+) -> Given
+    ensures attended { result ≢ given.Lost → result ≢ given.NoMemory
+        → IsAttended C.Connection site.now B.Book client.old client.new book.old book.new
+        (K.times watch.old) (K.times watch.new) }
+    ensures lost { result ≡ given.Lost
+        → IsSpoiled C.Connection site.now B.Book (K.times watch.old) client.old client.new }
+    ensures whole { result ≡ given.Whole
+        → IsSomeAnd client.new.answer (λ answer. client.new.sent ≡ length answer.items) }
+    ensures once { is_unanswered (Some client.old) ≡ false → book.new ≡ book.old }
+    ensures one { HasServed site.now B.Book book.old book.new 1 }
+    ensures clean_disk { B.has_clean_disk book.new → B.has_clean_disk book.old }
+{
+    if client.answer.is_some() {
+        return answer_on(client);
+    }
+    if client.thought.is_some() {
+        return heed(client, watch);
+    }
+    match ask(alloc, site, client, watch, book) {
+        Taken::NoMemory => return Given::NoMemory,
+        Taken::Over => return Given::Lost,
+        Taken::Waits => return Given::Waits,
+        Taken::Whole => (),
+    }
+    answer_on(client)
+}
+
+// Drops what still comes after an answer that was handed over and ended. The connection stays while more of the request may
+// come: to close before its end would lose the answer.
+fn finish<C: Connection>(client: &mut Client<C>) -> Fate
+    ensures kept { (client.new.received ≡ client.old.received) × (client.new.answer ≡ client.old.answer)
+        × (client.new.sent ≡ client.old.sent) }
+    ensures since { client.new.since ≡ client.old.since }
+    ensures thought { client.new.thought ≡ client.old.thought }
+    ensures contents { C.contents client.new.stream ≡ C.contents client.old.stream }
+    ensures ended { C.has_ended client.old.stream → C.has_ended client.new.stream }
+{
+    if drop_rest(&mut client.stream) != Rest::MayCome {
+        return Fate::Over;
+    }
+    match &client.answer {
+        Some(answer) if !answer.starts_with(DONE) => Fate::Stays,
+        _ => Fate::Over,
+    }
+}
+
+// Attends to a connection.
+fn attend_once<C: Connection, K: Watch, B: Book>(
+    alloc: Global,
+    site: &Site,
+    client: &mut Client<C>,
+    watch: &mut K,
+    book: &mut B,
+) -> Fate
+    ensures attended { result ≡ fate.Stays
+        → IsAttended C.Connection site.now B.Book client.old client.new book.old book.new
+        (K.times watch.old) (K.times watch.new) }
+    ensures over { result ≡ fate.Over
+        → IsClosedBy C.Connection site.now B.Book fate.Over client.old book.old book.new
+        (K.times watch.old) (K.times watch.new) }
+    ensures once { is_unanswered (Some client.old) ≡ false → book.new ≡ book.old }
+    ensures one { HasServed site.now B.Book book.old book.new 1 }
+    ensures clean_disk { B.has_clean_disk book.new → B.has_clean_disk book.old }
+{
+    match attend(alloc, site, client, watch, book) {
+        Given::Waits => Fate::Stays,
+        Given::Lost => Fate::Over,
+        Given::NoMemory => Fate::NoMemory,
+        Given::Whole => finish(client),
+    }
+}
+
+/// Attends to the connection of a key, and closes it when it is over or memory is wanting.
+pub(crate) fn attend_at<C: Connection + Drop, K: Watch, B: Book>(
+    alloc: Global,
+    site: &Site,
+    clients: &mut Slab<Client<C>>,
+    key: usize,
+    watch: &mut K,
+    book: &mut B,
+) -> Fate
+    ensures at { IsAttendedAt C.Connection site.now B.Book result key clients.old clients.new book.old
+        book.new (K.times watch.old) (K.times watch.new) }
+    ensures run { Advances site.now B.Book book.old book.new (unanswered clients.old)
+        (unanswered clients.new) }
+    ensures clean_disk { B.has_clean_disk book.new → B.has_clean_disk book.old }
+{
+    let Some(client) = clients.get_mut(key) else {
+        return Fate::Stays;
+    };
+    match attend_once(alloc, site, client, watch, book) {
+        Fate::Stays => Fate::Stays,
+        Fate::Over => {
+            drop(clients.try_remove(key));
+            Fate::Over
+        }
+        Fate::NoMemory => {
+            drop(clients.try_remove(key));
+            Fate::NoMemory
+        }
+    }
+}
+
+/// Whether a connection's question was thought on already.
+pub(crate) fn is_begun<C>(client: &Client<C>) -> bool
+    ensures { result ≡ is_begun client.now }
+{
+    match &client.thought {
+        Some(thinking) => thinking.last.is_some(),
+        None => false,
+    }
+}
+
+// Whether a connection may be closed for another: its answer isn't on its way, and its question wasn't thought on.
+fn may_go<C>(client: &Client<C>) -> bool
+    ensures { result ≡ true ↔ MayGo client.now }
+{
+    match &client.answer {
+        None => !is_begun(client),
+        Some(answer) => client.sent >= answer.len(),
+    }
+}
+
+// Whether a moment is before that of what was found so far.
+fn is_older(found: Option<(usize, Instant)>, since: Instant) -> bool
+    ensures older { result ≡ true → IfSome found (λ f. instant_nanos since ≤ instant_nanos f.1) }
+    ensures younger { result ≡ false
+        → IsSomeAnd found (λ f. instant_nanos f.1 ≤ instant_nanos since) }
+{
+    found.is_none_or(|(_, first)| since < first)
+}
+
+// The key of the oldest connection whose answer isn't on its way.
+fn oldest<C>(clients: &Slab<Client<C>>) -> Option<usize>
+    ensures found { IfSome result (IsOldest clients.now) }
+    ensures none { result ≡ None → NoneMayGo clients.now }
+{
+    let mut found: Option<(usize, Instant)> = None;
+    for (key, client) in clients.iter() {
+        if may_go(client) && is_older(found, client.since) {
+            found = Some((key, client.since));
+        }
+    }
+    match found {
+        Some((key, _)) => Some(key),
+        None => None,
+    }
+}
+
+/// Whether one connection more may be open, be it in another's place.
+pub(crate) fn can_open_one<C>(clients: &Slab<Client<C>>) -> bool
+    ensures { result ≡ true ↔ CanOpenOne clients.now }
+{
+    clients.len() < MOST_CLIENTS || oldest(clients).is_some()
+}
+
+/// Closes the oldest connection whose answer isn't on its way, where there are as many as may be.
+fn make_room<C: Drop>(clients: &mut Slab<Client<C>>)
+    requires room { CanOpenOne clients.old }
+    ensures room { MakesRoom clients.old clients.new }
+    ensures fewer { unanswered clients.new ≤ unanswered clients.old }
+{
+    if clients.len() < MOST_CLIENTS {
+        return;
+    }
+    if let Some(key) = oldest(clients) {
+        drop(clients.try_remove(key));
+    }
+}
+
+/// Opens a connection, be it in another's place, and gives its key, under which it is watched. One that can't be is closed.
+pub(crate) fn open_client<C: Drop, P: Port<C>>(
+    alloc: Global,
+    port: &mut P,
+    stream: C,
+    now: Instant,
+    clients: &mut Slab<Client<C>>,
+) -> Option<usize>
+    requires room { CanOpenOne clients.old }
+    ensures opened { IfSome result (λ key. IsOpened P.Port now stream key clients.old clients.new) }
+    ensures watched { IfSome result (λ key. P.is_watched port.new stream key) }
+    ensures closed { result ≡ None → IsTurnedAway P.Port clients.old clients.new }
+    ensures fewer { unanswered clients.new ≤ unanswered clients.old + 1 }
+    ensures told { P.told port.new ≡ P.told port.old }
+    ensures given { P.given port.new ≡ P.given port.old }
+{
+    make_room(clients);
+    let mut stream = stream;
+    if !port.watch(&mut stream, clients.vacant_key()) {
+        return None;
+    }
+    let client = Client {
+        stream,
+        since: now,
+        received: Vec::new(alloc),
+        needed: 0,
+        thought: None,
+        answer: None,
+        sent: 0,
+    };
+    clients.insert(client).ok()
+}
+
+// Whether a connection has had its time. While its question is thought about it has none.
+fn is_late<C>(client: &Client<C>, now: Instant) -> bool
+    ensures { result ≡ is_late now client.now }
+{
+    client.thought.is_none() && now.duration_since(client.since) >= Duration::from_secs(PATIENCE)
+}
+
+/// Closes the connections that have had their time.
+pub(crate) fn close_late<C: Drop>(clients: &mut Slab<Client<C>>, now: Instant)
+    ensures late { ClosesLate now clients.old clients.new }
+    ensures fewer { unanswered clients.new ≤ unanswered clients.old }
+{
+    clients.retain(|_, client| !is_late(client, now));
+}

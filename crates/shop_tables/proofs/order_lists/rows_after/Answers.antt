@@ -1,0 +1,21 @@
+use Rattle.std.proofs.Common.{[], ◌∷◌, pos, Ok}
+use Rattle.sqlite.specs.Held.{state}
+use Rattle.sqlite_value.specs.declared.value.Value.TheVariants.{Int, Text}
+use Rattle.shop_tables.proofs.ListTexts.{orders_after_text, orders_after_selects}
+use Rattle.shop_tables.proofs.OrderRows.{lists_orders_after}
+use Rattle.shop_tables.proofs.RowsAsShown.{gives, gives_none, orders_after_shown}
+use Rattle.shop_statements.proofs.Reading.{leaves_itself}
+use Rattle.shop_tables.proofs.order_lists.rows_after.Goals as goal
+
+pub returns-in_err-limit-clause-gives : goal.returns-in_err-limit-clause-gives
+returns-in_err-limit-clause-gives g c = gives_none c.from_residual.result _ _ _ _ c.from_residual.ensures.0 (leaves_itself _)
+
+pub returns-in_err-rows-clause-gives : goal.returns-in_err-rows-clause-gives
+returns-in_err-rows-clause-gives g c = gives_none c.from_residual-in_err-rows.result _ _ _ _ c.from_residual-in_err-rows.ensures.0 (c.all_rows.ensures.leaves orders_after_selects)
+
+pub returns-clause-gives : goal.returns-clause-gives
+returns-clause-gives g c =
+    let old = state g.S.Store c.args.conn.now in
+    let new = state g.S.Store c.all_rows.new.conn in
+    gives orders_after_text (Text c.args.after ∷ Int (pos c.args.most) ∷ []) old new _ _ (Ok c.in_ok-rows.rows) orders_after_selects c.all_rows.ensures.leaves (λ clean. rw (c.params-to_sql.ensures, c.params-to_sql-2.ensures, c.in_ok-limit.ensures, c.as_str.ensures.value) at (c.in_ok-rows.ensures.rows clean))
+    (λ b has rows. lists_orders_after old new b has c.args.most c.args.after rows) (λ h rows. orders_after_shown old new h c.args.after c.args.most rows)

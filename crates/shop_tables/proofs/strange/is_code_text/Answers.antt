@@ -1,5 +1,0 @@
-use Rattle.cut_measure.proofs.CodeFields.{code_utf8}
-use Rattle.shop_tables.proofs.strange.is_code_text.Goals as goal
-
-pub returns-in-Err : goal.returns-in-Err
-returns-in-Err c code = absurd (c.in-Err.ensures.cases.0 (code_utf8 _ code))
