@@ -139,6 +139,18 @@ def strange(trial):
 
 
 @case(
+    "rows in the totals of version 1",
+    "A file of version 2 with a row in `totals` is `fault version` and stays as it was; without the row it is taken again.",
+)
+def old_totals(trial):
+    path = filled(trial, exchanges=DAY[:2])
+    tables.change(path, "INSERT INTO totals VALUES ('GLASS', 80, 80, 0, 0, 0, 0)")
+    refused_as_it_was(trial, path, "a row in totals")
+    tables.change(path, "DELETE FROM totals")
+    trial.holds(opens(trial, path), "no row in totals")
+
+
+@case(
     "parts of the greatest values",
     "Acts of 2147483647, nodes and places of 4294967295 and a batch of 16 characters are taken.",
 )

@@ -1,6 +1,6 @@
 //! The book in SQL tables: it adopts a connection, reads rows, commits changes and counts failures.
 
-ghost use Rattle.std.specs.Prelude.{◌≡◌, ◌≢◌, ◌+◌, ◌≤◌, false, true, Err, IfOk, IfErr, IsTrue, OnOk, OnErr, unwrap_or};
+ghost use Rattle.std.specs.Prelude.{◌≡◌, ◌≢◌, ◌+◌, ◌≤◌, false, true, Err, IfOk, IfErr, IsTrue, OnOk, OnErr, [], unwrap_or};
 ghost use Rattle.std.specs.FinMap.{get};
 ghost use Rattle.sqlite.specs.Held.{state};
 ghost use Rattle.sqlite.specs.State.{HasCleanDisk, Survives};
@@ -181,8 +181,8 @@ impl<S: Alter> SqlBook<S> {
     /// Takes over the database of a connection that is outside a transaction. It makes the tables where no table, index or
     /// view has one of their names, in one transaction, goes on with tables of version 2, and brings those of version 1 to
     /// version 2, in one transaction. It hands the connection back beside its fault, which is `WrongVersion` where a name is
-    /// taken and the tables aren't there, or are of another version, or their totals aren't the sums of their parts; nothing
-    /// is written then.
+    /// taken and the tables aren't there, or are of another version, or their totals aren't the sums of their parts, or
+    /// version 2 has rows in the totals of version 1; nothing is written then.
     pub fn adopt(
         alloc: Global,
         mut conn: Connection<S>,
@@ -242,6 +242,9 @@ impl<S: Alter> SqlBook<S> {
         ensures version { HasShopTables conn.schema
             → IfOk result (λ book. HasCleanDisk (state S.Store book.conn)
             → HasVersion (state S.Store conn) 2) }
+        ensures no_old_totals { HasShopTables conn.schema
+            → IfOk result (λ book. HasCleanDisk (state S.Store book.conn)
+            → (state S.Store conn).now.trees 15 ≡ []) }
         ensures earlier_version { conn.schema ≡ earlier_schema
             → IfOk result (λ book. HasCleanDisk (state S.Store book.conn)
             → HasVersion (state S.Store conn) 1) }

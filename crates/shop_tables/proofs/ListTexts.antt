@@ -132,6 +132,12 @@ falling at = (col 1 at, record { collation = Binary; descending = true }) ∷ []
 abbrev pub last_number_tests : List Term
 last_number_tests = same (col 1 1) (col 0 0) ∷ []
 
+abbrev pub old_totals_text : List ℕ
+old_totals_text = codes "SELECT material FROM totals LIMIT 1"
+
+abbrev pub old_totals_terms : List Term
+old_totals_terms = col 1 1 ∷ []
+
 module _ (schema : Schema) (h : HasShopTables schema) where
   pub parts_of_is : Reads (shop schema h) parts_of_text (from_table 4 parts_of_tests parts_of_terms parts_of_order) (codes "act" ∷ codes "node" ∷ codes "material" ∷ codes "batch" ∷ codes "root_act" ∷ codes "root_node" ∷ codes "x" ∷ codes "y" ∷ codes "w" ∷ codes "h" ∷ codes "state" ∷ codes "detail" ∷ [])
   unfolding understood everything
@@ -188,6 +194,14 @@ module _ (schema : Schema) (h : HasShopTables schema) where
   pub last_number_is : Reads (shop schema h) last_number_text (first_of (lit (Int (pos 1))) (from_table 11 last_number_tests last_number_terms (falling 2))) (codes "number" ∷ [])
   unfolding understood everything
   last_number_is = record { command = refl; listing = refl; plain = (refl, refl) }
+
+  pub old_totals_is : Reads (shop schema h) old_totals_text (first_of (lit (Int (pos 1))) (from_table 15 [] old_totals_terms [])) (codes "material" ∷ [])
+  unfolding understood everything
+  old_totals_is = record { command = refl; listing = refl; plain = (refl, refl) }
+
+pub old_totals_selects : is_select old_totals_text ≡ true
+unfolding everything
+old_totals_selects = refl
 
 pub parts_of_selects : is_select parts_of_text ≡ true
 unfolding everything

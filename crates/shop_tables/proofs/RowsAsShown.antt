@@ -3,6 +3,8 @@ use Rattle.std.proofs.Common.{◌≡◌, ◌+◌, ◌<◌, ℕ, pos, Bool, true,
 use Rattle.std.specs.List.{list_all}
 use Rattle.std.specs.Option.{option_to_list}
 use Rattle.std.specs.declared.cmp.Ordering.{Ordering}
+use Rattle.std.specs.declared.cmp.Ordering.TheVariants.{Equal}
+use Rattle.std.proofs.lemmas.List.Sorted.{IsPermutation-sym}
 use Rattle.std.proofs.lemmas.List.{get_or-map, length-map, map-append, take-map, take_more}
 use Rattle.sqlite_value.specs.declared.keys.Collation.TheVariants.{Binary}
 use Rattle.sqlite_value.specs.declared.keys.Key.{Key}
@@ -34,7 +36,7 @@ use Rattle.shop_statements.specs.declared.faults.TableFault.{TableFault}
 use Rattle.shop_statements.specs.Found.{are_equal, columns_of}
 use Rattle.shop_statements.specs.Rows.{demand_columns, material_columns}
 use Rattle.shop_statements.specs.Layout.{HasShopTables}
-use Rattle.shop_statements.proofs.Keys.{and_true}
+use Rattle.shop_statements.proofs.Keys.{and_true, none_permutation}
 use Rattle.shop_statements.proofs.Lists.{map-map}
 use Rattle.shop_statements.proofs.Selects.{selects}
 use Rattle.shop_statements.proofs.Terms.{from_table}
@@ -43,7 +45,7 @@ use Rattle.shop_tables.specs.ListedRows.{listed_demand, listed_material, number_
 use Rattle.shop_tables.specs.RowsShown.{AreDemandRows, AreJobRows, AreLastRows, AreLineRows, AreMaterialRows, AreOrderRows, ArePartRows, AreShown, GivesRows, by_columns, is_above, is_at_least, is_below}
 use Rattle.shop_tables.proofs.Firsts.{first_answer}
 use Rattle.shop_tables.proofs.FirstRows.{and_and, held_given}
-use Rattle.shop_tables.proofs.ListTexts.{all_codes_terms, all_materials_is, all_materials_terms, all_materials_text, by_code, by_line, by_rowid, falling, first_of, first_orders_is, first_orders_text, first_parts_is, first_parts_text, last_number_is, last_number_terms, last_number_tests, last_number_text, lines_is, lines_tests, lines_text, open_demands_is, open_demands_of_is, open_demands_of_tests, open_demands_of_text, open_demands_terms, open_demands_tests, open_demands_text, orders_after_is, orders_after_tests, orders_after_text, parts_after_is, parts_after_tests, parts_after_text, parts_of_order, parts_of_terms, parts_of_tests, waiting_jobs_is, waiting_jobs_terms, waiting_jobs_tests, waiting_jobs_text}
+use Rattle.shop_tables.proofs.ListTexts.{all_codes_terms, all_materials_is, all_materials_terms, all_materials_text, by_code, by_line, by_rowid, falling, first_of, first_orders_is, first_orders_text, first_parts_is, first_parts_text, last_number_is, last_number_terms, last_number_tests, last_number_text, lines_is, lines_tests, lines_text, old_totals_is, old_totals_terms, old_totals_text, open_demands_is, open_demands_of_is, open_demands_of_tests, open_demands_of_text, open_demands_terms, open_demands_tests, open_demands_text, orders_after_is, orders_after_tests, orders_after_text, parts_after_is, parts_after_tests, parts_after_text, parts_of_order, parts_of_terms, parts_of_tests, waiting_jobs_is, waiting_jobs_terms, waiting_jobs_tests, waiting_jobs_text}
 
 -- ---- a query on one table
 
@@ -110,6 +112,25 @@ listed_tests code c d = (λ i. are_equal c (Text code) && (and_true _ ∙ either
 first_row : (shown : Row → Row) (rows : List Row) → (o : Option Row) × (map shown (limited (Some 1) rows) ≡ option_to_list o)
 first_row shown [] = (None, refl)
 first_row shown (row ∷ rows) = (Some (shown row), refl)
+
+-- one of them is shown where there are any, and none else
+abbrev IsNothing : List Row → List Row → Type 0
+IsNothing given stored = (given ≡ [] → stored ≡ []) × (stored ≡ [] → given ≡ [])
+
+all_rows : (stored : List Row) → filter (λ _. true) stored ≡ stored
+all_rows [] = refl
+all_rows (row ∷ stored) = ap (λ rows. row ∷ rows) (all_rows stored)
+
+nothing_shown : (shown : Row → Row) (stored given : List Row) → AreShown shown (λ a b. Equal) (Some 1) (λ _. true) stored given → IsNothing given stored
+nothing_shown shown stored given are =
+    let same : IsPermutation stored are.rows = subst (λ rows. IsPermutation rows are.rows) (all_rows stored) are.same in (
+      λ none. none_permutation stored (IsPermutation-sym _ _ (subst (IsPermutation stored) (unshown are.rows (sym are.are ∙ none)) same)),
+      λ none. are.are ∙ ap (λ rows. map shown (limited (Some 1) rows)) (none_permutation are.rows (subst (λ rows. IsPermutation rows are.rows) none same)),
+    )
+  where
+    unshown : (rows : List Row) → map shown (limited (Some 1) rows) ≡ [] → rows ≡ []
+    unshown [] h = refl
+    unshown (row ∷ rows) h = absurd (cc)
 
 -- ---- what each list shows
 
@@ -189,6 +210,14 @@ module _ (old new : State) (h : HasShopTables old.now.schema) where
       let are = last_numbers_shown terminal given.rows given.shown in
       let one = first_row (columns_of 1 2) are.rows in
       subst (AreLastRows terminal (old.now.trees 11)) (are.are ∙ one.1 ∙ sym (ap option_to_list (given.only one.0 (are.are ∙ one.1)))) are
+
+  -- whether there is a row of version 1's totals
+  pub old_totals_shown : (rows : List Row) → Shown old_totals_text [] old new rows → IsNothing rows (old.now.trees 15)
+  old_totals_shown rows shown =
+      let is = old_totals_is old.now.schema h in
+      nothing_shown (columns_of 1 1) (old.now.trees 15) rows
+      (shown_first 15 [] old_totals_terms [] old.now.trees [] refl _ (λ a b. Equal) _ (λ r. refl) (λ a b. refl) (λ r. refl) (lit (Int (pos 1))) 1 refl rows
+      (reads_as old_totals_text [] old new over (shop_is old.now.schema h) _ is.command is.plain is.listing rows shown).answer)
 
 -- ---- a query of rows
 

@@ -1,6 +1,6 @@
 //! From a connection to one that holds books.
 
-ghost use Rattle.std.specs.Prelude.{◌≡◌, ◌≢◌, ◌⊎◌, true, false, Ok, Err, IfOk, IsTrue, OnOk, OnErr};
+ghost use Rattle.std.specs.Prelude.{◌≡◌, ◌≢◌, ◌⊎◌, true, false, [], Ok, Err, IfOk, IsTrue, OnOk, OnErr};
 ghost use Rattle.sqlite.specs.State.{HasCleanDisk, Survives};
 ghost use Rattle.sqlite.specs.Held.{state};
 ghost use Rattle.sqlite_catalog.specs.Change.{is_used};
@@ -8,11 +8,13 @@ ghost use Rattle.shop_tables.specs.Adopting.{HasVersion, IsVacant, LeavesBooks, 
 ghost use Rattle.shop_statements.specs.Earlier.{HoldsEarlier, IsSettledEarlier, earlier_schema};
 ghost use Rattle.shop_statements.specs.Layout.{no_schema, HasShopTables};
 ghost use Rattle.shop_statements.specs.Shown.{Books, HasShopSchema, Holds, IsSettled, Leaves, StandsIn, fresh_books};
+ghost use Rattle.shop_tables.specs.RowsShown.{SeesCommit};
 ghost use Rattle.shop_tables.specs.declared.adopting.Adopted.TheVariants.{Made, Found, Earlier};
 ghost use Rattle.shop_tables.specs.declared.adopting.AdoptFault.TheVariants.{WrongVersion};
 
 use crate::invalid::has_number;
 use crate::laying::lay_tables;
+use crate::old_totals::has_no_old_totals;
 use shop_statements::{TableFault, number_row};
 use sqlite::{Alter, Connection, Error};
 use sqlite_schema::schema::Schema;
@@ -169,6 +171,27 @@ fn adopt_version<S: Alter>(
     }
 }
 
+// Over tables with the names of version 2, in which version 1's totals have no row.
+fn adopt_found<S: Alter>(conn: &mut Connection<S>) -> Result<Adopted, AdoptFault>
+    ensures mode { conn.old.in_transaction ≡ false → conn.new.in_transaction ≡ false }
+    ensures only { IfOk result (λ told. told ≡ Found) }
+    ensures leaves { Leaves (state S.Store conn.old) (state S.Store conn.new) }
+    ensures neither { result ≡ Err WrongVersion → HasCleanDisk (state S.Store conn.new)
+        → (b : Books) → Holds (state S.Store conn.old) b → ⊥ }
+    ensures named { HasShopTables conn.old.schema → HasCleanDisk (state S.Store conn.new)
+        → OnOk result (HasVersion (state S.Store conn.old) 2) }
+    ensures no_old_totals { HasShopTables conn.old.schema → HasCleanDisk (state S.Store conn.new)
+        → SeesCommit (state S.Store conn.old)
+        → OnOk result ((state S.Store conn.old).now.trees 15 ≡ []) }
+{
+    let how = adopt_version(conn, 2, Adopted::Found)?;
+    if has_no_old_totals(conn)? {
+        Ok(how)
+    } else {
+        Err(AdoptFault::WrongVersion)
+    }
+}
+
 // Over a database in which a name of ours is taken.
 fn adopt_taken<S: Alter>(conn: &mut Connection<S>) -> Result<Adopted, AdoptFault>
     requires outside { conn.old.in_transaction ≡ false }
@@ -183,6 +206,9 @@ fn adopt_taken<S: Alter>(conn: &mut Connection<S>) -> Result<Adopted, AdoptFault
         → (b : Books) → IsSettledEarlier (state S.Store conn.old) b → ⊥ }
     ensures named { HasShopTables conn.old.schema → HasCleanDisk (state S.Store conn.new)
         → OnOk result (HasVersion (state S.Store conn.old) 2) }
+    ensures no_old_totals { HasShopTables conn.old.schema → HasCleanDisk (state S.Store conn.new)
+        → SeesCommit (state S.Store conn.old)
+        → OnOk result ((state S.Store conn.old).now.trees 15 ≡ []) }
     ensures one_named { conn.old.schema ≡ earlier_schema → HasCleanDisk (state S.Store conn.new)
         → OnOk result (HasVersion (state S.Store conn.old) 1) }
 {
@@ -192,12 +218,12 @@ fn adopt_taken<S: Alter>(conn: &mut Connection<S>) -> Result<Adopted, AdoptFault
     if !are_tables(conn.schema()) {
         return Err(AdoptFault::WrongVersion);
     }
-    adopt_version(conn, 2, Adopted::Found)
+    adopt_found(conn)
 }
 
 /// Makes the tables where none of their names is taken, in one transaction, goes on with tables of version 2, and tells where
 /// there are tables of version 1. It answers `WrongVersion` where a name is taken and they aren't there, or are of another
-/// version, and writes nothing then.
+/// version, or the totals of version 1 have a row, and writes nothing then.
 pub fn adopt_tables<S: Alter>(conn: &mut Connection<S>) -> Result<Adopted, AdoptFault>
     requires outside { conn.old.in_transaction ≡ false }
     ensures mode { conn.new.in_transaction ≡ false }
@@ -235,6 +261,8 @@ pub fn adopt_tables<S: Alter>(conn: &mut Connection<S>) -> Result<Adopted, Adopt
         → (b : Books) → IsSettledEarlier (state S.Store conn.old) b → ⊥ }
     ensures named { HasShopTables conn.old.schema → HasCleanDisk (state S.Store conn.new)
         → OnOk result (HasVersion (state S.Store conn.old) 2) }
+    ensures no_old_totals { HasShopTables conn.old.schema → HasCleanDisk (state S.Store conn.new)
+        → OnOk result ((state S.Store conn.old).now.trees 15 ≡ []) }
     ensures one_named { conn.old.schema ≡ earlier_schema → HasCleanDisk (state S.Store conn.new)
         → OnOk result (HasVersion (state S.Store conn.old) 1) }
     ensures free { names_are_free conn.old.schema ≡ true → IfOk result (λ how. how ≡ Made)

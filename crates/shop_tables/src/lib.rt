@@ -13,6 +13,7 @@ mod lending;
 mod listed_rows;
 mod listing;
 mod material_lists;
+mod old_totals;
 mod open_demands;
 mod order_lines;
 mod order_lists;

@@ -1,4 +1,5 @@
 use Rattle.std.proofs.Common.{◌∙◌, true≢false, sym, ap}
+use Rattle.std.specs.Prelude.{not}
 use Rattle.shop_tables.specs.Adopting.{names_are_free}
 use Rattle.shop_tables.proofs.Taken.{taken, earlier_taken}
 use Rattle.shop_tables.proofs.adopting.adopt_tables.Goals as goal
@@ -44,3 +45,9 @@ returns-else-are_free-clause-schema g c empty = absurd (true≢false (sym (c.are
 
 pub returns-else-are_free-clause-free : goal.returns-else-are_free-clause-free
 returns-else-are_free-clause-free g c free = absurd (true≢false (sym (c.are_free.ensures ∙ ap names_are_free c.schema.ensures.value ∙ free) ∙ c.if-are_free.false))
+
+pub returns-then-are_free-clause-no_old_totals : goal.returns-then-are_free-clause-no_old_totals
+returns-then-are_free-clause-no_old_totals g c it = absurd (true≢false (sym c.if-are_free.true ∙ c.are_free.ensures ∙ ap names_are_free c.schema.ensures.value ∙ taken c.args.conn.now.schema it))
+
+pub returns-else-are_free-clause-no_old_totals : goal.returns-else-are_free-clause-no_old_totals
+returns-else-are_free-clause-no_old_totals g c it clean = c.adopt_taken.ensures.no_old_totals it clean (c.is_autocommit-outside.ensures.settled (c.is_autocommit-outside.ensures.value ∙ ap not c.requires.outside))

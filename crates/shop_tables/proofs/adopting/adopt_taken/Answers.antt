@@ -30,3 +30,6 @@ returns-then-are_earlier-clause-named g c it = absurd (true≢false (sym c.if-ar
 
 pub returns-clause-one_named : goal.returns-clause-one_named
 returns-clause-one_named g c is = absurd (true≢false (sym (c.are_earlier.ensures ∙ ap names_are_earlier c.schema.ensures.value ∙ earlier_stand c.args.conn.now.schema is) ∙ c.if-are_earlier.false))
+
+pub returns-then-are_earlier-clause-no_old_totals : goal.returns-then-are_earlier-clause-no_old_totals
+returns-then-are_earlier-clause-no_old_totals g c it = absurd (true≢false (sym c.if-are_earlier.true ∙ c.are_earlier.ensures ∙ ap names_are_earlier c.schema.ensures.value ∙ not_earlier c.args.conn.now.schema it))

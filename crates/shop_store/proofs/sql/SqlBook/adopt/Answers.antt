@@ -255,3 +255,14 @@ returns-in-Err-clause-earlier_read_only g c it none clean = c.in-Err.ensures.tak
 
 pub returns-in-Err-clause-free : goal.returns-in-Err-clause-free
 returns-in-Err-clause-free g c free is = (c.in-Err.ensures.free free).1 (ap Err (wrong_version _ (sym c.fault_of_adopt.ensures ∙ is)))
+
+-- ---- version 1's totals have no row
+
+pub returns-in-Ok-Made-clause-no_old_totals : goal.returns-in-Ok-Made-clause-no_old_totals
+returns-in-Ok-Made-clause-no_old_totals g c it clean = c.in-Ok-Made.ensures.no_old_totals it (subst (λ h. HasCleanDisk (state g.S.Store h)) c.over.ensures.conn clean)
+
+pub returns-in-Ok-Found-clause-no_old_totals : goal.returns-in-Ok-Found-clause-no_old_totals
+returns-in-Ok-Found-clause-no_old_totals g c it = if_book (λ book. book.conn) _ (λ book leaves none clean. c.in-Ok-Found.ensures.no_old_totals it (let l = leaves.survives.clean in omega (arith, l, clean))) c.checked.result c.checked.ensures.leaves c.checked.ensures.failures
+
+pub returns-in-Ok-Earlier-clause-no_old_totals : goal.returns-in-Ok-Earlier-clause-no_old_totals
+returns-in-Ok-Earlier-clause-no_old_totals g c it = absurd ((c.in-Ok-Earlier.ensures.one (ap Ok c.in-Ok-Earlier.field-0-is)).1 it)
