@@ -81,7 +81,7 @@ module _ {E : Type 0} (sql : List ℕ) (params : Row) (old new : State) (r : Res
   puts_beside terms width is = on_ok_then r (λ ran clean inside h.
       let run = ran clean inside in
       let w = runs_as sql params old new (shop old.now.schema h) (shop_is old.now.schema h) _ (is h).command (is h).plain run.0 run.1 in
-      beside old.now new.now _ (inserted old.step_limit (mode_of old) params old.now new.now w.tally at (loosened (loose h) t) (there h) (statement_of sql (understood (shop old.now.schema h) sql)) terms width (no_works old.now.schema h t.tree) w.changed))
+      beside old.now new.now _ (inserted old.step_limit (mode_of old) params old.now new.now w.tally at (loosened (loose h) t) (there h) (statement_of sql (understood (shop old.now.schema h) sql)) terms width w.changed))
 
   pub sets_beside : (q : Program) → ((h : HasShopTables old.now.schema) → Writes (shop old.now.schema h) sql (Update at q)) → OnOk r (HasExecuted sql params old new) → OnOk r (Spares (t.tree ∷ []) old new)
   sets_beside q is = on_ok_then r (λ ran clean inside h.

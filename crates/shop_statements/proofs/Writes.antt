@@ -19,6 +19,7 @@ use Rattle.sqlite.specs.Effect.{Database, Answers, value_rows}
 use Rattle.sqlite.specs.Does.{Tally, Does, OnTable, OnRows, WritesRows}
 use Rattle.sqlite.specs.Rows.{Task, Written}
 use Rattle.sqlite.proofs.Callers.{one_step}
+use Rattle.shop_statements.proofs.Works.{nothing_works}
 
 -- with no count and no default that reads the time
 abbrev pub bare : Table → Table
@@ -73,9 +74,9 @@ module _ (limit : Option ℕ) (mode : Mode) (params : Row) (db after : Database)
   abbrev pub update : List Row → Edit
   update rows = edit_of db.trees table (ids_of rows) Given 1 rows
 
-  pub inserted : (text : List ℕ) (terms : List Term) (width : ℕ) → ((olds news : List Row) → works db.schema mode.keys 0 table.tree olds news ≡ [])
-      → Does limit mode params db text None (Insert at (Values terms width)) (Ok (tally, after)) → IsEdited db after (insertion terms width)
-  inserted text terms width none h =
+  -- it takes no row out, so that no foreign key acts
+  pub inserted : (text : List ℕ) (terms : List Term) (width : ℕ) → Does limit mode params db text None (Insert at (Values terms width)) (Ok (tally, after)) → IsEdited db after (insertion terms width)
+  inserted text terms width h =
       let wrote = on_rows text (Insert at (Values terms width)) h in
       let given = went wrote.1 in
       let counter = went given.2 in
@@ -83,7 +84,7 @@ module _ (limit : Option ℕ) (mode : Mode) (params : Row) (db after : Database)
       let counted = went written.2 in
       let rows : given.0 ≡ new_rows terms width = given.1.1 ∙ ap (λ p. value_rows p width (length terms / width) terms) (append-nil params) in
       let trees : (wrote.0).trees ≡ written.0 = ap (λ (it : Written). it.trees) (same_value counted.2) ∙ same_value counted.1 in
-      applied (insertion terms width) written.0 (none (taken_by db.trees (insertion terms width)) (insertion terms width).news)
+      applied (insertion terms width) written.0 (nothing_works db.schema mode.keys table.tree (insertion terms width).news)
       (subst (λ all. Rattle.sqlite_rules.specs.Action.Writes db.schema mode.keys db.trees (edit_of db.trees table [] Chosen 0 all) (Ok written.0)) rows written.1)
       (wrote.2 ∙ ap (λ t. record { schema = db.schema; trees = t }) trees)
 

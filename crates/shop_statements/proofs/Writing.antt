@@ -53,7 +53,7 @@ module _ (old new : State) (h : HasShopTables old.now.schema) (text : List ℕ) 
         → Executes text params old new (Ok count) → IsPut old new base.tree (old.now.trees base.tree) row
     puts row count news ran =
         let w = runs_as text params old new (shop old.now.schema h) (shop_is old.now.schema h) _ is.command is.plain count ran in
-        let e = inserted old.step_limit (mode_of old) params old.now new.now w.tally at base there (statement_of text (understood (shop old.now.schema h) text)) terms width (no_works old.now.schema h base.tree) w.changed in
+        let e = inserted old.step_limit (mode_of old) params old.now new.now w.tally at base there (statement_of text (understood (shop old.now.schema h) text)) terms width w.changed in
         record {
           schema_is = e.schema_is;
           sound = w.sound;

@@ -3,10 +3,11 @@
 ghost use Rattle.std.specs.Prelude.{◌≡◌, ◌≢◌, ◌+◌, ◌≤◌, false, true, Err, IfOk, IfErr, IsTrue, OnOk, OnErr, [], unwrap_or};
 ghost use Rattle.std.specs.FinMap.{get};
 ghost use Rattle.sqlite.specs.Held.{state};
+ghost use Rattle.sqlite.specs.Does.{lacks_sequence};
 ghost use Rattle.sqlite.specs.State.{HasCleanDisk, Survives};
 ghost use Rattle.sqlite.specs.Steps.{over_memory};
 ghost use Rattle.shop_records.specs.Content.{Content, no_totals as nothing, parts_of, fresh};
-ghost use Rattle.shop_tables.specs.Adopting.{HasVersion, IsVacant, names_are_free};
+ghost use Rattle.shop_tables.specs.Adopting.{HasVersion, HoldsBeside, IsAsBefore, IsVacant, StandsBeside, names_are_free};
 ghost use Rattle.shop_statements.specs.Earlier.{earlier_schema};
 ghost use Rattle.shop_tables.specs.Held.{HoldsContent, IsSettledAt, LeavesOnly, StandsFor};
 ghost use Rattle.shop_statements.specs.Layout.{no_schema, HasShopTables};
@@ -258,6 +259,15 @@ impl<S: Alter> SqlBook<S> {
             → Leaves (state S.Store conn) (state S.Store after)) result }
         ensures free { names_are_free conn.schema ≡ true
             → IfErr result (λ back. back.0 ≢ WrongVersion) }
+        ensures beside { names_are_free conn.schema ≡ true → lacks_sequence conn.schema ≡ false
+            → IfOk result (λ book. HoldsBeside (state S.Store conn) (state S.Store book.conn)) }
+        ensures beside_undone { names_are_free conn.schema ≡ true
+            → IfErr result (λ back. IsAsBefore (state S.Store conn) (state S.Store back.1)) }
+        ensures beside_crash { names_are_free conn.schema ≡ true
+            → lacks_sequence conn.schema ≡ false
+            → EitherWay (λ book. book.conn)
+            (λ after. Survives (state S.Store conn) (state S.Store after)
+            (StandsBeside (state S.Store conn).now)) result }
     {
         match adopt_tables(&mut conn) {
             Ok(Adopted::Made) => Ok(SqlBook::over(alloc, conn, PartNames::new(alloc))),

@@ -1,6 +1,7 @@
 -- The transaction that makes the tables, or brings them to version 2.
 use Rattle.std.proofs.Common.{◌≡◌, inl, inr, false, true≢false, IsTrue, sym, ap, subst, ◌∙◌}
 use Rattle.sqlite_trees.specs.declared.store.Store.{Ghosts}
+use Rattle.sqlite_trees.specs.Tree.{Trees}
 use Rattle.sqlite.specs.Effect.{Database}
 use Rattle.sqlite.specs.State.{State, HasCleanDisk, IsRolledBack, Survives}
 use Rattle.sqlite.specs.State as sql
@@ -9,10 +10,13 @@ use Rattle.sqlite.specs.Steps.{FailsToCommit}
 use Rattle.sqlite.specs.declared.error.Error.{Error}
 use Rattle.sqlite.proofs.StateLemmas.{survives_then}
 use Rattle.sqlite.proofs.Callers.{survives_begin}
-use Rattle.shop_tables.specs.Adopting.{IsVacant, MakesTables}
+use Rattle.shop_tables.specs.Adopting.{HoldsBeside, IsAsBefore, IsMadeBeside, IsVacant, MakesTables, StandsBeside}
 use Rattle.shop_statements.specs.Layout.{no_schema}
 use Rattle.shop_statements.specs.Shown.{Books, HasShopSchema, Holds, StandsIn, Within}
 use Rattle.shop_tables.proofs.Commits.{old, begun, goes_back, shows_along, stands_in}
+
+stands_beside : (old made : Database) (db : Trees) → db ≡ made.trees → IsMadeBeside old made → StandsBeside old db
+stands_beside old made db is it = (made.schema, subst (λ t. IsMadeBeside old (record { schema = made.schema; trees = t })) (sym is) it)
 
 module _ {S : Type 0} (g : Ghosts S) (h : Held S) where
   module _ (b : Books) (done last : State) (late : HasCleanDisk last → HasCleanDisk done) (made : MakesTables (begun g h) done b) where
@@ -37,8 +41,26 @@ module _ {S : Type 0} (g : Ghosts S) (h : Held S) where
       | inr ended ↦ absurd (true≢false (sym (made.on (late clean)).2 ∙ ended.1))
     ]
 
+  module _ (done last : State) (late : HasCleanDisk last → HasCleanDisk done) where
+    -- the tables were made beside others, and this is committed
+    pub beside_committed : ((db : Trees) → IsTrue last.is_open → last.may_leave db → db ≡ last.committed.trees) → (HasCleanDisk done → IsMadeBeside (old g h).now done.now) → (HasCleanDisk last → sql.Shows done last done.now done.now false)
+        → HoldsBeside (old g h) last
+    beside_committed only made end = record {
+      seen = λ clean up. let e = end clean in (subst (IsMadeBeside (old g h).now) (sym e.now_is) (made (late clean)), e.now_is ∙ sym e.committed_is);
+      after = λ clean db left. let e = end clean in stands_beside (old g h).now done.now db (only db e.is_open left ∙ ap (λ (d : Database). d.trees) e.committed_is) (made (late clean));
+    }
+
+    -- and what a crash may leave
+    pub beside_survives : (HasCleanDisk done → IsMadeBeside (old g h).now done.now) → Within (begun g h) done → Survives done last (λ db. db ≡ done.now.trees) → Survives (old g h) last (StandsBeside (old g h).now)
+    beside_survives made within end = survives_begin g h last (StandsBeside (old g h).now)
+        (survives_then (begun g h) done last (λ _. ⊥) (λ db. db ≡ done.now.trees) (StandsBeside (old g h).now) (λ _ db none. absurd none)
+        (λ clean db is. stands_beside (old g h).now done.now db is (made (late clean))) within.survives end)
+
+    -- the transaction is undone: what was there is seen again
+    pub goes_back_as : (IsTrue (old g h).is_open → (old g h).now ≡ (old g h).committed) → Within (begun g h) done → (HasCleanDisk last → IsRolledBack done last) → IsAsBefore (old g h) last
+    goes_back_as settled within back clean up = let went = goes_back g h done last late within back clean up in (sym (settled went.was_open ∙ went.seen), went.committed)
+
   -- the transaction is undone, and nothing was there before it
   pub vacates : h.schema ≡ no_schema → (IsTrue (old g h).is_open → (old g h).now ≡ (old g h).committed) → (done last : State) → (HasCleanDisk last → HasCleanDisk done) → Within (begun g h) done → (HasCleanDisk last → IsRolledBack done last) → IsVacant last
   vacates has settled done last late within back clean up =
-      let went = goes_back g h done last late within back clean up in
-      (ap (λ (x : Database). x.schema) (sym (settled went.was_open ∙ went.seen)) ∙ has, went.committed)
+      let went = goes_back_as done last late settled within back clean up in (ap (λ (x : Database). x.schema) went.0 ∙ has, went.1)

@@ -1,5 +1,6 @@
 -- The tables of an empty database, each of which one statement makes.
-use Rattle.std.proofs.Common.{◌≡◌, ℕ, pos, List, [], ◌∷◌, length, drop, map, codes, slice_get, is_some, Some, Result, OnOk, refl, sym, ap, subst, ◌∙◌}
+use Rattle.std.proofs.Common.{◌≡◌, ◌≢◌, ℕ, ◌+◌, pos, true, false, List, [], ◌∷◌, length, drop, map, codes, slice_get, is_some, Some, Ok, Err, Result, OnOk, IsTrue, refl, sym, ap, subst, ◌∙◌}
+use Rattle.std.specs.List.{AllByRecursion}
 use Rattle.std.proofs.lemmas.List.Sorted.{IsPermutation-refl}
 use Rattle.std.specs.FinMap.{entries, empty, get, get-empty, len-entries, len-empty}
 use Rattle.std.specs.FinSet as set
@@ -14,6 +15,13 @@ use Rattle.sqlite.specs.Schema.{Schema}
 use Rattle.sqlite.specs.Term.{Term, lit}
 use Rattle.sqlite.specs.Command.TheVariants.{Insert}
 use Rattle.sqlite.specs.Edit.{IsNoIndex}
+use Rattle.sqlite.specs.Change.{created, next_tree}
+use Rattle.sqlite.specs.Does.{lacks_sequence}
+use Rattle.sqlite.specs.Effect.{Database, IsDatabase}
+use Rattle.sqlite_catalog.specs.Calls.{KeepsForeign}
+use Rattle.sqlite_trees.specs.Objects.{catalog_tree}
+use Rattle.sqlite_schema.specs.Names.{same_name, table_named}
+use Rattle.sqlite_resolve.specs.Compile.{first}
 use Rattle.sqlite.specs.Source.TheVariants.{Values}
 use Rattle.sqlite.specs.Listing.{understood}
 use Rattle.sqlite.specs.Rowids.TheVariants.{Chosen}
@@ -34,81 +42,88 @@ use Rattle.shop_records.specs.declared.records.Demand.{Demand}
 use Rattle.shop_records.specs.declared.records.Totals.{Totals}
 use Rattle.shop_records.specs.declared.imports.ImportRow.{ImportRow}
 use Rattle.shop_records.specs.declared.texts.Kept.{Kept}
-use Rattle.shop_statements.specs.Layout.{Loose, no_schema, laid, shop_schema, HasShopTables, meta_table, materials_table, parts_table, jobs_table, orders_table, demands_table, kept_table, imports_table, totals_table, totals2_table}
+use Rattle.shop_statements.specs.Layout.{Loose, created_all, no_schema, shop_schema, HasShopTables, meta_table, materials_table, parts_table, jobs_table, orders_table, demands_table, kept_table, imports_table, totals_table, totals2_table}
 use Rattle.shop_statements.specs.Rows.{AreRows, IsKeyed, meta_row, meta_entries, material_row, part_row, job_row, order_row, demand_row, kept_row, import_row, totals_row}
-use Rattle.shop_tables.specs.Adopting.{MakesTables}
-use Rattle.shop_tables.specs.Laying.{Adds, AreRun, Does, IsRun, IsWritten, PutsFirstNumbers}
+use Rattle.shop_tables.specs.Adopting.{IsMadeBeside, MakesTables, with_ours}
+use Rattle.shop_tables.specs.Laying.{Adds, AreRun, Does, IsRun, PutsFirstNumbers}
 use Rattle.shop_tables.specs.declared.laying.TheConstants.{META, MATERIALS, PARTS, JOBS, ORDERS, DEMANDS, KEPT, IMPORTS, TOTALS, TOTALS2, FIRST_NUMBERS}
-use Rattle.shop_statements.specs.Shown.{Shows, fresh_books}
+use Rattle.shop_statements.specs.Shown.{Ran, Shows, fresh_books}
 use Rattle.shop_statements.proofs.Keys.{cast-Int, cast-Null}
-use Rattle.shop_tables.proofs.Making.{AreMade, Blank, IsMade, MakesAs, all_created, made_in_turn, made_when, makes, texts_of}
-use Rattle.shop_statements.proofs.Terms.{Writes}
+use Rattle.shop_tables.proofs.Behind.{Behind, begins, first_named, first_placed, made_blank, others_behind, others_kept, placed, still_sequence}
+use Rattle.shop_tables.proofs.Inserted.{ReadsInsert, understood_inserts}
+use Rattle.shop_tables.proofs.Making.{AreMade, MakesAs, laid_in_turn, makes, ran_on, table_of, texts_of}
 use Rattle.shop_statements.proofs.Writes.{inserted}
-use Rattle.shop_statements.proofs.Works.{no_works, unlike}
+use Rattle.shop_statements.proofs.Works.{unlike}
 
-abbrev unplaced : Table → Table
-unplaced t = record t { tree = 0 }
+meta_made : MakesAs META.now meta_table
+unfolding everything
+meta_made = record { reads = ((refl, refl, refl, refl), refl); plain = refl }
 
--- the tables, under the texts that make them
+materials_made : MakesAs MATERIALS.now materials_table
+unfolding everything
+materials_made = record { reads = ((refl, refl, refl, refl), refl); plain = refl }
+
+parts_made : MakesAs PARTS.now parts_table
+unfolding everything
+parts_made = record { reads = ((refl, refl, refl, refl), refl); plain = refl }
+
+jobs_made : MakesAs JOBS.now jobs_table
+unfolding everything
+jobs_made = record { reads = ((refl, refl, refl, refl), refl); plain = refl }
+
+orders_made : MakesAs ORDERS.now orders_table
+unfolding everything
+orders_made = record { reads = ((refl, refl, refl, refl), refl); plain = refl }
+
+demands_made : MakesAs DEMANDS.now demands_table
+unfolding everything
+demands_made = record { reads = ((refl, refl, refl, refl), refl); plain = refl }
+
+kept_made : MakesAs KEPT.now kept_table
+unfolding everything
+kept_made = record { reads = ((refl, refl, refl, refl), refl); plain = refl }
+
+imports_made : MakesAs IMPORTS.now imports_table
+unfolding everything
+imports_made = record { reads = ((refl, refl, refl, refl), refl); plain = refl }
+
+totals_made : MakesAs TOTALS.now totals_table
+unfolding everything
+totals_made = record { reads = ((refl, refl, refl, refl), refl); plain = refl }
+
+totals2_made : MakesAs TOTALS2.now totals2_table
+unfolding everything
+totals2_made = record { reads = ((refl, refl, refl, refl), refl); plain = refl }
+
+-- the tables behind meta's, under the texts that make them
 abbrev steps : List (List ℕ × Table)
 steps =
-    (META.now, unplaced meta_table)
-    ∷ (MATERIALS.now, unplaced materials_table)
-    ∷ (PARTS.now, unplaced parts_table)
-    ∷ (JOBS.now, unplaced jobs_table)
-    ∷ (ORDERS.now, unplaced orders_table)
-    ∷ (DEMANDS.now, unplaced demands_table)
-    ∷ (KEPT.now, unplaced kept_table)
-    ∷ (IMPORTS.now, unplaced imports_table)
-    ∷ (TOTALS.now, unplaced totals_table)
-    ∷ (TOTALS2.now, unplaced totals2_table)
+    (MATERIALS.now, materials_table)
+    ∷ (PARTS.now, parts_table)
+    ∷ (JOBS.now, jobs_table)
+    ∷ (ORDERS.now, orders_table)
+    ∷ (DEMANDS.now, demands_table)
+    ∷ (KEPT.now, kept_table)
+    ∷ (IMPORTS.now, imports_table)
+    ∷ (TOTALS.now, totals_table)
+    ∷ (TOTALS2.now, totals2_table)
     ∷ []
 
-all_made : AreMade no_schema steps
-unfolding understood everything
-all_made = (
-  record { command = refl; defines = refl; plain = (refl, refl); counts = refl },
-  (
-    record { command = refl; defines = refl; plain = (refl, refl); counts = refl },
-    (
-      record { command = refl; defines = refl; plain = (refl, refl); counts = refl },
-      (
-        record { command = refl; defines = refl; plain = (refl, refl); counts = refl },
-        (
-          record { command = refl; defines = refl; plain = (refl, refl); counts = refl },
-          (
-            record { command = refl; defines = refl; plain = (refl, refl); counts = refl },
-            (
-              record { command = refl; defines = refl; plain = (refl, refl); counts = refl },
-              (
-                record { command = refl; defines = refl; plain = (refl, refl); counts = refl },
-                (
-                  record { command = refl; defines = refl; plain = (refl, refl); counts = refl },
-                  (
-                    record { command = refl; defines = refl; plain = (refl, refl); counts = refl },
-                    tt,
-                  ),
-                ),
-              ),
-            ),
-          ),
-        ),
-      ),
-    ),
-  ),
-)
-
-same_schema : all_created no_schema steps ≡ shop_schema
-same_schema = refl
+all_made : AreMade steps
+all_made = (materials_made, (parts_made, (jobs_made, (orders_made, (demands_made, (kept_made, (imports_made, (totals_made, (totals2_made, tt)))))))))
 
 abbrev meta_terms : List Term
 meta_terms =
     lit Null ∷ lit (Text (codes "version")) ∷ lit (Int (pos 2)) ∷ lit Null ∷ lit (Text (codes "act")) ∷ lit (Int (pos 0)) ∷ lit Null ∷ lit (Text (codes "demand"))
     ∷ lit (Int (pos 0)) ∷ []
 
-fill_is : Writes shop_schema FIRST_NUMBERS.now (Insert 0 (Values meta_terms 3))
-unfolding understood everything
-fill_is = record { command = refl; plain = (refl, refl) }
+-- a table like meta's, wherever it is
+abbrev meta_in : ℕ → Table
+meta_in tree = record meta_table { tree = tree }
+
+fill_is : ReadsInsert (codes "meta") meta_table (Values meta_terms 3) (first FIRST_NUMBERS.now)
+unfolding everything
+fill_is = ((refl, λ schema tree. refl, refl, refl), refl, refl)
 
 -- ---- the rows of a new shop
 
@@ -173,93 +188,164 @@ fresh_keyed = record {
   values = λ name x h. no_key name_cmp name x _ h;
 }
 
-puts_numbers : (old new : State) → old.now.schema ≡ shop_schema → IsRun FIRST_NUMBERS.now old new → PutsFirstNumbers old.now new.now
-puts_numbers old new has ran free =
-    let w = runs_as FIRST_NUMBERS.now [] old new shop_schema has (Insert 0 (Values meta_terms 3)) fill_is.command fill_is.plain ran.count ran.executes in
-    let it : HasShopTables old.now.schema = subst HasShopTables (sym has) shop_is_shop in
-    let e = inserted old.step_limit (mode_of old) [] old.now new.now w.tally 0 meta_table (ap (λ (c : Schema). slice_get c.tables 0) has) (statement_of FIRST_NUMBERS.now (understood shop_schema FIRST_NUMBERS.now)) meta_terms 3
-    (no_works old.now.schema it 0) w.changed in (
-      record { schema_is = e.schema_is ∙ has; sound = w.sound; others = λ t far bare. e.others t (unlike t 0 far) (subst (λ s. IsNoIndex s t) (sym has) bare) },
-      subst (AreRows 1 (map meta_row (meta_entries fresh))) (sym (e.rows ∙ filled (old.now.trees 0) free)) first_meta,
-    )
+-- what the first numbers make of a table like meta's that has no row
+record NumbersPut (schema : Schema) (tree : ℕ) (old new : Database) : Type 0 where
+  schema_is : new.schema ≡ schema
+  sound : IsDatabase new
+  texts : KeepsForeign (old.trees catalog_tree) (new.trees catalog_tree)
+  tables : AllByRecursion (λ t. t.tree ≢ tree → new.trees t.tree ≡ old.trees t.tree) schema.tables
+  others : (t : ℕ) → t ≢ tree → IsNoIndex schema t → new.trees t ≡ old.trees t
+  numbers : AreRows 1 (map meta_row (meta_entries fresh)) (new.trees tree)
+
+puts_numbers : (schema : Schema) (at tree : ℕ) (old new : State) → table_named schema (codes "meta") ≡ Some at → slice_get schema.tables at ≡ Some (meta_in tree) → old.now.schema ≡ schema → IsRun FIRST_NUMBERS.now old new
+    → old.now.trees tree ≡ [] → NumbersPut schema tree old.now new.now
+puts_numbers schema at tree old new named placed has ran free =
+    let is = understood_inserts (codes "meta") meta_table (Values meta_terms 3) refl schema at tree named placed FIRST_NUMBERS.now fill_is in
+    let w = runs_as FIRST_NUMBERS.now [] old new schema has (Insert at (Values meta_terms 3)) is.0 is.1 ran.count ran.executes in
+    let e = inserted old.step_limit (mode_of old) [] old.now new.now w.tally at (meta_in tree) (ap (λ (c : Schema). slice_get c.tables at) has ∙ placed) (statement_of FIRST_NUMBERS.now (understood schema FIRST_NUMBERS.now)) meta_terms 3 w.changed in
+    record {
+      schema_is = e.schema_is ∙ has;
+      sound = w.sound;
+      texts = w.frozen.texts;
+      tables = subst (λ (s : Schema). AllByRecursion (λ t. t.tree ≢ tree → new.now.trees t.tree ≡ old.now.trees t.tree) s.tables) has e.tables;
+      others = λ t far bare. e.others t far (subst (λ s. IsNoIndex s t) (sym has) bare);
+      numbers = subst (AreRows 1 (map meta_row (meta_entries fresh))) (sym (e.rows ∙ filled (old.now.trees tree) free)) first_meta;
+    }
+
+ours_named : table_named shop_schema (codes "meta") ≡ Some 0
+unfolding same_name
+ours_named = refl
+
+meta_named : same_name meta_table.name (codes "meta") ≡ true
+unfolding same_name
+meta_named = refl
+
+-- ---- in an empty database
+
+laid_is : with_ours no_schema ≡ shop_schema
+unfolding with_ours
+laid_is = refl
 
 -- with these numbers they are the tables of a new shop
-shows_fresh : (old new : State) → Blank shop_schema old → IsWritten 0 old.now new.now → AreRows 1 (map meta_row (meta_entries fresh)) (new.now.trees 0) → Shows new fresh_books
-shows_fresh old new blank e numbers =
-    let far = shop_is_shop.bare in
-    let no = blank.none in
+shows_fresh : (old : Database) (new : State) → old.schema ≡ no_schema → IsMadeBeside old new.now → Shows new fresh_books
+shows_fresh old new has made =
+    let schema : new.now.schema ≡ shop_schema = made.schema ∙ ap with_ours has ∙ laid_is in
+    let no : AllByRecursion (λ t. new.now.trees t.tree ≡ []) (drop 1 shop_schema.tables) = subst (λ (s : Schema). AllByRecursion (λ t. new.now.trees t.tree ≡ []) (drop 1 s.tables)) schema
+    (subst (λ (s : Schema). AllByRecursion (λ t. new.now.trees t.tree ≡ []) (drop (length s.tables + 1) new.now.schema.tables)) has made.empty) in
     record {
-      schema = subst HasShopTables (sym e.schema_is) shop_is_shop;
-      sound = e.sound;
+      schema = subst HasShopTables (sym schema) shop_is_shop;
+      sound = made.sound;
       stands = record {
-        meta = numbers;
-        materials = none 1 material_row (entries empty) (new.now.trees 2) (no_entries code_cmp Material) (e.others 2 refl far.1.0 ∙ no.1.0);
-        parts = none 1 part_row (entries empty) (new.now.trees 4) (no_entries name_cmp Part) (e.others 4 refl far.1.1.0 ∙ no.1.1.0);
-        jobs = none 0 job_row (entries empty) (new.now.trees 6) (no_entries nat_cmp Job) (e.others 6 refl far.1.1.1.0 ∙ no.1.1.1.0);
-        orders = record { codes = empty; there = λ code. set.contains-empty code_cmp code ∙ sym (ap is_some (get-empty code_cmp code)); rows = none 1 order_row (entries empty) (new.now.trees 7) (no_entries code_cmp (Unit {0})) (e.others 7 refl far.1.1.1.1.0 ∙ no.1.1.1.1.0) };
-        demands = none 0 demand_row (entries empty) (new.now.trees 9) (no_entries nat_cmp Demand) (e.others 9 refl far.1.1.1.1.1.0 ∙ no.1.1.1.1.1.0);
-        kept = none 1 kept_row (entries empty) (new.now.trees 11) (no_entries pair_cmp Kept) (e.others 11 refl far.1.1.1.1.1.1.0 ∙ no.1.1.1.1.1.1.0);
-        imports = none 1 import_row (entries empty) (new.now.trees 13) (no_entries code_cmp ImportRow) (e.others 13 refl far.1.1.1.1.1.1.1.0 ∙ no.1.1.1.1.1.1.1.0);
-        totals = e.others 15 refl far.1.1.1.1.1.1.1.1.0 ∙ no.1.1.1.1.1.1.1.1.0;
-        totals2 = none 1 totals_row (entries empty) (new.now.trees 17) (no_entries code_cmp Totals) (e.others 17 refl far.1.1.1.1.1.1.1.1.1.0 ∙ no.1.1.1.1.1.1.1.1.1.0);
+        meta = subst (λ s. AreRows 1 (map meta_row (meta_entries fresh)) (new.now.trees (next_tree s))) has made.numbers;
+        materials = none 1 material_row (entries empty) (new.now.trees 2) (no_entries code_cmp Material) no.0;
+        parts = none 1 part_row (entries empty) (new.now.trees 4) (no_entries name_cmp Part) no.1.0;
+        jobs = none 0 job_row (entries empty) (new.now.trees 6) (no_entries nat_cmp Job) no.1.1.0;
+        orders = record { codes = empty; there = λ code. set.contains-empty code_cmp code ∙ sym (ap is_some (get-empty code_cmp code)); rows = none 1 order_row (entries empty) (new.now.trees 7) (no_entries code_cmp (Unit {0})) no.1.1.1.0 };
+        demands = none 0 demand_row (entries empty) (new.now.trees 9) (no_entries nat_cmp Demand) no.1.1.1.1.0;
+        kept = none 1 kept_row (entries empty) (new.now.trees 11) (no_entries pair_cmp Kept) no.1.1.1.1.1.0;
+        imports = none 1 import_row (entries empty) (new.now.trees 13) (no_entries code_cmp ImportRow) no.1.1.1.1.1.1.0;
+        totals = no.1.1.1.1.1.1.1.0;
+        totals2 = none 1 totals_row (entries empty) (new.now.trees 17) (no_entries code_cmp Totals) no.1.1.1.1.1.1.1.1.0;
       };
       keyed = fresh_keyed;
+    }
+
+-- the first numbers end it
+ended : (front mid new : Database) → (b : Behind front (placed front.schema meta_table) (created_all (map table_of steps) (created front.schema meta_table)) mid.trees)
+    → NumbersPut (created_all (map table_of steps) (created front.schema meta_table)) (next_tree front.schema) mid new → IsMadeBeside front new
+unfolding with_ours
+ended front mid new b put =
+    let schema = created_all (map table_of steps) (created front.schema meta_table) in
+    let first = placed front.schema meta_table in
+    record {
+      schema = put.schema_is;
+      sound = put.sound;
+      texts = λ row has is. put.texts row (b.texts row has is) is;
+      others = others_kept front first schema mid.trees b new.trees refl put.tables;
+      numbers = put.numbers;
+      empty = subst (AllByRecursion (λ t. new.trees t.tree ≡ [])) (sym (ap (λ (s : Schema). drop (length front.schema.tables + 1) s.tables) put.schema_is ∙ others_behind front.schema schema first b.made b.tables)) (made_blank front first schema mid.trees b new.trees refl put.tables);
     }
 
 module _ {S : Type 0} (g : Ghosts S) where
   -- ---- what each statement does
 
-  added : (place : ℕ) (text : List ℕ) (table : Table) → MakesAs (laid place) text (unplaced table) → Adds g text place table
-  added place text table facts old new has ran =
-      let it = makes (laid place) text (unplaced table) (state g old) (state g new) facts has ran in record { schema_is = it.schema_is; empty = it.empty; others = it.others }
+  added : (text : List ℕ) (table : Table) → MakesAs text table → Adds g text table
+  added text table facts schema counts old new has ran = makes schema text table (state g old) (state g new) facts counts has ran
 
-  pub meta_added : Adds g META.now 0 meta_table
-  meta_added = added 0 META.now meta_table all_made.0
+  pub meta_added : Adds g META.now meta_table
+  meta_added = added META.now meta_table meta_made
 
-  pub materials_added : Adds g MATERIALS.now 1 materials_table
-  materials_added = added 1 MATERIALS.now materials_table all_made.1.0
+  pub materials_added : Adds g MATERIALS.now materials_table
+  materials_added = added MATERIALS.now materials_table materials_made
 
-  pub parts_added : Adds g PARTS.now 2 parts_table
-  parts_added = added 2 PARTS.now parts_table all_made.1.1.0
+  pub parts_added : Adds g PARTS.now parts_table
+  parts_added = added PARTS.now parts_table parts_made
 
-  pub jobs_added : Adds g JOBS.now 3 jobs_table
-  jobs_added = added 3 JOBS.now jobs_table all_made.1.1.1.0
+  pub jobs_added : Adds g JOBS.now jobs_table
+  jobs_added = added JOBS.now jobs_table jobs_made
 
-  pub orders_added : Adds g ORDERS.now 4 orders_table
-  orders_added = added 4 ORDERS.now orders_table all_made.1.1.1.1.0
+  pub orders_added : Adds g ORDERS.now orders_table
+  orders_added = added ORDERS.now orders_table orders_made
 
-  pub demands_added : Adds g DEMANDS.now 5 demands_table
-  demands_added = added 5 DEMANDS.now demands_table all_made.1.1.1.1.1.0
+  pub demands_added : Adds g DEMANDS.now demands_table
+  demands_added = added DEMANDS.now demands_table demands_made
 
-  pub kept_added : Adds g KEPT.now 6 kept_table
-  kept_added = added 6 KEPT.now kept_table all_made.1.1.1.1.1.1.0
+  pub kept_added : Adds g KEPT.now kept_table
+  kept_added = added KEPT.now kept_table kept_made
 
-  pub imports_added : Adds g IMPORTS.now 7 imports_table
-  imports_added = added 7 IMPORTS.now imports_table all_made.1.1.1.1.1.1.1.0
+  pub imports_added : Adds g IMPORTS.now imports_table
+  imports_added = added IMPORTS.now imports_table imports_made
 
-  pub totals_added : Adds g TOTALS.now 8 totals_table
-  totals_added = added 8 TOTALS.now totals_table all_made.1.1.1.1.1.1.1.1.0
+  pub totals_added : Adds g TOTALS.now totals_table
+  totals_added = added TOTALS.now totals_table totals_made
 
-  pub totals2_added : Adds g TOTALS2.now 9 totals2_table
-  totals2_added = added 9 TOTALS2.now totals2_table all_made.1.1.1.1.1.1.1.1.1.0
+  pub totals2_added : Adds g TOTALS2.now totals2_table
+  totals2_added = added TOTALS2.now totals2_table totals2_made
 
   pub numbers_put : Does g FIRST_NUMBERS.now shop_schema PutsFirstNumbers
-  numbers_put old new = puts_numbers (state g old) (state g new)
+  numbers_put old new has ran free =
+      let it = puts_numbers shop_schema 0 0 (state g old) (state g new) ours_named refl has ran free in (record { schema_is = it.schema_is; sound = it.sound; others = λ t far bare. it.others t (unlike t 0 far) bare }, it.numbers)
 
   -- ---- all of them
 
   abbrev texts : List (List ℕ)
-  texts = texts_of steps (FIRST_NUMBERS.now ∷ [])
+  texts = META.now ∷ texts_of steps (FIRST_NUMBERS.now ∷ [])
 
-  lays : (old new : Held S) → old.schema ≡ no_schema → AreRun g texts old new → IsMade g old new fresh_books
-  lays old new has ran =
-      let made = made_in_turn g steps (FIRST_NUMBERS.now ∷ []) no_schema old new all_made (record { schema_is = has; none = tt }) ran in
-      let blank = subst (λ s. Blank s (state g made.mid)) same_schema made.blank in
-      let last = made.later in
-      let wrote = numbers_put made.mid last.0 blank.schema_is last.1 blank.none.0 in
-      let shows = shows_fresh (state g made.mid) (state g last.0) blank wrote.0 wrote.1 in
-      subst (λ (x : Held S). IsMade g old x fresh_books) (sym last.2) (record { was_open = ran.1.was_open; is_open = last.1.is_open; inside = last.1.inside; shows = shows; schema = wrote.0.schema_is })
+  lays : (old new : Held S) → lacks_sequence old.schema ≡ false → AreRun g texts old new → IsMadeBeside (state g old).now (state g new).now
+  lays old new counts ran =
+      let front = (state g old).now in
+      let one = ran.0 in
+      let meta = meta_added old.schema counts old one refl ran.1 in
+      let first = placed front.schema meta_table in
+      let laid = laid_in_turn g steps (FIRST_NUMBERS.now ∷ []) front first (created front.schema meta_table) one new all_made (still_sequence front.schema meta_table refl counts) meta.schema_is (begins front meta_table (state g one).now meta) ran.2 in
+      let schema = created_all (map table_of steps) (created front.schema meta_table) in
+      let last = laid.later in
+      let b = laid.behind in
+      let put = puts_numbers schema (length front.schema.tables) (next_tree front.schema) (state g laid.mid) (state g last.0)
+      (first_named front.schema schema first b.made b.tables (codes "meta") meta.free meta_named)
+      (first_placed front.schema schema first b.made b.tables) laid.schema_is last.1 b.blank in
+      subst (λ (x : Held S). IsMadeBeside front (state g x).now) (sym last.2) (ended front (state g laid.mid).now (state g last.0).now b put)
 
-  pub lays_when : (old new : Held S) (r : Result (Unit {0}) Error) → old.schema ≡ no_schema → (HasCleanDisk (state g new) → HasCleanDisk (state g old)) → (HasCleanDisk (state g new) → OnOk r (AreRun g texts old new))
+  -- where they run to the end, the transaction goes on
+  pub ran_when : (old new : Held S) (r : Result (Unit {0}) Error) → (HasCleanDisk (state g new) → HasCleanDisk (state g old)) → (HasCleanDisk (state g new) → OnOk r (AreRun g texts old new)) → OnOk r (Ran (state g old) (state g new))
+  ran_when old new (Ok x) earlier ran = record { earlier = earlier; on = λ clean inside. ran_on g META.now (texts_of steps (FIRST_NUMBERS.now ∷ [])) old new (ran clean) }
+  ran_when old new (Err e) earlier ran = tt
+
+  -- ours are made behind those that were there
+  pub lays_when : (old new : Held S) (r : Result (Unit {0}) Error) → lacks_sequence old.schema ≡ false → (HasCleanDisk (state g new) → OnOk r (AreRun g texts old new)) → HasCleanDisk (state g new)
+      → OnOk r (IsMadeBeside (state g old).now (state g new).now)
+  lays_when old new (Ok x) counts ran clean = lays old new counts (ran clean)
+  lays_when old new (Err e) counts ran clean = tt
+
+  -- in an empty database they are the tables of a new shop
+  pub lays_fresh : (old new : Held S) (r : Result (Unit {0}) Error) → old.schema ≡ no_schema → (HasCleanDisk (state g new) → HasCleanDisk (state g old)) → (HasCleanDisk (state g new) → OnOk r (AreRun g texts old new))
       → OnOk r (MakesTables (state g old) (state g new) fresh_books)
-  lays_when old new r has earlier ran = made_when g texts old new fresh_books r earlier ran (λ clean. lays old new has)
+  lays_fresh old new (Ok x) has earlier ran =
+      let made = lays_when old new (Ok x) (ap lacks_sequence has) ran in
+      record {
+        earlier = earlier;
+        on = λ clean. ran_on g META.now (texts_of steps (FIRST_NUMBERS.now ∷ [])) old new (ran clean);
+        shows = λ clean. shows_fresh (state g old).now (state g new) has (made clean);
+        schema = λ clean. (made clean).schema ∙ ap with_ours has ∙ laid_is;
+      }
+  lays_fresh old new (Err e) has earlier ran = tt

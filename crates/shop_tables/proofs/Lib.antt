@@ -1,3 +1,6 @@
+pub mod Created
+pub mod Inserted
+pub mod Behind
 pub mod Making
 pub mod Lays
 pub mod Moved

@@ -1,25 +1,27 @@
 -- What each statement that makes a table does, and what they make one after another.
-use Rattle.std.proofs.Common.{◌≡◌, ◌⊎◌, inl, inr, ℕ, false, List, [], ◌∷◌, ◌++◌, map, Ok, Err, Result, OnOk, IsTrue, sym, ap, subst, ◌∙◌}
-use Rattle.std.specs.Prelude.{⊤}
+use Rattle.std.proofs.Common.{◌≡◌, ◌⊎◌, inl, inr, ℕ, false, List, [], ◌∷◌, map, Ok, Err, Result, OnOk, IsTrue, refl, sym, ap, subst, ◌∙◌}
 use Rattle.std.specs.List.{AllByRecursion}
 use Rattle.sqlite_trees.specs.declared.store.Store.{Ghosts}
-use Rattle.sqlite.specs.Tree.{Trees}
 use Rattle.sqlite.specs.Table.{Table}
 use Rattle.sqlite.specs.Schema.{Schema}
 use Rattle.sqlite.specs.Command.TheVariants.{CreateTable}
-use Rattle.sqlite.specs.Compile.{table_defined_by}
+use Rattle.sqlite_catalog.specs.Change.{is_used}
+use Rattle.sqlite_resolve.specs.declared.compiled.Compiled.{Compiled}
+use Rattle.sqlite_resolve.specs.Compile.{first, table_defined_by}
 use Rattle.sqlite.specs.Change.{created, next_tree, KeepsRows}
 use Rattle.sqlite.specs.Does.{Tally, lacks_sequence}
 use Rattle.sqlite.specs.Effect.{Database}
 use Rattle.sqlite.specs.Listing.{understood}
-use Rattle.sqlite.specs.State.{State, HasCleanDisk}
+use Rattle.sqlite.specs.State.{State, Executes, ExecutesIn, HasCleanDisk}
 use Rattle.sqlite.specs.Held.{Held, state}
 use Rattle.sqlite.specs.declared.error.Error.{Error}
-use Rattle.shop_statements.specs.Layout.{shop_schema}
+use Rattle.shop_statements.specs.Layout.{shop_schema, created_all}
 use Rattle.shop_statements.specs.Shown.{Books, Shows}
 use Rattle.shop_tables.specs.Adopting.{MakesTables}
 use Rattle.shop_tables.specs.Laying.{AreRun, IsAdded, IsRun}
 use Rattle.sqlite.proofs.Callers.{IsPlain, command_of, runs_as, statement_of}
+use Rattle.shop_tables.proofs.Behind.{Behind, goes_on, still_sequence}
+use Rattle.shop_tables.proofs.Created.{ReadsAs, understood_fine}
 
 went : {B E R : Type 0} {b : B} {Stops : E → Type 0} → ((stop : E) × Stops stop × (Ok b ≡ Err stop)) ⊎ R → R
 went (inl stopped) = absurd (let e = stopped.2 in cc)
@@ -28,58 +30,48 @@ went (inr on) = on
 same_value : {B E : Type 0} {a b : B} → ◌≡◌ {A = Result B E} (Ok a) (Ok b) → a ≡ b
 same_value e = cc
 
--- what the check computes of a text under a schema
-pub record MakesAs (schema : Schema) (text : List ℕ) (table : Table) : Type 0 where
-  pub command : command_of (understood schema text) ≡ CreateTable
-  pub defines : table_defined_by (statement_of text (understood schema text)) ≡ Ok table
-  pub plain : IsPlain (understood schema text)
-  pub counts : lacks_sequence (created schema table) ≡ false
+abbrev pub unplaced : Table → Table
+unplaced t = record t { tree = 0 }
 
-pub makes : (schema : Schema) (text : List ℕ) (table : Table) (old new : State) → MakesAs schema text table → old.now.schema ≡ schema → IsRun text old new → IsAdded schema table old.now new.now
-makes schema text table old new facts has ran =
-    let w = runs_as text [] old new schema has CreateTable facts.command facts.plain ran.count ran.executes in
+-- what the check computes of a text, for any schema
+pub record MakesAs (text : List ℕ) (table : Table) : Type 0 where
+  pub reads : ReadsAs text (unplaced table) (first text)
+  pub plain : table.is_counted ≡ false
+
+-- a statement that ran was understood
+understood_as : (text : List ℕ) (old new : State) (count : ℕ) → Executes text [] old new (Ok count) → (c : Compiled) × (understood old.now.schema text ≡ Ok c)
+unfolding ExecutesIn
+understood_as text old new count h = (h.0, h.1.is)
+
+pub makes : (schema : Schema) (text : List ℕ) (table : Table) (old new : State) → MakesAs text table → lacks_sequence schema ≡ false → old.now.schema ≡ schema → IsRun text old new → IsAdded schema table old.now new.now
+makes schema text table old new facts counts has ran =
+    let u = understood_as text old new ran.count ran.executes in
+    let is : understood schema text ≡ Ok u.0 = ap (λ s. understood s text) (sym has) ∙ u.1 in
+    let c = understood_fine schema text (unplaced table) u.0 facts.reads is in
+    let w = runs_as text [] old new schema has CreateTable (ap command_of is ∙ c.command) (subst IsPlain (sym is) (c.returning, c.formats)) ran.count ran.executes in
     let all = went w.changed in
     let first = went all.1 in
     let made = first.1 in
-    let same : made.table ≡ table = same_value (sym made.defined ∙ facts.defines) in
+    let same : made.table ≡ unplaced table = same_value (sym made.defined ∙ (ap (λ r. table_defined_by (statement_of text r)) is ∙ c.defines)) in
     let after : first.0.schema ≡ created schema table = made.is ∙ (λ i. created (has i) (same i)) in
-    let plain : lacks_sequence first.0.schema ≡ false = ap lacks_sequence after ∙ facts.counts in
+    let plain : lacks_sequence first.0.schema ≡ false = ap lacks_sequence after ∙ still_sequence schema table facts.plain counts in
     let now : new.now ≡ first.0 = ap (λ (p : Tally × Database). p.1) (same_value all.2) ∙ same_value (rw plain at first.2) in
     record {
+      texts = w.frozen.texts;
+      free = ap (λ (t : Table). is_used schema t.name) (sym same) ∙ (ap (λ s. is_used s made.table.name) (sym has) ∙ made.free);
       schema_is = ap (λ (d : Database). d.schema) now ∙ after;
       empty = ap (λ (d : Database). d.trees (next_tree schema)) now ∙ subst (λ s. first.0.trees (next_tree s) ≡ []) has made.empty;
       others = subst (λ (d : Database). KeepsRows schema.tables old.now.trees d.trees) (sym now) (subst (λ (s : Schema). KeepsRows s.tables old.now.trees first.0.trees) has made.others);
     }
 
--- the database has this schema, and no row
-pub record Blank (schema : Schema) (s : State) : Type 0 where
-  pub schema_is : s.now.schema ≡ schema
-  pub none : AllByRecursion (λ t. s.now.trees t.tree ≡ []) schema.tables
-
-none_after : (trees : Trees) (ts : List Table) (t : Table) → AllByRecursion (λ u. trees u.tree ≡ []) ts → trees t.tree ≡ [] → AllByRecursion (λ u. trees u.tree ≡ []) (ts ++ t ∷ [])
-none_after trees [] t h one = (one, tt)
-none_after trees (u ∷ ts) t h one = (h.0, none_after trees ts t h.1 one)
-
-still_none : (old new : Trees) (ts : List Table) → KeepsRows ts old new → AllByRecursion (λ u. old u.tree ≡ []) ts → AllByRecursion (λ u. new u.tree ≡ []) ts
-still_none old new [] same h = tt
-still_none old new (t ∷ ts) same h = (same.0 ∙ h.0, still_none old new ts same.1 h.1)
-
--- one table more
-blank_then : (schema : Schema) (text : List ℕ) (table : Table) (old new : State) → MakesAs schema text table → Blank schema old → IsRun text old new → Blank (created schema table) new
-blank_then schema text table old new facts blank ran =
-    let made = makes schema text table old new facts blank.schema_is ran in
-    record { schema_is = made.schema_is; none = none_after new.now.trees schema.tables (record table { tree = next_tree schema }) (still_none old.now.trees new.now.trees schema.tables made.others blank.none) made.empty }
-
 -- ---- statements one after another
 
--- what the check computes of texts that each make a table, under the schema that those before it made
-abbrev pub AreMade : Schema → List (List ℕ × Table) → Type 0
-AreMade schema [] = ⊤
-AreMade schema (x ∷ more) = MakesAs schema x.0 x.1 × AreMade (created schema x.1) more
+-- what the check computes of texts that each make a table
+abbrev pub AreMade : List (List ℕ × Table) → Type 0
+AreMade = AllByRecursion (λ x. MakesAs x.0 x.1)
 
-abbrev pub all_created : Schema → List (List ℕ × Table) → Schema
-all_created schema [] = schema
-all_created schema (x ∷ more) = all_created (created schema x.1) more
+abbrev pub table_of : List ℕ × Table → Table
+table_of x = x.1
 
 -- these texts, and others after them
 abbrev pub texts_of : List (List ℕ × Table) → List (List ℕ) → List (List ℕ)
@@ -87,16 +79,26 @@ texts_of [] last = last
 texts_of (x ∷ more) last = x.0 ∷ texts_of more last
 
 module _ {S : Type 0} (g : Ghosts S) where
-  -- the tables are made, and other statements are left
-  pub record Blanked (schema : Schema) (texts : List (List ℕ)) (new : Held S) : Type 0 where
+  -- the tables are made behind others, and other statements are left
+  pub record Laid (front : Database) (first : Table) (schema : Schema) (texts : List (List ℕ)) (new : Held S) : Type 0 where
     pub mid : Held S
-    pub blank : Blank schema (state g mid)
+    pub schema_is : (state g mid).now.schema ≡ schema
+    pub behind : Behind front first schema (state g mid).now.trees
     pub later : AreRun g texts mid new
 
-  pub made_in_turn : (steps : List (List ℕ × Table)) (last : List (List ℕ)) (schema : Schema) (old new : Held S) → AreMade schema steps → Blank schema (state g old) → AreRun g (texts_of steps last) old new → Blanked (all_created schema steps) last new
-  made_in_turn [] last schema old new made blank ran = record { mid = old; blank = blank; later = ran }
-  made_in_turn (x ∷ more) last schema old new made blank ran =
-      made_in_turn more last (created schema x.1) ran.0 new made.1 (blank_then schema x.0 x.1 (state g old) (state g ran.0) made.0 blank ran.1) ran.2
+  pub laid_in_turn : (steps : List (List ℕ × Table)) (last : List (List ℕ)) (front : Database) (first : Table) (schema : Schema) (old new : Held S) → AreMade steps → lacks_sequence schema ≡ false → (state g old).now.schema ≡ schema
+      → Behind front first schema (state g old).now.trees → AreRun g (texts_of steps last) old new → Laid front first (created_all (map table_of steps) schema) last new
+  laid_in_turn [] last front first schema old new made counts has behind ran = record { mid = old; schema_is = has; behind = behind; later = ran }
+  laid_in_turn (x ∷ more) last front first schema old new made counts has behind ran =
+      let mid = ran.0 in
+      let it = makes schema x.0 x.1 (state g old) (state g mid) made.0 counts has ran.1 in
+      laid_in_turn more last front first (created schema x.1) mid new made.1 (still_sequence schema x.1 made.0.plain counts) it.schema_is
+      (goes_on front first schema (state g old).now.trees behind x.1 (state g old).now (state g mid).now refl it) ran.2
+
+  -- statements that ran, one at least
+  pub ran_on : (text : List ℕ) (more : List (List ℕ)) (old new : Held S) → AreRun g (text ∷ more) old new → IsTrue (state g old).is_open × IsTrue (state g new).is_open × IsTrue (state g new).in_transaction
+  ran_on text [] old new ran = subst (λ (x : Held S). IsTrue (state g old).is_open × IsTrue (state g x).is_open × IsTrue (state g x).in_transaction) (sym ran.2) (ran.1.was_open, ran.1.is_open, ran.1.inside)
+  ran_on text (t ∷ more) old new ran = let on = ran_on t more ran.0 new ran.2 in (ran.1.was_open, on.1, on.2)
 
   -- what statements make that leave the tables of a shop
   pub record IsMade (old new : Held S) (b : Books) : Type 0 where

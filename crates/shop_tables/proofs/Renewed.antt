@@ -36,7 +36,7 @@ use Rattle.shop_tables.specs.Adopting.{MakesTables}
 use Rattle.shop_tables.specs.Laying.{AreRun, ClearsTotals, CopiesTotals, Does, IsRun, IsWritten, SetsVersion}
 use Rattle.shop_tables.specs.declared.laying.TheConstants.{TOTALS2}
 use Rattle.shop_tables.specs.declared.renewing.TheConstants.{CLEAR_TOTALS, COPY_TOTALS, SET_VERSION}
-use Rattle.shop_statements.specs.Earlier.{earlier_entries, earlier_row, HasNoneReturned, ShowsEarlier}
+use Rattle.shop_statements.specs.Earlier.{earlier_schema, earlier_entries, earlier_row, HasNoneReturned, ShowsEarlier}
 use Rattle.shop_statements.proofs.Finding.{is_word, word_tests, word_later}
 use Rattle.shop_statements.proofs.Keys.{cast-Int, cast-Null, located, news_again, shown_as}
 use Rattle.shop_tables.proofs.Lays.{shop_is_shop, totals2_added}
@@ -186,7 +186,7 @@ module _ {S : Type 0} (g : Ghosts S) where
   renews old new b has a1 =
       let s0 = state g old in
       let s1 = state g a1.0 in
-      let made = totals2_added g old a1.0 has.schema a1.1 in
+      let made = totals2_added g earlier_schema refl old a1.0 has.schema a1.1 in
       let was = made.others in
       let bare = shop_is_shop.bare in
       let a2 = a1.2 in

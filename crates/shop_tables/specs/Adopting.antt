@@ -1,13 +1,20 @@
 -- What a connection is taken over from.
-use Rattle.std.specs.Prelude.{◌≡◌, ◌&&◌, not, is_some, Bool, ℕ, pos, List, [], ◌∷◌, codes, IsTrue}
+use Rattle.std.specs.Prelude.{◌≡◌, ◌&&◌, ◌+◌, not, is_some, Bool, ℕ, pos, List, [], ◌∷◌, length, drop, map, codes, IsTrue}
+use Rattle.std.specs.List.{AllByRecursion}
 use Rattle.sqlite_value.specs.declared.value.Value.TheVariants.{Int}
+use Rattle.sqlite_trees.specs.Objects.{catalog_tree}
 use Rattle.sqlite_trees.specs.Tree.{Trees}
+use Rattle.sqlite.specs.Change.{next_tree, KeepsRows}
+use Rattle.sqlite.specs.Effect.{Database, IsDatabase}
 use Rattle.sqlite.specs.State.{State, HasCleanDisk}
+use Rattle.sqlite_catalog.specs.Calls.{KeepsForeign}
 use Rattle.sqlite_catalog.specs.Change.{is_used}
 use Rattle.sqlite_schema.specs.Names.{table_named}
 use Rattle.sqlite_schema.specs.declared.schema.Schema.{Schema}
+use Rattle.shop_records.specs.Content.{fresh}
 use Rattle.shop_statements.specs.Found.{IsNumberRow}
-use Rattle.shop_statements.specs.Layout.{no_schema, shop_schema}
+use Rattle.shop_statements.specs.Layout.{no_schema, shop_schema, created_all, our_tables}
+use Rattle.shop_statements.specs.Rows.{AreRows, meta_entries, meta_row}
 use Rattle.shop_statements.specs.Shown.{Books, Shows, StandsIn}
 
 abbrev pub is_table : Schema → List ℕ → Bool
@@ -47,3 +54,33 @@ pub record MakesTables (old new : State) (b : Books) : Type 0 where
   pub on : HasCleanDisk new → IsTrue old.is_open × IsTrue new.is_open × IsTrue new.in_transaction
   pub shows : HasCleanDisk new → Shows new b
   pub schema : HasCleanDisk new → new.now.schema ≡ shop_schema
+
+-- ---- beside tables of others
+
+-- ours, made behind the tables that are there
+unfoldable pub with_ours : Schema → Schema
+with_ours schema = created_all our_tables schema
+
+-- Ours were made behind the tables that were there, which have the rows that they had. The indexes and the views are there as
+-- well, and the texts of triggers and of what SQL here doesn't understand. Of ours the first has the numbers of a shop in which
+-- nothing was done yet, and the others have no row.
+pub record IsMadeBeside (old new : Database) : Type 0 where
+  pub schema : new.schema ≡ with_ours old.schema
+  pub sound : IsDatabase new
+  pub others : KeepsRows old.schema.tables old.trees new.trees
+  pub texts : KeepsForeign (old.trees catalog_tree) (new.trees catalog_tree)
+  pub numbers : AreRows 1 (map meta_row (meta_entries fresh)) (new.trees (next_tree old.schema))
+  pub empty : AllByRecursion (λ t. new.trees t.tree ≡ []) (drop (length old.schema.tables + 1) new.schema.tables)
+
+-- the trees are those of a database in which they were made so
+abbrev pub StandsBeside : Database → Trees → Type 0
+StandsBeside old db = (schema : Schema) × IsMadeBeside old (record { schema = schema; trees = db })
+
+-- The connection sees that they were made so, and this is committed; an open after a crash finds that alone.
+pub record HoldsBeside (old new : State) : Type 0 where
+  pub seen : HasCleanDisk new → IsTrue new.is_open → IsMadeBeside old.now new.now × (new.now ≡ new.committed)
+  pub after : HasCleanDisk new → (db : Trees) → new.may_leave db → StandsBeside old.now db
+
+-- it sees what it saw, which is committed
+abbrev pub IsAsBefore : State → State → Type 0
+IsAsBefore old new = HasCleanDisk new → IsTrue new.is_open → (new.now ≡ old.now) × (new.now ≡ new.committed)

@@ -2,21 +2,25 @@
 use Rattle.std.specs.Prelude.{◌≡◌, ◌==◌, ℕ, false, List, [], ◌∷◌, map, Ok, IsTrue}
 use Rattle.std.specs.List.{AllByRecursion}
 use Rattle.std.specs.FinMap.{FinMap, entries}
+use Rattle.sqlite_trees.specs.Objects.{catalog_tree}
 use Rattle.sqlite_trees.specs.Tree.{rowid}
 use Rattle.sqlite_trees.specs.View.{is_int}
 use Rattle.sqlite_trees.specs.declared.store.Store.{Ghosts}
 use Rattle.sqlite.specs.Table.{Table}
 use Rattle.sqlite.specs.Schema.{Schema}
 use Rattle.sqlite.specs.Change.{created, next_tree, KeepsRows}
+use Rattle.sqlite.specs.Does.{lacks_sequence}
 use Rattle.sqlite.specs.Edit.{IsNoIndex}
 use Rattle.sqlite.specs.Effect.{Database, IsDatabase}
 use Rattle.sqlite.specs.State.{State, Executes}
 use Rattle.sqlite.specs.Held.{Held, state}
+use Rattle.sqlite_catalog.specs.Calls.{KeepsForeign}
+use Rattle.sqlite_catalog.specs.Change.{is_used}
 use Rattle.cut_measure.specs.Codes.{code_cmp}
 use Rattle.shop_records.specs.Content.{Content, fresh}
 use Rattle.shop_records.specs.declared.records.Totals.{Totals}
 use Rattle.shop_statements.specs.Earlier.{earlier_entries, earlier_row, HasNoneReturned}
-use Rattle.shop_statements.specs.Layout.{laid, shop_schema}
+use Rattle.shop_statements.specs.Layout.{shop_schema}
 use Rattle.shop_statements.specs.Rows.{AreRows, meta_entries, meta_row, totals_row}
 
 -- the statement ran inside a transaction, which goes on
@@ -38,15 +42,18 @@ module _ {S : Type 0} (g : Ghosts S) where
   Does text schema what =
       (old new : Held S) → (state g old).now.schema ≡ schema → IsRun text (state g old) (state g new) → what (state g old).now (state g new).now
 
--- there is one table more, with no row in it, and the rows of the others are as they were
+-- There is one table more, whose name was free, with no row in it, and the rows of the others are as they were. The texts stay of
+-- triggers and of what SQL here doesn't understand.
 pub record IsAdded (schema : Schema) (table : Table) (old new : Database) : Type 0 where
+  pub free : is_used schema table.name ≡ false
   pub schema_is : new.schema ≡ created schema table
   pub empty : new.trees (next_tree schema) ≡ []
   pub others : KeepsRows schema.tables old.trees new.trees
+  pub texts : KeepsForeign (old.trees catalog_tree) (new.trees catalog_tree)
 
--- where there are so many of our tables, and nothing else, the statement makes the next one
-abbrev pub Adds : {S : Type 0} → Ghosts S → List ℕ → ℕ → Table → Type 0
-Adds g text place table = Does g text (laid place) (IsAdded (laid place) table)
+-- The statement makes this table, whatever there is. A schema whose tables count (AUTOINCREMENT) has SQLite's own table for it.
+abbrev pub Adds : {S : Type 0} → Ghosts S → List ℕ → Table → Type 0
+Adds g text table = (schema : Schema) → lacks_sequence schema ≡ false → Does g text schema (IsAdded schema table)
 
 -- the rows of one of our tables were written, and no other table's
 pub record IsWritten (tree : ℕ) (old new : Database) : Type 0 where

@@ -3,8 +3,9 @@
 ghost use Rattle.std.specs.Prelude.{◌≡◌, ◌≢◌, ◌⊎◌, true, false, [], Ok, Err, IfOk, IsTrue, OnOk, OnErr};
 ghost use Rattle.sqlite.specs.State.{HasCleanDisk, Survives};
 ghost use Rattle.sqlite.specs.Held.{state};
+ghost use Rattle.sqlite.specs.Does.{lacks_sequence};
 ghost use Rattle.sqlite_catalog.specs.Change.{is_used};
-ghost use Rattle.shop_tables.specs.Adopting.{HasVersion, IsVacant, LeavesBooks, first_are_tables, is_table, names_are_free, names_are_tables, names_are_earlier};
+ghost use Rattle.shop_tables.specs.Adopting.{HasVersion, HoldsBeside, IsAsBefore, IsVacant, LeavesBooks, StandsBeside, first_are_tables, is_table, names_are_free, names_are_tables, names_are_earlier};
 ghost use Rattle.shop_statements.specs.Earlier.{HoldsEarlier, IsSettledEarlier, earlier_schema};
 ghost use Rattle.shop_statements.specs.Layout.{no_schema, HasShopTables};
 ghost use Rattle.shop_statements.specs.Shown.{Books, HasShopSchema, Holds, IsSettled, Leaves, StandsIn, fresh_books};
@@ -133,6 +134,12 @@ fn adopt_new<S: Alter>(conn: &mut Connection<S>) -> Result<Adopted, AdoptFault>
         → OnOk result (LeavesBooks (state S.Store conn.new) fresh_books) }
     ensures schema { conn.old.schema ≡ no_schema
         → OnOk result (HasShopSchema (state S.Store conn.new)) }
+    ensures beside { lacks_sequence conn.old.schema ≡ false
+        → OnOk result (HoldsBeside (state S.Store conn.old) (state S.Store conn.new)) }
+    ensures undone { OnErr result (IsAsBefore (state S.Store conn.old) (state S.Store conn.new)) }
+    ensures beside_crash { lacks_sequence conn.old.schema ≡ false
+        → Survives (state S.Store conn.old) (state S.Store conn.new)
+        (StandsBeside (state S.Store conn.old).now) }
     ensures only { IfOk result (λ how. how ≡ Made) }
     ensures never { result ≢ Err WrongVersion }
 {
@@ -265,6 +272,12 @@ pub fn adopt_tables<S: Alter>(conn: &mut Connection<S>) -> Result<Adopted, Adopt
         → OnOk result ((state S.Store conn.old).now.trees 15 ≡ []) }
     ensures one_named { conn.old.schema ≡ earlier_schema → HasCleanDisk (state S.Store conn.new)
         → OnOk result (HasVersion (state S.Store conn.old) 1) }
+    ensures beside { names_are_free conn.old.schema ≡ true → lacks_sequence conn.old.schema ≡ false
+        → OnOk result (HoldsBeside (state S.Store conn.old) (state S.Store conn.new)) }
+    ensures undone { OnErr result (IsAsBefore (state S.Store conn.old) (state S.Store conn.new)) }
+    ensures beside_crash { lacks_sequence conn.old.schema ≡ false
+        → Survives (state S.Store conn.old) (state S.Store conn.new)
+        (StandsBeside (state S.Store conn.old).now) }
     ensures free { names_are_free conn.old.schema ≡ true → IfOk result (λ how. how ≡ Made)
         × (result ≢ Err WrongVersion) }
     ensures taken { names_are_free conn.old.schema ≡ false

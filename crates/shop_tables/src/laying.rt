@@ -1,13 +1,14 @@
-//! The statements that make all tables in an empty database, each table by one.
+//! The statements that make all tables, each table by one.
 
-ghost use Rattle.std.specs.Prelude.{◌≡◌, map, IsTrue, OnOk};
+ghost use Rattle.std.specs.Prelude.{◌≡◌, false, map, IsTrue, OnOk};
 ghost use Rattle.sqlite.specs.State.{HasCleanDisk};
+ghost use Rattle.sqlite.specs.Does.{lacks_sequence};
 ghost use Rattle.sqlite.specs.Held.{state};
 ghost use Rattle.shop_statements.specs.Layout.{no_schema, shop_schema, meta_table, materials_table, parts_table, jobs_table, orders_table, demands_table, kept_table, imports_table, totals_table, totals2_table};
-ghost use Rattle.shop_tables.specs.Adopting.{MakesTables};
+ghost use Rattle.shop_tables.specs.Adopting.{IsMadeBeside, MakesTables};
 ghost use Rattle.shop_tables.specs.Laying.{Adds, AreRun, Does, IsRun, PutsFirstNumbers};
 ghost use Rattle.shop_tables.specs.declared.laying.TheConstants.{META, MATERIALS, PARTS, JOBS, ORDERS, DEMANDS, KEPT, IMPORTS, TOTALS, TOTALS2, FIRST_NUMBERS};
-ghost use Rattle.shop_statements.specs.Shown.{fresh_books, Within};
+ghost use Rattle.shop_statements.specs.Shown.{fresh_books, Ran, Within};
 
 use sqlite::{Alter, Error, Transaction};
 
@@ -69,18 +70,18 @@ const TEXTS: [&str; 11] = [
     FIRST_NUMBERS,
 ];
 
-/// What each statement does: the table that it makes where those before it were made, and the numbers that it puts.
+/// What each statement does: the table that it makes, whatever tables there are, and the numbers that it puts.
 pub fn statements_make_tables<S: Alter>()
-    ensures meta { Adds S.Store META.now 0 meta_table }
-    ensures materials { Adds S.Store MATERIALS.now 1 materials_table }
-    ensures parts { Adds S.Store PARTS.now 2 parts_table }
-    ensures jobs { Adds S.Store JOBS.now 3 jobs_table }
-    ensures orders { Adds S.Store ORDERS.now 4 orders_table }
-    ensures demands { Adds S.Store DEMANDS.now 5 demands_table }
-    ensures kept { Adds S.Store KEPT.now 6 kept_table }
-    ensures imports { Adds S.Store IMPORTS.now 7 imports_table }
-    ensures totals { Adds S.Store TOTALS.now 8 totals_table }
-    ensures totals2 { Adds S.Store TOTALS2.now 9 totals2_table }
+    ensures meta { Adds S.Store META.now meta_table }
+    ensures materials { Adds S.Store MATERIALS.now materials_table }
+    ensures parts { Adds S.Store PARTS.now parts_table }
+    ensures jobs { Adds S.Store JOBS.now jobs_table }
+    ensures orders { Adds S.Store ORDERS.now orders_table }
+    ensures demands { Adds S.Store DEMANDS.now demands_table }
+    ensures kept { Adds S.Store KEPT.now kept_table }
+    ensures imports { Adds S.Store IMPORTS.now imports_table }
+    ensures totals { Adds S.Store TOTALS.now totals_table }
+    ensures totals2 { Adds S.Store TOTALS2.now totals2_table }
     ensures numbers { Does S.Store FIRST_NUMBERS.now shop_schema PutsFirstNumbers }
 {}
 
@@ -110,12 +111,18 @@ pub(crate) fn run_all<S: Alter>(tx: &mut Transaction<'_, S>, texts: &[&str]) -> 
     run_all(tx, more)
 }
 
-/// Makes all tables in an empty database, with the rows of a shop in which nothing was done yet.
+/// Makes all tables, with the rows of a shop in which nothing was done yet: in an empty database, or behind the tables of others.
 pub(crate) fn lay_tables<S: Alter>(tx: &mut Transaction<'_, S>) -> Result<(), Error>
     ensures same_reference { tx.new.conn.ghost_name ≡ tx.old.conn.ghost_name }
     ensures laid { tx.old.conn.now.schema ≡ no_schema
         → OnOk result (MakesTables (state S.Store tx.old.conn.now) (state S.Store tx.new.conn.now)
         fresh_books) }
+    ensures ran { OnOk result (Ran (state S.Store tx.old.conn.now)
+        (state S.Store tx.new.conn.now)) }
+    ensures beside { lacks_sequence tx.old.conn.now.schema ≡ false
+        → HasCleanDisk (state S.Store tx.new.conn.now)
+        → OnOk result (IsMadeBeside (state S.Store tx.old.conn.now).now
+        (state S.Store tx.new.conn.now).now) }
     ensures within { Within (state S.Store tx.old.conn.now) (state S.Store tx.new.conn.now) }
 {
     run_all(tx, &TEXTS)

@@ -62,7 +62,7 @@ const STEPS: [&str; 4] = [TOTALS2, COPY_TOTALS, CLEAR_TOTALS, SET_VERSION];
 
 /// What each step from version 1 to version 2 does.
 pub fn steps_renew_tables<S: Alter>()
-    ensures totals2 { Adds S.Store TOTALS2.now 9 totals2_table }
+    ensures totals2 { Adds S.Store TOTALS2.now totals2_table }
     ensures copy { Does S.Store COPY_TOTALS.now shop_schema CopiesTotals }
     ensures clear { Does S.Store CLEAR_TOTALS.now shop_schema ClearsTotals }
     ensures version { Does S.Store SET_VERSION.now shop_schema SetsVersion }

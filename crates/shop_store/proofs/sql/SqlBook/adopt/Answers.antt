@@ -5,6 +5,7 @@ use Rattle.sqlite.specs.Held.{state}
 use Rattle.shop_records.specs.Content.{fresh}
 use Rattle.shop_tables.specs.Held.{books, HoldsContent, LeavesOnly, StandsFor}
 use Rattle.shop_statements.specs.Shown.{HasShopSchema, Leaves}
+use Rattle.shop_tables.specs.Adopting.{HoldsBeside, StandsBeside}
 use Rattle.shop_tables.proofs.Taken.{earlier_taken, taken}
 use Rattle.shop_store.proofs.Commits.{still_leaves}
 use Rattle.sqlite.specs.State.{HasCleanDisk}
@@ -266,3 +267,33 @@ returns-in-Ok-Found-clause-no_old_totals g c it = if_book (λ book. book.conn) _
 
 pub returns-in-Ok-Earlier-clause-no_old_totals : goal.returns-in-Ok-Earlier-clause-no_old_totals
 returns-in-Ok-Earlier-clause-no_old_totals g c it = absurd ((c.in-Ok-Earlier.ensures.one (ap Ok c.in-Ok-Earlier.field-0-is)).1 it)
+
+-- ---- beside tables of others
+
+pub returns-in-Ok-Made-clause-beside : goal.returns-in-Ok-Made-clause-beside
+returns-in-Ok-Made-clause-beside g c free counts = subst (λ h. HoldsBeside (state g.S.Store c.args.conn) (state g.S.Store h)) (sym c.over.ensures.conn) (c.in-Ok-Made.ensures.beside free counts)
+
+pub returns-in-Ok-Made-clause-beside_crash : goal.returns-in-Ok-Made-clause-beside_crash
+returns-in-Ok-Made-clause-beside_crash g c free counts =
+    subst (λ h. Survives (state g.S.Store c.args.conn) (state g.S.Store h) (StandsBeside (state g.S.Store c.args.conn).now)) (sym c.over.ensures.conn) (c.in-Ok-Made.ensures.beside_crash counts)
+
+pub returns-in-Ok-Found-clause-beside : goal.returns-in-Ok-Found-clause-beside
+returns-in-Ok-Found-clause-beside g c free counts = absurd (let e = (c.in-Ok-Found.ensures.free free).0 in let f = c.in-Ok-Found.field-0-is in cc)
+
+pub returns-in-Ok-Found-clause-beside_undone : goal.returns-in-Ok-Found-clause-beside_undone
+returns-in-Ok-Found-clause-beside_undone g c free = absurd (let e = (c.in-Ok-Found.ensures.free free).0 in let f = c.in-Ok-Found.field-0-is in cc)
+
+pub returns-in-Ok-Found-clause-beside_crash : goal.returns-in-Ok-Found-clause-beside_crash
+returns-in-Ok-Found-clause-beside_crash g c free counts = absurd (let e = (c.in-Ok-Found.ensures.free free).0 in let f = c.in-Ok-Found.field-0-is in cc)
+
+pub returns-in-Ok-Earlier-clause-beside : goal.returns-in-Ok-Earlier-clause-beside
+returns-in-Ok-Earlier-clause-beside g c free counts = absurd (let e = (c.in-Ok-Earlier.ensures.free free).0 in let f = c.in-Ok-Earlier.field-0-is in cc)
+
+pub returns-in-Ok-Earlier-clause-beside_undone : goal.returns-in-Ok-Earlier-clause-beside_undone
+returns-in-Ok-Earlier-clause-beside_undone g c free = absurd (let e = (c.in-Ok-Earlier.ensures.free free).0 in let f = c.in-Ok-Earlier.field-0-is in cc)
+
+pub returns-in-Ok-Earlier-clause-beside_crash : goal.returns-in-Ok-Earlier-clause-beside_crash
+returns-in-Ok-Earlier-clause-beside_crash g c free counts = absurd (let e = (c.in-Ok-Earlier.ensures.free free).0 in let f = c.in-Ok-Earlier.field-0-is in cc)
+
+pub returns-in-Err-clause-beside_crash : goal.returns-in-Err-clause-beside_crash
+returns-in-Err-clause-beside_crash g c free counts = c.in-Err.ensures.beside_crash counts
