@@ -51,7 +51,8 @@ pub record IsAdded (schema : Schema) (table : Table) (old new : Database) : Type
   pub others : KeepsRows schema.tables old.trees new.trees
   pub texts : KeepsForeign (old.trees catalog_tree) (new.trees catalog_tree)
 
--- The statement makes this table, whatever there is. A schema whose tables count (AUTOINCREMENT) has SQLite's own table for it.
+-- The statement makes this table, whatever tables there are; where one of them counts (AUTOINCREMENT), SQLite's own table of
+-- counts is among them, as SQLite leaves it.
 abbrev pub Adds : {S : Type 0} → Ghosts S → List ℕ → Table → Type 0
 Adds g text table = (schema : Schema) → lacks_sequence schema ≡ false → Does g text schema (IsAdded schema table)
 
