@@ -244,8 +244,8 @@ def taken_port():
         yield taken.getsockname()[1]
 
 
-def serving(trial, port, store, shop):
-    return trial.run("serve", "--port", str(port), "--store", store, "--shop", shop, "--limit", "1")
+def serving(trial, port, store, shop, **named):
+    return trial.run("serve", "--port", str(port), "--store", store, "--shop", shop, "--limit", "1", **named)
 
 
 @case(

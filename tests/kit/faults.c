@@ -2,7 +2,8 @@
 // environment. It needs no header, so that any C compiler for Linux on x86-64 makes it.
 //
 //   FAULT_OF     memory (the program asks by malloc and realloc alone), read, write (of streams: all but standard error and
-//                the files below FAULT_UNDER), files (calls that change files there), or looks (that open, lock or read them)
+//                the files below FAULT_UNDER), files (calls that change files there), looks (that open, lock or read them),
+//                port (that listen to one), accept, watch (that have a descriptor reported) or wait (for a report)
 //   FAULT_UNDER  the path of a folder
 //   FAULT_AT     the number of the call, from 1, that fails; 0: none
 //   FAULT_ON     once, or on: that call alone, or each from then on
@@ -18,6 +19,8 @@ typedef unsigned long size_t;
 enum { EIO = 5, ENOMEM = 12, F_OFD_SETLK = 37, O_CREAT = 0100, O_RDWR = 2, PROT_READ_WRITE = 3, MAP_SHARED = 1, SEEK_CUR = 1, SEEK_END = 2 };
 enum { AT_FDCWD = -100, STANDARD_ERROR = 2 };
 enum { READ_CALL = 0, WRITE_CALL = 1, CLOSE_CALL = 3, LSEEK_CALL = 8, PREAD_CALL = 17, PWRITE_CALL = 18, ACCESS_CALL = 21 };
+enum { SOCKET_CALL = 41, ACCEPT_CALL = 43, BIND_CALL = 49, LISTEN_CALL = 50, ACCEPT4_CALL = 288 };
+enum { EPOLL_WAIT_CALL = 232, EPOLL_CTL_CALL = 233, EPOLL_CREATE1_CALL = 291 };
 enum { SENDTO_CALL = 44, RECVFROM_CALL = 45, FCNTL_CALL = 72, FSYNC_CALL = 74, FDATASYNC_CALL = 75, FTRUNCATE_CALL = 77 };
 enum { RENAME_CALL = 82, MKDIR_CALL = 83, RMDIR_CALL = 84, UNLINK_CALL = 87, FCHMOD_CALL = 91, FCHOWN_CALL = 93, OPENAT_CALL = 257 };
 
@@ -34,7 +37,7 @@ extern void *memset(void *, int, size_t);
 extern void *mmap(void *, size_t, int, int, int, long);
 extern void _exit(int) __attribute__((noreturn));
 
-enum { MEMORY = 1, READ, WRITE, FILES, LOOKS };
+enum { MEMORY = 1, READ, WRITE, FILES, LOOKS, PORT, ACCEPT, WATCH, WAIT };
 enum { KEPT = 1, DROPPED, TORN };
 enum { SECTOR = 512, MOST_PATHS = 64, MOST_NOTES = 1 << 16, MOST_NUMBERS = 1024, MOST_LENGTH = 512 };
 
@@ -92,7 +95,7 @@ static int word(const char *name, const char *const *words) {
 }
 
 __attribute__((constructor)) static void begin(void) {
-    static const char *const kinds[] = {"memory", "read", "write", "files", "looks", 0};
+    static const char *const kinds[] = {"memory", "read", "write", "files", "looks", "port", "accept", "watch", "wait", 0};
     static const char *const stops[] = {"kept", "dropped", "torn", 0};
     static const char *const times[] = {"on", 0};
     find_real();
@@ -324,3 +327,25 @@ int rename(const char *from, const char *to) {
 int unlink(const char *name) { return is_under(name) && file_fails() ? -1 : syscall(UNLINK_CALL, name); }
 
 int rmdir(const char *name) { return is_under(name) && file_fails() ? -1 : syscall(RMDIR_CALL, name); }
+
+int socket(int family, int kind, int protocol) { return fails(PORT) ? -1 : syscall(SOCKET_CALL, family, kind, protocol); }
+
+int bind(int file, const void *address, unsigned length) { return fails(PORT) ? -1 : syscall(BIND_CALL, file, address, length); }
+
+int listen(int file, int most) { return fails(PORT) ? -1 : syscall(LISTEN_CALL, file, most); }
+
+int accept(int file, void *address, unsigned *length) { return fails(ACCEPT) ? -1 : syscall(ACCEPT_CALL, file, address, length); }
+
+int accept4(int file, void *address, unsigned *length, int flags) {
+    return fails(ACCEPT) ? -1 : syscall(ACCEPT4_CALL, file, address, length, flags);
+}
+
+int epoll_create1(int flags) { return fails(WATCH) ? -1 : syscall(EPOLL_CREATE1_CALL, flags); }
+
+int epoll_ctl(int set, int what, int file, void *event) {
+    return fails(WATCH) ? -1 : syscall(EPOLL_CTL_CALL, set, what, file, event);
+}
+
+int epoll_wait(int set, void *events, int most, int wait) {
+    return fails(WAIT) ? -1 : syscall(EPOLL_WAIT_CALL, set, events, most, wait);
+}
