@@ -390,6 +390,65 @@ def full(trial):
     trial.equal(is_whole(trial, trial.path("backups/1/shop.db"), [terminal]), [3])
 
 
+@case(
+    "writes of a backup that are interrupted",
+    "A write that is interrupted once is made again, and the backup is made; 1000 times in a row it is refused 99.",
+)
+def interrupted(trial):
+    for on, wanted in ((False, told(1)), (True, answer(503, FAULT))):
+        folder = os.path.realpath(trial.path(f"backups-{on}"))
+        faults = Faults(trial, "files", at=FIRST_WRITE, on=on, error=errno.EINTR, under=folder)
+        shop = open_shop(trial, f"{on}.db", folder=folder, environment=faults.environment)
+        trial.equal(shop.exchange(REQUEST), wanted, f"on: {on}")
+        trial.holds(on == (faults.calls() > 1000), f"on: {on}, {faults.calls()} calls")
+        shop.kill()
+
+
+@case(
+    "a start in a folder of backups that was stopped",
+    "What a start that was stopped left in the folder is taken away by the next one.",
+)
+def left_over(trial):
+    os.makedirs(trial.path("backups/0.part"))
+    shop = open_shop(trial)
+    trial.equal(names(trial), [])
+    trial.equal(shop.exchange(REQUEST), told(1))
+
+
+@case(
+    "a store that can't be read for a backup",
+    "Where a file of the store can't be opened for it a backup is refused 99 and that is told; the shop goes on, and then one is made.",
+)
+def unread(trial):
+    os.mkdir(trial.path("data"))
+    under = os.path.realpath(trial.path("data"))
+    counted = Faults(trial, "looks", under=under)
+    shop = open_shop(trial, f"{under}/a.db", environment=counted.environment)
+    calls = counted.calls()
+    shop.kill()
+    faults = Faults(trial, "looks", at=calls + 1, under=under)
+    shop = open_shop(trial, f"{under}/b.db", environment=faults.environment, limit=2)
+    trial.equal(shop.exchange(REQUEST), answer(503, FAULT))
+    trial.equal(names(trial), [])
+    trial.equal(shop.exchange(REQUEST), told(1))
+    errors = shop.end()[2].decode()
+    trial.equal(errors.count(f"{FAILED}backups: the store and its log can't be read\n"), 1, errors)
+
+
+@case(
+    "a folder in which each number of a backup is taken",
+    "1000000 numbers are tried, no more, and then a backup is refused 99 and that is told.",
+)
+def each_number(trial):
+    folder = os.path.realpath(trial.path("backups"))
+    faults = Faults(trial, "files", at=FIRST_WRITE - 2, on=True, error=errno.EEXIST, under=folder)
+    shop = open_shop(trial, folder=folder, environment=faults.environment, limit=1)
+    trial.equal(shop.exchange(REQUEST), answer(503, FAULT))
+    errors = shop.end()[2].decode()
+    trial.equal(errors.count(f"{FAILED}{folder}: each number up to 1000000 is taken; name another folder\n"), 1, errors)
+    trial.equal(faults.calls(), FIRST_WRITE - 3 + 1000000)
+
+
 # ---- each call in turn
 
 

@@ -474,6 +474,22 @@ def helped(trial):
 
 
 @case(
+    "examples in help",
+    "The help of each command ends with examples of it alone, and that of the program with one of each; none of them is a mistake in "
+    "the words.",
+)
+def examples(trial):
+    commands = ("replay", "plan", "orders", "serve", "ticket", "yield")
+    for asked, named in ((("--help",), commands), *[((it, "--help"), (it,)) for it in commands]):
+        text = trial.run(*asked).out.decode().rpartition("Example")[2]
+        lines = [it.split()[1:] for it in text.split("\n") if it.startswith("  cutshop ")]
+        trial.equal(list(dict.fromkeys(it[0] for it in lines)), list(named), asked)
+        for words in lines:
+            ran = trial.run(*[it for it in words if it not in ("<", "lines.txt")])
+            trial.holds(ran.status < 2, f"{asked}: {words} ends with {ran.status}: {ran.err}")
+
+
+@case(
     "a replay of nothing",
     "No line gets no reply, an empty one is refused 10, the last may lack its line feed; status 0 also where lines "
     "are refused.",

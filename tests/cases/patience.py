@@ -5,6 +5,7 @@ import threading
 import time
 
 from cases.connections import GLASS, TOTALS, reserved
+from cases.sockets import let_go
 from cases.stores import DAY, filled, many_parts
 from kit import crowds
 from kit.case import case
@@ -96,15 +97,20 @@ def behind_others(trial):
 MANY = 120000
 
 
+def long_rack(trial, **named):
+    """A shop with a rack of 8 MB."""
+    path = filled(trial, exchanges=DAY[:2])
+    many_parts(path, "GLASS", MANY, 200000, 60000, first_act=2000000000)
+    return trial.shop(**named)
+
+
 @case(
     "an answer that nobody reads",
     "A terminal that never reads its answer of 8 MB is closed ten seconds behind it, with the rest untold, and a shop with a "
     "limit of one connection ends then.",
 )
 def nobody_reads(trial):
-    path = filled(trial, exchanges=DAY[:2])
-    many_parts(path, "GLASS", MANY, 200000, 60000, first_act=2000000000)
-    shop = trial.shop(limit=1)
+    shop = long_rack(trial, limit=1)
     with crowds.unread(shop, "/rack/GLASS", 1 << 16) as it:
         trial.holds(select.select([it], [], [], 3 * PATIENCE)[0], "no answer comes")
         begin = time.monotonic()
@@ -114,3 +120,15 @@ def nobody_reads(trial):
         head, _, body = read_all(it).partition(b"\r\n\r\n")
     length = int(head.split(b"Content-Length: ")[1].split(b"\r\n")[0])
     trial.holds(len(body) < length and length > 60 * MANY, f"{len(body)} of {length} bytes came")
+
+
+@case(
+    "an answer whose reader goes away",
+    "A terminal that closes within its answer of 8 MB is let go at once.",
+)
+def reader_gone(trial):
+    shop = long_rack(trial)
+    with crowds.unread(shop, "/rack/GLASS", 1 << 16) as it:
+        trial.holds(select.select([it], [], [], 3 * PATIENCE)[0], "no answer comes")
+        trial.equal(shop.connections(), 1)
+    let_go(trial, shop, "whose reader went away")

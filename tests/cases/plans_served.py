@@ -11,7 +11,7 @@ from cases.terminals import Terminal, at_once, independent, stopped_at
 from kit import crowds, tables
 from kit.case import case
 from kit.questions import checked_answer, compact, content_of
-from kit.shop import answer, read_all, request_of
+from kit.shop import answer, is_silent, read_all, request_of
 from kit.yards import Yard, question, reservations
 
 
@@ -109,6 +109,41 @@ def is_idle(shop, seconds):
         if shop.busy() - before < 0.05:
             return True
     return False
+
+
+@case(
+    "a question in front of large ones",
+    "One that takes a few tables, and was read before seven that think long, is answered soon all the same.",
+)
+def in_front(trial):
+    yard, asked = small()
+    shop = crowds.large_yard().serve(trial)
+    yard.fill(trial, shop)
+    content, large = content_of(shop.reply, "SMALL"), endless(shop)
+    shop.stand_still()
+    with crowds.thinking(shop, 1, asked) as (first,), crowds.thinking(shop, 7, large):
+        begin = time.monotonic()
+        shop.go_on()
+        body = read_all(first).partition(b"\r\n\r\n")[2]
+        seconds = time.monotonic() - begin
+        checked_answer(content, asked, body.decode())
+        trial.holds(seconds < 2 * SOON, f"the answer took {seconds:.2f} seconds")
+
+
+@case(
+    "a ninth question",
+    "Eight are thought about at once. A ninth waits, so that it is closed for another connection, and the eight aren't.",
+)
+def ninth(trial):
+    shop = crowds.large_yard().serve(trial)
+    large = endless(shop)
+    with crowds.thinking(shop, 8, large) as held, crowds.thinking(shop, 1, large) as (last,):
+        # (so long that the ninth was read, and would have its turn)
+        time.sleep(2 * SOON)
+        with crowds.silent(shop, 260) as others:
+            trial.equal(read_all(last), b"", "the ninth")
+            trial.equal([it for it in held if not is_silent(it, 0)], [], "those of the eight that are closed")
+            trial.equal(is_silent(others[-1], 0), True, "the last connection")
 
 
 @case(

@@ -2,16 +2,19 @@
 
 import errno
 import os
+import shutil
 import sqlite3
 import subprocess
 
 from cases.command_line import STEEL, serving, taken_port
 from cases.connections import GLASS as MATERIAL
+from cases.plans_memory import yard_of
 from cases.stores import numbers
 from kit import tables
 from kit.case import Skipped, case
+from kit.days import REFUSED
 from kit.faults import Faults
-from kit.shop import answer, begin_line, end_line
+from kit.shop import answer, begin_line, end_line, request_of
 
 GLASS = STEEL.replace("STEEL", "GLASS")
 MISSING = "there is no such file"
@@ -51,8 +54,9 @@ def problems(trial):
     ]
     for text, kerf, step, line, why in wanted:
         trial.write("p.txt", text)
-        ran = trial.run("plan", "p.txt", "--kerf", kerf, "--step", step)
-        trial.ended(ran, 1, err=f"{line}\n", why=why, sent=text)
+        for words in ((), ("--whole",)):
+            ran = trial.run("plan", "p.txt", "--kerf", kerf, "--step", step, *words)
+            trial.ended(ran, 1, err=f"{line}\n", why=why, sent=f"{text} {words}")
 
 
 SHOPS = [
@@ -65,6 +69,10 @@ SHOPS = [
     ("material = [1]", "fault shop entry 1", "material 1: it is no table; write [[material]] above each material"),
     (STEEL.replace("kerf", "kerff"), "fault shop entry 1", "line 4: no key is named kerff"),
     (STEEL + "[[material]]\ncode = 1\n", "fault shop entry 2", "line 7: the material has no key kind"),
+    *[
+        (f"\n{STEEL}".replace(f"\n{key} =", f"\n# {key} ="), "fault shop entry 1", f"line 2: the material has no key {key}")
+        for key in ("code", "kind", "kerf", "min_long", "min_short")
+    ],
     (STEEL + GLASS.replace('"bar"', '"rod"'), "fault shop entry 2", 'line 9: the kind is "bar" or "sheet"'),
     (STEEL.replace('"STEEL"', '"steel"'), "fault shop entry 1", 'line 2: the code is 1 to 16 of A-Z, 0-9 and -; write it as "STEEL-40"'),
     (
@@ -72,6 +80,14 @@ SHOPS = [
         "fault shop entry 1",
         'line 4: write millimetres as a text, as "1250.5", with 1 to 6 digits, and one behind a point: kerf',
     ),
+    *[
+        (
+            STEEL.replace(f'{key} = "{text}"', f'{key} = "2,0"'),
+            "fault shop entry 1",
+            f'line {line}: write millimetres as a text, as "1250.5", with 1 to 6 digits, and one behind a point: {key}',
+        )
+        for line, key, text in ((5, "min_long", "2.0"), (6, "min_short", "0.1"))
+    ],
 ]
 
 
@@ -129,12 +145,82 @@ def stores(trial):
         ("two.db", "it is no plain file with one name; name one, and no hard link to it"),
         ("damaged.db", "it or its disk is damaged; put a copy of it and its log in its place"),
         ("journal.db", "a rollback journal lies beside it; open it once with sqlite3"),
+        *[(it, "it is no plain file with one name; name one, and no hard link to it") for it in ("/dev/null", ":memory:", "file:a.db")],
     ):
         for words in (("ticket", "--store", name, "1"), ("yield", "--store", name, "STEEL")):
             trial.ended(trial.run(*words), 1, err="fault store\n", why=f"{name}: {why}", sent=name)
     trial.write("shop.toml", STEEL)
     ran = serving(trial, 1, "junk.db", "shop.toml")
     trial.ended(ran, 1, err="fault store\n", why="junk.db: it is no SQLite database; name another file")
+
+
+# What is told of a store and of a folder of backups where the system says this.
+ALLOWED = "this account may not read and write it, or may not write in its folder"
+OTHER = "it or its log can't be read and written; look at the permissions of both and of their folder"
+SYSTEM = {
+    errno.EROFS: ("its disk is read-only", "its disk is read-only"),
+    errno.ENOSPC: ("the disk is full; make room", "its disk is full; make room"),
+    errno.EDQUOT: ("the disk is full; make room", "its disk is full; make room"),
+    errno.EACCES: (ALLOWED, "this account may not read it and make files in it"),
+    errno.EIO: (OTHER, "files can't be made in it"),
+}
+
+
+@case(
+    "what the system says of a store and a folder of backups",
+    "Where a store, or a folder's first try of a backup, can't be made, a disk that is read-only or full, a quota, a want of rights and "
+    "any other fault are told apart.",
+)
+def system_errors(trial):
+    store, folder, shop_file = trial.path("a.db"), trial.path("backups"), trial.write("shop.toml", "")
+    os.mkdir(folder)
+    for error, (of_store, of_folder) in SYSTEM.items():
+        refused = Faults(trial, "files", at=1, on=True, error=error)
+        ran = trial.run("ticket", "--store", store, "1", environment=refused.environment)
+        trial.ended(ran, 1, err="fault store\n", why=f"{store}: {of_store}", sent=errno.errorcode[error])
+        refused = Faults(trial, "files", at=1, error=error, under=os.path.realpath(folder))
+        words = ("serve", "--port", "1", "--store", store, "--shop", shop_file, "--backup", folder)
+        ran = trial.run(*words, environment=refused.environment)
+        trial.ended(ran, 1, err="fault backup\n", why=f"{folder}: {of_folder}", sent=errno.errorcode[error])
+
+
+@case(
+    "a disk that gets full while a store is made",
+    "From the first write to its files until the shop is made, that is told as a full disk.",
+)
+def full_at_start(trial):
+    def told(at):
+        full = Faults(trial, "files", at=at, on=True, error=errno.ENOSPC)
+        store = trial.path(f"{at}.db")
+        return store, trial.run("ticket", "--store", store, "1", environment=full.environment)
+
+    counted = Faults(trial, "files")
+    trial.run("ticket", "--store", trial.path("whole.db"), "1", environment=counted.environment)
+    count, said = counted.calls(), 0
+    for at in trial.places(count, 13):
+        store, ran = told(at + 1)
+        said += ran.err == f"fault store\n  {store}: the disk is full; make room\n".encode()
+        trial.holds(b"damaged" not in ran.err, f"call {at + 1}: {ran.err}")
+    trial.holds(said > 3, f"{said} of {count} calls are told as a full disk")
+
+
+@case(
+    "why a file can't be read to its end",
+    "Where a read of a problem file or of a shop file fails, with a page and without one, that file is named, and that it can't be read.",
+)
+def unreadable(trial):
+    problem, shop_file = trial.write("p.txt", "1\n10 8\n4 3 10 12\n"), trial.write("shop.toml", STEEL)
+    page = trial.write("page.html", "<p>a page</p>")
+    serve = ("serve", "--port", "1", "--store", trial.path("a.db"), "--shop", shop_file)
+    for path, words in (
+        (problem, ("plan", problem, "--kerf", "1", "--step", "1")),
+        (problem, ("plan", problem, "--kerf", "1", "--whole")),
+        (problem, ("orders", problem)),
+        (shop_file, serve),
+        (shop_file, (*serve, "--page", page)),
+    ):
+        fails = Faults(trial, "read", at=1, on=True, under="")
+        trial.ended(trial.run(*words, environment=fails.environment), 1, err="fault file\n", why=f"{path}: it can't be read", sent=words)
 
 
 @case(
@@ -225,6 +311,44 @@ def full_disk(trial):
     shop.process.terminate()
     _, told = shop.process.communicate()
     trial.equal(told, begin_line(shop.store) + 2 * FAILED)
+
+
+WANTING = b"cutshop: answered 98 NoMemory; end other programs, or give this one more memory\n"
+
+
+@case(
+    "answers for which memory was wanting",
+    "Each answer 98, to a message, a question, a question for plans, also while it is thought about, and a backup, is told on standard "
+    "error, once.",
+)
+def wanting(trial):
+    yard, (asked, _) = yard_of("bar")
+
+    def answered(at, request):
+        faults = Faults(trial, "memory", at=at)
+        # (a longer name would take more requests)
+        folder = trial.path(f"{at:06}")
+        os.mkdir(folder)
+        shop = trial.shop(f"{at:06}.db", environment=faults.environment, words=("--backup", folder))
+        yard.fill(trial, shop)
+        first, got = faults.calls(), shop.exchange(request)
+        last = faults.calls()
+        shop.process.terminate()
+        errors = shop.process.communicate()[1]
+        shutil.rmtree(folder)
+        return first, last, got, errors.count(WANTING)
+
+    for line in (MATERIAL, '{"ask":"materials"}', asked, None):
+        request = request_of(line) if line else b"POST /backup HTTP/1.1\r\nHost: shop\r\nContent-Length: 0\r\n\r\n"
+        first, last, got, told = answered(0, request)
+        trial.equal((got.split(b"\r\n")[0], told), (b"HTTP/1.1 200 OK", 0), line)
+        refused = []
+        for at in trial.places(last - first, max((last - first) // 8, 1)):
+            _, _, got, told = answered(first + at + 1, request)
+            if got == answer(503, REFUSED):
+                refused.append(at)
+            trial.equal(told, got == answer(503, REFUSED), f"{line}, request {first + at + 1}: {got}")
+        trial.holds(refused and (line != asked or refused[-1] > (last - first) // 2), f"{line}: 98 at {refused} of {last - first}")
 
 
 @case("files of others", "A file and a store that this account may not read are told so.")

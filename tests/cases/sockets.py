@@ -2,6 +2,7 @@
 nothing by themselves."""
 
 import socket
+import struct
 import time
 from concurrent.futures import ThreadPoolExecutor
 
@@ -137,3 +138,71 @@ def large_answers(trial):
                 came += piece
             trial.equal(came, page_answer(page), f"{length} bytes by a small window")
         shop.kill()
+
+
+def resets(it):
+    """Closes a connection by a reset."""
+    it.setsockopt(socket.SOL_SOCKET, socket.SO_LINGER, struct.pack("ii", 1, 0))
+    it.close()
+
+
+def let_go(trial, shop, says):
+    """The shop has no connection open soon."""
+    limit = time.monotonic() + SOON
+    while shop.connections() and time.monotonic() < limit:
+        time.sleep(0.02)
+    trial.equal(shop.connections(), 0, f"connections that are open {says}")
+
+
+# A request that is refused before its body came.
+REFUSED = b"POST /nowhere HTTP/1.1\r\nHost: shop\r\nContent-Length: 9\r\n\r\n"
+
+
+@case(
+    "connections that are done with",
+    "A connection is let go at once where it has its answer 200, also while its client keeps its side open; where it is reset before, "
+    "within or behind its request; and where its client ends behind another answer, before which it stays.",
+)
+def done_with(trial):
+    shop = trial.shop()
+    for begins in (b"", b"G", b"GET /materials HTTP/1.1\r\nHost: shop\r\n"):
+        it = shop.connect()
+        it.sendall(begins)
+        time.sleep(0.2)
+        trial.equal(shop.connections(), 1, begins)
+        resets(it)
+        let_go(trial, shop, f"where one was reset behind {begins}")
+    with shop.connect() as it:
+        it.sendall(b"GET /materials HTTP/1.1\r\nHost: shop\r\n\r\n")
+        trial.equal(read_all(it), answer(200, '{"materials":[],"ok":"materials"}'))
+        let_go(trial, shop, "behind an answer 200")
+    for end in (socket.socket.close, resets):
+        it = shop.connect()
+        it.sendall(REFUSED)
+        trial.equal(read_all(it), answer(404))
+        time.sleep(0.2)
+        trial.equal(shop.connections(), 1, "while more of a refused request may come")
+        end(it)
+        let_go(trial, shop, "behind a refused one")
+
+
+# Connections that come while the shop stands still: far more than it accepts before it attends to others.
+WAITING = 500
+
+
+@case(
+    "connections that come all at once",
+    "Of 500 requests that came while the shop stood still each is answered at once when it goes on.",
+)
+def all_at_once(trial):
+    shop = trial.shop()
+    shop.stand_still()
+    with crowds.silent(shop, WAITING) as held:
+        for it in held:
+            it.sendall(request_of(crowds.QUESTION))
+        begin = time.monotonic()
+        shop.go_on()
+        for it in held:
+            trial.equal(read_all(it), answer(200, '{"materials":[],"ok":"materials"}'))
+        seconds = time.monotonic() - begin
+    trial.holds(seconds < SOON, f"{WAITING} answers took {seconds:.1f} seconds")

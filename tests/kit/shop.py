@@ -213,6 +213,11 @@ class Shop:
         """For how many seconds it had a processor so far."""
         return busy(self.process.pid)
 
+    def connections(self):
+        """How many connections it has open, beside the socket that listens."""
+        folder = f"/proc/{self.process.pid}/fd"
+        return sum(os.readlink(f"{folder}/{it}").startswith("socket:") for it in os.listdir(folder)) - 1
+
     def has_ended(self, seconds=0.2):
         """Whether it ended by itself, or does so soon."""
         try:
@@ -220,6 +225,13 @@ class Shop:
         except subprocess.TimeoutExpired:
             return False
         return True
+
+    def stand_still(self):
+        """Has it do nothing more until it goes on. What is sent meanwhile waits."""
+        self.process.send_signal(signal.SIGSTOP)
+
+    def go_on(self):
+        self.process.send_signal(signal.SIGCONT)
 
     def end(self):
         """Waits until it ends by itself, and gives its status and what it wrote on standard error."""
