@@ -210,15 +210,23 @@ fn backup_name<'a>(request: &Request<'a>) -> &'a str {
     }
 }
 
+// Whether a file can be read to its end, or to that of the longest text.
+fn can_be_read<R: Files>(rt: &R, alloc: Global, path: &str) -> bool {
+    match read_file(rt, alloc, path) {
+        Ok(_) => true,
+        Err(_) => false,
+    }
+}
+
 // The file that can't be read: the page where the shop file can be.
-fn unread_name<'a, R: Files>(rt: &R, request: &Request<'a>) -> &'a str {
+fn unread_name<'a, R: Files>(rt: &R, alloc: Global, request: &Request<'a>) -> &'a str {
     match request {
         Request::Serve {
             shop,
             page: Some(page),
             ..
         } => {
-            if look_at_file(rt, shop) == FileCause::NoText {
+            if can_be_read(rt, alloc, shop) {
                 page
             } else {
                 shop
@@ -231,16 +239,22 @@ fn unread_name<'a, R: Files>(rt: &R, request: &Request<'a>) -> &'a str {
 // Why a file can't be used that can be read: it is too long for a page, or no text of an order.
 fn unused_cause(request: &Request<'_>) -> FileCause {
     match request {
-        Request::Serve { .. } => FileCause::Long,
+        Request::Serve { page: Some(_), .. } => FileCause::Long,
         Request::Orders { .. } => FileCause::NoText,
         _ => FileCause::Unreadable,
     }
 }
 
 // Why a file of a request can't be read.
-fn file_cause<R: Files>(rt: &R, request: &Request<'_>, path: &str) -> FileCause {
+fn file_cause<R: Files>(rt: &R, alloc: Global, request: &Request<'_>, path: &str) -> FileCause {
     match look_at_file(rt, path) {
-        FileCause::NoText => unused_cause(request),
+        FileCause::NoText => {
+            if can_be_read(rt, alloc, path) {
+                unused_cause(request)
+            } else {
+                FileCause::Unreadable
+            }
+        }
         cause => cause,
     }
 }
@@ -249,8 +263,8 @@ fn file_cause<R: Files>(rt: &R, request: &Request<'_>, path: &str) -> FileCause 
 fn file_advice<R: Files>(rt: &R, alloc: Global, request: &Request<'_>) -> Option<Advice>
     ensures { IfSome result (IsAdviceOf fault.File) }
 {
-    let path = unread_name(rt, request);
-    let cause = file_cause(rt, request, path);
+    let path = unread_name(rt, alloc, request);
+    let cause = file_cause(rt, alloc, request, path);
     advice_of(alloc, path, Cause::File(cause), "")
 }
 
