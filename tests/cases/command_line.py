@@ -455,22 +455,28 @@ def before_store(trial):
         trial.equal(file.read() == content, True, "the store that was there")
 
 
-@case("help", "Help names each command and each of its options on standard output, with status 0.")
+# What help says of each command, and the words and options that it has.
+COMMANDS = {
+    "replay": ("lines of standard input", []),
+    "plan": ("problem file", ["FILE", "--kerf", "--step", "--whole", "--calls"]),
+    "orders": ("order file", ["FILE", "--order", "--terminal", "--number"]),
+    "serve": ("HTTP", ["--port", "--store", "--shop", "--limit", "--page", "--backup"]),
+    "ticket": ("ticket of a job", ["--store", "JOB"]),
+    "yield": ("became of a material", ["--store", "MATERIAL"]),
+}
+
+
+@case("help", "Help names each command, says what it is for, and names each of its options on standard output, with status 0.")
 def helped(trial):
-    words = {
-        "plan": ["FILE", "--kerf", "--step"],
-        "serve": ["--port", "--store", "--shop", "--limit"],
-        "ticket": ["--store", "JOB"],
-        "yield": ["--store", "MATERIAL"],
-        "replay": [],
-    }
     for asked in (["--help"], ["help"]):
         ran = trial.run(*asked)
-        trial.equal((ran.status, ran.err, [it for it in words if it not in ran.out.decode()]), (0, b"", []), asked)
-    for command, named in words.items():
+        lines = [it.strip() for it in ran.out.decode().split("\n")]
+        said = [it for it, (about, _) in COMMANDS.items() if any(line.startswith(f"{it} ") and about in line for line in lines)]
+        trial.equal((ran.status, ran.err, said), (0, b"", list(COMMANDS)), asked)
+    for command, (about, named) in COMMANDS.items():
         for asked in ([command, "--help"], ["help", command]):
             ran = trial.run(*asked)
-            trial.equal((ran.status, ran.err, [it for it in named if it not in ran.out.decode()]), (0, b"", []), asked)
+            trial.equal((ran.status, ran.err, [it for it in [about, *named] if it not in ran.out.decode()]), (0, b"", []), asked)
 
 
 @case(
@@ -479,8 +485,7 @@ def helped(trial):
     "the words.",
 )
 def examples(trial):
-    commands = ("replay", "plan", "orders", "serve", "ticket", "yield")
-    for asked, named in ((("--help",), commands), *[((it, "--help"), (it,)) for it in commands]):
+    for asked, named in ((("--help",), COMMANDS), *[((it, "--help"), (it,)) for it in COMMANDS]):
         text = trial.run(*asked).out.decode().rpartition("Example")[2]
         lines = [it.split()[1:] for it in text.split("\n") if it.startswith("  cutshop ")]
         trial.equal(list(dict.fromkeys(it[0] for it in lines)), list(named), asked)

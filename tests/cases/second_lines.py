@@ -8,6 +8,7 @@ import subprocess
 
 from cases.command_line import STEEL, serving, taken_port
 from cases.connections import GLASS as MATERIAL
+from cases.earlier_files import made
 from cases.plans_memory import yard_of
 from cases.stores import numbers
 from kit import tables
@@ -225,7 +226,8 @@ def unreadable(trial):
 
 @case(
     "why tables are no shop's",
-    "Tables of another program, of a later version, and totals that aren't their sums are told apart.",
+    "Tables of another program or of no version that there is, of a later one, and totals of either version that aren't their sums are "
+    "told apart.",
 )
 def versions(trial):
     with sqlite3.connect(trial.path("other.db")) as other:
@@ -238,10 +240,23 @@ def versions(trial):
             tables.change(shop.store, change)
         else:
             numbers(shop.store, "version", 3)
+    for name, version, change in (
+        ("last.db", 2, "UPDATE meta SET value = 4294967298 WHERE name = 'version'"),
+        ("zero.db", 2, "UPDATE meta SET value = 0 WHERE name = 'version'"),
+        ("none.db", 2, "DELETE FROM meta WHERE name = 'version'"),
+        ("sums-1.db", 1, "UPDATE totals SET kerf = kerf + 1"),
+    ):
+        made(trial, name, version, change)
+    foreign, newer = "it has the tables of another program; name another file", "a newer cutshop made it; run that one"
+    contradicting = "its totals or rows contradict each other; put a copy of it and its log in its place"
     for name, why in (
-        ("other.db", "it has the tables of another program; name another file"),
-        ("newer.db", "a newer cutshop made it; run that one"),
-        ("sums.db", "its totals or rows contradict each other; put a copy of it and its log in its place"),
+        ("other.db", foreign),
+        ("newer.db", newer),
+        ("sums.db", contradicting),
+        ("last.db", newer),
+        ("zero.db", foreign),
+        ("none.db", foreign),
+        ("sums-1.db", contradicting),
     ):
         trial.ended(trial.run("ticket", "--store", name, "1"), 1, err="fault version\n", why=f"{name}: {why}", sent=name)
 
@@ -250,7 +265,7 @@ def versions(trial):
     "what a store hasn't, and one that is made",
     "`ticket` and `yield` tell that the store has no such job or material, and of one that wasn't there that it was made.",
 )
-def made(trial):
+def and_made(trial):
     for words, line, why in (
         (("ticket", "--store", "new.db", "1"), "refused 70 NoJob", "there was no store, and an empty one was made"),
         (("ticket", "--store", "new.db", "1"), "refused 70 NoJob", "it has no such job"),
