@@ -202,7 +202,7 @@ def full_at_start(trial):
         store, ran = told(at + 1)
         said += ran.err == f"fault store\n  {store}: the disk is full; make room\n".encode()
         trial.holds(b"damaged" not in ran.err, f"call {at + 1}: {ran.err}")
-    trial.holds(said > 3, f"{said} of {count} calls are told as a full disk")
+    trial.holds(said > 1, f"{said} of {count} calls are told as a full disk")
 
 
 @case(
@@ -353,7 +353,8 @@ def wanting(trial):
         shutil.rmtree(folder)
         return first, last, got, errors.count(WANTING)
 
-    for line in (MATERIAL, '{"ask":"materials"}', asked, None):
+    # (another terminal than the yard's)
+    for line in (MATERIAL.replace('"terminal":1', '"terminal":2'), '{"ask":"materials"}', asked, None):
         request = request_of(line) if line else b"POST /backup HTTP/1.1\r\nHost: shop\r\nContent-Length: 0\r\n\r\n"
         first, last, got, told = answered(0, request)
         trial.equal((got.split(b"\r\n")[0], told), (b"HTTP/1.1 200 OK", 0), line)
