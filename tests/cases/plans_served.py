@@ -137,10 +137,10 @@ def in_front(trial):
 def ninth(trial):
     shop = crowds.large_yard().serve(trial)
     large = endless(shop)
-    with crowds.thinking(shop, 8, large) as held, crowds.thinking(shop, 1, large) as (last,):
-        # (so long that the ninth was read, and would have its turn)
+    with crowds.thinking(shop, 8, large) as held:
+        # (so long that each was thought about once)
         time.sleep(2 * SOON)
-        with crowds.silent(shop, 260) as others:
+        with crowds.thinking(shop, 1, large) as (last,), crowds.silent(shop, 260) as others:
             trial.equal(read_all(last), b"", "the ninth")
             trial.equal([it for it in held if not is_silent(it, 0)], [], "those of the eight that are closed")
             trial.equal(is_silent(others[-1], 0), True, "the last connection")
