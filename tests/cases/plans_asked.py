@@ -1,5 +1,6 @@
 """The question `plans`: by which parts and plans all that is open of a material is cut. Every answer is checked by itself
-(`kit/questions.py`); how little material the search takes is left to it, but for shops that anybody plans at sight."""
+(`kit/questions.py`); of how little material the search takes only what anybody plans at sight is wanted here, and more in
+`best_plans.py`."""
 
 import random
 

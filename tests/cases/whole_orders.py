@@ -1,5 +1,6 @@
 """`plan --whole`: all pieces of a problem file from as many of its rectangles as it takes. Every answer is checked by itself
-(`kit/plans.py`); how few units the search finds is left to it, but for orders that anybody plans at sight."""
+(`kit/plans.py`); of how few units the search finds only what anybody plans at sight is wanted here, and more in
+`best_plans.py`."""
 
 import random
 from functools import cache
