@@ -131,9 +131,10 @@ def sheets(trial):
     best(trial, SHEETS)
 
 
-def seconds_of(trial, problem, calls):
+def seconds_of(trial, problem, calls, *step):
     """Seconds of the processor's time that the plan of a whole order takes, the least of three runs."""
-    words = [trial.program, "plan", trial.write("order.txt", problem.text()), "--whole", "--kerf", "0", "--calls", str(calls)]
+    path = trial.write("order.txt", problem.text())
+    words = [trial.program, "plan", path, "--whole", "--kerf", "0", "--calls", str(calls), *step]
     least = None
     for _ in range(3):
         run = subprocess.Popen(words, stdout=subprocess.DEVNULL)
@@ -160,3 +161,17 @@ def times(trial):
         seconds = seconds_of(trial, order(scale), calls)
         why = f"{seconds} seconds by {calls} calls of lengths times {scale}, {short} of the short ones by 40"
         trial.holds(seconds < 6 * short + 0.05, why)
+
+
+@case(
+    "time of sheets with even sides",
+    "An order of sheets whose sides are multiples of 25 steps takes at most half the time of one with uneven sides, as cuts at "
+    "which nothing ends are passed over.",
+)
+def even_sides(trial):
+    def seconds(off):
+        kinds = [(25 * (1 + it % 4) + off * it, 25 * (1 + 3 * it % 5) + off * (7 * it % 11), 10 + it % 7) for it in range(1, 13)]
+        return seconds_of(trial, sheet(400, 300, *kinds), 40, "--step", "1")
+
+    even, uneven = seconds(0), seconds(1)
+    trial.holds(even < 0.5 * uneven, f"{even} seconds for even sides, {uneven} for uneven ones")
