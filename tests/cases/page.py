@@ -422,8 +422,8 @@ def reach(it, found):
 
 @case(
     "lists of the page behind their first hundred",
-    "With over 100 demands, jobs and parts the page shows what lies behind the first 100 when asked, and prints a "
-    "ticket of over 100 cuts on one sheet.",
+    "With over 100 demands, jobs and parts the page shows what lies behind the first 100 when asked, all jobs go into lists and "
+    "onto tickets, and a ticket of over 100 cuts is printed on one sheet.",
 )
 def hundreds(trial):
     more = "".join(
@@ -459,6 +459,8 @@ def hundreds(trial):
         it.until("document.querySelectorAll('#jobList button.row').length === 100")
         it.click("document.querySelector('#jobList [data-key=jobPages]')")
         it.until("document.querySelectorAll('#jobList button.row').length === 105")
+        for read in ("readJobCells()", "readTickets('')"):
+            trial.equal(it.value(f"{read}.then(rows => rows.length)"), 105, read)
         it.type(by_id("jobNumber"), "109")
         it.key("Enter")
         it.until("document.querySelectorAll('#cutList li').length === 143")
