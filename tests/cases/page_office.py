@@ -241,6 +241,35 @@ def twice(trial):
         trial.equal([row["demand"] for row in it.ask("/demands/0")["demands"]], [1, 2, 3, 4, 5])
 
 
+# Of a line's fields the greatest value and one that is too great.
+GREATEST = {
+    "line": ("4294967295", "4294967296"),
+    "length": ("20000.0", "20000.1"),
+    "width": ("6000.0", "6000.1"),
+    "count": ("1000000", "1000001"),
+    "worth": ("1000000000", "1000000001"),
+}
+
+
+@case(
+    "limits of a line at the page",
+    "The greatest value of each field of a line is good, and one more is told at that field; lengths are told in metres from one "
+    "metre on, and areas in square metres from a hundredth of one on.",
+)
+def greatest(trial):
+    texts = {"line": "1", "material": "GLASS", "length": "10.0", "width": "10.0", "turn": "no", "count": "1", "worth": "1"}
+    with Terminal(trial, open_shop(trial)) as it:
+        it.begin(7)
+        it.until("shop.materials.length === 2")
+        for name, (good, bad) in GREATEST.items():
+            for value, wanted in ((good, []), (bad, [name])):
+                line = json.dumps(list({**texts, name: value}.values()))
+                trial.equal(it.value(f"Object.keys(lineFaults({line}, 0))"), wanted, line)
+        told = it.value("[metresText(9999), metresText(10000), areaText(999999), areaText(1000000)]")
+        trial.equal([words.split("\u00a0")[-1] for words in told], ["mm", "m", "mm²", "m²"], told)
+        is_quiet(it)
+
+
 @case(
     "stock that isn't in a row",
     "Units of one batch and size are told as ranges only where their names follow one another.",
