@@ -284,38 +284,47 @@ def numbers(trial):
 # Crates whose answers are hints, and programs of the gate: what limits them is promised to nobody.
 HINTING = {"cut_search", "cut_master", "cut_fill_bars", "cut_fill_sheets", "shop_examples", "cut_example"}
 
-# The number of each other constant that no law has, and what it would change that no clause says.
+# The number of each other constant that no law has, the functions that use it, and what it would change that no clause says.
 LAWLESS = {
-    "cut_tree read MOST_WORDS": ("512", "one word more than a tree of 255 cuts has: the contract has the first fault at one of these"),
-    "shop_backup backing MOST_BACKUPS": ("1000000", "the greatest number of a backup, as the formats have it"),
-    "shop_backup backing BUFFER_SIZE": ("65536", "how much of a file is in memory at once"),
-    "shop_backup folders MOST_TRIES": ("1000", "how often an interrupted call is made again"),
-    "shop_planning asking ALL_ROWS": ("MOST_NUMBERS as usize", "all rows of a list, of which none has a greater number"),
-    "shop_planning asking FIRST_ROWS": ("2000", "so many rows are read first; where these don't suffice all are"),
-    "shop_problems wholes USUAL_CALLS": ("500", "tables of a search where the words say no number, as the formats have it"),
-    "shop_request fields LONGEST_BODY": ("131072", "the definition `most_body` has the number"),
-    "shop_request heads LONGEST_HEAD": ("8192", "the definition `most_head` has the number"),
-    "shop_request heads MOST_FIELDS": ("64", "the definition `most_fields` has the number"),
-    "shop_request pieces BUFFER_SIZE": ("8192", "how much a read of a request brings at most"),
-    "shop_rows sums TOO_LARGE": ("18446744073709551616", "sums that 64 bits don't hold are no totals"),
-    "shop_serve connections MOST_TRIES": ("1000", "how often an interrupted call is made again"),
-    "shop_serve ports MOST_EVENTS": ("256", "how many connections are reported at once; others are in the next report"),
-    "shop_serve ports MOST_TRIES": ("1000", "how often it is tried to accept one, where those that waited went away"),
-    "shop_serve serving MOST_ACCEPTED": ("64", "how many are accepted before others are attended to"),
-    "shop_serve serving TURN": ("1", "seconds between looks at those that had their time"),
-    "shop_serve thinking MOST_THOUGHTS": ("8", "questions that are thought about at once; others wait"),
-    "shop_serve transfers MOST_BYTES": ("150000", "more bytes than come of any request that is read"),
-    "shop_serve transfers MOST_DROPS": ("1024", "reads at once of what is dropped: more than a socket keeps"),
-    "shop_serve transfers BUFFER_SIZE": ("8192", "how much a read of a connection brings at most"),
-    "shop_store names ROWS_A_LOOK": ("32", "where more than one part in so many stands all rows are gone through"),
-    "shop_streams counted MOST_TRIES": ("1000", "how often an interrupted call is made again"),
+    "cut_tree read MOST_WORDS": ("512", "words_of", "one word more than a tree of 255 cuts has: the contract has the first fault at one of these"),
+    "shop_backup backing MOST_BACKUPS": ("1000000", "begin_next", "the greatest number of a backup, as the formats have it"),
+    "shop_backup backing BUFFER_SIZE": ("65536", "copy_piece", "how much of a file is in memory at once"),
+    "shop_backup folders MOST_TRIES": ("1000", "write", "how often an interrupted call is made again"),
+    "shop_planning asking ALL_ROWS": ("MOST_NUMBERS as usize", "left_demands planned_parts", "all rows of a list, of which none has a greater number"),
+    "shop_planning asking FIRST_ROWS": ("2000", "left_demands planned_parts", "so many rows are read first; where these don't suffice all are"),
+    "shop_problems wholes USUAL_CALLS": ("500", "plan_order", "tables of a search where the words say no number, as the formats have it"),
+    "shop_request fields LONGEST_BODY": ("131072", "short_number", "the definition `most_body` has the number"),
+    "shop_request heads LONGEST_HEAD": ("8192", "least_bytes part_fault prefix_of", "the definition `most_head` has the number"),
+    "shop_request heads MOST_FIELDS": ("64", "new read", "the definition `most_fields` has the number"),
+    "shop_request pieces BUFFER_SIZE": ("8192", "read_piece", "how much a read of a request brings at most"),
+    "shop_rows sums TOO_LARGE": ("18446744073709551616", "narrow wide_column", "sums that 64 bits don't hold are no totals"),
+    "shop_serve connections MOST_TRIES": ("1000", "read_some write_some", "how often an interrupted call is made again"),
+    "shop_serve ports MOST_EVENTS": ("256", "new", "how many connections are reported at once; others are in the next report"),
+    "shop_serve ports MOST_TRIES": ("1000", "next_stream", "how often it is tried to accept one, where those that waited went away"),
+    "shop_serve serving MOST_ACCEPTED": ("64", "accept_waiting", "how many are accepted before others are attended to"),
+    "shop_serve serving TURN": ("1", "accept_waiting serve_port", "seconds between looks at those that had their time"),
+    "shop_serve thinking MOST_THOUGHTS": ("8", "next_thought", "questions that are thought about at once; others wait"),
+    "shop_serve transfers MOST_BYTES": ("150000", "take_bytes", "more bytes than come of any request that is read"),
+    "shop_serve transfers MOST_DROPS": ("1024", "drop_rest", "reads at once of what is dropped: more than a socket keeps"),
+    "shop_serve transfers BUFFER_SIZE": ("8192", "drop_rest take_piece", "how much a read of a connection brings at most"),
+    "shop_store names ROWS_A_LOOK": ("32", "few_of", "where more than one part in so many stands all rows are gone through"),
+    "shop_streams counted MOST_TRIES": ("1000", "read write", "how often an interrupted call is made again"),
 }
+
+
+def used_in(crate, module, name):
+    """The functions that use a constant, in its own file and in those that name it in front."""
+    for path, code in sources().items():
+        top = "crate" if path.startswith(f"{crate}/") else crate
+        is_own = path == f"{crate}/src/{module.replace('.', '/')}.rt"
+        if is_own or re.search(rf"\buse {top}::[^;]*\b{name}\b", code):
+            yield from (of for of, _, body in functions(code) if re.search(rf"\b{name}\b", body))
 
 
 @case(
     "numbers that no law has",
-    "Each other whole number that is a constant of the code stands in a list, with its number and what it would change that no "
-    "clause says, but those of crates that give hints alone; and each of the list is one.",
+    "Each other whole number that is a constant of the code stands in a list, with its number, the functions that use it, and "
+    "what it would change that no clause says, but those of crates that give hints alone; and each of the list is one.",
 )
 def lawless(trial):
     _, known = numbered()
@@ -325,5 +334,6 @@ def lawless(trial):
         module = file.removesuffix(".rt").replace("/", ".")
         for name, value in re.findall(r"\bconst (\w+): (?:[iu]\d+|[iu]size) =\s*([^;]+);", code):
             if crate not in HINTING and f"{crate} {module} {name}" not in known:
-                found[f"{crate} {module} {name}"] = value.replace("_", "") if value[0].isdigit() else value
-    trial.equal(found, {name: number for name, (number, _) in LAWLESS.items()})
+                number = value.replace("_", "") if value[0].isdigit() else value
+                found[f"{crate} {module} {name}"] = (number, " ".join(sorted(used_in(crate, module, name))))
+    trial.equal(found, {name: listed[:2] for name, listed in LAWLESS.items()})
