@@ -114,6 +114,7 @@ STRANGE = [
     ("parts", "w", ("0", "200001", "9", "-10"), "10"),
     ("parts", "h", ("0", "60001", "7"), "8"),
     ("parts", "batch", ("''", "'b-1'", "'ABCDEFGHIJKLMNOPQ'"), "'B-1'"),
+    ("parts", "state = 3, detail", ("-1", "4294967296"), "0; UPDATE parts SET state = 0"),
     ("totals2", "stock", ("79", "-80", "81"), "80"),
     ("totals2", "returned", ("1",), "0"),
     ("totals2", "received", ("0",), "80"),
@@ -136,6 +137,32 @@ def strange(trial):
     refused_as_it_was(trial, path, "no totals")
     tables.change(path, "INSERT INTO totals2 VALUES ('GLASS', 80, 80, 0, 0, 0, 0, 0)")
     trial.holds(opens(trial, path), "the good values are taken again")
+
+
+# What a column without a type may hold that is no number and no text; and what is no material's code, or another one's.
+UNTYPED, NO_MATERIAL = ("NULL", "1.5", "x'474C415353'"), ("''", "'glass'", "'ABCDEFGHIJKLMNOPQ'", "'STEEL'")
+
+
+@case(
+    "parts and totals of other types",
+    "Where tables with our names have columns without types and without references, a part or a total with nothing, a fraction, "
+    "bytes, a text in place of a number, a number in place of a code or another material is `fault version`, and so is a version "
+    "that is no number; the file stays as it was.",
+)
+def other_types(trial):
+    for table, only in (("parts", ""), ("totals2", ""), ("meta", "WHERE name = 'version'")):
+        path, columns = filled(trial, f"{table}.db", exchanges=DAY[:2]), tables.COLUMNS[table].split()
+        names, key = ", ".join(columns), ", ".join(tables.KEYS[table].split())
+        made = f"CREATE TABLE loose ({names}, PRIMARY KEY ({key})); INSERT INTO loose SELECT * FROM {table}"
+        tables.change(path, f"{made}; DROP TABLE {table}; ALTER TABLE loose RENAME TO {table}")
+        for column in columns[1:] if only else columns:
+            ((good,),) = tables.select(path, f"SELECT quote({column}) FROM {table} {only}")
+            others = NO_MATERIAL if column == "material" else ()
+            for value in (*UNTYPED, *others, "7" if column in tables.TEXTS else "'7'"):
+                tables.change(path, f"UPDATE {table} SET {column} = {value} {only}")
+                refused_as_it_was(trial, path, f"{table} {column} {value}")
+            tables.change(path, f"UPDATE {table} SET {column} = {good} {only}")
+        trial.holds(opens(trial, path), f"{table} with its values again")
 
 
 @case(

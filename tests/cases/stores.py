@@ -332,8 +332,8 @@ def thousand(trial):
 
 @case(
     "rows of no book",
-    "A job of state 9, a plan or a kept reply that is none, a turn of 5 and a kind of 3 are told as 99 where they "
-    "are asked for; all else is answered.",
+    "A job of state 9, a plan or a kept reply that is none, a turn of 5, a kind of 3 and a bar with the limits of a sheet are "
+    "told as 99 where they are asked for; all else is answered.",
 )
 def spoiled(trial):
     spoils = [
@@ -341,6 +341,7 @@ def spoiled(trial):
         ("UPDATE jobs SET tree = 'x4 y3 p1'", DONE, None),
         ("UPDATE demands SET turn = 5 WHERE number = 1", '{"ask":"demand","demand":1}', None),
         ("UPDATE materials SET kind = 3", TOTALS, None),
+        ("UPDATE materials SET kind = 0", TOTALS, None),
         ("UPDATE kept SET reply = '{' WHERE number = 4", RESERVE, None),
     ]
     for number, (statement, line, _) in enumerate(spoils):
