@@ -1,8 +1,9 @@
-"""What the source itself shows: where a want of memory is told, and which constants a law names."""
+"""What the source itself shows: where a want of memory and a failed store are told, and which constants a law names."""
 
 import glob
 import os
 import re
+from collections import Counter
 from functools import cache
 
 from kit.case import Failed, case
@@ -203,6 +204,88 @@ def takers(trial):
         trial.holds(is_plain and is_wanting(last.removesuffix(".is_ok()"), path.partition("/")[0]), f"{path}: {bodies[0]}")
     code = sources()["shop_serve/src/answers.rt"]
     trial.equal(len(re.findall(r"\bNone\b(?!\))", code)), len(re.findall(r"Err\(_\) => None,", code)), "answers that aren't made")
+
+
+# A failed store, or tables of another version, by any name of the tables, of a book or of a refusal.
+FAILED = re.compile(r"\b(?:TableFault|AdoptFault|BookFault|Refusal)::(Store|StoreFault|WrongVersion)\b")
+
+# The places that tell one where none is handed on, how many each function has, and what is so there.
+FAULTED = {
+    "shop_book/src/books.rt from StoreFault": (2, "hands on a book's fault"),
+    "shop_book/src/memory.rt fault Store": (1, "numbers or totals that the book in memory can't hold, by its contract"),
+    "shop_desk/src/desk_calls.rt answer_again StoreFault": (1, "the kept reply is none"),
+    "shop_examples/src/stores.rt book_over Store": (1, "a connection within a transaction"),
+    "shop_machine/src/ending.rt work_of StoreFault": (3, "a job without its part or its material, or rows that don't bear its end, by its contract"),
+    "shop_machine/src/importing.rt decide_again StoreFault": (1, "the reply of an import is none, by its contract"),
+    "shop_machine/src/receiving.rt decide_receive StoreFault": (1, "more cells in stock than were received, by its contract"),
+    "shop_machine/src/reserving.rt decide_reserve StoreFault": (1, "a part without its material, by its contract"),
+    "shop_machine/src/retiring.rt decide_give_back StoreFault": (1, "totals below the part's cells, by its contract"),
+    "shop_machine/src/retiring.rt decide_scrap StoreFault": (1, "totals below the part's cells, by its contract"),
+    "shop_serve/src/watches.rt back_up StoreFault": (2, "no backup is made"),
+    "shop_statements/src/columns.rt code_in Store": (1, "a text that is no code"),
+    "shop_statements/src/columns.rt counted Store": (1, "a count of 2^63 or more"),
+    "shop_statements/src/columns.rt form_in Store": (1, "a form that is none"),
+    "shop_statements/src/columns.rt job_state_in Store": (1, "a state that is none"),
+    "shop_statements/src/columns.rt kind_in Store": (1, "a kind that is none"),
+    "shop_statements/src/columns.rt limits_in Store": (1, "limits that the kind can't have"),
+    "shop_statements/src/columns.rt name_in Store": (1, "an act that is out of its range"),
+    "shop_statements/src/columns.rt size_in Store": (1, "sides that are out of their range"),
+    "shop_statements/src/columns.rt state_in Store": (1, "a state that is none"),
+    "shop_statements/src/columns.rt turn_in Store": (1, "a turn that is none"),
+    "shop_statements/src/columns.rt word_in Store": (2, "no text, or bytes that are no UTF-8"),
+    "shop_statements/src/faults.rt from Store": (1, "hands on a fault of `sqlite`, by its contract"),
+    "shop_statements/src/jobs.rt cuts_in Store": (1, "more cuts than 32 bits count"),
+    "shop_statements/src/jobs.rt read_plan Store": (1, "a text that spells no tree of the part"),
+    "shop_statements/src/jobs.rt stock_of Store": (2, "a job without its part, or a part without its material"),
+    "shop_statements/src/numbers.rt number_of Store": (1, "a last number that isn't there"),
+    "shop_store/src/sql.rt checked WrongVersion": (1, "totals that aren't the sums, by its contract"),
+    "shop_store/src/sql.rt count_fault Store": (1, "hands on and counts a fault of the tables, by its contract"),
+    "shop_store/src/sql.rt fault_of_adopt Store": (1, "hands on a fault of the tables, by its contract"),
+    "shop_store/src/sql.rt fault_of_adopt WrongVersion": (1, "hands on a fault of the tables, by its contract"),
+    "shop_store/src/sql.rt fault_of_tables Store": (1, "hands on a fault of the tables, by its contract"),
+    "shop_store/src/sql.rt next_act Store": (1, "a last number of 4294967295"),
+    "shop_store/src/sql.rt next_demand Store": (1, "a last number of 4294967295"),
+    "shop_store/src/sql.rt renew WrongVersion": (1, "totals that aren't the sums, by its contract"),
+    "shop_tables/src/adopting.rt adopt_found WrongVersion": (1, "rows in the totals of version 1"),
+    "shop_tables/src/adopting.rt adopt_taken WrongVersion": (1, "a name of ours is taken, and the tables aren't there"),
+    "shop_tables/src/adopting.rt adopt_version WrongVersion": (2, "another version, or none"),
+    "shop_tables/src/adopting.rt from Store": (1, "hands on a fault of `sqlite`, by its contract"),
+    "shop_tables/src/lending.rt lend Store": (1, "more rows than a table has"),
+    "shop_tables/src/lending.rt lend_parts Store": (1, "a row that is no part's"),
+    "shop_tables/src/listed_rows.rt at_most Store": (1, "so many rows that a statement can't say it"),
+    "shop_text/src/tickets.rt push_what StoreFault": (1, "a piece without its demand, by its contract"),
+    "shop_text/src/tickets.rt ticket_text StoreFault": (2, "a job without its part, or a part without its material, by its contract"),
+}
+
+
+def failures():
+    """The places that tell a failed store or another version where none is handed on by its name: the file with the function and
+    the fault, and whether an Err of any kind is told so that may be a want of memory."""
+    for path, code in sources().items():
+        if re.search(r"\b(?:TableFault|AdoptFault|BookFault|Refusal|Store|StoreFault|WrongVersion)\s+as\b", code):
+            yield f"{path}, by another name", False
+        for name, _, body in functions(code):
+            for found in FAILED.finditer(body):
+                behind, before = body[found.end() :], body[: found.start()]
+                if re.match(r"[\s)}]*(?:=>|\|)", behind) or re.search(r"[=!]=\s*(?:Err\()?$", before):
+                    continue
+                _, within = next(around(body, found.start()))
+                arms = within.rpartition("=>")
+                is_any = arms[0].rpartition(",")[2].strip() == "Err(_)" and not NAMED.search(arms[0])
+                is_mapped = re.search(r"map_err\(\|_\w*\|\s*$", before)
+                is_conversion = re.search(r"\b(?:try_from|from_utf8)\([^;]*$", before)
+                yield f"{path} {name} {found[1]}", (is_any or is_mapped) and not is_conversion
+
+
+@case(
+    "a failed store is never made",
+    "In the source of the crates a failed store, or tables of another version, is told where one is handed on, and at the places of "
+    "a list, each so often as it says; none of them takes any Err for it that may be a want of memory.",
+)
+def never_failed(trial):
+    told = list(failures())
+    trial.equal([place for place, is_memory in told if is_memory], [])
+    trial.equal(Counter(place for place, _ in told), {place: count for place, (count, _) in FAULTED.items()})
 
 
 def read(path):
