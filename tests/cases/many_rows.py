@@ -360,7 +360,7 @@ def ask(trial, shop, asked):
 
 def costs(trial, shop, asked):
     """How many seconds of a processor each question takes, by its name, and each message; the least of some rounds."""
-    numbers, told = itertools.count(1), {}
+    numbers = itertools.count(1)
 
     def send(**keys):
         return json.loads(ask(trial, shop, compact({**keys, "number": next(numbers), "terminal": 7})))
@@ -377,6 +377,12 @@ def costs(trial, shop, asked):
     deeds["a reservation and its release"] = lambda: send(do="release", job=reserve("20/2"))
     deeds["a cut"] = lambda: send(do="done", job=reserve(receive()))
     deeds["a scrap"] = lambda: send(do="scrap", part=receive())
+    return measured(shop, deeds)
+
+
+def measured(shop, deeds):
+    """How many seconds of a processor each of these takes, by its name; the least of some rounds."""
+    told = {}
     for _ in range(ROUNDS):
         for name, deed in deeds.items():
             before = shop.busy()
@@ -384,6 +390,11 @@ def costs(trial, shop, asked):
                 deed()
             told.setdefault(name, []).append(shop.busy() - before)
     return {name: min(its) for name, its in told.items()}
+
+
+def asked_costs(trial, shop, asked):
+    """The same of questions alone."""
+    return measured(shop, {name: lambda line=line: ask(trial, shop, line) for name, line in asked.items()})
 
 
 def at_most_thrice(trial, few, many, counts):
