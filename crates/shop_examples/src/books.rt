@@ -8,7 +8,7 @@ use anyhow::{Error, Result};
 use cut_measure::{Code, Kind, Limits, PartName, Size};
 use shop_machine::no_change;
 use shop_records::{
-    Change, Demand, DemandList, Material, MaterialTotals, Part, PartVisitor, Reply, Totals,
+    Change, Demand, DemandList, Material, MaterialTotals, Part, PartVisitor, Reply, State, Totals,
     no_totals,
 };
 use shop_store::{Book, BookFault, MemBook, SqlBook};
@@ -78,6 +78,33 @@ fn hand_out<B: Book>(alloc: Global, book: &mut B) -> Result<()> {
 pub fn stop_visits(alloc: Global) -> Result<()> {
     hand_out(alloc, &mut MemBook::new(alloc))?;
     hand_out(alloc, &mut SqlBook::in_memory(alloc)?)
+}
+
+// The parts that stand are given as a list, with their states, and of a code without a material none.
+fn list_parts<B: Book>(alloc: Global, book: &mut B) -> Result<()> {
+    answered(alloc, book, BARS)?;
+    let code = Code::read("IRON").ok_or(Error::msg("no code"))?;
+    let other = Code::read("STEEL").ok_or(Error::msg("no code"))?;
+    let parts = book.parts_of(alloc, code)?;
+    let [first, second] = parts.as_slice() else {
+        return Err(Error::msg("more parts or fewer"));
+    };
+    if first.name != PartName::new(1, 0) || second.name != PartName::new(1, 1) {
+        return Err(Error::msg("other parts"));
+    }
+    if first.state != State::Standing || second.state != State::Standing {
+        return Err(Error::msg("another state"));
+    }
+    if !book.parts_of(alloc, other)?.as_slice().is_empty() || book.totals(other)? != no_totals() {
+        return Err(Error::msg("parts of another material"));
+    }
+    Ok(())
+}
+
+/// Both books give the parts of a material as a list.
+pub fn compare_parts(alloc: Global) -> Result<()> {
+    list_parts(alloc, &mut MemBook::new(alloc))?;
+    list_parts(alloc, &mut SqlBook::in_memory(alloc)?)
 }
 
 // A change of nothing.

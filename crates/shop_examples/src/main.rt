@@ -19,6 +19,8 @@ fn check(alloc: Global, name: &str) -> Result<()> {
     match name {
         "copies" => books::compare_copies(alloc),
         "visits" => books::stop_visits(alloc),
+        "parts" => books::compare_parts(alloc),
+        "opened-again" => stores::open_again(alloc),
         "refused-changes" => books::refuse_changes(alloc),
         "stopped-messages" => stopping::stop_messages(alloc),
         "stopped-adopts" => stopping::stop_adopts(alloc),

@@ -2,7 +2,7 @@
 
 use crate::messages::{MESSAGES, come_to_the_end};
 use anyhow::{Error, Result};
-use shop_store::{BookFault, SqlBook};
+use shop_store::{BookFault, SqlBook, reopen_book};
 use sqlite::{Alter, Connection, FileStore, Files, Options};
 use sqlite_disk::{Disk, Fuse, Memory};
 use std::alloc::Global;
@@ -155,4 +155,38 @@ pub fn earlier_start(alloc: Global) -> Result<Start> {
         tables: 9,
         accepted: MESSAGES.len(),
     })
+}
+
+// The book of a store over files, in which all messages were handled.
+fn book_of_files<D: Disk + Drop>(
+    alloc: Global,
+    conn: Connection<FileStore<D>>,
+) -> Result<SqlBook<FileStore<D>>> {
+    filled_book(alloc, conn)
+}
+
+// Each message gets its reply again, and the answers are those at the end, over a book in tables.
+fn goes_on<S: Alter + Drop>(alloc: Global, mut book: SqlBook<S>) -> Result<()> {
+    come_to_the_end(alloc, &mut book)
+}
+
+// The same over files.
+fn goes_on_in_files<D: Disk + Drop>(alloc: Global, book: SqlBook<FileStore<D>>) -> Result<()> {
+    goes_on(alloc, book)
+}
+
+// Such a book of these files is closed, opened again, and goes on.
+fn open_files_again<D: Disk + Drop>(alloc: Global, files: Files<D>) -> Result<()> {
+    let Ok(conn) = opened(alloc, files) else {
+        return Err(Error::msg("files that are not opened"));
+    };
+    match reopen_book(alloc, book_of_files(alloc, conn)?, options()) {
+        Some(again) => goes_on_in_files(alloc, again),
+        None => Err(Error::msg("files that are not opened again")),
+    }
+}
+
+/// A book over files is closed, opened again, and goes on.
+pub fn open_again(alloc: Global) -> Result<()> {
+    open_files_again(alloc, Start::empty(alloc).files(alloc, true, u64::MAX)?)
 }
