@@ -14,12 +14,12 @@ use cut_plan::PlanFault;
 use shop_records::Text;
 use std::alloc::{AllocError, Global};
 
-/// A question that is being thought about: the stock and the wants as the shop had them, and the search.
+/// A question that is being thought about: the stock and the wants as the shop had them, the search, and how many calls are left.
 #[derive(Drop)]
 pub struct Thought {
     posed: Posed,
     search: Option<OrderSearch>,
-    made: u32,
+    left: u32,
     ghost asks: { IfSome search
         (λ s. Asks posed.kind posed.kerf posed.step posed.sizes.items posed.wants.items (question_of s)) } by { Prim.hlevel props },
 }
@@ -59,24 +59,29 @@ fn first_plan(alloc: Global, posed: &Posed) -> Result<OrderPlan, AllocError>
 }
 
 impl Thought {
-    ghost use Rattle.std.specs.Prelude.{◌≡◌, IfOk};
+    ghost use Rattle.std.specs.Prelude.{◌≡◌, ◌+◌, ◌≤◌, IfOk, IsTrue, None, OnOk, is_some};
     ghost use Rattle.shop_planning.specs.Answers.{IsPlanOf, IsPlansText};
     ghost use Rattle.shop_planning.specs.Thoughts.{posed_in};
 
     /// A question of which nothing was thought yet.
     pub(crate) fn new(posed: Posed) -> Thought
-        ensures { posed_in result ≡ posed }
+        ensures posed { posed_in result ≡ posed }
+        ensures left { result.left ≡ posed.calls }
     {
+        let left = posed.calls;
         Thought {
             posed,
             search: None,
-            made: 0,
+            left,
         }
     }
 
     // Begins the search.
     fn begin(&mut self, alloc: Global) -> Result<(), AllocError>
-        ensures { posed_in self.new ≡ posed_in self.old }
+        requires { self.old.search ≡ None }
+        ensures posed { posed_in self.new ≡ posed_in self.old }
+        ensures left { self.new.left ≡ self.old.left }
+        ensures begun { OnOk result (IsTrue (is_some self.new.search)) }
     {
         let search = search_for(alloc, &self.posed)?;
         self.search = Some(search);
@@ -86,9 +91,11 @@ impl Thought {
     /// Makes one table of a planner at most; whether there is more to do. False where it is done: the calls are spent, or it
     /// is proved best, or nothing more is found. The first call begins the search.
     pub fn advance(&mut self, alloc: Global) -> Result<bool, AllocError>
-        ensures { posed_in self.new ≡ posed_in self.old }
+        ensures posed { posed_in self.new ≡ posed_in self.old }
+        ensures calls { IfOk result (λ more. IsTrue more
+            → (1 ≤ self.new.left) × (self.new.left + 1 ≡ self.old.left)) }
     {
-        if self.made >= self.posed.calls {
+        if self.left == 0 {
             return Ok(false);
         }
         if self.search.is_none() {
@@ -97,16 +104,20 @@ impl Thought {
         self.go_on(alloc)
     }
 
-    // Lets the search go on.
+    // Lets the search go on, by one of the calls that are left.
     fn go_on(&mut self, alloc: Global) -> Result<bool, AllocError>
-        ensures { posed_in self.new ≡ posed_in self.old }
+        requires begun { IsTrue (is_some self.old.search) }
+        requires left { 1 ≤ self.old.left }
+        ensures posed { posed_in self.new ≡ posed_in self.old }
+        ensures left { OnOk result (self.new.left + 1 ≡ self.old.left) }
+        ensures more { IfOk result (λ more. IsTrue more → 1 ≤ self.new.left) }
     {
         let Some(search) = &mut self.search else {
-            return Ok(false);
+            unreachable!()
         };
         let more = search.advance(alloc)?;
-        self.made = self.made.saturating_add(1);
-        Ok(more && self.made < self.posed.calls)
+        self.left -= 1;
+        Ok(more && self.left > 0)
     }
 
     // The plan by what was found so far.
