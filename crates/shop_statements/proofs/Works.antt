@@ -25,8 +25,8 @@ all_none : (f : Table → Reference → Option Work) (ts : List Table) → ((t :
 all_none f [] none rest = refl
 all_none f (t ∷ ts) none rest = rw (none_of f t t.references (none t) rest.0) (all_none f ts none rest.1)
 
-pub no_works : (schema : Schema) → HasShopTables schema → (tree : ℕ) (olds news : List Row) → works schema Enforced 0 tree olds news ≡ []
-no_works schema is tree olds news = all_none (λ t r. work_for schema Enforced 0 tree olds news t r) schema.tables acts is.rests
+pub none_works : (schema : Schema) → AllByRecursion (λ t. AllByRecursion Rests t.references) schema.tables → (tree : ℕ) (olds news : List Row) → works schema Enforced 0 tree olds news ≡ []
+none_works schema rests tree olds news = all_none (λ t r. work_for schema Enforced 0 tree olds news t r) schema.tables acts rests
   where
     by_deed : (child : Table) (ref : Reference) (b : Bool) → Rests ref → (key : Option ParentKey) → work_by 0 tree (pairs olds news) child ref (deed_for Enforced b ref) key ≡ None
     by_deed child ref true rest key = rw rest.0 refl
@@ -34,6 +34,9 @@ no_works schema is tree olds news = all_none (λ t r. work_for schema Enforced 0
 
     acts : (t : Table) (r : Reference) → Rests r → work_for schema Enforced 0 tree olds news t r ≡ None
     acts t r rest = by_deed t r (length news == 0) rest (parent_key schema.tables r)
+
+pub no_works : (schema : Schema) → HasShopTables schema → (tree : ℕ) (olds news : List Row) → works schema Enforced 0 tree olds news ≡ []
+no_works schema is = none_works schema is.rests
 
 -- where no row is taken out, no foreign key acts at all
 pub nothing_works : (schema : Schema) (keys : Keys) (tree : ℕ) (news : List Row) → works schema keys 0 tree [] news ≡ []

@@ -10,13 +10,13 @@ use Rattle.sqlite.specs.Steps.{FailsToCommit}
 use Rattle.sqlite.specs.declared.error.Error.{Error}
 use Rattle.sqlite.proofs.StateLemmas.{survives_then}
 use Rattle.sqlite.proofs.Callers.{survives_begin}
-use Rattle.shop_tables.specs.Adopting.{HoldsBeside, IsAsBefore, IsMadeBeside, IsVacant, MakesTables, StandsBeside}
+use Rattle.shop_tables.specs.Adopting.{HoldsMade, IsAsBefore, IsVacant, MakesTables, StandsMade}
 use Rattle.shop_statements.specs.Layout.{no_schema}
 use Rattle.shop_statements.specs.Shown.{Books, HasShopSchema, Holds, StandsIn, Within}
 use Rattle.shop_tables.proofs.Commits.{old, begun, goes_back, shows_along, stands_in}
 
-stands_beside : (old made : Database) (db : Trees) → db ≡ made.trees → IsMadeBeside old made → StandsBeside old db
-stands_beside old made db is it = (made.schema, subst (λ t. IsMadeBeside old (record { schema = made.schema; trees = t })) (sym is) it)
+stands_made : (IsMade : Database → Database → Type 0) (old made : Database) (db : Trees) → db ≡ made.trees → IsMade old made → StandsMade IsMade old db
+stands_made IsMade old made db is it = (made.schema, subst (λ t. IsMade old (record { schema = made.schema; trees = t })) (sym is) it)
 
 module _ {S : Type 0} (g : Ghosts S) (h : Held S) where
   module _ (b : Books) (done last : State) (late : HasCleanDisk last → HasCleanDisk done) (made : MakesTables (begun g h) done b) where
@@ -42,19 +42,19 @@ module _ {S : Type 0} (g : Ghosts S) (h : Held S) where
     ]
 
   module _ (done last : State) (late : HasCleanDisk last → HasCleanDisk done) where
-    -- the tables were made beside others, and this is committed
-    pub beside_committed : ((db : Trees) → IsTrue last.is_open → last.may_leave db → db ≡ last.committed.trees) → (HasCleanDisk done → IsMadeBeside (old g h).now done.now) → (HasCleanDisk last → sql.Shows done last done.now done.now false)
-        → HoldsBeside (old g h) last
-    beside_committed only made end = record {
-      seen = λ clean up. let e = end clean in (subst (IsMadeBeside (old g h).now) (sym e.now_is) (made (late clean)), e.now_is ∙ sym e.committed_is);
-      after = λ clean db left. let e = end clean in stands_beside (old g h).now done.now db (only db e.is_open left ∙ ap (λ (d : Database). d.trees) e.committed_is) (made (late clean));
-    }
+    module _ (IsMade : Database → Database → Type 0) (made : HasCleanDisk done → IsMade (old g h).now done.now) where
+      -- the database was made so of the old one, and this is committed
+      pub made_committed : ((db : Trees) → IsTrue last.is_open → last.may_leave db → db ≡ last.committed.trees) → (HasCleanDisk last → sql.Shows done last done.now done.now false) → HoldsMade IsMade (old g h) last
+      made_committed only end = record {
+        seen = λ clean up. let e = end clean in (subst (IsMade (old g h).now) (sym e.now_is) (made (late clean)), e.now_is ∙ sym e.committed_is);
+        after = λ clean db left. let e = end clean in stands_made IsMade (old g h).now done.now db (only db e.is_open left ∙ ap (λ (d : Database). d.trees) e.committed_is) (made (late clean));
+      }
 
-    -- and what a crash may leave
-    pub beside_survives : (HasCleanDisk done → IsMadeBeside (old g h).now done.now) → Within (begun g h) done → Survives done last (λ db. db ≡ done.now.trees) → Survives (old g h) last (StandsBeside (old g h).now)
-    beside_survives made within end = survives_begin g h last (StandsBeside (old g h).now)
-        (survives_then (begun g h) done last (λ _. ⊥) (λ db. db ≡ done.now.trees) (StandsBeside (old g h).now) (λ _ db none. absurd none)
-        (λ clean db is. stands_beside (old g h).now done.now db is (made (late clean))) within.survives end)
+      -- and what a crash may leave
+      pub made_survives : Within (begun g h) done → Survives done last (λ db. db ≡ done.now.trees) → Survives (old g h) last (StandsMade IsMade (old g h).now)
+      made_survives within end = survives_begin g h last (StandsMade IsMade (old g h).now)
+          (survives_then (begun g h) done last (λ _. ⊥) (λ db. db ≡ done.now.trees) (StandsMade IsMade (old g h).now) (λ _ db none. absurd none)
+          (λ clean db is. stands_made IsMade (old g h).now done.now db is (made (late clean))) within.survives end)
 
     -- the transaction is undone: what was there is seen again
     pub goes_back_as : (IsTrue (old g h).is_open → (old g h).now ≡ (old g h).committed) → Within (begun g h) done → (HasCleanDisk last → IsRolledBack done last) → IsAsBefore (old g h) last

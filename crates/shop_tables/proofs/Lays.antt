@@ -1,5 +1,5 @@
 -- The tables of an empty database, each of which one statement makes.
-use Rattle.std.proofs.Common.{◌≡◌, ◌≢◌, ℕ, ◌+◌, pos, true, false, List, [], ◌∷◌, length, drop, map, codes, slice_get, is_some, Some, Ok, Err, Result, OnOk, IsTrue, refl, sym, ap, subst, ◌∙◌}
+use Rattle.std.proofs.Common.{◌≡◌, ◌≢◌, ℕ, ◌+◌, pos, true, false, List, [], ◌∷◌, length, drop, map, codes, slice_get, is_some, Some, Ok, Err, Result, OnOk, refl, sym, ap, subst, ◌∙◌}
 use Rattle.std.specs.List.{AllByRecursion}
 use Rattle.std.proofs.lemmas.List.Sorted.{IsPermutation-refl}
 use Rattle.std.specs.FinMap.{entries, empty, get, get-empty, len-entries, len-empty}
@@ -51,7 +51,7 @@ use Rattle.shop_statements.specs.Shown.{Ran, Shows, fresh_books}
 use Rattle.shop_statements.proofs.Keys.{cast-Int, cast-Null}
 use Rattle.shop_tables.proofs.Behind.{Behind, begins, first_named, first_placed, made_blank, others_behind, others_kept, placed, still_sequence}
 use Rattle.shop_tables.proofs.Inserted.{ReadsInsert, understood_inserts}
-use Rattle.shop_tables.proofs.Making.{AreMade, MakesAs, laid_in_turn, makes, ran_on, table_of, texts_of}
+use Rattle.shop_tables.proofs.Making.{AreMade, MakesAs, laid_in_turn, makes, ran_on, ran_when, table_of, texts_of}
 use Rattle.shop_statements.proofs.Writes.{inserted}
 use Rattle.shop_statements.proofs.Works.{unlike}
 
@@ -121,9 +121,9 @@ meta_terms =
 abbrev meta_in : ℕ → Table
 meta_in tree = record meta_table { tree = tree }
 
-fill_is : ReadsInsert (codes "meta") meta_table (Values meta_terms 3) (first FIRST_NUMBERS.now)
+fill_is : (schema : Schema) (tree : ℕ) → ReadsInsert schema (codes "meta") (meta_in tree) (Values meta_terms 3) (first FIRST_NUMBERS.now)
 unfolding everything
-fill_is = ((refl, λ schema tree. refl, refl, refl), refl, refl)
+fill_is schema tree = ((refl, refl, refl, refl), refl, refl)
 
 -- ---- the rows of a new shop
 
@@ -200,7 +200,7 @@ record NumbersPut (schema : Schema) (tree : ℕ) (old new : Database) : Type 0 w
 puts_numbers : (schema : Schema) (at tree : ℕ) (old new : State) → table_named schema (codes "meta") ≡ Some at → slice_get schema.tables at ≡ Some (meta_in tree) → old.now.schema ≡ schema → IsRun FIRST_NUMBERS.now old new
     → old.now.trees tree ≡ [] → NumbersPut schema tree old.now new.now
 puts_numbers schema at tree old new named placed has ran free =
-    let is = understood_inserts (codes "meta") meta_table (Values meta_terms 3) refl schema at tree named placed FIRST_NUMBERS.now fill_is in
+    let is = understood_inserts schema (codes "meta") (meta_in tree) (Values meta_terms 3) refl at named placed FIRST_NUMBERS.now (fill_is schema tree) in
     let w = runs_as FIRST_NUMBERS.now [] old new schema has (Insert at (Values meta_terms 3)) is.0 is.1 ran.count ran.executes in
     let e = inserted old.step_limit (mode_of old) [] old.now new.now w.tally at (meta_in tree) (ap (λ (c : Schema). slice_get c.tables at) has ∙ placed) (statement_of FIRST_NUMBERS.now (understood schema FIRST_NUMBERS.now)) meta_terms 3 w.changed in
     record {
@@ -327,9 +327,8 @@ module _ {S : Type 0} (g : Ghosts S) where
       subst (λ (x : Held S). IsMadeBeside front (state g x).now) (sym last.2) (ended front (state g laid.mid).now (state g last.0).now b put)
 
   -- where they run to the end, the transaction goes on
-  pub ran_when : (old new : Held S) (r : Result (Unit {0}) Error) → (HasCleanDisk (state g new) → HasCleanDisk (state g old)) → (HasCleanDisk (state g new) → OnOk r (AreRun g texts old new)) → OnOk r (Ran (state g old) (state g new))
-  ran_when old new (Ok x) earlier ran = record { earlier = earlier; on = λ clean inside. ran_on g META.now (texts_of steps (FIRST_NUMBERS.now ∷ [])) old new (ran clean) }
-  ran_when old new (Err e) earlier ran = tt
+  pub lays_on : (old new : Held S) (r : Result (Unit {0}) Error) → (HasCleanDisk (state g new) → HasCleanDisk (state g old)) → (HasCleanDisk (state g new) → OnOk r (AreRun g texts old new)) → OnOk r (Ran (state g old) (state g new))
+  lays_on = ran_when g META.now (texts_of steps (FIRST_NUMBERS.now ∷ []))
 
   -- ours are made behind those that were there
   pub lays_when : (old new : Held S) (r : Result (Unit {0}) Error) → lacks_sequence old.schema ≡ false → (HasCleanDisk (state g new) → OnOk r (AreRun g texts old new)) → HasCleanDisk (state g new)

@@ -5,6 +5,7 @@ pub mod Making
 pub mod Lays
 pub mod Moved
 pub mod Renewed
+pub mod RenewedBeside
 pub mod InTurn
 pub mod Fitting
 pub mod Commits

@@ -16,7 +16,7 @@ use Rattle.sqlite.specs.State.{State, Executes, ExecutesIn, HasCleanDisk}
 use Rattle.sqlite.specs.Held.{Held, state}
 use Rattle.sqlite.specs.declared.error.Error.{Error}
 use Rattle.shop_statements.specs.Layout.{shop_schema, created_all}
-use Rattle.shop_statements.specs.Shown.{Books, Shows}
+use Rattle.shop_statements.specs.Shown.{Books, Ran, Shows}
 use Rattle.shop_tables.specs.Adopting.{MakesTables}
 use Rattle.shop_tables.specs.Laying.{AreRun, IsAdded, IsRun}
 use Rattle.sqlite.proofs.Callers.{IsPlain, command_of, runs_as, statement_of}
@@ -99,6 +99,12 @@ module _ {S : Type 0} (g : Ghosts S) where
   pub ran_on : (text : List ℕ) (more : List (List ℕ)) (old new : Held S) → AreRun g (text ∷ more) old new → IsTrue (state g old).is_open × IsTrue (state g new).is_open × IsTrue (state g new).in_transaction
   ran_on text [] old new ran = subst (λ (x : Held S). IsTrue (state g old).is_open × IsTrue (state g x).is_open × IsTrue (state g x).in_transaction) (sym ran.2) (ran.1.was_open, ran.1.is_open, ran.1.inside)
   ran_on text (t ∷ more) old new ran = let on = ran_on t more ran.0 new ran.2 in (ran.1.was_open, on.1, on.2)
+
+  -- where they run to the end, the transaction goes on
+  pub ran_when : (text : List ℕ) (more : List (List ℕ)) (old new : Held S) (r : Result (Unit {0}) Error) → (HasCleanDisk (state g new) → HasCleanDisk (state g old)) → (HasCleanDisk (state g new) → OnOk r (AreRun g (text ∷ more) old new))
+      → OnOk r (Ran (state g old) (state g new))
+  ran_when text more old new (Ok x) earlier ran = record { earlier = earlier; on = λ clean inside. ran_on text more old new (ran clean) }
+  ran_when text more old new (Err e) earlier ran = tt
 
   -- what statements make that leave the tables of a shop
   pub record IsMade (old new : Held S) (b : Books) : Type 0 where

@@ -1,5 +1,5 @@
 -- The steps that bring tables of version 1 to version 2.
-use Rattle.std.proofs.Common.{◌≡◌, ℕ, ◌==◌, true, false, List, [], ◌∷◌, drop, map, codes, pos, slice_get, Result, OnOk, IsTrue, IsPermutation, refl, sym, ap, subst, ◌∙◌}
+use Rattle.std.proofs.Common.{◌≡◌, ◌≢◌, ℕ, ◌==◌, ◌++◌, take, Some, true, false, List, [], ◌∷◌, drop, map, codes, pos, slice_get, Result, OnOk, IsTrue, IsPermutation, refl, sym, ap, subst, ◌∙◌}
 use Rattle.std.specs.List.{AllByRecursion, list_all}
 use Rattle.std.specs.FinMap.{entries}
 use Rattle.std.specs.Ordering.{eq_by_cmp}
@@ -13,12 +13,22 @@ use Rattle.sqlite_trees.specs.View.{is_int}
 use Rattle.sqlite_trees.specs.declared.store.Store.{Ghosts}
 use Rattle.sqlite_rules.specs.Calls.{ids_of}
 use Rattle.sqlite_rules.specs.Edit.{put_all, are_fresh}
-use Rattle.sqlite.specs.Edit.{edit_of, IsNoIndex}
+use Rattle.sqlite.specs.Edit.{Edit, edit_of, IsNoIndex}
+use Rattle.sqlite.specs.Effect.{Database, IsDatabase}
+use Rattle.sqlite.specs.Table.{Table}
+use Rattle.sqlite.specs.Query.{Query as Reading}
+use Rattle.sqlite_catalog.specs.Calls.{KeepsForeign}
+use Rattle.sqlite_trees.specs.Objects.{catalog_tree}
+use Rattle.sqlite_rules.specs.Action.{works}
+use Rattle.sqlite_schema.specs.Names.{table_named}
+use Rattle.sqlite_schema.specs.declared.schema.Keys.TheVariants.{Enforced}
+use Rattle.sqlite_resolve.specs.Compile.{first}
+use Rattle.shop_tables.proofs.Inserted.{ReadsInsert, understood_inserts}
 use Rattle.sqlite.specs.Rowids.TheVariants.{Given}
 use Rattle.sqlite.specs.Cast.{cast_row}
 use Rattle.sqlite.specs.Schema.{Schema}
 use Rattle.sqlite.specs.Term.{Term, lit, col, holds}
-use Rattle.sqlite.specs.Command.TheVariants.{Insert, Update, Delete}
+use Rattle.sqlite.specs.Command.TheVariants.{Update, Delete}
 use Rattle.sqlite.specs.Source.TheVariants.{Query}
 use Rattle.sqlite.specs.Listing.{understood}
 use Rattle.sqlite.specs.State.{State, HasCleanDisk, mode_of}
@@ -29,7 +39,7 @@ use Rattle.sqlite_tied.specs.Compute.{everything}
 use Rattle.cut_measure.specs.Codes.{code_cmp}
 use Rattle.shop_records.specs.Content.{Content}
 use Rattle.shop_records.specs.declared.records.Totals.{Totals}
-use Rattle.shop_statements.specs.Layout.{shop_schema, HasShopTables, meta_table, totals_table, totals2_table}
+use Rattle.shop_statements.specs.Layout.{Rests, shop_schema, HasShopTables, our_tables, meta_table, totals_table, totals2_table}
 use Rattle.shop_statements.specs.Rows.{AreOrders, AreRows, meta_row, meta_entries, totals_row}
 use Rattle.shop_statements.specs.Shown.{Books, Shows}
 use Rattle.shop_tables.specs.Adopting.{MakesTables}
@@ -47,7 +57,7 @@ use Rattle.shop_tables.proofs.Ordered.{filter_true}
 use Rattle.shop_statements.proofs.Puts.{added}
 use Rattle.shop_statements.proofs.Selects.{selects, selected}
 use Rattle.shop_statements.proofs.Terms.{Writes, from_table, same}
-use Rattle.shop_statements.proofs.Works.{no_works, not_taken, unlike}
+use Rattle.shop_statements.proofs.Works.{none_works, not_taken, unlike}
 use Rattle.shop_statements.proofs.Writes.{IsEdited, bare, copied, deleted, updated}
 
 abbrev copy_terms : List Term
@@ -56,16 +66,8 @@ copy_terms = lit Null ∷ col 1 1 ∷ col 1 2 ∷ col 1 3 ∷ col 1 4 ∷ col 1 
 abbrev copy_by : List Collation
 copy_by = Binary ∷ Binary ∷ Binary ∷ Binary ∷ Binary ∷ Binary ∷ Binary ∷ Binary ∷ Binary ∷ []
 
-copy_is : Writes shop_schema COPY_TOTALS.now (Insert 9 (Query (record { lets = []; body = collated (from_table 15 [] copy_terms []) copy_by })))
-unfolding understood everything
-copy_is = record { command = refl; plain = (refl, refl) }
-
 abbrev clear_terms : List Term
 clear_terms = col 1 0 ∷ []
-
-clear_is : Writes shop_schema CLEAR_TOTALS.now (Delete 8 (record { lets = []; body = from_table 15 [] clear_terms [] }))
-unfolding understood everything
-clear_is = record { command = refl; plain = (refl, refl) }
 
 abbrev number_tests : List Term
 number_tests = same (col 1 1) (lit (Text (codes "version"))) ∷ []
@@ -73,21 +75,64 @@ number_tests = same (col 1 1) (lit (Text (codes "version"))) ∷ []
 abbrev number_terms : List Term
 number_terms = col 1 0 ∷ col 1 0 ∷ col 1 1 ∷ lit (Int (pos 2)) ∷ []
 
-number_is : Writes shop_schema SET_VERSION.now (Update 0 (record { lets = []; body = from_table 0 number_tests number_terms [] }))
+abbrev copy_query : Reading
+copy_query = collated (from_table 15 [] copy_terms []) copy_by
+
+-- version 2's totals, wherever they are
+abbrev pub totals2_in : ℕ → Table
+totals2_in tree = record totals2_table { tree = tree }
+
+-- a schema that has the tables of version 1 in front
+abbrev pub led : Schema → List Table → Schema
+led base behind = record { tables = take 9 our_tables ++ behind; indexes = base.indexes; views = base.views }
+
+-- no reference acts
+abbrev pub Rest : List Table → Type 0
+Rest = AllByRecursion (λ t. AllByRecursion Rests t.references)
+
+led_rests : (base : Schema) (behind : List Table) → Rest behind → Rest (led base behind).tables
+led_rests base behind rests = (tt, (tt, (((refl, refl), tt), (((refl, refl), tt), (tt, (((refl, refl), ((refl, refl), tt)), (tt, (((refl, refl), tt), (((refl, refl), tt), rests)))))))))
+
+copy_reads : (base : Schema) (behind : List Table) (tree : ℕ) → ReadsInsert (led base behind) (codes "totals2") (totals2_in tree) (Query (record { lets = []; body = copy_query })) (first COPY_TOTALS.now)
+unfolding everything
+copy_reads base behind tree = ((refl, refl, refl, refl), refl, refl)
+
+clear_is : (base : Schema) (behind : List Table) → Writes (led base behind) CLEAR_TOTALS.now (Delete 8 (record { lets = []; body = from_table 15 [] clear_terms [] }))
 unfolding understood everything
-number_is = record { command = refl; plain = (refl, refl) }
+clear_is base behind = record { command = refl; plain = (refl, refl) }
+
+number_is : (base : Schema) (behind : List Table) → Writes (led base behind) SET_VERSION.now (Update 0 (record { lets = []; body = from_table 0 number_tests number_terms [] }))
+unfolding understood everything
+number_is base behind = record { command = refl; plain = (refl, refl) }
+
+-- the rows of one table were written
+pub record IsPut (schema : Schema) (tree : ℕ) (old new : Database) : Type 0 where
+  pub schema_is : new.schema ≡ schema
+  pub sound : IsDatabase new
+  pub texts : KeepsForeign (old.trees catalog_tree) (new.trees catalog_tree)
+  pub tables : AllByRecursion (λ t. t.tree ≢ tree → new.trees t.tree ≡ old.trees t.tree) schema.tables
+  pub others : (t : ℕ) → t ≢ tree → IsNoIndex schema t → new.trees t ≡ old.trees t
 
 -- ---- one statement over tables of version 2
 
-module _ (old new : State) (has : old.now.schema ≡ shop_schema) where
-  it : HasShopTables old.now.schema
-  it = subst HasShopTables (sym has) shop_is_shop
+module _ (base : Schema) (behind : List Table) (rests : Rest behind) (old new : State) (has : old.now.schema ≡ led base behind) where
+  abbrev now_is : Schema
+  now_is = led base behind
 
-  at_place : (i : ℕ) → slice_get old.now.schema.tables i ≡ slice_get shop_schema.tables i
+  idle : (tree : ℕ) (olds news : List Row) → works old.now.schema Enforced 0 tree olds news ≡ []
+  idle = none_works old.now.schema (subst (λ (s : Schema). Rest s.tables) (sym has) (led_rests base behind rests))
+
+  at_place : (i : ℕ) → slice_get old.now.schema.tables i ≡ slice_get now_is.tables i
   at_place i = ap (λ (s : Schema). slice_get s.tables i) has
 
-  no_index : (t : ℕ) → IsNoIndex shop_schema t → IsNoIndex old.now.schema t
-  no_index t = subst (λ s. IsNoIndex s t) (sym has)
+  put : (edit : Edit) → IsEdited old.now new.now edit → IsDatabase new.now → KeepsForeign (old.now.trees catalog_tree) (new.now.trees catalog_tree) → IsPut now_is edit.table.tree old.now new.now
+  put edit e sound texts = record {
+    schema_is = e.schema_is ∙ has;
+    sound = sound;
+    texts = texts;
+    tables = subst (λ (s : Schema). AllByRecursion (λ t. t.tree ≢ edit.table.tree → new.now.trees t.tree ≡ old.now.trees t.tree) s.tables) has e.tables;
+    others = λ t far bare. e.others t far (subst (λ s. IsNoIndex s t) (sym has) bare);
+  }
 
   -- ---- the totals are copied
 
@@ -98,25 +143,28 @@ module _ (old new : State) (has : old.now.schema ≡ shop_schema) where
   zeros [] h = refl
   zeros (e ∷ es) h = λ i. (Text e.0 ∷ Int (pos e.1.received) ∷ Int (pos e.1.stock) ∷ Int (pos e.1.rack) ∷ Int (pos e.1.pieces) ∷ Int (pos e.1.kerf) ∷ Int (pos e.1.scrap) ∷ Int (pos (sym h.0 i)) ∷ []) ∷ zeros es h.1 i
 
-  copies : (es : List (List ℕ × Totals)) → AllByRecursion HasNoneReturned es → AreRows 1 (map earlier_row es) (old.now.trees 15) → old.now.trees 17 ≡ []
-      → IsRun COPY_TOTALS.now old new → IsWritten 17 old.now new.now × AreRows 1 (map totals_row es) (new.now.trees 17)
-  copies es none are free ran =
-      let w = runs_as COPY_TOTALS.now [] old new shop_schema has _ copy_is.command copy_is.plain ran.count ran.executes in
-      let u = copied old.step_limit (mode_of old) [] old.now new.now w.tally 9 totals2_table (at_place 9) (statement_of COPY_TOTALS.now (understood shop_schema COPY_TOTALS.now)) (record { lets = []; body = collated (from_table 15 [] copy_terms []) copy_by })
-      (no_works old.now.schema it 17) w.changed in
+  pub copies : (at tree : ℕ) → table_named now_is (codes "totals2") ≡ Some at → slice_get now_is.tables at ≡ Some (totals2_in tree) → IsRun COPY_TOTALS.now old new
+      → IsPut now_is tree old.now new.now
+      × ((es : List (List ℕ × Totals)) → AllByRecursion HasNoneReturned es → AreRows 1 (map earlier_row es) (old.now.trees 15) → old.now.trees tree ≡ [] → AreRows 1 (map totals_row es) (new.now.trees tree))
+  copies at tree named placed ran =
+      let is = understood_inserts now_is (codes "totals2") (totals2_in tree) (Query (record { lets = []; body = copy_query })) refl at named placed COPY_TOTALS.now (copy_reads base behind tree) in
+      let w = runs_as COPY_TOTALS.now [] old new now_is has _ is.0 is.1 ran.count ran.executes in
+      let u = copied old.step_limit (mode_of old) [] old.now new.now w.tally at (totals2_in tree) (at_place at ∙ placed) (statement_of COPY_TOTALS.now (understood now_is COPY_TOTALS.now)) (record { lets = []; body = copy_query })
+      (idle tree) w.changed in
       let given = selected 15 [] copy_terms [] old.now.trees [] refl u.0 (selects 15 [] copy_terms [] old.now.trees [] refl u.0 (uncollated 15 [] copy_terms copy_by old.now.trees [] u.0 u.1.answer)) in
-      let whole : IsPermutation (unnumbered zero_row es) u.0 = subst (λ l. IsPermutation (map (λ e. Null ∷ zero_row e) l) u.0) (filter_true es)
-      (IsPermutation-trans _ _ _ (shown_as 1 earlier_row (λ _. true) (λ _. true) (λ _. true) (λ r. refl) (λ e. refl) _ (λ d. Null ∷ column d 0 ∷ column d 1 ∷ column d 2 ∷ column d 3 ∷ column d 4 ∷ column d 5 ∷ column d 6 ∷ Int (pos 0) ∷ []) (λ e. Null ∷ zero_row e) later (λ e. refl) es _ are) given) in
       let e = u.2 in (
-        record { schema_is = e.schema_is ∙ has; sound = w.sound; others = λ t far bare. e.others t (unlike t 17 far) (no_index t bare) },
-        subst (λ rows. AreRows 1 rows (new.now.trees 17)) (zeros es none)
+        put _ e w.sound w.frozen.texts,
+        λ es none are free.
+            let whole : IsPermutation (unnumbered zero_row es) u.0 = subst (λ l. IsPermutation (map (λ e. Null ∷ zero_row e) l) u.0) (filter_true es)
+            (IsPermutation-trans _ _ _ (shown_as 1 earlier_row (λ _. true) (λ _. true) (λ _. true) (λ r. refl) (λ e. refl) _ (λ d. Null ∷ column d 0 ∷ column d 1 ∷ column d 2 ∷ column d 3 ∷ column d 4 ∷ column d 5 ∷ column d 6 ∷ Int (pos 0) ∷ []) (λ e. Null ∷ zero_row e) later (λ e. refl) es _ are) given) in
+            subst (λ rows. AreRows 1 rows (new.now.trees tree)) (zeros es none)
             (subst (AreRows 1 (map zero_row es)) (sym e.rows)
-            (filled_from zero_row es (map cast u.0) (old.now.trees 17) (subst (AreRows 1 []) (sym free) (record { same = IsPermutation-refl []; rising = tt; keyed = tt }))
+            (filled_from zero_row es (map cast u.0) (old.now.trees tree) (subst (AreRows 1 []) (sym free) (record { same = IsPermutation-refl []; rising = tt; keyed = tt }))
             (subst (λ rows. IsPermutation rows (map cast u.0)) (map-map cast (λ e. Null ∷ zero_row e) es ∙ map-same _ (λ e. Null ∷ zero_row e) cast_is es) (IsPermutation-map cast _ _ whole)) e.fresh)),
       )
     where
       cast : Row → Row
-      cast s = cast_row totals2_table (drop 0 s)
+      cast s = cast_row (totals2_in tree) (drop 0 s)
 
       cast_is : (e : List ℕ × Totals) → cast (Null ∷ zero_row e) ≡ Null ∷ zero_row e
       cast_is e = λ i. cast-Null i ∷ Text e.0 ∷ cast-Int (pos e.1.received) i ∷ cast-Int (pos e.1.stock) i ∷ cast-Int (pos e.1.rack) i ∷ cast-Int (pos e.1.pieces) i ∷ cast-Int (pos e.1.kerf) i ∷ cast-Int (pos e.1.scrap) i ∷ cast-Int (pos 0) i ∷ []
@@ -128,15 +176,15 @@ module _ (old new : State) (has : old.now.schema ≡ shop_schema) where
 
   -- ---- the earlier totals go
 
-  clears : AllByRecursion (λ r. IsTrue (is_int (rowid r))) (old.now.trees 15) → IsRun CLEAR_TOTALS.now old new → IsWritten 15 old.now new.now × (new.now.trees 15 ≡ [])
-  clears ints ran =
-      let w = runs_as CLEAR_TOTALS.now [] old new shop_schema has _ clear_is.command clear_is.plain ran.count ran.executes in
-      let u = deleted old.step_limit (mode_of old) [] old.now new.now w.tally 8 totals_table (at_place 8) (statement_of CLEAR_TOTALS.now (understood shop_schema CLEAR_TOTALS.now)) (record { lets = []; body = from_table 15 [] clear_terms [] })
-      (no_works old.now.schema it 15) w.changed in
+  pub clears : IsRun CLEAR_TOTALS.now old new → IsPut now_is 15 old.now new.now × (AllByRecursion (λ r. IsTrue (is_int (rowid r))) (old.now.trees 15) → new.now.trees 15 ≡ [])
+  clears ran =
+      let w = runs_as CLEAR_TOTALS.now [] old new now_is has _ (clear_is base behind).command (clear_is base behind).plain ran.count ran.executes in
+      let u = deleted old.step_limit (mode_of old) [] old.now new.now w.tally 8 totals_table (at_place 8) (statement_of CLEAR_TOTALS.now (understood now_is CLEAR_TOTALS.now)) (record { lets = []; body = from_table 15 [] clear_terms [] })
+      (idle 15) w.changed in
       let given = selected 15 [] clear_terms [] old.now.trees [] refl u.0 (selects 15 [] clear_terms [] old.now.trees [] refl u.0 u.1.answer) in
       let e = u.2 in (
-        record { schema_is = e.schema_is ∙ has; sound = w.sound; others = λ t far bare. e.others t (unlike t 15 far) (no_index t bare) },
-        e.rows ∙ cleared (old.now.trees 15) u.0 ints (subst (λ l. IsPermutation (map (λ r. rowid r ∷ []) l) u.0) (filter_true (old.now.trees 15)) given),
+        put _ e w.sound w.frozen.texts,
+        λ ints. e.rows ∙ cleared (old.now.trees 15) u.0 ints (subst (λ l. IsPermutation (map (λ r. rowid r ∷ []) l) u.0) (filter_true (old.now.trees 15)) given),
       )
 
   -- ---- the version is set
@@ -147,20 +195,21 @@ module _ (old new : State) (has : old.now.schema ≡ shop_schema) where
   abbrev again : Row → Row
   again r = column r 0 ∷ column r 0 ∷ column r 1 ∷ Int (pos 2) ∷ []
 
-  numbers : (m : Content) → AreRows 1 (map meta_row (earlier_entries m)) (old.now.trees 0) → IsRun SET_VERSION.now old new → IsWritten 0 old.now new.now × AreRows 1 (map meta_row (meta_entries m)) (new.now.trees 0)
-  numbers m are ran =
-      let w = runs_as SET_VERSION.now [] old new shop_schema has _ number_is.command number_is.plain ran.count ran.executes in
-      let u = updated old.step_limit (mode_of old) [] old.now new.now w.tally 0 meta_table (at_place 0) (statement_of SET_VERSION.now (understood shop_schema SET_VERSION.now)) (record { lets = []; body = from_table 0 number_tests number_terms [] })
-      (no_works old.now.schema it 0) w.changed in
-      let at = located 1 meta_row (λ e. eq_by_cmp code_cmp e.0 (codes "version")) (λ r. list_all (holds ([] ∷ r ∷ [])) number_tests) (is_word (codes "version")) (word_later (codes "version")) (λ e. word_tests e.0 (codes "version") (Int (pos e.1) ∷ [])) (earlier_entries m) (old.now.trees 0) (codes "version", 1) are refl in
-      let given = selected 0 number_tests number_terms [] old.now.trees [] refl u.0 (selects 0 number_tests number_terms [] old.now.trees [] refl u.0 u.1.answer) in
-      let rows : u.0 ≡ (Int at.id ∷ Int at.id ∷ wrote) ∷ [] = one_permutation _ u.0 (subst (λ l. IsPermutation (map again l) u.0) at.found given) ∙ ap (λ r. r ∷ []) (shown_again at.row at.is ∙ ap (λ v. v ∷ v ∷ wrote) at.key) in
-      let e = subst (λ all. IsEdited old.now new.now (edit_of old.now.trees (bare meta_table) (ids_of all) Given 1 all)) rows u.2 in
-      let left = without_rowid at.id (old.now.trees 0) in
-      let news = news_again meta_table wrote left (Int at.id) at.id (λ i. Text (codes "version") ∷ cast-Int (pos 2) i ∷ []) refl in
-      let free = not_taken _ (subst (λ ns. are_fresh left ns ≡ true) news e.fresh) in (
-        record { schema_is = e.schema_is ∙ has; sound = w.sound; others = λ t far bare. e.others t (unlike t 0 far) (no_index t bare) },
-        subst (AreRows 1 (map meta_row (meta_entries m))) (sym (e.rows ∙ ap (put_all left) news)) (added 1 (Int at.id ∷ wrote) at.id _ _ refl at.rest free),
+  pub numbers : IsRun SET_VERSION.now old new → IsPut now_is 0 old.now new.now × ((m : Content) → AreRows 1 (map meta_row (earlier_entries m)) (old.now.trees 0) → AreRows 1 (map meta_row (meta_entries m)) (new.now.trees 0))
+  numbers ran =
+      let w = runs_as SET_VERSION.now [] old new now_is has _ (number_is base behind).command (number_is base behind).plain ran.count ran.executes in
+      let u = updated old.step_limit (mode_of old) [] old.now new.now w.tally 0 meta_table (at_place 0) (statement_of SET_VERSION.now (understood now_is SET_VERSION.now)) (record { lets = []; body = from_table 0 number_tests number_terms [] })
+      (idle 0) w.changed in (
+        put _ u.2 w.sound w.frozen.texts,
+        λ m are.
+            let at = located 1 meta_row (λ e. eq_by_cmp code_cmp e.0 (codes "version")) (λ r. list_all (holds ([] ∷ r ∷ [])) number_tests) (is_word (codes "version")) (word_later (codes "version")) (λ e. word_tests e.0 (codes "version") (Int (pos e.1) ∷ [])) (earlier_entries m) (old.now.trees 0) (codes "version", 1) are refl in
+            let given = selected 0 number_tests number_terms [] old.now.trees [] refl u.0 (selects 0 number_tests number_terms [] old.now.trees [] refl u.0 u.1.answer) in
+            let rows : u.0 ≡ (Int at.id ∷ Int at.id ∷ wrote) ∷ [] = one_permutation _ u.0 (subst (λ l. IsPermutation (map again l) u.0) at.found given) ∙ ap (λ r. r ∷ []) (shown_again at.row at.is ∙ ap (λ v. v ∷ v ∷ wrote) at.key) in
+            let e = subst (λ all. IsEdited old.now new.now (edit_of old.now.trees (bare meta_table) (ids_of all) Given 1 all)) rows u.2 in
+            let left = without_rowid at.id (old.now.trees 0) in
+            let news = news_again meta_table wrote left (Int at.id) at.id (λ i. Text (codes "version") ∷ cast-Int (pos 2) i ∷ []) refl in
+            let free = not_taken _ (subst (λ ns. are_fresh left ns ≡ true) news e.fresh) in
+            subst (AreRows 1 (map meta_row (meta_entries m))) (sym (e.rows ∙ ap (put_all left) news)) (added 1 (Int at.id ∷ wrote) at.id _ _ refl at.rest free),
       )
     where
       shown_again : (r : Row) → drop 1 r ≡ meta_row (codes "version", 1) → again r ≡ rowid r ∷ rowid r ∷ wrote
@@ -169,18 +218,28 @@ module _ (old new : State) (has : old.now.schema ≡ shop_schema) where
 
 -- ---- all of them
 
-abbrev texts : List (List ℕ)
+abbrev pub texts : List (List ℕ)
 texts = TOTALS2.now ∷ COPY_TOTALS.now ∷ CLEAR_TOTALS.now ∷ SET_VERSION.now ∷ []
+
+last_named : table_named shop_schema (codes "totals2") ≡ Some 9
+unfolding everything
+last_named = refl
+
+last_rests : Rest (totals2_table ∷ [])
+last_rests = (((refl, refl), tt), tt)
+
+written : (tree : ℕ) (old new : Database) → IsPut shop_schema tree old new → IsWritten tree old new
+written tree old new put = record { schema_is = put.schema_is; sound = put.sound; others = λ t far bare. put.others t (unlike t tree far) bare }
 
 module _ {S : Type 0} (g : Ghosts S) where
   pub totals_copied : Does g COPY_TOTALS.now shop_schema CopiesTotals
-  totals_copied old new has ran sums none are free = copies (state g old) (state g new) has (entries sums) none are free ran
+  totals_copied old new has ran sums none are free = let it = copies shop_schema (totals2_table ∷ []) last_rests (state g old) (state g new) has 9 17 last_named refl ran in (written 17 _ _ it.0, it.1 (entries sums) none are free)
 
   pub totals_cleared : Does g CLEAR_TOTALS.now shop_schema ClearsTotals
-  totals_cleared old new has ran ints = clears (state g old) (state g new) has ints ran
+  totals_cleared old new has ran ints = let it = clears shop_schema (totals2_table ∷ []) last_rests (state g old) (state g new) has ran in (written 15 _ _ it.0, it.1 ints)
 
   pub version_set : Does g SET_VERSION.now shop_schema SetsVersion
-  version_set old new has ran m are = numbers (state g old) (state g new) has m are ran
+  version_set old new has ran m are = let it = numbers shop_schema (totals2_table ∷ []) last_rests (state g old) (state g new) has ran in (written 0 _ _ it.0, it.1 m are)
 
   renews : (old new : Held S) (b : Books) → ShowsEarlier (state g old) b → AreRun g texts old new → IsMade g old new b
   renews old new b has a1 =

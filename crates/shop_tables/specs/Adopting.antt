@@ -72,14 +72,20 @@ pub record IsMadeBeside (old new : Database) : Type 0 where
   pub numbers : AreRows 1 (map meta_row (meta_entries fresh)) (new.trees (next_tree old.schema))
   pub empty : AllByRecursion (λ t. new.trees t.tree ≡ []) (drop (length old.schema.tables + 1) new.schema.tables)
 
--- the trees are those of a database in which they were made so
-abbrev pub StandsBeside : Database → Trees → Type 0
-StandsBeside old db = (schema : Schema) × IsMadeBeside old (record { schema = schema; trees = db })
+-- the trees are those of a database that was made so of the old one
+abbrev pub StandsMade : (Database → Database → Type 0) → Database → Trees → Type 0
+StandsMade IsMade old db = (schema : Schema) × IsMade old (record { schema = schema; trees = db })
 
--- The connection sees that they were made so, and this is committed; an open after a crash finds that alone.
-pub record HoldsBeside (old new : State) : Type 0 where
-  pub seen : HasCleanDisk new → IsTrue new.is_open → IsMadeBeside old.now new.now × (new.now ≡ new.committed)
-  pub after : HasCleanDisk new → (db : Trees) → new.may_leave db → StandsBeside old.now db
+-- The connection sees a database that was made so of the old one, and this is committed; an open after a crash finds that alone.
+pub record HoldsMade (IsMade : Database → Database → Type 0) (old new : State) : Type 0 where
+  pub seen : HasCleanDisk new → IsTrue new.is_open → IsMade old.now new.now × (new.now ≡ new.committed)
+  pub after : HasCleanDisk new → (db : Trees) → new.may_leave db → StandsMade IsMade old.now db
+
+abbrev pub StandsBeside : Database → Trees → Type 0
+StandsBeside = StandsMade IsMadeBeside
+
+abbrev pub HoldsBeside : State → State → Type 0
+HoldsBeside = HoldsMade IsMadeBeside
 
 -- it sees what it saw, which is committed
 abbrev pub IsAsBefore : State → State → Type 0

@@ -8,3 +8,4 @@ pub mod Adopting
 pub mod ListedRows
 pub mod RowsShown
 pub mod Laying
+pub mod Renewing

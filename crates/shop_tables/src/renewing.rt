@@ -4,14 +4,17 @@ ghost use Rattle.std.specs.Prelude.{◌≡◌, false, map, IfOk, IsTrue, OnErr, 
 ghost use Rattle.std.specs.FinMap.{entries};
 ghost use Rattle.sqlite.specs.State.{HasCleanDisk, Survives};
 ghost use Rattle.sqlite.specs.Held.{state};
-ghost use Rattle.shop_tables.specs.Adopting.{LeavesBooks, MakesTables};
+ghost use Rattle.sqlite.specs.Does.{lacks_sequence};
+ghost use Rattle.shop_tables.specs.Adopting.{IsAsBefore, LeavesBooks, MakesTables};
+ghost use Rattle.shop_tables.specs.Renewing.{HasEarlierTables, HoldsRenewed, IsRenewed, StandsRenewed};
+ghost use Rattle.shop_tables.specs.RowsShown.{SeesCommit};
 ghost use Rattle.shop_tables.specs.Laying.{Adds, ClearsTotals, CopiesTotals, Does, SetsVersion};
 ghost use Rattle.shop_tables.specs.declared.laying.TheConstants.{TOTALS2};
 ghost use Rattle.shop_tables.specs.declared.renewing.TheConstants.{COPY_TOTALS, CLEAR_TOTALS, SET_VERSION};
 ghost use Rattle.shop_statements.specs.Layout.{shop_schema, totals2_table};
 ghost use Rattle.shop_statements.specs.Earlier.{HoldsEarlier, OnBooksEarlier, ShowsEarlier};
 ghost use Rattle.shop_tables.specs.Listing.{AreAllTotals, listed_row};
-ghost use Rattle.shop_statements.specs.Shown.{Books, HasShopSchema, Holds, Leaves, StandsIn, Within};
+ghost use Rattle.shop_statements.specs.Shown.{Books, HasShopSchema, Holds, Leaves, Ran, StandsIn, Within};
 
 use crate::laying::{TOTALS2, run_all};
 use crate::listing::{material_rows, read_all};
@@ -77,6 +80,13 @@ pub(crate) fn renew_tables<S: Alter>(tx: &mut Transaction<'_, S>) -> Result<(), 
         → ShowsEarlier (state S.Store tx.old.conn.now) b)
         → OnOk result
         (MakesTables (state S.Store tx.old.conn.now) (state S.Store tx.new.conn.now) b) }
+    ensures ran { OnOk result (Ran (state S.Store tx.old.conn.now)
+        (state S.Store tx.new.conn.now)) }
+    ensures beside { HasEarlierTables tx.old.conn.now.schema
+        → lacks_sequence tx.old.conn.now.schema ≡ false
+        → HasCleanDisk (state S.Store tx.new.conn.now)
+        → OnOk result (IsRenewed (state S.Store tx.old.conn.now).now
+        (state S.Store tx.new.conn.now).now) }
     ensures within { Within (state S.Store tx.old.conn.now) (state S.Store tx.new.conn.now) }
 {
     run_all(tx, &STEPS)
@@ -98,6 +108,13 @@ pub fn renew_shop<S: Alter>(conn: &mut Connection<S>) -> Result<(), TableFault>
         → OnOk result (LeavesBooks (state S.Store conn.new) b) }
     ensures schema { (b : Books) → HoldsEarlier (state S.Store conn.old) b
         → OnOk result (HasShopSchema (state S.Store conn.new)) }
+    ensures beside { HasEarlierTables conn.old.schema → lacks_sequence conn.old.schema ≡ false
+        → OnOk result (HoldsRenewed (state S.Store conn.old) (state S.Store conn.new)) }
+    ensures undone { SeesCommit (state S.Store conn.old)
+        → OnErr result (IsAsBefore (state S.Store conn.old) (state S.Store conn.new)) }
+    ensures beside_crash { HasEarlierTables conn.old.schema → lacks_sequence conn.old.schema ≡ false
+        → Survives (state S.Store conn.old) (state S.Store conn.new)
+        (StandsRenewed (state S.Store conn.old).now) }
 {
     let mut tx = conn.transaction();
     renew_tables(&mut tx)?;

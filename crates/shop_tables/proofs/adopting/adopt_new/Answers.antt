@@ -6,7 +6,7 @@ use Rattle.sqlite.specs.State.{State, HasCleanDisk}
 use Rattle.shop_tables.specs.Adopting.{HoldsBeside, IsAsBefore, IsMadeBeside, LeavesBooks, MakesTables}
 use Rattle.shop_statements.specs.Layout.{no_schema}
 use Rattle.shop_statements.specs.Shown.{HasShopSchema, Holds, Ran, StandsIn, Within, fresh_books}
-use Rattle.shop_tables.proofs.LaidTables.{beside_committed, goes_back_as, tables_committed, tables_schema}
+use Rattle.shop_tables.proofs.LaidTables.{goes_back_as, made_committed, tables_committed, tables_schema}
 use Rattle.shop_statements.proofs.Steps.{on_err}
 use Rattle.shop_tables.proofs.Commits.{begun, failed, stands_in}
 use Rattle.shop_tables.proofs.adopting.adopt_new.Goals as goal
@@ -62,7 +62,7 @@ returns-clause-beside g c counts =
     let a = (goal.at.returns-clause-beside g c).After-commit in
     let ends : c.commit.new.self.0 ≡ c.conn-2-1.given.0 = sym (c.conn-2-1.given.1 (sym (c.lay_tables.ensures.same_reference ∙ c.transaction-tx.ensures.same_reference))) in
     subst (λ h. HoldsBeside (state g.S.Store c.args.conn.now) (state g.S.Store h)) ends
-    (beside_committed g.S.Store c.args.conn.now (done g a) (last g a) (late g a) (g.met.S.Store.settled (c.commit.new.self.0).store) (made g a counts) (λ clean. (c.in_ok-commit.ensures.ok clean).1))
+    (made_committed g.S.Store c.args.conn.now (done g a) (last g a) (late g a) IsMadeBeside (made g a counts) (g.met.S.Store.settled (c.commit.new.self.0).store) (λ clean. (c.in_ok-commit.ensures.ok clean).1))
 
 pub returns-in_err-commit-clause-undone : goal.returns-in_err-commit-clause-undone
 returns-in_err-commit-clause-undone g c =

@@ -1,12 +1,14 @@
-use Rattle.std.proofs.Common.{◌≡◌, ◌∙◌, IsTrue, sym, subst, ap, arith}
+use Rattle.std.proofs.Common.{◌≡◌, ◌∙◌, false, IsTrue, sym, subst, ap, arith}
 use Rattle.sqlite.specs.State.{State, HasCleanDisk, Survives}
 use Rattle.sqlite.specs.Held.{state}
 use Rattle.sqlite.specs.Effect.{Database}
-use Rattle.shop_tables.specs.Adopting.{LeavesBooks, MakesTables}
+use Rattle.sqlite.specs.Does.{lacks_sequence}
+use Rattle.shop_tables.specs.Adopting.{IsAsBefore, LeavesBooks, MakesTables}
+use Rattle.shop_tables.specs.Renewing.{HasEarlierTables, HoldsRenewed, IsRenewed, StandsRenewed}
 use Rattle.shop_statements.specs.Earlier.{HoldsEarlier, ShowsEarlier}
-use Rattle.shop_statements.specs.Shown.{Books, HasShopSchema, Holds, StandsIn, Within}
-use Rattle.shop_tables.proofs.Commits.{begun, stands_in}
-use Rattle.shop_tables.proofs.LaidTables.{tables_committed, tables_schema, tables_survive, tables_undone}
+use Rattle.shop_statements.specs.Shown.{Books, HasShopSchema, Holds, Ran, StandsIn, Within}
+use Rattle.shop_tables.proofs.Commits.{begun, failed, stands_in}
+use Rattle.shop_tables.proofs.LaidTables.{goes_back_as, made_committed, made_survives, tables_committed, tables_schema, tables_survive, tables_undone}
 use Rattle.shop_tables.proofs.RenewedTables.{begins, undone_earlier}
 use Rattle.shop_statements.proofs.Steps.{on_err}
 use Rattle.shop_tables.proofs.renewing.renew_shop.Goals as goal
@@ -20,6 +22,15 @@ returns-in_err-renew_tables-clause-as_before g c b was =
     let within = subst (λ h. Within (state g.S.Store h) done) c.transaction-tx.ensures.begun c.renew_tables.ensures.within in
     let late : HasCleanDisk last → HasCleanDisk done = λ clean. let s = c.drop-tx.ensures.survives.clean in omega (arith, s, clean) in
     on_err _ (subst (λ h. HoldsEarlier (state g.S.Store h) b) ends (undone_earlier g.S.Store c.args.conn.now b was done last late within c.drop-tx.ensures.undone))
+
+pub returns-in_err-renew_tables-clause-undone : goal.returns-in_err-renew_tables-clause-undone
+returns-in_err-renew_tables-clause-undone g c settled =
+    let ends : c.drop-tx.new.self.0 ≡ c.conn-1.given.0 = sym (c.conn-1.given.1 (sym (c.renew_tables.ensures.same_reference ∙ c.transaction-tx.ensures.same_reference))) in
+    let done = state g.S.Store c.renew_tables.new.tx.conn.now in
+    let last = state g.S.Store c.drop-tx.new.self.0 in
+    let within = subst (λ h. Within (state g.S.Store h) done) c.transaction-tx.ensures.begun c.renew_tables.ensures.within in
+    let late : HasCleanDisk last → HasCleanDisk done = λ clean. let s = c.drop-tx.ensures.survives.clean in omega (arith, s, clean) in
+    on_err _ (subst (λ h. IsAsBefore (state g.S.Store c.args.conn.now) (state g.S.Store h)) ends (goes_back_as g.S.Store c.args.conn.now done last late settled within c.drop-tx.ensures.undone))
 
 -- ---- once the commit has ended
 
@@ -38,6 +49,12 @@ module _ (g : _) (c : After-commit g) where
 
   late : HasCleanDisk last → HasCleanDisk done
   late clean = let s = c.commit.ensures.survives.clean in omega (arith, s, clean)
+
+  ran : Ran (begun g.S.Store c.args.conn.now) done
+  ran = subst (λ h. Ran (state g.S.Store h) done) c.transaction-tx.ensures.begun c.in_ok-renew_tables.ensures.ran
+
+  made : HasEarlierTables c.args.conn.now.schema → lacks_sequence c.args.conn.now.schema ≡ false → HasCleanDisk done → IsRenewed (state g.S.Store c.args.conn.now).now done.now
+  made = subst (λ h. HasEarlierTables h.schema → lacks_sequence h.schema ≡ false → HasCleanDisk done → IsRenewed (state g.S.Store h).now done.now) c.transaction-tx.ensures.begun c.in_ok-renew_tables.ensures.beside
 
 pub returns-in_err-commit-clause-as_before : goal.returns-in_err-commit-clause-as_before
 returns-in_err-commit-clause-as_before g c b was =
@@ -80,3 +97,31 @@ returns-clause-after g c b was =
     let only : db ≡ (last g a).committed.trees = g.met.S.Store.settled (c.commit.new.self.0).store db e.is_open left in
     let now : db ≡ (done g a).now.trees = only ∙ ap (λ (d : Database). d.trees) e.committed_is in
     subst (λ t. StandsIn t b) (sym now) (stands_in (done g a) b ((renewed g a b was).shows (late g a clean))))
+
+pub returns-in_err-commit-clause-undone : goal.returns-in_err-commit-clause-undone
+returns-in_err-commit-clause-undone g c settled =
+    let a = (goal.at.returns-in_err-commit-clause-undone g c).After-commit in
+    let ends : c.commit.new.self.0 ≡ c.conn-2-1.given.0 = sym (c.conn-2-1.given.1 (sym (c.renew_tables.ensures.same_reference ∙ c.transaction-tx.ensures.same_reference))) in
+    on_err _ (subst (λ h. IsAsBefore (state g.S.Store c.args.conn.now) (state g.S.Store h)) ends
+    (goes_back_as g.S.Store c.args.conn.now (done g a) (last g a) (late g a) settled (within g a) (failed g.S.Store c.args.conn.now (done g a) (last g a) (late g a) (ran g a) _ c.in_err-commit.ensures.err)))
+
+pub returns-in_err-commit-clause-beside_crash : goal.returns-in_err-commit-clause-beside_crash
+returns-in_err-commit-clause-beside_crash g c is counts =
+    let a = (goal.at.returns-in_err-commit-clause-beside_crash g c).After-commit in
+    let ends : c.commit.new.self.0 ≡ c.conn-2-1.given.0 = sym (c.conn-2-1.given.1 (sym (c.renew_tables.ensures.same_reference ∙ c.transaction-tx.ensures.same_reference))) in
+    subst (λ h. Survives (state g.S.Store c.args.conn.now) (state g.S.Store h) (StandsRenewed (state g.S.Store c.args.conn.now).now)) ends
+    (made_survives g.S.Store c.args.conn.now (done g a) (last g a) (late g a) IsRenewed (made g a is counts) (within g a) c.commit.ensures.survives)
+
+pub returns-clause-beside_crash : goal.returns-clause-beside_crash
+returns-clause-beside_crash g c is counts =
+    let a = (goal.at.returns-clause-beside_crash g c).After-commit in
+    let ends : c.commit.new.self.0 ≡ c.conn-2-1.given.0 = sym (c.conn-2-1.given.1 (sym (c.renew_tables.ensures.same_reference ∙ c.transaction-tx.ensures.same_reference))) in
+    subst (λ h. Survives (state g.S.Store c.args.conn.now) (state g.S.Store h) (StandsRenewed (state g.S.Store c.args.conn.now).now)) ends
+    (made_survives g.S.Store c.args.conn.now (done g a) (last g a) (late g a) IsRenewed (made g a is counts) (within g a) c.commit.ensures.survives)
+
+pub returns-clause-beside : goal.returns-clause-beside
+returns-clause-beside g c is counts =
+    let a = (goal.at.returns-clause-beside g c).After-commit in
+    let ends : c.commit.new.self.0 ≡ c.conn-2-1.given.0 = sym (c.conn-2-1.given.1 (sym (c.renew_tables.ensures.same_reference ∙ c.transaction-tx.ensures.same_reference))) in
+    subst (λ h. HoldsRenewed (state g.S.Store c.args.conn.now) (state g.S.Store h)) ends
+    (made_committed g.S.Store c.args.conn.now (done g a) (last g a) (late g a) IsRenewed (made g a is counts) (g.met.S.Store.settled (c.commit.new.self.0).store) (λ clean. (c.in_ok-commit.ensures.ok clean).1))
