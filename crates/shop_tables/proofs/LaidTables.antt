@@ -44,8 +44,9 @@ module _ {S : Type 0} (g : Ghosts S) (h : Held S) where
   module _ (done last : State) (late : HasCleanDisk last → HasCleanDisk done) where
     module _ (IsMade : Database → Database → Type 0) (made : HasCleanDisk done → IsMade (old g h).now done.now) where
       -- the database was made so of the old one, and this is committed
-      pub made_committed : ((db : Trees) → IsTrue last.is_open → last.may_leave db → db ≡ last.committed.trees) → (HasCleanDisk last → sql.Shows done last done.now done.now false) → HoldsMade IsMade (old g h) last
-      made_committed only end = record {
+      pub made_committed : (HasCleanDisk done → IsTrue (old g h).is_open) → ((db : Trees) → IsTrue last.is_open → last.may_leave db → db ≡ last.committed.trees) → (HasCleanDisk last → sql.Shows done last done.now done.now false) → HoldsMade IsMade (old g h) last
+      made_committed was_open only end = record {
+        was_open = λ clean. was_open (late clean);
         seen = λ clean up. let e = end clean in (subst (IsMade (old g h).now) (sym e.now_is) (made (late clean)), e.now_is ∙ sym e.committed_is);
         after = λ clean db left. let e = end clean in stands_made IsMade (old g h).now done.now db (only db e.is_open left ∙ ap (λ (d : Database). d.trees) e.committed_is) (made (late clean));
       }

@@ -23,7 +23,7 @@ use Rattle.shop_statements.specs.Beside.{IsNone}
 use Rattle.shop_statements.specs.Layout.{meta_table, totals_table, totals2_table}
 use Rattle.shop_statements.specs.Rows.{AreRows}
 use Rattle.shop_tables.specs.Laying.{AreRun, IsAdded}
-use Rattle.shop_tables.specs.Renewing.{HasEarlierTables, IsRenewed}
+use Rattle.shop_tables.specs.Renewing.{HasEarlierTables, IsRenewed, SeesEarlier}
 use Rattle.shop_tables.specs.declared.renewing.TheConstants.{CLEAR_TOTALS, COPY_TOTALS, SET_VERSION}
 use Rattle.shop_statements.specs.Shown.{Ran}
 use Rattle.shop_statements.proofs.Works.{unlike}
@@ -144,10 +144,10 @@ module _ {S : Type 0} (g : Ghosts S) where
       } in
       subst (λ (x : Held S). IsRenewed d0 (state g x).now) (sym a4.2) renewed
 
-  pub renews_beside : (old new : Held S) (r : Result (Unit {0}) Error) → HasEarlierTables old.schema → lacks_sequence old.schema ≡ false → (HasCleanDisk (state g new) → OnOk r (AreRun g texts old new)) → HasCleanDisk (state g new)
+  pub renews_beside : (old new : Held S) (r : Result (Unit {0}) Error) → SeesEarlier (state g old) → (HasCleanDisk (state g new) → HasCleanDisk (state g old)) → (HasCleanDisk (state g new) → OnOk r (AreRun g texts old new)) → HasCleanDisk (state g new)
       → OnOk r (IsRenewed (state g old).now (state g new).now)
-  renews_beside old new (Ok x) is counts ran clean = renews old new is counts (ran clean)
-  renews_beside old new (Err e) is counts ran clean = tt
+  renews_beside old new (Ok x) sees earlier ran clean = let a1 = ran clean in let is = sees (earlier clean) a1.1.was_open in renews old new is.0 is.1 a1
+  renews_beside old new (Err e) sees earlier ran clean = tt
 
   pub renews_on : (old new : Held S) (r : Result (Unit {0}) Error) → (HasCleanDisk (state g new) → HasCleanDisk (state g old)) → (HasCleanDisk (state g new) → OnOk r (AreRun g texts old new)) → OnOk r (Ran (state g old) (state g new))
   renews_on = ran_when g Rattle.shop_tables.specs.declared.laying.TheConstants.TOTALS2.now (COPY_TOTALS.now ∷ CLEAR_TOTALS.now ∷ SET_VERSION.now ∷ [])

@@ -76,8 +76,10 @@ pub record IsMadeBeside (old new : Database) : Type 0 where
 abbrev pub StandsMade : (Database → Database → Type 0) → Database → Trees → Type 0
 StandsMade IsMade old db = (schema : Schema) × IsMade old (record { schema = schema; trees = db })
 
--- The connection sees a database that was made so of the old one, and this is committed; an open after a crash finds that alone.
+-- The connection, which was open, sees a database that was made so of the old one, and this is committed; an open after a crash
+-- finds that alone.
 pub record HoldsMade (IsMade : Database → Database → Type 0) (old new : State) : Type 0 where
+  pub was_open : HasCleanDisk new → IsTrue old.is_open
   pub seen : HasCleanDisk new → IsTrue new.is_open → IsMade old.now new.now × (new.now ≡ new.committed)
   pub after : HasCleanDisk new → (db : Trees) → new.may_leave db → StandsMade IsMade old.now db
 

@@ -1,5 +1,5 @@
 -- Tables of version 1 with others behind them, and what becomes of them.
-use Rattle.std.specs.Prelude.{◌≡◌, List, [], ◌∷◌, ◌++◌, take, map}
+use Rattle.std.specs.Prelude.{◌≡◌, false, List, [], ◌∷◌, ◌++◌, take, map, IsTrue}
 use Rattle.std.specs.List.{AllByRecursion}
 use Rattle.std.specs.FinMap.{FinMap, entries}
 use Rattle.sqlite_trees.specs.Objects.{catalog_tree}
@@ -7,7 +7,8 @@ use Rattle.sqlite_trees.specs.Tree.{Trees}
 use Rattle.sqlite.specs.Table.{Table}
 use Rattle.sqlite.specs.Change.{created, next_tree}
 use Rattle.sqlite.specs.Effect.{Database, IsDatabase}
-use Rattle.sqlite.specs.State.{State}
+use Rattle.sqlite.specs.Does.{lacks_sequence}
+use Rattle.sqlite.specs.State.{State, HasCleanDisk}
 use Rattle.sqlite_catalog.specs.Calls.{KeepsForeign}
 use Rattle.sqlite_schema.specs.declared.schema.Schema.{Schema}
 use Rattle.cut_measure.specs.Codes.{code_cmp}
@@ -24,6 +25,11 @@ pub record HasEarlierTables (schema : Schema) : Type 0 where
   pub others : List Table
   pub tables : schema.tables ≡ take 9 our_tables ++ others
   pub rests : AllByRecursion (λ t. AllByRecursion Rests t.references) others
+
+-- While it is open, the connection sees such tables, and SQLite's own table of counts if one of them counts (AUTOINCREMENT), as
+-- SQLite leaves it.
+abbrev pub SeesEarlier : State → Type 0
+SeesEarlier s = HasCleanDisk s → IsTrue s.is_open → HasEarlierTables s.now.schema × (lacks_sequence s.now.schema ≡ false)
 
 -- Version 2's totals were made behind the tables that were there, and have the rows of version 1's, of which 0 was returned;
 -- those have no row. The version is 2, and the other numbers are as they were. Every other table has the rows that it had. The

@@ -218,6 +218,8 @@ fn adopt_taken<S: Alter>(conn: &mut Connection<S>) -> Result<Adopted, AdoptFault
         → OnOk result ((state S.Store conn.old).now.trees 15 ≡ []) }
     ensures one_named { conn.old.schema ≡ earlier_schema → HasCleanDisk (state S.Store conn.new)
         → OnOk result (HasVersion (state S.Store conn.old) 1) }
+    ensures earlier_names { names_are_earlier conn.old.schema ≡ true
+        → IfOk result (λ how. how ≡ Earlier) }
 {
     if are_earlier(conn.schema()) {
         return adopt_version(conn, 1, Adopted::Earlier);
@@ -282,6 +284,9 @@ pub fn adopt_tables<S: Alter>(conn: &mut Connection<S>) -> Result<Adopted, Adopt
         × (result ≢ Err WrongVersion) }
     ensures taken { names_are_free conn.old.schema ≡ false
         → Leaves (state S.Store conn.old) (state S.Store conn.new) }
+    ensures earlier_names { names_are_earlier conn.old.schema ≡ true
+        → IfOk result (λ how. how ≡ Earlier)
+        × Leaves (state S.Store conn.old) (state S.Store conn.new) }
 {
     let _outside = conn.is_autocommit();
     if are_free(conn.schema()) {

@@ -4,9 +4,8 @@ ghost use Rattle.std.specs.Prelude.{◌≡◌, false, map, IfOk, IsTrue, OnErr, 
 ghost use Rattle.std.specs.FinMap.{entries};
 ghost use Rattle.sqlite.specs.State.{HasCleanDisk, Survives};
 ghost use Rattle.sqlite.specs.Held.{state};
-ghost use Rattle.sqlite.specs.Does.{lacks_sequence};
 ghost use Rattle.shop_tables.specs.Adopting.{IsAsBefore, LeavesBooks, MakesTables};
-ghost use Rattle.shop_tables.specs.Renewing.{HasEarlierTables, HoldsRenewed, IsRenewed, StandsRenewed};
+ghost use Rattle.shop_tables.specs.Renewing.{HoldsRenewed, IsRenewed, SeesEarlier, StandsRenewed};
 ghost use Rattle.shop_tables.specs.RowsShown.{SeesCommit};
 ghost use Rattle.shop_tables.specs.Laying.{Adds, ClearsTotals, CopiesTotals, Does, SetsVersion};
 ghost use Rattle.shop_tables.specs.declared.laying.TheConstants.{TOTALS2};
@@ -82,8 +81,7 @@ pub(crate) fn renew_tables<S: Alter>(tx: &mut Transaction<'_, S>) -> Result<(), 
         (MakesTables (state S.Store tx.old.conn.now) (state S.Store tx.new.conn.now) b) }
     ensures ran { OnOk result (Ran (state S.Store tx.old.conn.now)
         (state S.Store tx.new.conn.now)) }
-    ensures beside { HasEarlierTables tx.old.conn.now.schema
-        → lacks_sequence tx.old.conn.now.schema ≡ false
+    ensures beside { SeesEarlier (state S.Store tx.old.conn.now)
         → HasCleanDisk (state S.Store tx.new.conn.now)
         → OnOk result (IsRenewed (state S.Store tx.old.conn.now).now
         (state S.Store tx.new.conn.now).now) }
@@ -108,11 +106,11 @@ pub fn renew_shop<S: Alter>(conn: &mut Connection<S>) -> Result<(), TableFault>
         → OnOk result (LeavesBooks (state S.Store conn.new) b) }
     ensures schema { (b : Books) → HoldsEarlier (state S.Store conn.old) b
         → OnOk result (HasShopSchema (state S.Store conn.new)) }
-    ensures beside { HasEarlierTables conn.old.schema → lacks_sequence conn.old.schema ≡ false
+    ensures beside { SeesEarlier (state S.Store conn.old)
         → OnOk result (HoldsRenewed (state S.Store conn.old) (state S.Store conn.new)) }
     ensures undone { SeesCommit (state S.Store conn.old)
         → OnErr result (IsAsBefore (state S.Store conn.old) (state S.Store conn.new)) }
-    ensures beside_crash { HasEarlierTables conn.old.schema → lacks_sequence conn.old.schema ≡ false
+    ensures beside_crash { SeesEarlier (state S.Store conn.old)
         → Survives (state S.Store conn.old) (state S.Store conn.new)
         (StandsRenewed (state S.Store conn.old).now) }
 {

@@ -1,4 +1,4 @@
-use Rattle.std.proofs.Common.{◌≡◌, ◌∙◌, false, arith, sym, subst, ap}
+use Rattle.std.proofs.Common.{◌≡◌, ◌∙◌, false, refl, arith, sym, subst, ap}
 use Rattle.sqlite.specs.Effect.{Database}
 use Rattle.sqlite.specs.Held.{state}
 use Rattle.sqlite.specs.Does.{lacks_sequence}
@@ -62,7 +62,7 @@ returns-clause-beside g c counts =
     let a = (goal.at.returns-clause-beside g c).After-commit in
     let ends : c.commit.new.self.0 ≡ c.conn-2-1.given.0 = sym (c.conn-2-1.given.1 (sym (c.lay_tables.ensures.same_reference ∙ c.transaction-tx.ensures.same_reference))) in
     subst (λ h. HoldsBeside (state g.S.Store c.args.conn.now) (state g.S.Store h)) ends
-    (made_committed g.S.Store c.args.conn.now (done g a) (last g a) (late g a) IsMadeBeside (made g a counts) (g.met.S.Store.settled (c.commit.new.self.0).store) (λ clean. (c.in_ok-commit.ensures.ok clean).1))
+    (made_committed g.S.Store c.args.conn.now (done g a) (last g a) (late g a) IsMadeBeside (made g a counts) (λ clean. ((ran g a).on clean refl).0) (g.met.S.Store.settled (c.commit.new.self.0).store) (λ clean. (c.in_ok-commit.ensures.ok clean).1))
 
 pub returns-in_err-commit-clause-undone : goal.returns-in_err-commit-clause-undone
 returns-in_err-commit-clause-undone g c =

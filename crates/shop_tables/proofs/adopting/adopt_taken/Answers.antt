@@ -33,3 +33,6 @@ returns-clause-one_named g c is = absurd (true≢false (sym (c.are_earlier.ensur
 
 pub returns-then-are_earlier-clause-no_old_totals : goal.returns-then-are_earlier-clause-no_old_totals
 returns-then-are_earlier-clause-no_old_totals g c it = absurd (true≢false (sym c.if-are_earlier.true ∙ c.are_earlier.ensures ∙ ap names_are_earlier c.schema.ensures.value ∙ not_earlier c.args.conn.now.schema it))
+
+pub returns-clause-earlier_names : goal.returns-clause-earlier_names
+returns-clause-earlier_names g c is = absurd (true≢false (sym (c.are_earlier.ensures ∙ ap names_are_earlier c.schema.ensures.value ∙ is) ∙ c.if-are_earlier.false))

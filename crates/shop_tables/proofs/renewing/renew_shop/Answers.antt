@@ -1,10 +1,9 @@
-use Rattle.std.proofs.Common.{◌≡◌, ◌∙◌, false, IsTrue, sym, subst, ap, arith}
+use Rattle.std.proofs.Common.{◌≡◌, ◌∙◌, refl, IsTrue, sym, subst, ap, arith}
 use Rattle.sqlite.specs.State.{State, HasCleanDisk, Survives}
 use Rattle.sqlite.specs.Held.{state}
 use Rattle.sqlite.specs.Effect.{Database}
-use Rattle.sqlite.specs.Does.{lacks_sequence}
 use Rattle.shop_tables.specs.Adopting.{IsAsBefore, LeavesBooks, MakesTables}
-use Rattle.shop_tables.specs.Renewing.{HasEarlierTables, HoldsRenewed, IsRenewed, StandsRenewed}
+use Rattle.shop_tables.specs.Renewing.{HoldsRenewed, IsRenewed, SeesEarlier, StandsRenewed}
 use Rattle.shop_statements.specs.Earlier.{HoldsEarlier, ShowsEarlier}
 use Rattle.shop_statements.specs.Shown.{Books, HasShopSchema, Holds, Ran, StandsIn, Within}
 use Rattle.shop_tables.proofs.Commits.{begun, failed, stands_in}
@@ -53,8 +52,8 @@ module _ (g : _) (c : After-commit g) where
   ran : Ran (begun g.S.Store c.args.conn.now) done
   ran = subst (λ h. Ran (state g.S.Store h) done) c.transaction-tx.ensures.begun c.in_ok-renew_tables.ensures.ran
 
-  made : HasEarlierTables c.args.conn.now.schema → lacks_sequence c.args.conn.now.schema ≡ false → HasCleanDisk done → IsRenewed (state g.S.Store c.args.conn.now).now done.now
-  made = subst (λ h. HasEarlierTables h.schema → lacks_sequence h.schema ≡ false → HasCleanDisk done → IsRenewed (state g.S.Store h).now done.now) c.transaction-tx.ensures.begun c.in_ok-renew_tables.ensures.beside
+  made : SeesEarlier (state g.S.Store c.args.conn.now) → HasCleanDisk done → IsRenewed (state g.S.Store c.args.conn.now).now done.now
+  made sees = subst (λ h. SeesEarlier (state g.S.Store h) → HasCleanDisk done → IsRenewed (state g.S.Store h).now done.now) c.transaction-tx.ensures.begun c.in_ok-renew_tables.ensures.beside (λ clean up. sees clean up)
 
 pub returns-in_err-commit-clause-as_before : goal.returns-in_err-commit-clause-as_before
 returns-in_err-commit-clause-as_before g c b was =
@@ -106,22 +105,22 @@ returns-in_err-commit-clause-undone g c settled =
     (goes_back_as g.S.Store c.args.conn.now (done g a) (last g a) (late g a) settled (within g a) (failed g.S.Store c.args.conn.now (done g a) (last g a) (late g a) (ran g a) _ c.in_err-commit.ensures.err)))
 
 pub returns-in_err-commit-clause-beside_crash : goal.returns-in_err-commit-clause-beside_crash
-returns-in_err-commit-clause-beside_crash g c is counts =
+returns-in_err-commit-clause-beside_crash g c sees =
     let a = (goal.at.returns-in_err-commit-clause-beside_crash g c).After-commit in
     let ends : c.commit.new.self.0 ≡ c.conn-2-1.given.0 = sym (c.conn-2-1.given.1 (sym (c.renew_tables.ensures.same_reference ∙ c.transaction-tx.ensures.same_reference))) in
     subst (λ h. Survives (state g.S.Store c.args.conn.now) (state g.S.Store h) (StandsRenewed (state g.S.Store c.args.conn.now).now)) ends
-    (made_survives g.S.Store c.args.conn.now (done g a) (last g a) (late g a) IsRenewed (made g a is counts) (within g a) c.commit.ensures.survives)
+    (made_survives g.S.Store c.args.conn.now (done g a) (last g a) (late g a) IsRenewed (made g a sees) (within g a) c.commit.ensures.survives)
 
 pub returns-clause-beside_crash : goal.returns-clause-beside_crash
-returns-clause-beside_crash g c is counts =
+returns-clause-beside_crash g c sees =
     let a = (goal.at.returns-clause-beside_crash g c).After-commit in
     let ends : c.commit.new.self.0 ≡ c.conn-2-1.given.0 = sym (c.conn-2-1.given.1 (sym (c.renew_tables.ensures.same_reference ∙ c.transaction-tx.ensures.same_reference))) in
     subst (λ h. Survives (state g.S.Store c.args.conn.now) (state g.S.Store h) (StandsRenewed (state g.S.Store c.args.conn.now).now)) ends
-    (made_survives g.S.Store c.args.conn.now (done g a) (last g a) (late g a) IsRenewed (made g a is counts) (within g a) c.commit.ensures.survives)
+    (made_survives g.S.Store c.args.conn.now (done g a) (last g a) (late g a) IsRenewed (made g a sees) (within g a) c.commit.ensures.survives)
 
 pub returns-clause-beside : goal.returns-clause-beside
-returns-clause-beside g c is counts =
+returns-clause-beside g c sees =
     let a = (goal.at.returns-clause-beside g c).After-commit in
     let ends : c.commit.new.self.0 ≡ c.conn-2-1.given.0 = sym (c.conn-2-1.given.1 (sym (c.renew_tables.ensures.same_reference ∙ c.transaction-tx.ensures.same_reference))) in
     subst (λ h. HoldsRenewed (state g.S.Store c.args.conn.now) (state g.S.Store h)) ends
-    (made_committed g.S.Store c.args.conn.now (done g a) (last g a) (late g a) IsRenewed (made g a is counts) (g.met.S.Store.settled (c.commit.new.self.0).store) (λ clean. (c.in_ok-commit.ensures.ok clean).1))
+    (made_committed g.S.Store c.args.conn.now (done g a) (last g a) (late g a) IsRenewed (made g a sees) (λ clean. ((ran g a).on clean refl).0) (g.met.S.Store.settled (c.commit.new.self.0).store) (λ clean. (c.in_ok-commit.ensures.ok clean).1))
