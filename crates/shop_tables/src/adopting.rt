@@ -287,6 +287,7 @@ pub fn adopt_tables<S: Alter>(conn: &mut Connection<S>) -> Result<Adopted, Adopt
     ensures earlier_names { names_are_earlier conn.old.schema ≡ true
         → IfOk result (λ how. how ≡ Earlier)
         × Leaves (state S.Store conn.old) (state S.Store conn.new) }
+    ensures settled { SeesCommit (state S.Store conn.old) }
 {
     let _outside = conn.is_autocommit();
     if are_free(conn.schema()) {

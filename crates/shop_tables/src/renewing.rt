@@ -6,7 +6,6 @@ ghost use Rattle.sqlite.specs.State.{HasCleanDisk, Survives};
 ghost use Rattle.sqlite.specs.Held.{state};
 ghost use Rattle.shop_tables.specs.Adopting.{IsAsBefore, LeavesBooks, MakesTables};
 ghost use Rattle.shop_tables.specs.Renewing.{HoldsRenewed, IsRenewed, SeesEarlier, StandsRenewed};
-ghost use Rattle.shop_tables.specs.RowsShown.{SeesCommit};
 ghost use Rattle.shop_tables.specs.Laying.{Adds, ClearsTotals, CopiesTotals, Does, SetsVersion};
 ghost use Rattle.shop_tables.specs.declared.laying.TheConstants.{TOTALS2};
 ghost use Rattle.shop_tables.specs.declared.renewing.TheConstants.{COPY_TOTALS, CLEAR_TOTALS, SET_VERSION};
@@ -108,12 +107,12 @@ pub fn renew_shop<S: Alter>(conn: &mut Connection<S>) -> Result<(), TableFault>
         → OnOk result (HasShopSchema (state S.Store conn.new)) }
     ensures beside { SeesEarlier (state S.Store conn.old)
         → OnOk result (HoldsRenewed (state S.Store conn.old) (state S.Store conn.new)) }
-    ensures undone { SeesCommit (state S.Store conn.old)
-        → OnErr result (IsAsBefore (state S.Store conn.old) (state S.Store conn.new)) }
+    ensures undone { OnErr result (IsAsBefore (state S.Store conn.old) (state S.Store conn.new)) }
     ensures beside_crash { SeesEarlier (state S.Store conn.old)
         → Survives (state S.Store conn.old) (state S.Store conn.new)
         (StandsRenewed (state S.Store conn.old).now) }
 {
+    let _outside = conn.is_autocommit();
     let mut tx = conn.transaction();
     renew_tables(&mut tx)?;
     tx.commit()?;

@@ -1,3 +1,4 @@
+use Rattle.std.specs.Prelude.{not}
 use Rattle.std.proofs.Common.{◌≡◌, ◌∙◌, refl, IsTrue, sym, subst, ap, arith}
 use Rattle.sqlite.specs.State.{State, HasCleanDisk, Survives}
 use Rattle.sqlite.specs.Held.{state}
@@ -23,7 +24,8 @@ returns-in_err-renew_tables-clause-as_before g c b was =
     on_err _ (subst (λ h. HoldsEarlier (state g.S.Store h) b) ends (undone_earlier g.S.Store c.args.conn.now b was done last late within c.drop-tx.ensures.undone))
 
 pub returns-in_err-renew_tables-clause-undone : goal.returns-in_err-renew_tables-clause-undone
-returns-in_err-renew_tables-clause-undone g c settled =
+returns-in_err-renew_tables-clause-undone g c =
+    let settled = c.is_autocommit-outside.ensures.settled (c.is_autocommit-outside.ensures.value ∙ ap not c.requires.outside) in
     let ends : c.drop-tx.new.self.0 ≡ c.conn-1.given.0 = sym (c.conn-1.given.1 (sym (c.renew_tables.ensures.same_reference ∙ c.transaction-tx.ensures.same_reference))) in
     let done = state g.S.Store c.renew_tables.new.tx.conn.now in
     let last = state g.S.Store c.drop-tx.new.self.0 in
@@ -98,7 +100,8 @@ returns-clause-after g c b was =
     subst (λ t. StandsIn t b) (sym now) (stands_in (done g a) b ((renewed g a b was).shows (late g a clean))))
 
 pub returns-in_err-commit-clause-undone : goal.returns-in_err-commit-clause-undone
-returns-in_err-commit-clause-undone g c settled =
+returns-in_err-commit-clause-undone g c =
+    let settled = c.is_autocommit-outside.ensures.settled (c.is_autocommit-outside.ensures.value ∙ ap not c.requires.outside) in
     let a = (goal.at.returns-in_err-commit-clause-undone g c).After-commit in
     let ends : c.commit.new.self.0 ≡ c.conn-2-1.given.0 = sym (c.conn-2-1.given.1 (sym (c.renew_tables.ensures.same_reference ∙ c.transaction-tx.ensures.same_reference))) in
     on_err _ (subst (λ h. IsAsBefore (state g.S.Store c.args.conn.now) (state g.S.Store h)) ends
