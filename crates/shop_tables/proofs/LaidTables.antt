@@ -52,14 +52,15 @@ module _ {S : Type 0} (g : Ghosts S) (h : Held S) where
       }
 
       -- and what a crash may leave
-      pub made_survives : Within (begun g h) done → Survives done last (λ db. db ≡ done.now.trees) → Survives (old g h) last (StandsMade IsMade (old g h).now)
-      made_survives within end = survives_begin g h last (StandsMade IsMade (old g h).now)
-          (survives_then (begun g h) done last (λ _. ⊥) (λ db. db ≡ done.now.trees) (StandsMade IsMade (old g h).now) (λ _ db none. absurd none)
-          (λ clean db is. stands_made IsMade (old g h).now done.now db is (made (late clean))) within.survives end)
+      pub made_survives : (HasCleanDisk done → IsTrue (old g h).is_open) → Within (begun g h) done → Survives done last (λ db. db ≡ done.now.trees)
+          → Survives (old g h) last (λ db. IsTrue (old g h).is_open × StandsMade IsMade (old g h).now db)
+      made_survives was_open within end = survives_begin g h last (λ db. IsTrue (old g h).is_open × StandsMade IsMade (old g h).now db)
+          (survives_then (begun g h) done last (λ _. ⊥) (λ db. db ≡ done.now.trees) (λ db. IsTrue (old g h).is_open × StandsMade IsMade (old g h).now db) (λ _ db none. absurd none)
+          (λ clean db is. (was_open (late clean), stands_made IsMade (old g h).now done.now db is (made (late clean)))) within.survives end)
 
     -- the transaction is undone: what was there is seen again
     pub goes_back_as : (IsTrue (old g h).is_open → (old g h).now ≡ (old g h).committed) → Within (begun g h) done → (HasCleanDisk last → IsRolledBack done last) → IsAsBefore (old g h) last
-    goes_back_as settled within back clean up = let went = goes_back g h done last late within back clean up in (sym (settled went.was_open ∙ went.seen), went.committed)
+    goes_back_as settled within back clean up = let went = goes_back g h done last late within back clean up in (sym (settled went.was_open ∙ went.seen), went.committed, went.was_open)
 
   -- the transaction is undone, and nothing was there before it
   pub vacates : h.schema ≡ no_schema → (IsTrue (old g h).is_open → (old g h).now ≡ (old g h).committed) → (done last : State) → (HasCleanDisk last → HasCleanDisk done) → Within (begun g h) done → (HasCleanDisk last → IsRolledBack done last) → IsVacant last

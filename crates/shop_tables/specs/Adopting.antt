@@ -89,6 +89,6 @@ StandsBeside = StandsMade IsMadeBeside
 abbrev pub HoldsBeside : State → State → Type 0
 HoldsBeside = HoldsMade IsMadeBeside
 
--- it sees what it saw, which is committed
+-- it sees what it saw when it was open, which is committed
 abbrev pub IsAsBefore : State → State → Type 0
-IsAsBefore old new = HasCleanDisk new → IsTrue new.is_open → (new.now ≡ old.now) × (new.now ≡ new.committed)
+IsAsBefore old new = HasCleanDisk new → IsTrue new.is_open → (new.now ≡ old.now) × (new.now ≡ new.committed) × IsTrue old.is_open

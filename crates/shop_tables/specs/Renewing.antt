@@ -44,8 +44,9 @@ pub record IsRenewed (old new : Database) : Type 0 where
       (sums : FinMap code_cmp Totals) → AllByRecursion HasNoneReturned (entries sums) → AreRows 1 (map earlier_row (entries sums)) (old.trees 15)
       → (new.trees 15 ≡ []) × AreRows 1 (map totals_row (entries sums)) (new.trees (next_tree old.schema))
 
-abbrev pub StandsRenewed : Database → Trees → Type 0
-StandsRenewed = StandsMade IsRenewed
+-- the connection was open, and the trees are those of a database to which its own was renewed
+abbrev pub StandsRenewed : State → Trees → Type 0
+StandsRenewed s db = IsTrue s.is_open × StandsMade IsRenewed s.now db
 
 abbrev pub HoldsRenewed : State → State → Type 0
 HoldsRenewed = HoldsMade IsRenewed

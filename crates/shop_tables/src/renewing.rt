@@ -110,7 +110,7 @@ pub fn renew_shop<S: Alter>(conn: &mut Connection<S>) -> Result<(), TableFault>
     ensures undone { OnErr result (IsAsBefore (state S.Store conn.old) (state S.Store conn.new)) }
     ensures beside_crash { SeesEarlier (state S.Store conn.old)
         → Survives (state S.Store conn.old) (state S.Store conn.new)
-        (StandsRenewed (state S.Store conn.old).now) }
+        (StandsRenewed (state S.Store conn.old)) }
 {
     let _outside = conn.is_autocommit();
     let mut tx = conn.transaction();

@@ -111,15 +111,15 @@ pub returns-in_err-commit-clause-beside_crash : goal.returns-in_err-commit-claus
 returns-in_err-commit-clause-beside_crash g c sees =
     let a = (goal.at.returns-in_err-commit-clause-beside_crash g c).After-commit in
     let ends : c.commit.new.self.0 ≡ c.conn-2-1.given.0 = sym (c.conn-2-1.given.1 (sym (c.renew_tables.ensures.same_reference ∙ c.transaction-tx.ensures.same_reference))) in
-    subst (λ h. Survives (state g.S.Store c.args.conn.now) (state g.S.Store h) (StandsRenewed (state g.S.Store c.args.conn.now).now)) ends
-    (made_survives g.S.Store c.args.conn.now (done g a) (last g a) (late g a) IsRenewed (made g a sees) (within g a) c.commit.ensures.survives)
+    subst (λ h. Survives (state g.S.Store c.args.conn.now) (state g.S.Store h) (StandsRenewed (state g.S.Store c.args.conn.now))) ends
+    (made_survives g.S.Store c.args.conn.now (done g a) (last g a) (late g a) IsRenewed (made g a sees) (λ clean. ((ran g a).on clean refl).0) (within g a) c.commit.ensures.survives)
 
 pub returns-clause-beside_crash : goal.returns-clause-beside_crash
 returns-clause-beside_crash g c sees =
     let a = (goal.at.returns-clause-beside_crash g c).After-commit in
     let ends : c.commit.new.self.0 ≡ c.conn-2-1.given.0 = sym (c.conn-2-1.given.1 (sym (c.renew_tables.ensures.same_reference ∙ c.transaction-tx.ensures.same_reference))) in
-    subst (λ h. Survives (state g.S.Store c.args.conn.now) (state g.S.Store h) (StandsRenewed (state g.S.Store c.args.conn.now).now)) ends
-    (made_survives g.S.Store c.args.conn.now (done g a) (last g a) (late g a) IsRenewed (made g a sees) (within g a) c.commit.ensures.survives)
+    subst (λ h. Survives (state g.S.Store c.args.conn.now) (state g.S.Store h) (StandsRenewed (state g.S.Store c.args.conn.now))) ends
+    (made_survives g.S.Store c.args.conn.now (done g a) (last g a) (late g a) IsRenewed (made g a sees) (λ clean. ((ran g a).on clean refl).0) (within g a) c.commit.ensures.survives)
 
 pub returns-clause-beside : goal.returns-clause-beside
 returns-clause-beside g c sees =
