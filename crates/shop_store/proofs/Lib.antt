@@ -6,6 +6,7 @@ pub mod Taking
 pub mod Adopting
 pub mod Checked
 pub mod EarlierContents
+pub mod RenewedBeside
 pub mod Renewals
 pub mod Commits
 -- parts that are found under their names

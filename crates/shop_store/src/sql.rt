@@ -7,7 +7,8 @@ ghost use Rattle.sqlite.specs.Does.{lacks_sequence};
 ghost use Rattle.sqlite.specs.State.{HasCleanDisk, Survives};
 ghost use Rattle.sqlite.specs.Steps.{over_memory};
 ghost use Rattle.shop_records.specs.Content.{Content, no_totals as nothing, parts_of, fresh};
-ghost use Rattle.shop_tables.specs.Adopting.{HasVersion, HoldsBeside, IsAsBefore, IsVacant, StandsBeside, names_are_free};
+ghost use Rattle.shop_tables.specs.Adopting.{HasVersion, HoldsBeside, IsAsBefore, IsVacant, StandsBeside, names_are_earlier, names_are_free};
+ghost use Rattle.shop_tables.specs.Renewing.{HoldsRenewed, SeesEarlier, StandsRenewed};
 ghost use Rattle.shop_statements.specs.Earlier.{earlier_schema};
 ghost use Rattle.shop_tables.specs.Held.{HoldsContent, IsSettledAt, LeavesOnly, StandsFor};
 ghost use Rattle.shop_statements.specs.Layout.{no_schema, HasShopTables};
@@ -152,7 +153,14 @@ fn renew<S: Alter>(
         → Leaves (state S.Store conn.old) (state S.Store conn.new) }
     ensures neither { result ≡ Err WrongVersion → HasCleanDisk (state S.Store conn.new)
         → (m : Content) → HoldsEarlierContent (state S.Store conn.old) m → ⊥ }
+    ensures beside { SeesEarlier (state S.Store conn.old)
+        → OnOk result (HoldsRenewed (state S.Store conn.old) (state S.Store conn.new)) }
+    ensures undone { OnErr result (IsAsBefore (state S.Store conn.old) (state S.Store conn.new)) }
+    ensures beside_crash { SeesEarlier (state S.Store conn.old)
+        → Survives (state S.Store conn.old) (state S.Store conn.new)
+        (StandsRenewed (state S.Store conn.old)) }
 {
+    let _outside = conn.is_autocommit();
     match have_earlier_sums(alloc, conn, names) {
         Ok(true) => {}
         Ok(false) => return Err(BookFault::WrongVersion),
@@ -268,6 +276,16 @@ impl<S: Alter> SqlBook<S> {
             → EitherWay (λ book. book.conn)
             (λ after. Survives (state S.Store conn) (state S.Store after)
             (StandsBeside (state S.Store conn).now)) result }
+        ensures renewed_beside { names_are_earlier conn.schema ≡ true
+            → SeesEarlier (state S.Store conn)
+            → IfOk result (λ book. HoldsRenewed (state S.Store conn) (state S.Store book.conn)) }
+        ensures earlier_undone { names_are_earlier conn.schema ≡ true
+            → IfErr result (λ back. IsAsBefore (state S.Store conn) (state S.Store back.1)) }
+        ensures renewed_beside_crash { names_are_earlier conn.schema ≡ true
+            → SeesEarlier (state S.Store conn)
+            → EitherWay (λ book. book.conn)
+            (λ after. Survives (state S.Store conn) (state S.Store after)
+            (StandsRenewed (state S.Store conn))) result }
     {
         match adopt_tables(&mut conn) {
             Ok(Adopted::Made) => Ok(SqlBook::over(alloc, conn, PartNames::new(alloc))),
@@ -332,6 +350,14 @@ impl<S: Alter> SqlBook<S> {
         ensures neither { IfErr result
             (λ back. back.0 ≡ WrongVersion → HasCleanDisk (state S.Store back.1) → (m : Content)
             → HoldsEarlierContent (state S.Store conn) m → ⊥) }
+        ensures beside { SeesEarlier (state S.Store conn)
+            → IfOk result (λ book. HoldsRenewed (state S.Store conn) (state S.Store book.conn)) }
+        ensures undone { IfErr result
+            (λ back. IsAsBefore (state S.Store conn) (state S.Store back.1)) }
+        ensures beside_crash { SeesEarlier (state S.Store conn)
+            → EitherWay (λ book. book.conn)
+            (λ after. Survives (state S.Store conn) (state S.Store after)
+            (StandsRenewed (state S.Store conn))) result }
     {
         let mut names = PartNames::new(alloc);
         match renew(alloc, &mut conn, &mut names) {

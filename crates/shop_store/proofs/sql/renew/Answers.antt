@@ -1,7 +1,9 @@
-use Rattle.std.proofs.Common.{◌∙◌, sym, true≢false}
+use Rattle.std.specs.Prelude.{not}
+use Rattle.std.proofs.Common.{◌∙◌, sym, ap, true≢false}
 use Rattle.sqlite.specs.Held.{state}
 use Rattle.shop_tables.specs.Held.{books}
 use Rattle.shop_store.proofs.EarlierContents.{renewed_survives, stays_earlier_content}
+use Rattle.shop_store.proofs.RenewedBeside.{crash_then, left_as_before, left_survives, renewed_then, sees_still, undone_then}
 use Rattle.shop_store.proofs.sql.renew.Goals as goal
 
 -- ---- the totals weren't the sums, or it wasn't known
@@ -43,3 +45,29 @@ returns-in-Err-renew_shop-clause-as_before g c m was =
 pub returns-in-Err-renew_shop-clause-crash : goal.returns-in-Err-renew_shop-clause-crash
 returns-in-Err-renew_shop-clause-crash g c m was =
     renewed_survives (state g.S.Store c.args.conn.now) (state g.S.Store c.have_earlier_sums.new.conn) (state g.S.Store c.renew_shop.new.conn) c.have_earlier_sums.ensures.leaves m was c.in-Err-renew_shop.ensures.crash
+
+-- ---- beside tables of others
+
+pub returns-in-Ok-false-clause-undone : goal.returns-in-Ok-false-clause-undone
+returns-in-Ok-false-clause-undone g c = left_as_before (state g.S.Store c.args.conn.now) (state g.S.Store c.have_earlier_sums.new.conn) c.have_earlier_sums.ensures.leaves (c.is_autocommit-outside.ensures.settled (c.is_autocommit-outside.ensures.value ∙ ap not c.requires))
+
+pub returns-in-Ok-false-clause-beside_crash : goal.returns-in-Ok-false-clause-beside_crash
+returns-in-Ok-false-clause-beside_crash g c sees = left_survives (state g.S.Store c.args.conn.now) (state g.S.Store c.have_earlier_sums.new.conn) c.have_earlier_sums.ensures.leaves (c.is_autocommit-outside.ensures.settled (c.is_autocommit-outside.ensures.value ∙ ap not c.requires))
+
+pub returns-in-Err-clause-undone : goal.returns-in-Err-clause-undone
+returns-in-Err-clause-undone g c = left_as_before (state g.S.Store c.args.conn.now) (state g.S.Store c.have_earlier_sums.new.conn) c.have_earlier_sums.ensures.leaves (c.is_autocommit-outside.ensures.settled (c.is_autocommit-outside.ensures.value ∙ ap not c.requires))
+
+pub returns-in-Err-clause-beside_crash : goal.returns-in-Err-clause-beside_crash
+returns-in-Err-clause-beside_crash g c sees = left_survives (state g.S.Store c.args.conn.now) (state g.S.Store c.have_earlier_sums.new.conn) c.have_earlier_sums.ensures.leaves (c.is_autocommit-outside.ensures.settled (c.is_autocommit-outside.ensures.value ∙ ap not c.requires))
+
+pub returns-in-Ok-clause-beside : goal.returns-in-Ok-clause-beside
+returns-in-Ok-clause-beside g c sees = renewed_then (state g.S.Store c.args.conn.now) (state g.S.Store c.have_earlier_sums.new.conn) c.have_earlier_sums.ensures.leaves (c.is_autocommit-outside.ensures.settled (c.is_autocommit-outside.ensures.value ∙ ap not c.requires)) (state g.S.Store c.renew_shop.new.conn) c.in-Ok.ensures.earlier (c.in-Ok.ensures.beside (sees_still (state g.S.Store c.args.conn.now) (state g.S.Store c.have_earlier_sums.new.conn) c.have_earlier_sums.ensures.leaves (c.is_autocommit-outside.ensures.settled (c.is_autocommit-outside.ensures.value ∙ ap not c.requires)) sees))
+
+pub returns-in-Ok-clause-beside_crash : goal.returns-in-Ok-clause-beside_crash
+returns-in-Ok-clause-beside_crash g c sees = crash_then (state g.S.Store c.args.conn.now) (state g.S.Store c.have_earlier_sums.new.conn) c.have_earlier_sums.ensures.leaves (c.is_autocommit-outside.ensures.settled (c.is_autocommit-outside.ensures.value ∙ ap not c.requires)) (state g.S.Store c.renew_shop.new.conn) (c.in-Ok.ensures.beside_crash (sees_still (state g.S.Store c.args.conn.now) (state g.S.Store c.have_earlier_sums.new.conn) c.have_earlier_sums.ensures.leaves (c.is_autocommit-outside.ensures.settled (c.is_autocommit-outside.ensures.value ∙ ap not c.requires)) sees))
+
+pub returns-in-Err-renew_shop-clause-undone : goal.returns-in-Err-renew_shop-clause-undone
+returns-in-Err-renew_shop-clause-undone g c = undone_then (state g.S.Store c.args.conn.now) (state g.S.Store c.have_earlier_sums.new.conn) c.have_earlier_sums.ensures.leaves (c.is_autocommit-outside.ensures.settled (c.is_autocommit-outside.ensures.value ∙ ap not c.requires)) (state g.S.Store c.renew_shop.new.conn) c.in-Err-renew_shop.ensures.earlier c.in-Err-renew_shop.ensures.undone
+
+pub returns-in-Err-renew_shop-clause-beside_crash : goal.returns-in-Err-renew_shop-clause-beside_crash
+returns-in-Err-renew_shop-clause-beside_crash g c sees = crash_then (state g.S.Store c.args.conn.now) (state g.S.Store c.have_earlier_sums.new.conn) c.have_earlier_sums.ensures.leaves (c.is_autocommit-outside.ensures.settled (c.is_autocommit-outside.ensures.value ∙ ap not c.requires)) (state g.S.Store c.renew_shop.new.conn) (c.in-Err-renew_shop.ensures.beside_crash (sees_still (state g.S.Store c.args.conn.now) (state g.S.Store c.have_earlier_sums.new.conn) c.have_earlier_sums.ensures.leaves (c.is_autocommit-outside.ensures.settled (c.is_autocommit-outside.ensures.value ∙ ap not c.requires)) sees))

@@ -13,6 +13,7 @@ use Rattle.shop_statements.proofs.Reading.{leaves_then}
 use Rattle.shop_store.proofs.Adopting.{holds_fresh, survives_fresh, leaves_fresh, holds_settled, wrong_version}
 use Rattle.shop_store.proofs.Checked.{either_way, if_back, if_book}
 use Rattle.shop_store.proofs.EarlierContents.{leaves_survives, settled_earlier}
+use Rattle.shop_store.proofs.RenewedBeside.{crash_then, left_survives, renewed_then, sees_still, undone_then}
 use Rattle.shop_store.proofs.sql.SqlBook.adopt.Goals as goal
 
 -- ---- tables were made
@@ -297,3 +298,42 @@ returns-in-Ok-Earlier-clause-beside_crash g c free counts = absurd (let e = (c.i
 
 pub returns-in-Err-clause-beside_crash : goal.returns-in-Err-clause-beside_crash
 returns-in-Err-clause-beside_crash g c free counts = c.in-Err.ensures.beside_crash counts
+
+-- ---- version 1 beside tables of others
+
+pub returns-in-Ok-Made-clause-renewed_beside : goal.returns-in-Ok-Made-clause-renewed_beside
+returns-in-Ok-Made-clause-renewed_beside g c names sees = absurd (let e = (c.in-Ok-Made.ensures.earlier_names names).0 in let f = c.in-Ok-Made.field-0-is in cc)
+
+pub returns-in-Ok-Made-clause-earlier_undone : goal.returns-in-Ok-Made-clause-earlier_undone
+returns-in-Ok-Made-clause-earlier_undone g c names = absurd (let e = (c.in-Ok-Made.ensures.earlier_names names).0 in let f = c.in-Ok-Made.field-0-is in cc)
+
+pub returns-in-Ok-Made-clause-renewed_beside_crash : goal.returns-in-Ok-Made-clause-renewed_beside_crash
+returns-in-Ok-Made-clause-renewed_beside_crash g c names sees = absurd (let e = (c.in-Ok-Made.ensures.earlier_names names).0 in let f = c.in-Ok-Made.field-0-is in cc)
+
+pub returns-in-Ok-Found-clause-renewed_beside : goal.returns-in-Ok-Found-clause-renewed_beside
+returns-in-Ok-Found-clause-renewed_beside g c names sees = absurd (let e = (c.in-Ok-Found.ensures.earlier_names names).0 in let f = c.in-Ok-Found.field-0-is in cc)
+
+pub returns-in-Ok-Found-clause-earlier_undone : goal.returns-in-Ok-Found-clause-earlier_undone
+returns-in-Ok-Found-clause-earlier_undone g c names = absurd (let e = (c.in-Ok-Found.ensures.earlier_names names).0 in let f = c.in-Ok-Found.field-0-is in cc)
+
+pub returns-in-Ok-Found-clause-renewed_beside_crash : goal.returns-in-Ok-Found-clause-renewed_beside_crash
+returns-in-Ok-Found-clause-renewed_beside_crash g c names sees = absurd (let e = (c.in-Ok-Found.ensures.earlier_names names).0 in let f = c.in-Ok-Found.field-0-is in cc)
+
+pub returns-in-Ok-Earlier-clause-renewed_beside : goal.returns-in-Ok-Earlier-clause-renewed_beside
+returns-in-Ok-Earlier-clause-renewed_beside g c names sees =
+    let leaves = (c.in-Ok-Earlier.ensures.earlier_names names).1 in
+    if_book (λ book. book.conn) _ (λ book early held. renewed_then (state g.S.Store c.args.conn) (state g.S.Store c.adopt_tables.new.conn) leaves c.in-Ok-Earlier.ensures.settled (state g.S.Store book.conn) early held) c.renewed.result c.renewed.ensures.earlier
+    (c.renewed.ensures.beside (sees_still (state g.S.Store c.args.conn) (state g.S.Store c.adopt_tables.new.conn) leaves c.in-Ok-Earlier.ensures.settled sees))
+
+pub returns-in-Ok-Earlier-clause-earlier_undone : goal.returns-in-Ok-Earlier-clause-earlier_undone
+returns-in-Ok-Earlier-clause-earlier_undone g c names =
+    let leaves = (c.in-Ok-Earlier.ensures.earlier_names names).1 in
+    if_back (λ book. book.conn) _ (λ back early undone. undone_then (state g.S.Store c.args.conn) (state g.S.Store c.adopt_tables.new.conn) leaves c.in-Ok-Earlier.ensures.settled (state g.S.Store back.1) early undone) c.renewed.result c.renewed.ensures.earlier c.renewed.ensures.undone
+
+pub returns-in-Ok-Earlier-clause-renewed_beside_crash : goal.returns-in-Ok-Earlier-clause-renewed_beside_crash
+returns-in-Ok-Earlier-clause-renewed_beside_crash g c names sees =
+    let leaves = (c.in-Ok-Earlier.ensures.earlier_names names).1 in
+    either_way (λ book. book.conn) _ (λ h s. crash_then (state g.S.Store c.args.conn) (state g.S.Store c.adopt_tables.new.conn) leaves c.in-Ok-Earlier.ensures.settled (state g.S.Store h) s) c.renewed.result (c.renewed.ensures.beside_crash (sees_still (state g.S.Store c.args.conn) (state g.S.Store c.adopt_tables.new.conn) leaves c.in-Ok-Earlier.ensures.settled sees))
+
+pub returns-in-Err-clause-renewed_beside_crash : goal.returns-in-Err-clause-renewed_beside_crash
+returns-in-Err-clause-renewed_beside_crash g c names sees = left_survives (state g.S.Store c.args.conn) (state g.S.Store c.adopt_tables.new.conn) (c.in-Err.ensures.earlier_names names).1 c.in-Err.ensures.settled

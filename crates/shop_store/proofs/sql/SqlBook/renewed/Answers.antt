@@ -3,6 +3,7 @@ use Rattle.sqlite.specs.Held.{state}
 use Rattle.sqlite.specs.State.{Survives}
 use Rattle.shop_tables.specs.Held.{HoldsContent, LeavesOnly, StandsFor}
 use Rattle.shop_statements.specs.Shown.{HasShopSchema}
+use Rattle.shop_tables.specs.Renewing.{HoldsRenewed, StandsRenewed}
 use Rattle.shop_store.proofs.sql.SqlBook.renewed.Goals as goal
 
 pub returns-in-Ok-clause-renewed : goal.returns-in-Ok-clause-renewed
@@ -19,3 +20,9 @@ returns-in-Err-clause-neither g c is clean m was = c.in-Err.ensures.neither (ap 
 
 pub returns-in-Ok-clause-schema : goal.returns-in-Ok-clause-schema
 returns-in-Ok-clause-schema g c m was = subst (λ h. HasShopSchema (state g.S.Store h)) (sym c.over.ensures.conn) (c.in-Ok.ensures.schema m was)
+
+pub returns-in-Ok-clause-beside : goal.returns-in-Ok-clause-beside
+returns-in-Ok-clause-beside g c sees = subst (λ h. HoldsRenewed (state g.S.Store c.args.conn) (state g.S.Store h)) (sym c.over.ensures.conn) (c.in-Ok.ensures.beside sees)
+
+pub returns-in-Ok-clause-beside_crash : goal.returns-in-Ok-clause-beside_crash
+returns-in-Ok-clause-beside_crash g c sees = subst (λ h. Survives (state g.S.Store c.args.conn) (state g.S.Store h) (StandsRenewed (state g.S.Store c.args.conn))) (sym c.over.ensures.conn) (c.in-Ok.ensures.beside_crash sees)
