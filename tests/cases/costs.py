@@ -151,7 +151,7 @@ def many_parts_at_once(trial):
 @case(
     "a demand's row is read once",
     "A plan of 200 pieces of one demand, and an order of 200 lines of one material, each of which is refused for its last one, "
-    "take less processor time over a file than half of those of 200 demands and of 200 materials.",
+    "take less than two thirds of the processor time over a file that those of 200 demands and of 200 materials take.",
 )
 def read_once(trial):
     codes = [f"M-{it}" for it in range(200)]
@@ -182,4 +182,4 @@ def read_once(trial):
         "materials": refused(*order(codes)),
     }
     told = measured(shop, deeds)
-    trial.holds(2 * told["a demand"] < told["demands"] and 2 * told["a material"] < told["materials"], f"{told}")
+    trial.holds(3 * told["a demand"] < 2 * told["demands"] and 3 * told["a material"] < 2 * told["materials"], f"{told}")

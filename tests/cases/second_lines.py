@@ -339,12 +339,13 @@ WANTING = b"cutshop: answered 98 NoMemory; end other programs, or give this one 
 def wanting(trial):
     yard, (asked, _) = yard_of("bar")
 
-    def answered(at, request):
+    def answered(number, at, request):
         faults = Faults(trial, "memory", at=at)
         # (a longer name would take more requests)
-        folder = trial.path(f"{at:06}")
+        name = f"{number}{at:05}"
+        folder = trial.path(name)
         os.mkdir(folder)
-        shop = trial.shop(f"{at:06}.db", environment=faults.environment, words=("--backup", folder))
+        shop = trial.shop(f"{name}.db", environment=faults.environment, words=("--backup", folder))
         yard.fill(trial, shop)
         first, got = faults.calls(), shop.exchange(request)
         last = faults.calls()
@@ -354,13 +355,14 @@ def wanting(trial):
         return first, last, got, errors.count(WANTING)
 
     # (another terminal than the yard's)
-    for line in (MATERIAL.replace('"terminal":1', '"terminal":2'), '{"ask":"materials"}', asked, None):
+    lines = (MATERIAL.replace('"terminal":1', '"terminal":2'), '{"ask":"materials"}', asked, None)
+    for number, line in enumerate(lines):
         request = request_of(line) if line else b"POST /backup HTTP/1.1\r\nHost: shop\r\nContent-Length: 0\r\n\r\n"
-        first, last, got, told = answered(0, request)
+        first, last, got, told = answered(number, 0, request)
         trial.equal((got.split(b"\r\n")[0], told), (b"HTTP/1.1 200 OK", 0), line)
         refused = []
         for at in trial.places(last - first, max((last - first) // 8, 1)):
-            _, _, got, told = answered(first + at + 1, request)
+            _, _, got, told = answered(number, first + at + 1, request)
             if got == answer(503, REFUSED):
                 refused.append(at)
             trial.equal(told, got == answer(503, REFUSED), f"{line}, request {first + at + 1}: {got}")

@@ -215,8 +215,12 @@ class Shop:
 
     def connections(self):
         """How many connections it has open, beside the socket that listens."""
-        folder = f"/proc/{self.process.pid}/fd"
-        return sum(os.readlink(f"{folder}/{it}").startswith("socket:") for it in os.listdir(folder)) - 1
+        folder, opened = f"/proc/{self.process.pid}/fd", []
+        for it in os.listdir(folder):
+            # (it may be closed by now)
+            with suppress(FileNotFoundError):
+                opened.append(os.readlink(f"{folder}/{it}"))
+        return sum(it.startswith("socket:") for it in opened) - 1
 
     def has_ended(self, seconds=0.2):
         """Whether it ended by itself, or does so soon."""
