@@ -183,3 +183,33 @@ def read_once(trial):
     }
     told = measured(shop, deeds)
     trial.holds(3 * told["a demand"] < 2 * told["demands"] and 3 * told["a material"] < 2 * told["materials"], f"{told}")
+
+
+# Units that are received in `replay`: so many before its memory is looked at, and so many then.
+BEFORE, THEN = 200000, 800000
+
+
+def memory_of(process):
+    """How many bytes of memory a process has."""
+    with open(f"/proc/{process}/status", encoding="ascii") as file:
+        return next(int(it.split()[1]) * 1024 for it in file if it.startswith("VmRSS:"))
+
+
+@case(
+    "memory of a part",
+    "In `replay` 800000 units more of a batch take at most 80 bytes of memory each.",
+)
+def memory(trial):
+    yard, held = Yard(), []
+    yard.material("STEEL", 3)
+    shop = Replay(trial, {})
+    for count in (BEFORE, THEN):
+        sent = len(yard.lines)
+        for _ in range(count // 100):
+            yard.receive("STEEL", 100, 1, 100)
+        replies = shop.replies(yard.lines[sent:] if held else yard.lines)
+        trial.equal([it for it in replies if b'"ok"' not in it], [])
+        held.append(memory_of(shop.process.pid))
+    each = (held[1] - held[0]) / THEN
+    trial.holds(each <= 80, f"{each:.1f} bytes for each of {THEN} units")
+    trial.equal(shop.end(), (0, b""))
