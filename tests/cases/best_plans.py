@@ -1,6 +1,7 @@
 """Whole orders whose best plan is known, since the bound that is told with it is its cost: the search has to come to it, by so
 many tables at most. Most were made by cutting units without waste. Without this a search that finds worse plans, or needs more
-tables, would pass, as no contract says how good a plan is."""
+tables, would pass, as no contract says how good a plan is. Nothing specifies how many calls that takes: the numbers here are what
+the search was measured to need, and a quarter more, so they keep it from getting worse and don't say that it is good."""
 
 import os
 import re

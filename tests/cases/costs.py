@@ -1,4 +1,6 @@
-"""What is asked and done costs in shops whose stock is large, that are opened again, and that grew old while they were open."""
+"""What is asked and done costs in shops whose stock is large, that are opened again, and that grew old while they were open.
+
+No specification has these limits: they lie between what was measured and what a wrong body is reckoned to take."""
 
 import json
 

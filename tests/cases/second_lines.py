@@ -187,7 +187,8 @@ def system_errors(trial):
 
 @case(
     "a disk that gets full while a store is made",
-    "From the first write to its files until the shop is made, that is told as a full disk.",
+    "Of the calls on its files from which on the disk is full some are told as a full disk, and none as damage. What the others are told "
+    "this doesn't say.",
 )
 def full_at_start(trial):
     def told(at):
