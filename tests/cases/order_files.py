@@ -148,9 +148,11 @@ def unread(trial):
 def words(trial):
     path = trial.write("orders.csv", HEADER)
     order, terminal, number = MESSAGE[:2], MESSAGE[2:4], MESSAGE[4:]
-    together = [order, terminal, number, order + terminal, order + number, terminal + number]
-    mistakes = [(it, "--order, --terminal and --number of orders stand together") for it in together]
-    mistakes += [(("--order", it) + terminal + number, "--order are codes") for it in ("a-1", "")]
+    lacking = [(order, "--terminal <N>"), (terminal, "--order <CODE>"), (number, "--order <CODE>")]
+    lacking += [(order + terminal, "--number <N>"), (order + number, "--terminal <N>"), (terminal + number, "--order <CODE>")]
+    mistakes = [(it, f"'{lacks}' is missing: --order, --terminal and --number stand together") for it, lacks in lacking]
+    mistakes += [(("--order", it) + terminal + number, f"'{it}' for '--order <CODE>': a code is 1 to 16") for it in ("a-1", "")]
+    mistakes += [(("--order", "a-1"), "'a-1' for '--order <CODE>'")]
     mistakes += [(MESSAGE + order, "'--order <CODE>'"), (order + ("--terminal", "-1") + number, "'-1'")]
     mistakes += [(order + ("--terminal", it) + number, f"'{it}' for '--terminal <N>'") for it in ("0", "4294967296", "x")]
     mistakes += [(order + terminal + ("--number", "-1"), "'-1'")]

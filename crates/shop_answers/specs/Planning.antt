@@ -57,6 +57,11 @@ abbrev pub demands_refusal : (ℕ → Option Demand) → List ℕ → List ℕ �
 demands_refusal at material [] = None
 demands_refusal at material (n ∷ ns) = option_or (demand_refusal material n (at n)) (demands_refusal at material ns)
 
+-- the same of demands that were found
+abbrev pub found_refusal : List ℕ → List FoundDemand → Option Refusal
+found_refusal material [] = None
+found_refusal material (f ∷ fs) = option_or (demand_refusal material f.number f.demand) (found_refusal material fs)
+
 -- the list itself is judged first
 abbrev pub numbers_refusal : (ℕ → Option Demand) → List ℕ → List ℕ → Option Refusal
 numbers_refusal at material numbers = option_or (first_of ((are_bad_numbers numbers, BadWant) ∷ [])) (demands_refusal at material numbers)
@@ -75,6 +80,10 @@ want_of number (Some demand) =
 -- the wants for demands of which something is left, in the order of the query
 abbrev pub wants_of : (ℕ → Option Demand) → List ℕ → List Want
 wants_of at numbers = filter_map (λ n. want_of n (at n)) numbers
+
+-- the same of demands that were found
+abbrev pub found_wants : List FoundDemand → List Want
+found_wants found = filter_map (λ (f : FoundDemand). want_of f.number f.demand) found
 
 -- ---- what the planners may answer
 

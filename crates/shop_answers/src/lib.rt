@@ -10,4 +10,7 @@ pub use listing::{
     MOST_TOLD, answer_demands, answer_job, answer_orders, answer_parts, are_more, first_told,
     job_row, order_row,
 };
-pub use planning::{FoundDemand, FoundList, answer_bound, answer_plan, can_be_planned};
+pub use planning::{
+    FoundDemand, FoundList, answer_bound, answer_plan, can_be_planned, demands_refusal, left_of,
+    planner_refusal, wants_of,
+};

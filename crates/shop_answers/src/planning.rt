@@ -64,8 +64,9 @@ fn demand_refusal(material: &Code, found: &FoundDemand) -> Option<Refusal>
     }
 }
 
-// Why demands aren't planned on this material, if they aren't.
-fn demands_refusal(material: &Code, found: &[FoundDemand]) -> Option<Refusal>
+/// Why demands aren't planned on this material, if they aren't: the first refusal of 42 and 61, demand by demand.
+pub fn demands_refusal(material: &Code, found: &[FoundDemand]) -> Option<Refusal>
+    ensures found { result ≡ planning.found_refusal material.now found.now }
     ensures refusal { (at : ℕ → Option DemandOf) → AreFound at found.now
         → result ≡ planning.demands_refusal at material.now (numbers_in found.now) }
     ensures numbers { IfNone result (All HasNumber found.now) }
@@ -80,15 +81,22 @@ fn demands_refusal(material: &Code, found: &[FoundDemand]) -> Option<Refusal>
     }
 }
 
+/// How many pieces of a demand are neither reserved nor made.
+pub fn left_of(demand: &Demand) -> u32
+    ensures { result ≡ planning.left_of demand.now }
+{
+    demand
+        .wanted
+        .saturating_sub(demand.reserved)
+        .saturating_sub(demand.made)
+}
+
 // What is left of a demand, if anything is.
 fn want_of(found: &FoundDemand) -> Option<Want>
     ensures { result ≡ planning.want_of found.now.number found.now.demand }
 {
     let demand = found.demand?;
-    let left = demand
-        .wanted
-        .saturating_sub(demand.reserved)
-        .saturating_sub(demand.made);
+    let left = left_of(&demand);
     if left == 0 {
         return None;
     }
@@ -101,11 +109,11 @@ fn want_of(found: &FoundDemand) -> Option<Want>
     })
 }
 
-// The wants for demands of which something is left.
-fn wants_of(alloc: Global, found: &[FoundDemand]) -> Result<Vec<Want>, AllocError>
+/// The wants for demands of which something is left, in their order. An Err is want of memory.
+pub fn wants_of(alloc: Global, found: &[FoundDemand]) -> Result<Vec<Want>, AllocError>
     requires { All HasNumber found.now }
     ensures wants { IfOk result
-        (λ wants. wants.items ≡ filter_map (λ f. planning.want_of f.number f.demand) found.now) }
+        (λ wants. wants.items ≡ planning.found_wants found.now) }
     ensures demands { IfOk result (λ wants. AreDemands wants.items) }
 {
     found.iter().filter_map(want_of).collect(alloc)
@@ -149,9 +157,10 @@ pub(crate) fn tree_text(alloc: Global, plan: &Plan) -> Result<Text, AllocError>
     Ok(Text::of(text))
 }
 
-// The refusal that tells of a planner's fault.
-fn planner_refusal(fault: PlanFault) -> Refusal
-    ensures { result ≡ planning.planner_refusal fault }
+/// The refusal that tells of a planner's fault.
+pub fn planner_refusal(fault: PlanFault) -> Refusal
+    ensures value { result ≡ planning.planner_refusal fault }
+    ensures store { result ≢ StoreFault }
 {
     match fault {
         PlanFault::BadWant => Refusal::BadWant,

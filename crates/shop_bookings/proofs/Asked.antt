@@ -23,10 +23,10 @@ use Rattle.shop_records.specs.Soundness.{IsSound}
 use Rattle.shop_records.proofs.Basics.{names_total, same_some}
 use Rattle.shop_machine.proofs.Allowed.{none_of, or_none}
 use Rattle.shop_answers.specs.declared.planning.FoundDemand.{FoundDemand}
-use Rattle.shop_answers.specs.Planning.{demand_refusal, is_demand_number, left_of, planned_size, want_of}
+use Rattle.shop_answers.specs.Planning.{demand_refusal, found_refusal, found_wants, is_demand_number, left_of, planned_size, want_of}
 use Rattle.shop_planning.specs.declared.posed.StockPart.{StockPart}
 use Rattle.shop_planning.specs.Asked.{demands_for, parts_for, found_demand, with_row, has_left, can_be_planned, is_long}
-use Rattle.shop_planning.specs.Questions.{demands_refusal, part_refusal, parts_refusal, wants_of}
+use Rattle.shop_planning.specs.Questions.{part_refusal, parts_refusal}
 use Rattle.shop_planning.specs.Stock.{parts_from, stock_part, stock_parts}
 use Rattle.shop_bookings.proofs.Values.{each_found}
 
@@ -64,21 +64,21 @@ module _ (m : Content) (code : List ℕ) where
       by false e =
           subst (IsWantOf m code) (same_some want x e) (record { demand = d; found = found; of = of; size = refl; turns = refl; left = refl })
 
-  all_wanted : (fs : List FoundDemand) → AllByRecursion (IsFound m code) fs → All (IsWantOf m code) (wants_of fs)
+  all_wanted : (fs : List FoundDemand) → AllByRecursion (IsFound m code) fs → All (IsWantOf m code) (found_wants fs)
   all_wanted [] all = All-nil (IsWantOf m code)
   all_wanted (f ∷ fs) all = by (want_of f.number f.demand) refl (all_wanted fs all.1)
     where
-      by : (o : Option Want) → want_of f.number f.demand ≡ o → All (IsWantOf m code) (wants_of fs) → All (IsWantOf m code) (cons_option o (wants_of fs))
+      by : (o : Option Want) → want_of f.number f.demand ≡ o → All (IsWantOf m code) (found_wants fs) → All (IsWantOf m code) (cons_option o (found_wants fs))
       by None e more = more
       by (Some x) e more =
-          All-cons (IsWantOf m code) x (wants_of fs)
+          All-cons (IsWantOf m code) x (found_wants fs)
           (want_found f.number all.0.demand x all.0.found all.0.of (ap (want_of f.number) (sym all.0.is) ∙ e)) more
 
   -- demands that are named and not refused
-  named_found : (ns : List ℕ) → demands_refusal code (map (found_demand m) ns) ≡ None → AllByRecursion (IsFound m code) (map (found_demand m) ns)
+  named_found : (ns : List ℕ) → found_refusal code (map (found_demand m) ns) ≡ None → AllByRecursion (IsFound m code) (map (found_demand m) ns)
   named_found [] e = tt
   named_found (n ∷ ns) e =
-      let both = or_none (demand_refusal code n (demand_at m n)) (demands_refusal code (map (found_demand m) ns)) e in
+      let both = or_none (demand_refusal code n (demand_at m n)) (found_refusal code (map (found_demand m) ns)) e in
       (by (demand_at m n) refl both.0, named_found ns both.1)
     where
       by : (o : Option Demand) → demand_at m n ≡ o → demand_refusal code n o ≡ None → IsFound m code (found_demand m n)
@@ -105,7 +105,7 @@ module _ (m : Content) (code : List ℕ) where
         (All-filter asked Kept (values m.demands) (each_found nat_cmp_total m.demands Kept (λ n d is. ap (demand_at m) (sound.demands n d is).numbered ∙ is)))
         (filter_passes asked (values m.demands))
 
-    pub wants_found : (named : Option (List ℕ)) → demands_refusal code (demands_for m code named) ≡ None → All (IsWantOf m code) (wants_of (demands_for m code named))
+    pub wants_found : (named : Option (List ℕ)) → found_refusal code (demands_for m code named) ≡ None → All (IsWantOf m code) (found_wants (demands_for m code named))
     wants_found None e =
         let P = λ (d : Demand). IsFound m code (with_row d) in
         let rows = take MOST_NUMBERS (open_demands m 0 (Some code)) in

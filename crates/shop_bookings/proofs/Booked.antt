@@ -25,7 +25,7 @@ use Rattle.shop_records.specs.Messages.{Texts, pair_of}
 use Rattle.shop_records.specs.Soundness.{IsSound}
 use Rattle.shop_records.proofs.Basics.{all_in, any_in, in_map, map_in, same_some}
 use Rattle.shop_records.proofs.Puts.{Pairwise, all_from, pairs_from, pairs_in}
-use Rattle.shop_answers.specs.Planning.{left_of}
+use Rattle.shop_answers.specs.Planning.{found_refusal, left_of}
 use Rattle.shop_machine.specs.Machine.{Run}
 use Rattle.shop_machine.proofs.Allowed.{or_none}
 use Rattle.shop_plans.specs.declared.answers.PlansReply.{PlansReply}
@@ -37,7 +37,7 @@ use Rattle.shop_planning.specs.declared.telling.Entry.{Entry}
 use Rattle.shop_planning.specs.Answers.{IsPlansReply}
 use Rattle.shop_planning.specs.Asked.{demands_for, parts_for}
 use Rattle.shop_planning.specs.Entries.{entries_of, is_of}
-use Rattle.shop_planning.specs.Questions.{IsPosed, demands_refusal, parts_refusal, rows_refusal}
+use Rattle.shop_planning.specs.Questions.{IsPosed, parts_refusal, rows_refusal}
 use Rattle.shop_planning.specs.Shares.{are_alike, share_of, shares_of}
 use Rattle.shop_planning.specs.Stock.{firsts}
 use Rattle.shop_planning.proofs.Firsts.{all_firsts}
@@ -122,14 +122,14 @@ module _ (texts : Texts) (m : Content) (sound : IsSound texts m) (q : PlansQuery
   wants_are : All (IsWantOf m q.material) wants
   wants_are =
       subst (All (IsWantOf m q.material)) (sym asks.is.wants)
-      (wants_found m q.material texts sound q.demands (or_none (demands_refusal q.material (demands_for m q.material q.demands)) _ rows_allowed).0)
+      (wants_found m q.material texts sound q.demands (or_none (found_refusal q.material (demands_for m q.material q.demands)) _ rows_allowed).0)
 
   parts_are : All (IsPartOf m q.material material.kind) answer.plans.ranked
   parts_are =
       All-permutation (IsPartOf m q.material material.kind) posed.parts.items answer.plans.ranked answer.plans.parts.all
       (subst (All (IsPartOf m q.material material.kind)) (sym asks.is.parts)
       (parts_found m q.material material.kind texts sound q.remnant q.parts
-      (or_none (parts_refusal q.material (parts_for m q.material material.kind q.parts)) _ (or_none (demands_refusal q.material (demands_for m q.material q.demands)) _ rows_allowed).1).0))
+      (or_none (parts_refusal q.material (parts_for m q.material material.kind q.parts)) _ (or_none (found_refusal q.material (demands_for m q.material q.demands)) _ rows_allowed).1).0))
 
   planned : All (IsPlannedUnit wants material.limits.kerf sizes) units
   planned = subst (λ k. All (IsPlannedUnit wants k sizes) units) asks.is.kerf answer.answers.planned.plan.planned

@@ -1,5 +1,5 @@
 -- What the program did: what was written, and with which status it ended.
-use Rattle.std.specs.Prelude.{◌≡◌, ◌≢◌, ◌⊎◌, ℕ, List, [], ◌∷◌, ◌++◌, Option, Result, Ok, Err, codes, option_map}
+use Rattle.std.specs.Prelude.{◌≡◌, ◌≢◌, ◌⊎◌, ℕ, List, [], ◌∷◌, ◌++◌, Result, Ok, Err, codes, option_map}
 use Rattle.clap.specs.Kinds.{IsAmong}
 use Rattle.clap.specs.Faults as clap
 use Rattle.clap.specs.Words.{Text, subcommand_of}
@@ -17,6 +17,8 @@ use Rattle.shop_words.specs.declared.words.Request.{Request}
 use Rattle.shop_words.specs.declared.words.Request.TheVariants.{Replay, Plan, PlanOrder, Orders, Serve, Ticket, Yield}
 use Rattle.shop_words.specs.declared.words.TheConstants.{VERSION}
 use Rattle.shop_words.specs.CommandLine.{AsksFor, AsksNothing, shop_app}
+use Rattle.shop_words.specs.Mistakes.{IsMistakeOf, mistake_text}
+use Rattle.shop_words.specs.declared.mistakes.Mistake.{Mistake}
 use Rattle.shop_commands.specs.Advice.{IsFaultTold, fault_line, no_memory_line}
 use Rattle.shop_commands.specs.Orders.{IsOrdersDone, IsOrdersStopped}
 use Rattle.shop_commands.specs.Plans.{IsFilePlan, IsFileFault, IsFileWhole, IsFileWholeFault}
@@ -113,14 +115,19 @@ module _ (out err : SinkChange) where
       ⊎ ((kind ≢ DisplayHelp) × (kind ≢ DisplayVersion) × (kind ≢ OutOfMemory) × (status ≡ 2) × AddsNone out × AddsSome err)
       ⊎ ((status ≡ 1) × AddsNone out × TellsFault NoMemory err)
 
+-- a mistake was told, with status 2; or that memory for its text ran out
+abbrev pub IsMistakeTold : Mistake → (err : SinkChange) → ℕ → Type 0
+IsMistakeTold mistake err status = ((status ≡ 2) × IsWritten err (mistake_text mistake)) ⊎ ((status ≡ 1) × TellsFault NoMemory err)
+
 -- what `clap` finds wrong with the words
 abbrev pub faults_of : List Text → List ErrorKind
 faults_of words = clap.fault_of shop_app words
 
 -- The words ask for something, which was done or stopped by a fault; or `clap` said something to them; or it took them, and they
--- ask for nothing.
+-- ask for nothing, by a mistake that was told.
 abbrev pub IsPerformed : {B : Type 0} → Ghosts B → (List ℕ → Result B OpenFault → Type 0) → List Text → (input : SourceChange) → (out err : SinkChange) → ℕ → Type 0
 IsPerformed book gives words input out err status =
     ((request : Request) × (faults_of words ≡ []) × AsksFor (subcommand_of shop_app words) request × IsConcluded book gives input out err request status)
     ⊎ ((kind : ErrorKind) × ((kind ≡ OutOfMemory) ⊎ IsAmong kind (faults_of words)) × IsTold out err kind status)
-    ⊎ ((faults_of words ≡ []) × AsksNothing (subcommand_of shop_app words) × (status ≡ 2) × AddsNone out × AddsSome err)
+    ⊎ ((faults_of words ≡ []) × AsksNothing (subcommand_of shop_app words)
+    × ((mistake : Mistake) × IsMistakeOf (subcommand_of shop_app words) mistake × IsMistakeTold mistake err status) × AddsNone out)

@@ -1,7 +1,6 @@
 //! `cutshop orders`: an order file is checked, or becomes a message.
 
 ghost use Rattle.std.specs.Prelude.{◌≡◌, IfOk, IfErr, OnOk, string_bytes};
-ghost use Rattle.shop_files.specs.declared.orders.OrdersFault.{OrdersFault as OrdersFaultOf};
 ghost use Rattle.shop_commands.specs.Orders as spec;
 ghost use Rattle.shop_commands.specs.Sinks.{change_of};
 

@@ -8,7 +8,7 @@ ghost use Rattle.shop_wire.specs.Streams.{most_reads};
 ghost use Rattle.shop_words.specs.CommandLine.{HasKerf};
 ghost use Rattle.shop_commands.specs.Advice.{IsAdviceOf};
 ghost use Rattle.shop_commands.specs.Performs as spec;
-ghost use Rattle.shop_commands.specs.Performs.{Concludes, IsDone, IsHelped, IsPerformed, IsPlanDone, IsPlanStopped, IsStopped, IsTold, TellsFault};
+ghost use Rattle.shop_commands.specs.Performs.{Concludes, IsDone, IsHelped, IsMistakeTold, IsPerformed, IsPlanDone, IsPlanStopped, IsStopped, IsTold, TellsFault};
 ghost use Rattle.shop_commands.specs.Plans.{IsFileFault, IsFilePlan, IsFileWhole, IsFileWholeFault};
 ghost use Rattle.shop_commands.specs.Sinks.{change_of};
 ghost use Rattle.shop_commands.specs.Sources.{source_change};
@@ -26,16 +26,12 @@ use shop_opening::Opens;
 use shop_problems::{USUAL_CALLS, WholePlan};
 use shop_store::Book;
 use shop_text::{Sink, Source};
-use shop_words::{Request, VERSION, request_of};
+use shop_words::{Mistake, Reading, Request, VERSION, mistake_text, request_of};
 use std::alloc::{AllocError, Global};
 use std::fs::Files;
 use std::io::Eprint;
 use std::net::Net;
 use std::time::Clock;
-
-// What is told where words that `clap` takes ask for nothing.
-const NOTHING_ASKED: &str =
-    "error: MATERIAL and --order are codes, 1 to 16 of A-Z, 0-9 and -; --order, --terminal and --number of orders stand together; plan wants --step or --whole, and --calls only with --whole; try '--help'\n";
 
 // Writes the lines of a fault, and gives the status of a program that stopped.
 fn tell_fault<E: Sink>(alloc: Global, fault: Fault, advice: Option<Advice>, errors: &mut E) -> u8
@@ -226,6 +222,17 @@ fn explain<W: Sink, E: Sink>(alloc: Global, error: &Error, sink: &mut W, errors:
     }
 }
 
+// Tells a mistake in words that `clap` takes.
+fn tell_mistake<E: Sink>(alloc: Global, mistake: Mistake<'_>, errors: &mut E) -> u8
+    ensures { IsMistakeTold mistake.entry (change_of E.Sink errors.old errors.new) result }
+{
+    let Ok(text) = mistake_text(alloc, mistake) else {
+        return report_fault(alloc, Fault::NoMemory, errors);
+    };
+    let _ = write_text(errors, text.as_str());
+    2
+}
+
 /// Does what the words ask for, the program's own name before them, and gives the status: 0 where it was done and for
 /// help, 2 for a mistake in the words, and else 1, with the fault as one line of `errors`, and but for an order file's one more that
 /// begins with two spaces and tells why.
@@ -251,15 +258,12 @@ pub fn perform<
     ensures reads { S.reads source.new ≤ S.reads source.old + most_reads }
 {
     match request_of(alloc, words) {
-        Ok(Some(request)) => {
+        Ok(Reading::Request(request)) => {
             let is_new = makes_store(rt, &request);
             let outcome = do_request(rt, stores, alloc, &request, source, sink);
             conclude(rt, alloc, &request, is_new, outcome, errors)
         }
-        Ok(None) => {
-            let _ = write_text(errors, NOTHING_ASKED);
-            2
-        }
+        Ok(Reading::Mistake(mistake)) => tell_mistake(alloc, mistake, errors),
         Err(error) => explain(alloc, &error, sink, errors),
     }
 }

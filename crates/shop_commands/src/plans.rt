@@ -1,7 +1,7 @@
 //! `cutshop plan`: the plan of a problem file.
 
-ghost use Rattle.std.specs.Prelude.{◌≡◌, ◌+◌, ◌≤◌, ℕ, IfOk, IfErr, string_bytes, length};
-ghost use Rattle.cut_measure.specs.declared.ranges.TheConstants.{MOST_KERF, MOST_NUMBERS};
+ghost use Rattle.std.specs.Prelude.{◌≡◌, ◌≤◌, IfOk, IfErr, string_bytes};
+ghost use Rattle.cut_measure.specs.declared.ranges.TheConstants.{MOST_KERF};
 ghost use Rattle.shop_files.specs.Problems.{ArePieces};
 ghost use Rattle.shop_problems.specs.Wholes.{IsWholeText};
 ghost use Rattle.shop_commands.specs.Plans as spec;

@@ -1,5 +1,5 @@
 -- What a question asks of a content, or why it is refused, and what may be answered.
-use Rattle.std.specs.Prelude.{◌≡◌, ◌≢◌, ℕ, not, List, [], ◌∷◌, filter_map, Option, Some, None, MatchOption, option_map, Result, Ok, Err, if◌then◌else◌}
+use Rattle.std.specs.Prelude.{◌≡◌, ◌≢◌, ℕ, not, List, [], ◌∷◌, Option, Some, None, MatchOption, option_map, Result, Ok, Err, if◌then◌else◌}
 use Rattle.std.specs.Option.{option_or}
 use Rattle.cut_measure.specs.declared.sizes.Kind.{Kind}
 use Rattle.cut_measure.specs.Measures.{is_size}
@@ -16,7 +16,7 @@ use Rattle.shop_records.specs.Content.{Content, material_at}
 use Rattle.shop_records.specs.Same.{same_code}
 use Rattle.shop_machine.specs.Decisions.{first_of}
 use Rattle.shop_answers.specs.declared.planning.FoundDemand.{FoundDemand}
-use Rattle.shop_answers.specs.Planning.{demand_refusal, planner_refusal, want_of}
+use Rattle.shop_answers.specs.Planning.{found_refusal, found_wants, planner_refusal}
 use Rattle.shop_plans.specs.declared.questions.BuySize.{BuySize}
 use Rattle.shop_plans.specs.declared.questions.PlansQuery.{PlansQuery}
 use Rattle.shop_planning.specs.declared.posed.Posed.{Posed}
@@ -27,11 +27,6 @@ use Rattle.shop_planning.specs.Stock.{sizes_of, step_for, stock_parts}
 use Rattle.shop_planning.specs.Answers.{IsPlansText}
 
 -- ---- refusals
-
--- the first of the demands that isn't planned on this material
-abbrev pub demands_refusal : List ℕ → List FoundDemand → Option Refusal
-demands_refusal material [] = None
-demands_refusal material (f ∷ fs) = option_or (demand_refusal material f.number f.demand) (demands_refusal material fs)
 
 -- why a part isn't used for this material, if it isn't
 abbrev pub part_refusal : List ℕ → Option Part → Option Refusal
@@ -50,11 +45,7 @@ sizes_refusal kind (b ∷ bs) = if is_size kind b.w b.h then sizes_refusal kind 
 
 -- demand by demand, then part by part, then size by size
 abbrev pub rows_refusal : PlansQuery → Kind → List FoundDemand → List (Option Part) → Option Refusal
-rows_refusal q kind demands parts = option_or (demands_refusal q.material demands) (option_or (parts_refusal q.material parts) (sizes_refusal kind q.buy))
-
--- what is left of the demands of which anything is
-abbrev pub wants_of : List FoundDemand → List Want
-wants_of demands = filter_map (λ (f : FoundDemand). want_of f.number f.demand) demands
+rows_refusal q kind demands parts = option_or (found_refusal q.material demands) (option_or (parts_refusal q.material parts) (sizes_refusal kind q.buy))
 
 -- the first fault of the planner; a step that is given is judged as for one part
 abbrev pub planner_fault : Kind → (kerf : ℕ) → (given : Option ℕ) → (step : ℕ) → List StockSize → List Want → Option PlanFault
@@ -69,7 +60,7 @@ stock_refusal q material sizes wants =
 -- the first refusal of the rows, or of the planner
 abbrev pub material_refusal : PlansQuery → Material → List FoundDemand → List (Option Part) → Option Refusal
 material_refusal q material demands parts =
-    option_or (rows_refusal q material.kind demands parts) (stock_refusal q material (sizes_of material.kind (stock_parts material.kind q.remnant parts) q.buy) (wants_of demands))
+    option_or (rows_refusal q material.kind demands parts) (stock_refusal q material (sizes_of material.kind (stock_parts material.kind q.remnant parts) q.buy) (found_wants demands))
 
 -- the same of the rows of a content
 abbrev pub refusal_of : Content → PlansQuery → Material → Option Refusal
@@ -89,7 +80,7 @@ plans_refusal content q = if is_in_range q then known_refusal content q (materia
 pub record IsGathered (q : PlansQuery) (kind : Kind) (demands : List FoundDemand) (parts : List (Option Part)) (stock : Gathered) : Type 0 where
   pub parts_are : stock.parts.items ≡ stock_parts kind q.remnant parts
   pub sizes_are : stock.sizes.items ≡ sizes_of kind stock.parts.items q.buy
-  pub wants_are : stock.wants.items ≡ wants_of demands
+  pub wants_are : stock.wants.items ≡ found_wants demands
 
 -- a stock and wants that the planner has no fault with
 pub record IsPosedOn (q : PlansQuery) (material : Material) (stock : Gathered) (posed : Posed) : Type 0 where
@@ -112,7 +103,7 @@ pub record IsPosedBy (q : PlansQuery) (material : Material) (demands : List Foun
   pub calls : posed.calls ≡ q.calls
   pub parts : posed.parts.items ≡ stock_parts material.kind q.remnant rows
   pub sizes : posed.sizes.items ≡ sizes_of material.kind posed.parts.items q.buy
-  pub wants : posed.wants.items ≡ wants_of demands
+  pub wants : posed.wants.items ≡ found_wants demands
 
 -- the same of the rows of a content
 abbrev pub IsPosedOf : Content → PlansQuery → Material → Posed → Type 0

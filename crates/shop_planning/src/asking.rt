@@ -6,13 +6,12 @@ ghost use Rattle.shop_records.specs.Content.{part_at};
 ghost use Rattle.shop_records.specs.Lists.{open_demands, parts_after};
 ghost use Rattle.shop_book.specs.Failures.{CountsFailure};
 ghost use Rattle.shop_book.specs.Kept.{Unchanged, OnContent};
-ghost use Rattle.shop_answers.specs.Planning.{left_of};
 ghost use Rattle.shop_planning.specs.Asked as asked;
 
 use cut_bound::{MOST_ORDER_WANTS, MOST_PARTS};
 use cut_measure::{Code, Kind, MOST_NUMBERS, PartName};
 use cut_plan::LONGEST_BAR;
-use shop_answers::FoundDemand;
+use shop_answers::{FoundDemand, left_of};
 use shop_book::{Book, BookFault};
 use shop_plans::{NameList, PlansQuery};
 use shop_records::{Demand, NumberList, Part};
@@ -29,16 +28,6 @@ const ALL_ROWS: usize = MOST_NUMBERS as usize;
 pub struct AskedRows {
     pub demands: Vec<FoundDemand>,
     pub parts: Vec<Option<Part>>,
-}
-
-/// How many pieces of a demand are neither reserved nor made.
-pub fn left_of(demand: &Demand) -> u32
-    ensures { result ≡ left_of demand.now }
-{
-    demand
-        .wanted
-        .saturating_sub(demand.reserved)
-        .saturating_sub(demand.made)
 }
 
 // Whether something is left of a demand.

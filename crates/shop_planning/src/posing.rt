@@ -7,7 +7,6 @@ ghost use Rattle.cut_bound.specs.declared.limits.TheConstants.{MOST_BOUGHT_SIZES
 ghost use Rattle.cut_order.specs.Stocks.{IsStock};
 ghost use Rattle.shop_records.specs.declared.refusals.Refusal.TheVariants.{NoMemory, StoreFault};
 ghost use Rattle.shop_records.specs.Content.{material_at};
-ghost use Rattle.shop_answers.specs.Planning as planning;
 ghost use Rattle.shop_answers.specs.Planning.{HasNumber};
 ghost use Rattle.shop_book.specs.Kept.{Unchanged, OnContent};
 ghost use Rattle.shop_planning.specs.Asked as asked;
@@ -17,54 +16,20 @@ ghost use Rattle.shop_planning.specs.Questions as question;
 ghost use Rattle.shop_planning.specs.Questions.{AnswersPlans, IsPosed};
 ghost use Rattle.shop_planning.specs.Thoughts.{posed_in};
 
-use crate::asking::{AskedRows, asked_rows, left_of};
+use crate::asking::{AskedRows, asked_rows};
 use crate::lists::{has_bad_list, is_in_range};
 use crate::posed::{Posed, StockPart};
 use crate::stock::{sizes_of, step_for, stock_parts};
 use crate::thought::Thought;
 use cut_bound::{StockSize, cost_fault, order_fault};
-use cut_measure::{Code, Kind, MOST_NUMBERS, Size};
+use cut_measure::{Code, Kind, Size};
 use cut_plan::{PlanFault, Want};
-use shop_answers::FoundDemand;
+use shop_answers::{demands_refusal, planner_refusal, wants_of};
 use shop_book::Book;
 use shop_plans::{BuySize, PlansQuery};
 use shop_records::{Material, Part, Refusal};
 use std::alloc::{AllocError, Global};
 use std::cmp::Ordering;
-
-// Why a demand isn't planned on this material, if it isn't.
-fn demand_refusal(material: &Code, found: &FoundDemand) -> Option<Refusal>
-    ensures refusal { result ≡ planning.demand_refusal material.now found.now.number
-        found.now.demand }
-    ensures number { IfNone result (HasNumber found.now) }
-    ensures store { result ≢ Some StoreFault }
-{
-    let Some(demand) = &found.demand else {
-        return Some(Refusal::NoDemand);
-    };
-    if found.number < 1 || found.number > MOST_NUMBERS {
-        return Some(Refusal::NoDemand);
-    }
-    if demand.material.order(material) != Ordering::Equal {
-        return Some(Refusal::WrongMaterial);
-    }
-    None
-}
-
-// The first refusal of demands.
-fn demands_refusal(material: &Code, found: &[FoundDemand]) -> Option<Refusal>
-    ensures refusal { result ≡ question.demands_refusal material.now found.now }
-    ensures numbers { IfNone result (All HasNumber found.now) }
-    ensures store { result ≢ Some StoreFault }
-{
-    let [first, more @ ..] = found else {
-        return None;
-    };
-    match demand_refusal(material, first) {
-        Some(refusal) => Some(refusal),
-        None => demands_refusal(material, more),
-    }
-}
 
 // Why a part isn't used for this material, if it isn't.
 fn part_refusal(material: &Code, part: &Option<Part>) -> Option<Refusal>
@@ -124,47 +89,6 @@ fn rows_refusal(query: &PlansQuery, kind: Kind, rows: &AskedRows) -> Option<Refu
         return Some(refusal);
     }
     sizes_refusal(kind, query.buy.as_slice())
-}
-
-// What is left of a demand, if anything is.
-fn want_of(found: &FoundDemand) -> Option<Want>
-    ensures { result ≡ planning.want_of found.now.number found.now.demand }
-{
-    let demand = found.demand?;
-    let left = left_of(&demand);
-    if left == 0 {
-        return None;
-    }
-    Some(Want {
-        demand: found.number,
-        size: demand.size,
-        may_turn: demand.may_turn,
-        left,
-        worth: demand.worth,
-    })
-}
-
-// The wants for demands of which something is left.
-fn wants_of(alloc: Global, found: &[FoundDemand]) -> Result<Vec<Want>, AllocError>
-    requires { All HasNumber found.now }
-    ensures wants { IfOk result (λ wants. wants.items ≡ question.wants_of found.now) }
-    ensures demands { IfOk result (λ wants. AreDemands wants.items) }
-{
-    found.iter().filter_map(want_of).collect(alloc)
-}
-
-// The refusal that tells of a planner's fault.
-fn planner_refusal(fault: PlanFault) -> Refusal
-    ensures value { result ≡ planning.planner_refusal fault }
-    ensures store { result ≢ StoreFault }
-{
-    match fault {
-        PlanFault::BadWant => Refusal::BadWant,
-        PlanFault::BadStep => Refusal::BadStep,
-        PlanFault::TableTooLarge => Refusal::TableTooLarge,
-        PlanFault::NothingFits => Refusal::NothingFits,
-        PlanFault::NoMemory => Refusal::NoMemory,
-    }
 }
 
 // The stock and the wants of a question.

@@ -1,9 +1,11 @@
 //! The words of the program's command line, and what they ask for.
 #![tactic(auto)]
 
+mod mistakes;
 mod words;
 
+pub use mistakes::{Mistake, mistake_text};
 pub use words::{
-    ImportAs, LAST_PORT, LONGEST_STEP, MOST_CALLS, MOST_CONNECTIONS, MOST_PAIR, Request, VERSION,
-    request_of,
+    ImportAs, LAST_PORT, LONGEST_STEP, MOST_CALLS, MOST_CONNECTIONS, MOST_PAIR, Reading, Request,
+    VERSION, request_of,
 };

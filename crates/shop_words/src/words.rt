@@ -5,10 +5,12 @@ ghost use Rattle.clap.specs.Words.{app_of, first_of, rows_of, found_of, subcomma
 ghost use Rattle.clap.specs.Kinds.{HasKind};
 ghost use Rattle.clap.specs.Faults.{fault_of};
 ghost use Rattle.shop_words.specs.CommandLine as line;
+ghost use Rattle.shop_words.specs.Mistakes.{IsRead};
 ghost use Rattle.shop_words.specs.declared.words.ImportAs.{ImportAs};
 ghost use Rattle.shop_words.specs.declared.words.Request.{Request};
 ghost use Rattle.shop_words.specs.declared.words.Word.{Word};
 
+use crate::mistakes::{Mistake, mistake_of};
 use clap::builder::ValueParser;
 use clap::{Arg, ArgAction, ArgMatches, Command, Error, value_parser};
 use cut_measure::{Code, MOST_KERF, MOST_NUMBERS};
@@ -95,9 +97,16 @@ pub enum Request<'a> {
     },
 }
 
+/// How words that `clap` takes are read: as what they ask for, or as a mistake, as they ask for nothing.
+#[derive(Clone, Copy, Debug)]
+pub enum Reading<'a> {
+    Request(Request<'a>),
+    Mistake(Mistake<'a>),
+}
+
 // The word of a command.
 #[derive(Clone, Copy, Debug, PartialEq, Eq)]
-enum Word {
+pub(crate) enum Word {
     Replay,
     Plan,
     Orders,
@@ -528,7 +537,7 @@ fn number_of(matches: &ArgMatches<'_>, name: &str, least: u32, most: u32) -> Opt
 }
 
 // Whether there is an option of this name.
-fn has_option(matches: &ArgMatches<'_>, name: &str) -> bool
+pub(crate) fn has_option(matches: &ArgMatches<'_>, name: &str) -> bool
     ensures { result ≡ is_some (first_of name.now (rows_of (found_of matches.now))) }
 {
     matches.get_str(name).is_some()
@@ -547,7 +556,7 @@ fn number_if_any(matches: &ArgMatches<'_>, name: &str, least: u32, most: u32) ->
 }
 
 // Whether all pieces are to be planned.
-fn is_whole(plan: &ArgMatches<'_>) -> bool
+pub(crate) fn is_whole(plan: &ArgMatches<'_>) -> bool
     ensures { IsTrue result ↔ line.IsWhole (rows_of (found_of plan.now)) }
 {
     match plan.get_str("whole") {
@@ -680,7 +689,7 @@ fn yield_request<'a>(report: &ArgMatches<'a>) -> Option<Request<'a>>
 }
 
 // The command of this word.
-fn word_of(name: &str) -> Option<Word>
+pub(crate) fn word_of(name: &str) -> Option<Word>
     ensures { line.AsAsked result (λ word. name.now ≡ line.word_text word) }
 {
     if name == "replay" {
@@ -722,16 +731,25 @@ fn request_read<'a>(matches: &ArgMatches<'a>) -> Option<Request<'a>>
     request_in(word_of(name)?, values)
 }
 
+// What the command that was read asks for, or the mistake by which it asks for nothing.
+fn reading_of<'a>(matches: &ArgMatches<'a>) -> Reading<'a>
+    ensures { IsRead (subcommand_rows_of matches.now) result }
+{
+    match request_read(matches) {
+        Some(request) => Reading::Request(request),
+        None => Reading::Mistake(mistake_of(matches)),
+    }
+}
+
 /// What the words ask for, the program's own name before them. An Err is `clap`'s, for help and for a fault of the words.
-pub fn request_of<'a>(alloc: Global, words: &'a [String]) -> Result<Option<Request<'a>>, Error>
-    ensures ok { IfOk result (λ found.
+pub fn request_of<'a>(alloc: Global, words: &'a [String]) -> Result<Reading<'a>, Error>
+    ensures ok { IfOk result (λ reading.
         (fault_of line.shop_app (map string_bytes words.entry.now) ≡ [])
-        × line.AsAsked found (line.AsksFor
-        (subcommand_of line.shop_app (map string_bytes words.entry.now)))) }
+        × IsRead (subcommand_of line.shop_app (map string_bytes words.entry.now)) reading) }
     ensures err { IfErr result
         (HasKind (fault_of line.shop_app (map string_bytes words.entry.now))) }
 {
     let command = command_of(alloc)?;
     let matches = command.try_get_matches_from(words)?;
-    Ok(request_read(&matches))
+    Ok(reading_of(&matches))
 }

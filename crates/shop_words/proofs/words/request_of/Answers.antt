@@ -1,5 +1,5 @@
 use Rattle.std.proofs.Common.{◌≡◌, ◌∙◌, List, [], true, ap, map, refl, sym, subst}
-use Rattle.std.specs.Prelude.{MatchOption, string_bytes}
+use Rattle.std.specs.Prelude.{string_bytes}
 use Rattle.clap.specs.Kinds.{HasKind}
 use Rattle.std.proofs.lemmas.Result.{err_from_is_err_and}
 use Rattle.clap.specs.Words.{App, HasMatchesOf, Text, app_of, is_simple, subcommand_of, subcommand_rows_of}
@@ -7,7 +7,8 @@ use Rattle.clap.specs.Faults.{fault_of, is_simple_and_free}
 use Rattle.clap.specs.declared.builder.command.Command.{Command}
 use Rattle.clap.specs.declared.parser.matches.ArgMatches.{ArgMatches}
 use Rattle.clap.proofs.OnLiterals.{clap_on_literals}
-use Rattle.shop_words.specs.CommandLine.{shop_app, AsksFor, AsksNothing}
+use Rattle.shop_words.specs.CommandLine.{shop_app}
+use Rattle.shop_words.specs.Mistakes.{IsRead}
 use Rattle.shop_words.proofs.words.request_of.Goals as goal
 
 simple : is_simple shop_app ≡ true
@@ -33,7 +34,7 @@ returns-clause-ok c =
     let words = map string_bytes c.args.words.now in
     let taken = nothing_wrong command words c.in_ok-command.ensures c.in_ok-matches.ensures.kinds in
     let read = command_read command words c.in_ok-matches.matches c.in_ok-command.ensures c.in_ok-matches.ensures.matches in
-    (taken, subst (λ found. MatchOption c.request_read.result (AsksNothing found) (AsksFor found)) read c.request_read.ensures)
+    (taken, subst (λ found. IsRead found c.reading_of.result) read c.reading_of.ensures)
 
 pub returns-in_err-matches-clause-err : goal.returns-in_err-matches-clause-err
 returns-in_err-matches-clause-err c =

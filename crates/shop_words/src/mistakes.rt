@@ -1,0 +1,157 @@
+//! What is wrong with words that `clap` takes and that ask for nothing.
+
+ghost use Rattle.std.specs.Prelude.{◌≡◌, IfOk, IfSome, string_bytes};
+ghost use Rattle.clap.specs.Words.{first_of, found_of, rows_of, subcommand_rows_of};
+ghost use Rattle.shop_words.specs.Mistakes as spec;
+ghost use Rattle.shop_words.specs.declared.words.Word.TheVariants as word;
+
+use crate::words::{Word, has_option, is_whole, word_of};
+use clap::ArgMatches;
+use cut_measure::Code;
+use std::alloc::{AllocError, Global};
+
+/// Why words that `clap` takes ask for nothing.
+#[derive(Clone, Copy, Debug)]
+pub enum Mistake<'a> {
+    /// What stands for MATERIAL is no code.
+    Material(&'a str),
+    /// What stands for `--order` is no code.
+    Order(&'a str),
+    /// A message is to be made of an order file, without this option.
+    NoOrder,
+    NoTerminal,
+    NoNumber,
+    /// A plan of one rectangle has no step.
+    NoStep,
+    /// `--calls` stands without `--whole`.
+    LoneCalls,
+    /// None of these.
+    Other,
+}
+
+// What stands under this name and is no code.
+fn no_code<'a>(values: &ArgMatches<'a>, name: &str) -> Option<&'a str>
+    ensures { IfSome result (λ text.
+        spec.IsNoCode (first_of name.now (rows_of (found_of values.now))) text.now) }
+{
+    let text = values.get_str(name)?;
+    match Code::read(text) {
+        Some(_) => None,
+        None => Some(text),
+    }
+}
+
+fn plan_mistake<'a>(plan: &ArgMatches<'a>) -> Mistake<'a>
+    ensures { spec.IsMistake word.Plan (rows_of (found_of plan.now)) result }
+{
+    if is_whole(plan) {
+        return Mistake::Other;
+    }
+    if !has_option(plan, "step") {
+        return Mistake::NoStep;
+    }
+    if has_option(plan, "calls") {
+        return Mistake::LoneCalls;
+    }
+    Mistake::Other
+}
+
+// Which option of a message isn't there.
+fn lacking<'a>(orders: &ArgMatches<'a>) -> Mistake<'a>
+    ensures { spec.IsMistake word.Orders (rows_of (found_of orders.now)) result }
+{
+    if !has_option(orders, "order") {
+        Mistake::NoOrder
+    } else if !has_option(orders, "terminal") {
+        Mistake::NoTerminal
+    } else if !has_option(orders, "number") {
+        Mistake::NoNumber
+    } else {
+        Mistake::Other
+    }
+}
+
+fn orders_mistake<'a>(orders: &ArgMatches<'a>) -> Mistake<'a>
+    ensures { spec.IsMistake word.Orders (rows_of (found_of orders.now)) result }
+{
+    match no_code(orders, "order") {
+        Some(text) => Mistake::Order(text),
+        None => lacking(orders),
+    }
+}
+
+fn yield_mistake<'a>(report: &ArgMatches<'a>) -> Mistake<'a>
+    ensures { spec.IsMistake word.Yield (rows_of (found_of report.now)) result }
+{
+    match no_code(report, "MATERIAL") {
+        Some(text) => Mistake::Material(text),
+        None => Mistake::Other,
+    }
+}
+
+// What is wrong with the values of a command that asks for nothing.
+fn mistake_in<'a>(word: Word, values: &ArgMatches<'a>) -> Mistake<'a>
+    ensures { spec.IsMistake word (rows_of (found_of values.now)) result }
+{
+    match word {
+        Word::Plan => plan_mistake(values),
+        Word::Orders => orders_mistake(values),
+        Word::Yield => yield_mistake(values),
+        _ => Mistake::Other,
+    }
+}
+
+// What is wrong with the command that was read, which asks for nothing.
+pub(crate) fn mistake_of<'a>(matches: &ArgMatches<'a>) -> Mistake<'a>
+    ensures { spec.IsMistakeOf (subcommand_rows_of matches.now) result }
+{
+    let Some((name, values)) = matches.subcommand() else {
+        return Mistake::Other;
+    };
+    match word_of(name) {
+        Some(word) => mistake_in(word, values),
+        None => Mistake::Other,
+    }
+}
+
+// Why words without a wrong code ask for nothing.
+fn reason(mistake: Mistake<'_>) -> &'static str
+    ensures { result.now ≡ spec.reason mistake.entry }
+{
+    match mistake {
+        Mistake::NoOrder => {
+            "'--order <CODE>' is missing: --order, --terminal and --number stand together"
+        }
+        Mistake::NoTerminal => {
+            "'--terminal <N>' is missing: --order, --terminal and --number stand together"
+        }
+        Mistake::NoNumber => {
+            "'--number <N>' is missing: --order, --terminal and --number stand together"
+        }
+        Mistake::NoStep => "'--step <N>' is missing: it may be left out with '--whole' alone",
+        Mistake::LoneCalls => "'--calls <N>' stands with '--whole' alone",
+        _ => "the words ask for nothing",
+    }
+}
+
+/// The text that tells a mistake, as `clap` tells its own.
+pub fn mistake_text(alloc: Global, mistake: Mistake<'_>) -> Result<String, AllocError>
+    ensures { IfOk result (λ text. string_bytes text ≡ spec.mistake_text mistake.entry) }
+{
+    match mistake {
+        Mistake::Material(text) => {
+            format!(in alloc;
+                "error: invalid value '{text}' for '<MATERIAL>': a code is 1 to 16 of A-Z, 0-9 and -\n\nFor more information, try '--help'.\n"
+            )
+        }
+        Mistake::Order(text) => {
+            format!(in alloc;
+                "error: invalid value '{text}' for '--order <CODE>': a code is 1 to 16 of A-Z, 0-9 and -\n\nFor more information, try '--help'.\n"
+            )
+        }
+        other => {
+            let why = reason(other);
+            format!(in alloc; "error: {why}\n\nFor more information, try '--help'.\n")
+        }
+    }
+}
