@@ -1,6 +1,6 @@
 //! Whether the numbers of a question are in their ranges, and its lists are ones that are planned.
 
-ghost use Rattle.std.specs.Prelude.{◌≡◌, ◌≤◌, IsTrue, length};
+ghost use Rattle.std.specs.Prelude.{◌≡◌, ◌≤◌, IsTrue};
 ghost use Rattle.std.specs.Prelude.{false};
 ghost use Rattle.shop_planning.specs.Lists as lists;
 

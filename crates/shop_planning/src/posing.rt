@@ -6,7 +6,6 @@ ghost use Rattle.cut_plan.specs.Proposals.{AreDemands};
 ghost use Rattle.cut_bound.specs.declared.limits.TheConstants.{MOST_BOUGHT_SIZES, MOST_PARTS};
 ghost use Rattle.cut_order.specs.Stocks.{IsStock};
 ghost use Rattle.shop_records.specs.declared.refusals.Refusal.TheVariants.{NoMemory, StoreFault};
-ghost use Rattle.shop_records.specs.Content.{material_at};
 ghost use Rattle.shop_answers.specs.Planning.{HasNumber};
 ghost use Rattle.shop_book.specs.Kept.{Unchanged, OnContent};
 ghost use Rattle.shop_planning.specs.Asked as asked;
