@@ -6,7 +6,7 @@ ghost use Rattle.cut_bars.specs.declared.reach.Entry.{Entry};
 ghost use Rattle.cut_bars.specs.Counts.{AreBestCounts, HaveBoundedWorthsAndLefts, AreUprightOfHeightOne, HaveLength, worth_of_counts};
 ghost use Rattle.cut_wants.specs.Best.{IsBestWithin};
 ghost use Rattle.cut_wants.specs.Legal.{HaveOwnDemands};
-ghost use Rattle.cut_bars.specs.Reached.{AreRising, AreReached, AreOffered, ArePricedBelow};
+ghost use Rattle.cut_bars.specs.Reached.{AreRising, AreReached, ArePricedBelow};
 ghost use Rattle.cut_bars.specs.Levels.{Has, IsLevel, IsBestRoomForFirst};
 
 use crate::divide::divide;

@@ -1,6 +1,6 @@
 //! The rooms of a bar as a table: 0 where no counts of pieces take a room, else one more than their best worth.
 
-ghost use Rattle.std.specs.Prelude.{◌≡◌, ℕ, ◌+◌, ◌-◌, ◌*◌, ◌^◌, ◌<◌, ◌≤◌, ◌↔◌, IfOk, IsTrue, Contains, length, map, max, vec_len};
+ghost use Rattle.std.specs.Prelude.{◌≡◌, ◌+◌, ◌-◌, ◌*◌, ◌^◌, ◌<◌, ◌≤◌, ◌↔◌, IfOk, Contains, length, map, max, vec_len};
 ghost use Rattle.cut_bars.specs.declared.reach.Entry.{Entry};
 ghost use Rattle.cut_bars.specs.Reached.{AreRising, HaveWorthsBoundedByRoom};
 ghost use Rattle.cut_bars.specs.Levels.{AreCellsBelow, HasCell, IsRaised, gained};

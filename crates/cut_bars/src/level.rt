@@ -1,6 +1,6 @@
 //! What counts of pieces reach on a bar, want by want: a list of entries while they are few, and then a table.
 
-ghost use Rattle.std.specs.Prelude.{◌≡◌, ℕ, ◌+◌, ◌-◌, ◌*◌, ◌/◌, ◌^◌, ◌<◌, ◌≤◌, ◌↔◌, IfOk, IsTrue, Contains, length, map};
+ghost use Rattle.std.specs.Prelude.{◌≡◌, ℕ, ◌+◌, ◌-◌, ◌*◌, ◌/◌, ◌^◌, ◌<◌, ◌≤◌, ◌↔◌, IfOk, Contains, length, map};
 ghost use Rattle.cut_bars.specs.declared.reach.Entry.{Entry};
 ghost use Rattle.cut_bars.specs.Reached.{AreRising, AreOffered, HaveSmallWorths, HaveWorthsBoundedByRoom, StayBelow};
 ghost use Rattle.cut_bars.specs.Levels.{Has, HasCell, IsLevel};

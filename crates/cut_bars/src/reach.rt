@@ -1,6 +1,6 @@
 //! Lists of the rooms of a bar that counts of pieces take, each with the greatest worth of such counts.
 
-ghost use Rattle.std.specs.Prelude.{◌≡◌, ℕ, ◌+◌, ◌*◌, ◌^◌, ◌≤◌, ◌↔◌, IfOk, IsTrue, Contains, length};
+ghost use Rattle.std.specs.Prelude.{◌≡◌, ◌+◌, ◌*◌, ◌^◌, ◌≤◌, ◌↔◌, IfOk, Contains, length};
 ghost use Rattle.cut_bars.specs.Reached.{AreRising, AreOffered, HaveWorthsBoundedByRoom};
 ghost use Rattle.cut_bars.specs.Levels.{AreJoined, AreUpTo, IsFirstOf};
 

@@ -1,12 +1,11 @@
 -- Wants of a table, one more of them at a time.
-use Rattle.std.proofs.Common.{◌≡◌, ◌≢◌, ℕ, ◌+◌, ◌^◌, ◌<◌, ◌≤◌, List, [], ◌∷◌, ◌++◌, length, sym, ap, ◌∙◌, subst, inl, inr, arith}
+use Rattle.std.proofs.Common.{◌≡◌, ◌≢◌, ◌+◌, ◌^◌, ◌<◌, ◌≤◌, List, [], ◌∷◌, ◌++◌, length, ap, ◌∙◌, subst, inl, inr, arith}
 use Rattle.std.specs.Prelude.{Contains}
 use Rattle.std.proofs.lemmas.List.Elements.{Contains-append_cases}
 use Rattle.std.proofs.lemmas.List.{length-append}
 use Rattle.cut_wants.proofs.LeafSums.{Contains-cases, Contains-head, Contains-tail}
 use Rattle.cut_wants.specs.declared.wants.Want.{Want}
 use Rattle.cut_wants.specs.Legal.{HaveOwnDemands}
-use Rattle.cut_sheets.specs.Table.{HaveSidesAndBoundedWorths}
 use Rattle.cut_fill_sheets.specs.Scaled.{AreTabled}
 
 -- the only element of a list of one

@@ -1,5 +1,5 @@
 -- What a table of worths may be made of.
-use Rattle.std.specs.Prelude.{ℕ, ◌<◌, List, length, Contains}
+use Rattle.std.specs.Prelude.{◌<◌, List, length, Contains}
 use Rattle.cut_wants.specs.declared.wants.Want.{Want}
 use Rattle.cut_wants.specs.Legal.{HaveOwnDemands}
 use Rattle.cut_sheets.specs.Table.{HaveSidesAndBoundedWorths}

@@ -1,8 +1,7 @@
 //! Best trees of tables of worths in steps.
 
 ghost use Rattle.std.specs.Prelude.{◌≡◌, ◌+◌, ◌^◌, ◌<◌, ◌≤◌, length, IfOk, OnOk};
-ghost use Rattle.cut_wants.specs.Legal.{HaveOwnDemands};
-ghost use Rattle.cut_sheets.specs.Table.{HaveSidesAndBoundedWorths, IsTable, heights};
+ghost use Rattle.cut_sheets.specs.Table.{IsTable, heights};
 ghost use Rattle.cut_fill_sheets.specs.Scaled.{AreTabled};
 
 use crate::lay::{Sides, want_sides};

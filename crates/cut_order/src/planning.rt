@@ -1,6 +1,6 @@
 //! The plan of an order in one call.
 
-ghost use Rattle.std.specs.Prelude.{◌≡◌, ◌≤◌, ◌⊎◌, IfErr, IfOk, IfSome, None, Some};
+ghost use Rattle.std.specs.Prelude.{◌≡◌, ◌≤◌, ◌⊎◌, IfErr, IfOk, IfSome, Some};
 ghost use Rattle.cut_plan.specs.Proposals.{AreDemands};
 ghost use Rattle.cut_plan.specs.declared.faults.PlanFault.TheVariants.{NoMemory};
 ghost use Rattle.cut_bound.specs.Orders as orders;

@@ -2,8 +2,6 @@
 
 ghost use Rattle.std.specs.Prelude.{◌≡◌, ◌+◌, ◌≤◌, ◌<◌, ◌^◌, ◌⊎◌, IfOk, IfErr, IfSome, Some, None};
 ghost use Rattle.cut_measure.specs.declared.sizes.Kind.TheVariants.{Bar, Sheet};
-ghost use Rattle.cut_bars.specs.Counts.{AreCounts, worth_of_counts};
-ghost use Rattle.cut_sheets.specs.Bound.{worth_left};
 ghost use Rattle.cut_plan.specs.Faults.{plan_fault, SomeFits};
 ghost use Rattle.cut_plan.specs.Bounds.{IsUnitBest, IsBound};
 ghost use Rattle.cut_plan.specs.declared.faults.PlanFault.TheVariants.{NoMemory};

@@ -1,6 +1,6 @@
 //! A plan of a sheet by guillotine cuts, and a ceiling that no legal plan is worth more than.
 
-ghost use Rattle.std.specs.Prelude.{◌≡◌, ◌+◌, ◌*◌, ◌≤◌, ◌<◌, ◌^◌, ◌⊎◌, ℕ, IfOk, IfErr, IfSome, None, Some, length};
+ghost use Rattle.std.specs.Prelude.{◌≡◌, ◌+◌, ◌*◌, ◌≤◌, ◌<◌, ◌^◌, ◌⊎◌, IfOk, IfErr, IfSome, None, Some, length};
 ghost use Rattle.cut_measure.specs.declared.sizes.Kind.TheVariants.{Sheet};
 ghost use Rattle.cut_tree.specs.Tree.{cut_count};
 ghost use Rattle.cut_tree.specs.Nodes.{tree_of};

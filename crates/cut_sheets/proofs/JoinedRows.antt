@@ -1,9 +1,7 @@
 -- A row that is raised place by place to the best sum of two parts.
 use Rattle.std.proofs.Common.{◌≡◌, ◌≢◌, ℕ, zero, suc, ◌+◌, ◌-◌, ◌*◌, ◌<◌, ◌≤◌, List, length, get_or, max, ap, refl, ◌∙◌, inl, inr, arith}
-use Rattle.std.specs.Prelude.{slice_set}
 use Rattle.std.proofs.lemmas.Bool.{cases_lt, cases_eq}
 use Rattle.std.proofs.lemmas.Nat.{mul-le}
-use Rattle.std.proofs.lemmas.List.{get_or-set_other, get_or-set_same}
 use Rattle.cut_sheets.specs.Table.{IsBelow, IsOfferedFrom, IsJoined}
 
 -- the places below n rise, those of them that are worth more than the one before were offered with each part, and what is

@@ -1,6 +1,6 @@
 //! How the best worth of a rectangle is reached, read from a table: by a cut, a piece or a rest.
 
-ghost use Rattle.std.specs.Prelude.{◌≡◌, ℕ, ◌+◌, ◌-◌, ◌*◌, ◌^◌, ◌<◌, ◌≤◌, ◌≢◌, length, slice_index, IfSome, IfNone, Bool, Contains, IsTrue, ◌↔◌, true, false};
+ghost use Rattle.std.specs.Prelude.{◌≡◌, ℕ, ◌+◌, ◌-◌, ◌*◌, ◌^◌, ◌<◌, ◌≤◌, ◌≢◌, length, IfSome, IfNone, Bool, Contains, IsTrue, ◌↔◌, true, false};
 ghost use Rattle.cut_wants.specs.declared.wants.Want.{Want};
 ghost use Rattle.cut_wants.specs.Best.{IsBestOf};
 ghost use Rattle.cut_wants.specs.Legal.{HaveOwnDemands, HasSides};

@@ -1,8 +1,8 @@
 -- The test of a halt passes exactly the halts that are allowed.
-use Rattle.std.proofs.Common.{◌≡◌, ◌+◌, ◌<◌, ◌≤◌, ◌⊎◌, ◌↔◌, ◌∙◌, ◌&&◌, ◌||◌, ◌==◌, not, ℕ, zero, suc, Bool, true, false, IsTrue, List, [], ◌∷◌, length, All, get_or, Option, Some, None, IfSome, refl, sym, ap, subst, inl, inr, arith, nat_lt, nat_le}
+use Rattle.std.proofs.Common.{◌≡◌, ◌+◌, ◌<◌, ◌≤◌, ◌⊎◌, ◌↔◌, ◌∙◌, ◌&&◌, ◌||◌, ◌==◌, not, ℕ, zero, suc, Bool, true, false, IsTrue, List, [], ◌∷◌, length, All, Option, Some, None, IfSome, refl, sym, ap, subst, inl, inr, arith, nat_lt, nat_le}
 use Rattle.std.specs.List.{list_all, slice_index}
 use Rattle.std.specs.Cmp.Derive.{both_true}
-use Rattle.std.proofs.lemmas.Bool.{true≢false, and_parts, or_cases, or_left, or_right, eqb-true, eq-eqb, ltb-true, lt-ltb, leb-true, le-leb, not-false, not_from_false, false_from_ne_true}
+use Rattle.std.proofs.lemmas.Bool.{true≢false, and_parts, or_cases, or_left, or_right, eqb-true, eq-eqb, ltb-true, lt-ltb, leb-true, le-leb, not_from_false, false_from_ne_true}
 use Rattle.std.specs.List.Sorted.{IsStrictlyIncreasing}
 use Rattle.cut_measure.specs.Measures.{below}
 use Rattle.cut_tree.specs.declared.halts.Halt.{Halt}
@@ -11,7 +11,7 @@ use Rattle.cut_tree.specs.Tree.{Tree, Piece, Rest, Trim, Cut, cut_count}
 use Rattle.cut_tree.specs.Above.{IsFirstAbove, IsAbove, is_first_above, is_above}
 use Rattle.cut_tree.specs.Stops.{is_among, AllAboveAreAmong, AreDone, Allows, do_rise, has_those_above, can_be_wrong, allows}
 use Rattle.cut_tree.proofs.Closed.{above_range}
-use Rattle.cut_tree.proofs.TwoForms.{among_to, among_from}
+use Rattle.cut_tree.proofs.TwoForms.{among_from}
 
 -- ---- numbers of a list
 

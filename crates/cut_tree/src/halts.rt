@@ -3,7 +3,6 @@
 ghost use Rattle.std.specs.Prelude.{◌≡◌, ◌+◌, ◌^◌, ◌<◌, ◌≤◌, ◌↔◌, ◌||◌, ℕ, IsTrue, IfOk, true, false};
 ghost use Rattle.std.specs.List.Sorted.{IsStrictlyIncreasing};
 ghost use Rattle.cut_tree.specs.Tree.{cut_count};
-ghost use Rattle.cut_tree.specs.Above.{IsAbove};
 ghost use Rattle.cut_tree.specs.Nodes.{tree_of};
 ghost use Rattle.cut_tree.specs.Stops.{is_among, outcome_after, outcome_of, is_tried, UnmadeBy, AreClosed};
 

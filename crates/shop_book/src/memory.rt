@@ -7,7 +7,6 @@ ghost use Rattle.shop_records.specs.declared.records.Job.{Job as JobOf};
 ghost use Rattle.shop_records.specs.Soundness.{AreDifferent, IsInRange};
 ghost use Rattle.shop_records.specs.Visits.{IsVisit};
 ghost use Rattle.shop_book.specs.FoundJobs.{IsFoundJob, head_of};
-ghost use Rattle.shop_book.specs.declared.books.BookFault.{BookFault as Fault};
 
 use crate::books::{Book, BookFault, FoundJob, JobHead};
 use crate::keeping::{KeptText, copy_kept, find_kept, last_kept};

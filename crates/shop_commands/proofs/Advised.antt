@@ -1,5 +1,5 @@
 -- The lines of a fault that has an advice.
-use Rattle.std.proofs.Common.{◌≡◌, ◌++◌, ℕ, List, Result, Ok, Err, false, inl, inr, refl}
+use Rattle.std.proofs.Common.{◌≡◌, ◌++◌, ℕ, List, Result, Ok, Err, false, inr, refl}
 use Rattle.std.specs.Prelude.{IfOk}
 use Rattle.shop_commands.specs.declared.advice.Advice.{Advice}
 use Rattle.shop_commands.specs.declared.faults.Fault.{Fault}

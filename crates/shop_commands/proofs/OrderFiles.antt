@@ -1,5 +1,5 @@
 -- What is said of an order file.
-use Rattle.std.proofs.Common.{◌≡◌, ◌≢◌, ◌∙◌, ℕ, suc, ◌+◌, ◌<◌, Bool, true, false, not, List, [], ◌∷◌, length, drop, take, get_or, Option, Result, Ok, Err, inl, inr, refl, sym, ap, subst, arith}
+use Rattle.std.proofs.Common.{◌≡◌, ◌≢◌, ◌∙◌, ℕ, suc, ◌+◌, ◌<◌, Bool, true, false, not, List, [], ◌∷◌, length, drop, take, get_or, Option, Result, Ok, Err, inr, sym, ap, arith}
 use Rattle.std.specs.Prelude.{◌||◌, ◌==◌, IfErr, if◌then◌else◌}
 use Rattle.std.specs.List.{list_any, prefix_len}
 use Rattle.std.proofs.Math.Seq.{drop-cons}

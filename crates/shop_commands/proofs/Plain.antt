@@ -1,5 +1,5 @@
 -- After a fault's line stands one line.
-use Rattle.std.proofs.Common.{◌≡◌, ◌++◌, ◌∙◌, ℕ, Bool, true, false, List, inl, inr, refl, sym, subst, ap₂}
+use Rattle.std.proofs.Common.{◌≡◌, ◌++◌, ◌∙◌, ℕ, false, List, inl, inr, refl, sym, subst, ap₂}
 use Rattle.std.specs.Prelude.{◌==◌, ◌||◌, codes, string_bytes}
 use Rattle.std.proofs.lemmas.List.Folds.{list_any-append}
 use Rattle.shop_files.specs.declared.problems.TextCause.{TextCause}

@@ -3,8 +3,7 @@
 ghost use Rattle.std.specs.Prelude.{◌≡◌, ◌⊎◌, option_map, IfOk, IfSome, IsTrue, All, Some};
 ghost use Rattle.shop_records.specs.declared.imports.ImportRow.{ImportRow as ImportRowOf};
 ghost use Rattle.shop_records.specs.Messages.{is_accepted};
-ghost use Rattle.cut_measure.specs.Names.{Name};
-ghost use Rattle.shop_records.specs.Content.{Content, demand_at};
+ghost use Rattle.shop_records.specs.Content.{demand_at};
 ghost use Rattle.shop_machine.specs.Recounts.{plan_leaves, AreDemandsFound, IsNumbered, leaves_in};
 ghost use Rattle.shop_book.specs.Failures.{CountsFailure};
 ghost use Rattle.shop_book.specs.Kept.{Unchanged, OnContent};

@@ -1,6 +1,6 @@
 //! Rows that a decision needs, found in a book: those of a plan's leaves, of an order's lines and of demands.
 
-ghost use Rattle.std.specs.Prelude.{◌≡◌, ◌≤◌, ℕ, IfOk, IfSome, IsTrue, List, MatchOption, All, None, Some, OnOk, ◌++◌, ◌∷◌, []};
+ghost use Rattle.std.specs.Prelude.{◌≡◌, ◌≤◌, IfOk, IfSome, All, None, Some, OnOk, ◌++◌, ◌∷◌, []};
 ghost use Rattle.cut_tree.specs.Tree.{Tree, cut_count};
 ghost use Rattle.cut_tree.specs.Spelling.{IsSpelling};
 ghost use Rattle.cut_measure.specs.Names.{Name};

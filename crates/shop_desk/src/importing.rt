@@ -1,6 +1,6 @@
 //! Imports of order files and problem files: their texts are read, and decided from a book's rows.
 
-ghost use Rattle.std.specs.Prelude.{◌≡◌, ◌≤◌, ℕ, List, Option, Some, IfOk, IfSome, IsTrue, MatchOption, false};
+ghost use Rattle.std.specs.Prelude.{◌≡◌, ◌≤◌, ℕ, List, Option, Some, IfOk, IfSome, IsTrue, MatchOption};
 ghost use Rattle.cut_measure.specs.Measures.{Extent};
 ghost use Rattle.shop_files.specs.declared.orders.OrderLine.{OrderLine as OrderLineOf};
 ghost use Rattle.shop_files.specs.declared.problems.Piece.{Piece as PieceOf};
@@ -13,7 +13,6 @@ ghost use Rattle.shop_records.specs.declared.messages.Reply.{Reply as ReplyOf};
 ghost use Rattle.shop_records.specs.Messages.{IsMade, is_accepted};
 ghost use Rattle.shop_records.specs.Content.{Content, import_at};
 ghost use Rattle.shop_machine.specs.Importing.{IsRepeat};
-ghost use Rattle.shop_records.specs.Keeping.{TellsKept};
 ghost use Rattle.shop_records.specs.Soundness.{IsSound};
 ghost use Rattle.shop_forms.specs.Forms.{json_texts};
 ghost use Rattle.shop_book.specs.Failures.{CountsFailure};

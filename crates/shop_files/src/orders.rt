@@ -1,7 +1,7 @@
 //! Order files: records in CSV after a header, each a line of an order.
 
-ghost use Rattle.std.specs.Prelude.{◌≡◌, ◌≢◌, ◌≤◌, ◌<◌, ◌+◌, ◌^◌, ◌⊎◌, ℕ, List, [], ◌∷◌, ◌++◌, IfOk, IfErr, MatchOption, MatchResult, IsTrue, ◌↔◌, Bool, Some, true, false, codes, get_or, length};
-ghost use Rattle.csv.specs.Records.{fields_of, field_at};
+ghost use Rattle.std.specs.Prelude.{◌≡◌, ◌≢◌, ◌≤◌, ◌<◌, ◌+◌, ◌^◌, ◌⊎◌, ℕ, List, [], ◌∷◌, ◌++◌, IfOk, IfErr, MatchOption, MatchResult, IsTrue, ◌↔◌, Bool, Some, true, false, get_or, length};
+ghost use Rattle.csv.specs.Records.{fields_of};
 ghost use Rattle.cut_measure.specs.Codes.{code_of};
 ghost use Rattle.cut_measure.specs.Lengths.{IsLengthText};
 ghost use Rattle.shop_files.specs.Orders.{IsShortNumber, turn_word, IsLineRecord, IsBadLine, IsBadHeader, header, Fields, HasRead, HasNext, IsOrders, HasOrdersFault};

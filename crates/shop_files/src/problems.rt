@@ -1,9 +1,9 @@
 //! Problem files: a count of pieces, a rectangle and the pieces that may be cut from it, as numbers.
 
-ghost use Rattle.std.specs.Prelude.{◌≡◌, ◌≤◌, ◌<◌, ◌+◌, ◌*◌, ◌%◌, ◌^◌, ◌⊎◌, ℕ, List, [], ◌∷◌, ◌++◌, IfOk, IfErr, MatchOption, MatchResult, true, false, get_or, take, drop, length, map};
+ghost use Rattle.std.specs.Prelude.{◌≡◌, ◌≤◌, ◌<◌, ◌+◌, ◌*◌, ◌%◌, ◌^◌, ◌⊎◌, ℕ, List, [], ◌∷◌, ◌++◌, IfOk, IfErr, MatchOption, MatchResult, true, false, get_or, take, drop, length};
 ghost use Rattle.std.specs.Option.{SomeIff};
 ghost use Rattle.std.specs.Str.Parse.{AllDigits, digits_value};
-ghost use Rattle.shop_files.specs.Runs.{DigitRun, is_digit, value_of};
+ghost use Rattle.shop_files.specs.Runs.{DigitRun, is_digit};
 ghost use Rattle.shop_files.specs.Problems.{most_at, runs_at, is_problem_byte, IsNumbers, ArePieces, IsProblem, IsProblemFault, Stops, StopsOrEnds, HasNumber, HasPiece, HasPieces};
 ghost use Rattle.cut_measure.specs.Measures.{Extent};
 ghost use Rattle.shop_files.specs.declared.problems.TextCause.TheVariants.{NoMemory};

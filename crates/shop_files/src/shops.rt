@@ -1,6 +1,6 @@
 //! Shop files: the materials of a shop, in TOML.
 
-ghost use Rattle.std.specs.Prelude.{◌≡◌, ◌≤◌, ◌<◌, ◌+◌, ◌⊎◌, ◌↔◌, IsTrue, ℕ, List, [], ◌∷◌, ◌++◌, IfOk, IfErr, IfSome, IsNone, MatchOption, MatchResult, Some, true, false, codes, length, map, option_map, option_and_then, IsUtf8};
+ghost use Rattle.std.specs.Prelude.{◌≡◌, ◌≤◌, ◌<◌, ◌+◌, ◌⊎◌, ◌↔◌, IsTrue, ℕ, List, [], ◌∷◌, ◌++◌, IfOk, IfErr, MatchOption, MatchResult, Some, codes, length, map, option_map, option_and_then};
 ghost use Rattle.toml.specs.Data.{Data, Items, Members, array, as_str, get_member};
 ghost use Rattle.toml.specs.View.{view, items_view, table_view};
 ghost use Rattle.shop_files.specs.Shops.{IsDocument, IsList, HasList, HasLength, kind_word, IsEntry, IsEntryTable, AreEntries, IsShopFile, IsShopFault, count};

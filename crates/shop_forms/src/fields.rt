@@ -1,6 +1,6 @@
 //! What stands at the keys of a JSON object: numbers, flags, texts, codes, names and lists.
 
-ghost use Rattle.std.specs.Prelude.{◌≡◌, ℕ, codes, map, option_map};
+ghost use Rattle.std.specs.Prelude.{◌≡◌, codes, map, option_map};
 ghost use Rattle.serde_json.specs.View.{view};
 ghost use Rattle.shop_forms.specs.Fields as form;
 

@@ -14,7 +14,7 @@ use Rattle.shop_records.specs.declared.records.Demand.{Demand}
 use Rattle.shop_machine.specs.declared.recounts.FoundLeaf.{FoundLeaf}
 use Rattle.shop_machine.specs.declared.recounts.Recount.{Recount}
 use Rattle.shop_machine.specs.declared.recounts.Recount.TheVariants.{Reserved, Laid, Freed}
-use Rattle.shop_machine.specs.Recounts.{AreRecounted, plan_leaves, AreDemandsFound, leaves_in, recount_by, CanRecount, HasRow, IsAddedOnce, IsAlike, IsNumbered}
+use Rattle.shop_machine.specs.Recounts.{AreRecounted, plan_leaves, AreDemandsFound, leaves_in, recount_by, HasRow, IsAddedOnce, IsAlike, IsNumbered}
 use Rattle.shop_machine.specs.Reserving.{is_over}
 use Rattle.shop_machine.specs.Ending.{has_reserved}
 use Rattle.shop_records.specs.Elements.{IsIn}

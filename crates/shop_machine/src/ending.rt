@@ -1,6 +1,6 @@
 //! A job is done, breaks off or is released: what becomes of its part, its rests and its demands.
 
-ghost use Rattle.std.specs.Prelude.{◌≡◌, ◌*◌, ◌≤◌, IfOk, IfErr, IsTrue, ◌+◌, ◌∷◌, ℕ, Option, None, All, map, ◌<◌, ◌^◌, Some, IfSome, MatchOption, sum_by, drop};
+ghost use Rattle.std.specs.Prelude.{◌≡◌, ◌*◌, ◌≤◌, IfOk, IfErr, IsTrue, ◌+◌, ◌∷◌, ℕ, Option, None, All, map, ◌<◌, ◌^◌, Some, IfSome, MatchOption};
 ghost use Rattle.std.specs.List.{list_all};
 ghost use Rattle.cut_measure.specs.declared.ranges.TheConstants.{MOST_HEIGHT, MOST_NUMBERS, MOST_WIDTH};
 ghost use Rattle.cut_tree.specs.Tree.{count_of};
@@ -13,10 +13,9 @@ ghost use Rattle.shop_machine.specs.declared.recounts.Recount.TheVariants.{Freed
 ghost use Rattle.shop_records.specs.declared.records.State.TheVariants.{Cut};
 ghost use Rattle.shop_records.specs.Messages.{is_accepted};
 ghost use Rattle.shop_machine.specs.Decisions.{Decides};
-ghost use Rattle.shop_machine.specs.Recounts.{plan_leaves, AreDemandsFound, AreRecounted, leaves_in, CanRecount, HasRow, CanBeMade, IsNumbered, pieces_in, with_laid};
+ghost use Rattle.shop_machine.specs.Recounts.{plan_leaves, AreDemandsFound, AreRecounted, leaves_in, HasRow, CanBeMade, IsNumbered, pieces_in, with_laid};
 ghost use Rattle.shop_machine.specs.Ending.{has_reserved, IsEnd, IsDone, IsBroken, IsRelease, ended_reply, ended_state, fate, has_begun, can_end, is_part_of, is_held, job_refusal, rests, row_part};
 ghost use Rattle.shop_machine.specs.Moving.{has_cells, tally, AreFew};
-ghost use Rattle.shop_records.specs.Content.{in_state};
 
 use crate::decisions::no_change;
 use crate::moving::{has_cells, moved_totals, tally};

@@ -1,7 +1,6 @@
 //! An order is made from the text of an order file or of a problem file: what is decided on it.
 
 ghost use Rattle.std.specs.Prelude.{◌≡◌, ◌≤◌, ℕ, List, [], Option, Some, IfOk, IfSome, IsTrue, ◌↔◌, MatchOption, length};
-ghost use Rattle.cut_measure.specs.Measures.{Extent};
 ghost use Rattle.shop_files.specs.declared.limits.TheConstants.{MOST_PIECES};
 ghost use Rattle.shop_records.specs.declared.records.Material.{Material as MaterialOf};
 ghost use Rattle.shop_records.specs.Messages.{is_accepted};

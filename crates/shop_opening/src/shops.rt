@@ -4,10 +4,8 @@ ghost use Rattle.std.specs.Prelude.{◌≡◌, ◌≤◌, length, IfOk, OnOk, If
 ghost use Rattle.shop_desk.specs.Faults.{CountsUp};
 ghost use Rattle.shop_files.specs.declared.limits.TheConstants.{MOST_ENTRIES};
 ghost use Rattle.shop_records.specs.Messages.{refusal_in};
-ghost use Rattle.shop_forms.specs.Forms.{json_texts};
 ghost use Rattle.shop_opening.specs.Shops as spec;
 ghost use Rattle.shop_opening.specs.Shops.{HasShop, IsAccepted, IsFirstRefused, ShopFailed};
-ghost use Rattle.shop_book.specs.Kept.{OnContent};
 
 use shop_desk::run;
 use shop_files::MaterialEntry;

@@ -4,7 +4,7 @@ ghost use Rattle.std.specs.Prelude.{◌≡◌, ℕ, List, Option, length, map, A
 ghost use Rattle.std.specs.Str.{IsUtf8};
 ghost use Rattle.httparse.specs.Grammar.{RequestHead};
 ghost use Rattle.httparse.specs.Spans.{IsHeaderWithin, IsRequestAt, IsRequestWithin, header_bytes, IsRequestOf};
-ghost use Rattle.shop_request.specs.Heads.{judged, judged_parts, on_route, on_length, most_body, by_method};
+ghost use Rattle.shop_request.specs.Heads.{judged, judged_parts, on_route, by_method};
 ghost use Rattle.shop_request.specs.Reading.{IsSaid, parsed_heads};
 ghost use Rattle.shop_request.specs.Routes.{path_of, route_of, part_of, takes_body};
 

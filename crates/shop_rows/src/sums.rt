@@ -1,6 +1,6 @@
 //! The cells of a material's parts, added up column by column in 128 bits as parts come and go.
 
-ghost use Rattle.std.specs.Prelude.{◌≡◌, ◌⊎◌, ◌+◌, ◌*◌, ◌<◌, ◌≤◌, ◌^◌, ℕ, All, List, true, false, IsTrue, IfSome, IfNone, IsSome, length, vec_len, vec_capacity, slice_index};
+ghost use Rattle.std.specs.Prelude.{◌≡◌, ◌⊎◌, ◌+◌, ◌*◌, ◌<◌, ◌≤◌, ◌^◌, ℕ, All, List, true, false, IsTrue, IfSome, IfNone, IsSome, length, vec_len, vec_capacity};
 ghost use Rattle.cut_measure.specs.Codes.{code_cmp};
 ghost use Rattle.shop_records.specs.declared.records.Column.{Column as ColumnOf};
 ghost use Rattle.shop_rows.specs.Rows.{rise};

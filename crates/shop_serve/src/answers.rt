@@ -6,7 +6,7 @@ ghost use Rattle.shop_records.specs.declared.refusals.Refusal.{Refusal as Refusa
 ghost use Rattle.shop_request.specs.Guards.{HasRuling};
 ghost use Rattle.shop_request.specs.declared.guards.Ruling.TheVariants as ruling;
 ghost use Rattle.shop_request.specs.declared.faults.RequestFault.TheVariants as faults;
-ghost use Rattle.shop_wire.specs.AnswerBytes.{answer_bytes, backup_answer, fault_answer};
+ghost use Rattle.shop_wire.specs.AnswerBytes.{answer_bytes, backup_answer};
 ghost use Rattle.shop_request.specs.Reading.{IsHeadIn};
 ghost use Rattle.shop_request.specs.Requests.{parse_of};
 ghost use Rattle.shop_serve.specs.Making.{IsMadeMeanwhile, IsNext};

@@ -1,6 +1,6 @@
 //! What a server is told beside its connections: its time, which stands still while a request is answered, and backups.
 
-ghost use Rattle.std.specs.Prelude.{◌≡◌, ◌+◌, ◌-◌, ◌≤◌, IfSome, None, min, unwrap_or, option_map};
+ghost use Rattle.std.specs.Prelude.{◌≡◌, ◌+◌, ◌-◌, ◌≤◌, None, min, unwrap_or, option_map};
 ghost use Rattle.std.specs.Duration.{as_nanos, max_nanos};
 ghost use Rattle.std.specs.Time.{instant_nanos};
 

@@ -8,7 +8,7 @@ use Rattle.sqlite.specs.declared.error.Error.{Error}
 use Rattle.std.proofs.Common.{Vec}
 use Rattle.sqlite.specs.declared.rows.Row.{Row as Answered}
 use Rattle.sqlite.specs.Effect.{Database}
-use Rattle.sqlite.specs.State.{State, HasCleanDisk, IsUnchanged, IsRolledBack, Shown, ShowsRows, FailsToQuery, FailsToShow, IsNotRun, IsTooLate, KeepsCommit, Survives, CommitsShowing}
+use Rattle.sqlite.specs.State.{State, HasCleanDisk, IsUnchanged, IsRolledBack, Shown, ShowsRows, FailsToQuery, FailsToShow, IsNotRun, KeepsCommit, Survives, CommitsShowing}
 use Rattle.sqlite.specs.Effect.{IsDatabase}
 use Rattle.shop_statements.specs.Layout.{HasShopTables}
 use Rattle.shop_statements.proofs.Queries.{query_returns, query_commits}

@@ -9,7 +9,6 @@ ghost use Rattle.sqlite.specs.Held.{state};
 ghost use Rattle.sqlite_value.specs.declared.value.Value.TheVariants.{Int, Text as Word};
 ghost use Rattle.sqlite_value.specs.Order.{column};
 ghost use Rattle.cut_measure.specs.declared.ranges.TheConstants.{MOST_KERF};
-ghost use Rattle.cut_measure.specs.Measures.{Extent};
 ghost use Rattle.cut_tree.specs.Patterns.{Pattern, IsPlan};
 ghost use Rattle.cut_tree.specs.Spelling.{IsSpelling, text_of};
 ghost use Rattle.cut_tree.specs.Tree.{cut_count};

@@ -13,7 +13,6 @@ ghost use Rattle.shop_statements.specs.Shown.{Leaves, OnBooks};
 ghost use Rattle.shop_tables.specs.Lending.{HandsOut};
 ghost use Rattle.shop_tables.specs.ListedRows.{listed_part};
 ghost use Rattle.shop_tables.specs.RowsShown.{ArePartRows, SeesCommit};
-ghost use Rattle.shop_rows.specs.Rows.{rise};
 ghost use Rattle.shop_statements.specs.declared.faults.TableFault.{TableFault as Fault};
 ghost use Rattle.shop_store.specs.NamedParts.{AreListedParts, HaveCells, IsTaken};
 

@@ -1,6 +1,6 @@
 //! The greatest number under which a message of a terminal is kept.
 
-ghost use Rattle.std.specs.Prelude.{◌≡◌, false, Some, None, IfOk};
+ghost use Rattle.std.specs.Prelude.{◌≡◌, false, Some, IfOk};
 ghost use Rattle.std.specs.Option.{option_to_list};
 ghost use Rattle.sqlite.specs.State.{HasCleanDisk};
 ghost use Rattle.sqlite.specs.Held.{state};

@@ -1,6 +1,6 @@
 //! The statements that make all tables, each table by one.
 
-ghost use Rattle.std.specs.Prelude.{◌≡◌, false, map, IsTrue, OnOk};
+ghost use Rattle.std.specs.Prelude.{◌≡◌, false, map, OnOk};
 ghost use Rattle.sqlite.specs.State.{HasCleanDisk};
 ghost use Rattle.sqlite.specs.Does.{lacks_sequence};
 ghost use Rattle.sqlite.specs.Held.{state};

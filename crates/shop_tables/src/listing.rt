@@ -1,6 +1,6 @@
 //! The totals of all materials, in order.
 
-ghost use Rattle.std.specs.Prelude.{◌≡◌, ◌≢◌, [], ◌∷◌, ℕ, List, map, false, true, IfOk, IfSome, IsNone};
+ghost use Rattle.std.specs.Prelude.{◌≡◌, ◌≢◌, [], ◌∷◌, ℕ, List, map, false, IfOk, IfSome, IsNone};
 ghost use Rattle.std.specs.FinMap.{entries};
 ghost use Rattle.sqlite.specs.Held.{state};
 ghost use Rattle.shop_records.specs.declared.records.Totals.{Totals as TotalsRecord};

@@ -1,6 +1,6 @@
 //! The ticket of a job: what is cut in which order, where, and for whom.
 
-ghost use Rattle.std.specs.Prelude.{◌≡◌, ◌++◌, ◌∷◌, [], ℕ, List, Option, OnOk, IfOk, IfErr, Ok, Err, All, MatchOption, string_bytes};
+ghost use Rattle.std.specs.Prelude.{◌≡◌, ◌++◌, ◌∷◌, [], ℕ, Option, OnOk, IfOk, Ok, Err, string_bytes};
 ghost use Rattle.cut_tree.specs.Stepping.{AreSteps};
 ghost use Rattle.shop_records.specs.declared.records.Demand.{Demand as DemandOf};
 ghost use Rattle.shop_records.specs.declared.refusals.Refusal.{Refusal as RefusalOf};

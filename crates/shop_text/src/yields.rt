@@ -3,7 +3,6 @@
 ghost use Rattle.std.specs.Prelude.{◌≡◌, ◌++◌, OnOk, Err, string_bytes};
 ghost use Rattle.cut_measure.specs.Lengths.{mm_text};
 ghost use Rattle.shop_records.specs.declared.refusals.Refusal.{Refusal as RefusalOf};
-ghost use Rattle.shop_records.specs.Content.{totals_of, parts_of};
 ghost use Rattle.shop_book.specs.Kept.{Unchanged, OnContent};
 ghost use Rattle.shop_text.specs.declared.printing.PrintFault.TheVariants.{Refused, Write};
 ghost use Rattle.shop_text.specs.Printing.{IsTextMade, IsPrinted, CountsRefusal, CountsPrint};

@@ -1,6 +1,6 @@
 //! What a line is told: it is read as a message, a query or a question for plans, done over a book, and held as a line.
 
-ghost use Rattle.std.specs.Prelude.{◌≡◌, ◌++◌, ◌∷◌, [], ℕ, List, IfOk, OnOk, OnErr, None};
+ghost use Rattle.std.specs.Prelude.{◌≡◌, ◌++◌, ◌∷◌, [], ℕ, List, OnOk, OnErr, None};
 ghost use Rattle.serde_json.specs.View.{view};
 ghost use Rattle.shop_records.specs.Soundness.{IsSound};
 ghost use Rattle.shop_forms.specs.Forms.{message_of, json_texts};

@@ -1,7 +1,7 @@
 //! Lines of a source, read through a buffer.
 
-ghost use Rattle.std.specs.Prelude.{◌≡◌, ◌+◌, ◌-◌, ◌*◌, ◌≤◌, ◌<◌, ◌⊎◌, ◌++◌, ◌∷◌, [], ℕ, List, Option, IfOk, OnOk, IfErr, OnErr, IfSome, Ok, Err, true, false, length, take, if◌then◌else◌};
-ghost use Rattle.std.specs.Io.KnownBytes.{Consumes, Keeps, IsAtEnd, prepend_known};
+ghost use Rattle.std.specs.Prelude.{◌≡◌, ◌+◌, ◌-◌, ◌*◌, ◌≤◌, ◌<◌, ◌⊎◌, ◌++◌, ◌∷◌, [], ℕ, List, OnOk, IfErr, Ok, Err, true, false, length, take, if◌then◌else◌};
+ghost use Rattle.std.specs.Io.KnownBytes.{Consumes, IsAtEnd, prepend_known};
 ghost use Rattle.shop_wire.specs.Lines.{HasNoFeed, GivesLine, kept_of, longest_line, pending};
 ghost use Rattle.shop_streams.specs.Streams.{HasFailed};
 ghost use Rattle.shop_wire.specs.Streams.{CountTogether, TookBytes, IsLong, most_reads, work};

@@ -1,6 +1,6 @@
 //! One request, read from a source, done over a book and answered on a sink.
 
-ghost use Rattle.std.specs.Prelude.{◌≡◌, ◌≢◌, ◌⊎◌, ◌≤◌, ◌+◌, ◌++◌, [], ℕ, List, Option, Ok, Some, None, OnOk, OnErr, Err, IfOk, IfErr, IfSome, IsErrOf, string_bytes};
+ghost use Rattle.std.specs.Prelude.{◌≡◌, ◌≢◌, ◌⊎◌, ◌≤◌, ◌+◌, ◌++◌, [], ℕ, List, Option, Ok, Some, None, OnOk, OnErr, Err, IfOk, IfErr, IfSome, string_bytes};
 ghost use Rattle.std.specs.Io.KnownBytes.{Appends};
 ghost use Rattle.shop_desk.specs.Faults.{CountsUp};
 ghost use Rattle.shop_streams.specs.Streams.{HasFailed};

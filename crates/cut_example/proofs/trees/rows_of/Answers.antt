@@ -1,4 +1,4 @@
-use Rattle.std.proofs.Common.{sym, subst}
+use Rattle.std.proofs.Common.{sym}
 use Rattle.cut_example.proofs.trees.rows_of.Goals as goal
 
 pub returns : goal.returns

@@ -1,4 +1,4 @@
-use Rattle.std.proofs.Common.{◌≡◌, ◌∙◌, ◌+◌, ◌++◌, ◌∷◌, [], ap, false, true, map, drop, rules, arith, sym, get_or}
+use Rattle.std.proofs.Common.{◌≡◌, ◌∙◌, ◌+◌, ◌++◌, ◌∷◌, [], ap, false, true, map, drop, rules, sym, get_or}
 use Rattle.std.specs.List.{list_any}
 use Rattle.cut_tree.specs.SamePatterns.{same_pattern}
 use Rattle.cut_bound.specs.declared.planned.PlannedUnit.{PlannedUnit}

@@ -1,7 +1,7 @@
-use Rattle.std.proofs.Common.{◌∙◌, ◌++◌, ap, map, rules, subst}
+use Rattle.std.proofs.Common.{◌∙◌, ◌++◌, map, rules, subst}
 use Rattle.std.specs.List.Sorted.{IsPermutation}
 use Rattle.std.proofs.lemmas.List.Sorted.{IsPermutation-map}
-use Rattle.cut_lines.specs.Lines.{told, lines_text}
+use Rattle.cut_lines.specs.Lines.{told}
 use Rattle.cut_lines.proofs.lines.order_lines.Goals as goal
 
 pub returns : goal.returns

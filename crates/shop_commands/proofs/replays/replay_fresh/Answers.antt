@@ -1,5 +1,4 @@
-use Rattle.std.proofs.Common.{◌≡◌, ◌<◌, ◌++◌, [], List, ℕ, Ok, Err, inl, inr, subst, sym, ap, ◌∙◌, arith}
-use Rattle.std.specs.Prelude.{IfOk, IfErr}
+use Rattle.std.proofs.Common.{◌≡◌, ◌<◌, ◌++◌, [], Err, inl, inr, ap, ◌∙◌, arith}
 use Rattle.shop_desk.specs.Faults.{StoreFailed}
 use Rattle.shop_commands.specs.contracts.storeless.StorelessBookBook.TheImpl as mem
 use Rattle.shop_wire.proofs.Fresh.{from_fresh}

@@ -2,7 +2,6 @@ use Rattle.std.proofs.Common.{◌<◌, length, subst}
 use Rattle.shop_request.specs.Heads.{prefix}
 use Rattle.shop_request.specs.Reading.{HasEnough, IsFound}
 use Rattle.shop_request.specs.Requests.{faulty}
-use Rattle.shop_request.proofs.After.{found_judged, parse_of_fault}
 use Rattle.shop_request.proofs.Prefix.{some_of}
 use Rattle.shop_request.proofs.Determined.{as_it_is, fault_later, full_later, part_parse, refused_later, silence_of}
 use Rattle.shop_request.proofs.requests.inbound_of.Goals as goal

@@ -1,4 +1,4 @@
-use Rattle.std.proofs.Common.{◌<◌, ◌++◌, ap, subst, sym, length}
+use Rattle.std.proofs.Common.{◌<◌, ◌++◌, subst, sym, length}
 use Rattle.shop_request.specs.Reading.{HasEnough, IsHeadIn}
 use Rattle.shop_request.specs.Requests.{ParsesTo, parse_of}
 use Rattle.shop_request.proofs.After.{gathered}
