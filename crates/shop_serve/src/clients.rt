@@ -353,7 +353,7 @@ fn is_older(found: Option<(usize, Instant)>, since: Instant) -> bool
     found.is_none_or(|(_, first)| since < first)
 }
 
-// The key of the oldest connection whose answer isn't on its way.
+// The key of the oldest connection that may go.
 fn oldest<C>(clients: &Slab<Client<C>>) -> Option<usize>
     ensures found { IfSome result (IsOldest clients.now) }
     ensures none { result ≡ None → NoneMayGo clients.now }
@@ -377,7 +377,7 @@ pub(crate) fn can_open_one<C>(clients: &Slab<Client<C>>) -> bool
     clients.len() < MOST_CLIENTS || oldest(clients).is_some()
 }
 
-/// Closes the oldest connection whose answer isn't on its way, where there are as many as may be.
+/// Closes the oldest connection that may go, where there are as many as may be.
 fn make_room<C: Drop>(clients: &mut Slab<Client<C>>)
     requires room { CanOpenOne clients.old }
     ensures room { MakesRoom clients.old clients.new }

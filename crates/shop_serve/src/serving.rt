@@ -212,11 +212,11 @@ fn most_served(limit: Option<u32>) -> u64
 }
 
 /// Serves connections, at most 256 at once, until as many as the limit says were accepted and are done with; without a limit
-/// it serves on, to 18446744073709551615. Whichever has
-/// bytes is read; a request is answered once it is whole, one after another. A fault of one ends that one alone. Each has
-/// 10 seconds from when it was accepted to the last byte of its request, and 10 more to take its answer; the time in which
-/// a request is answered isn't counted. Where 256 are open, the oldest that has no answer on its way makes room for the
-/// next; where each has one, the next waits. A backup that is asked for is made between two requests.
+/// it serves on, to 18446744073709551615. Whichever has bytes is read; a request is answered once it is whole, one after
+/// another. A fault of one ends that one alone. Each has 10 seconds from when it was accepted to the last byte of its request,
+/// and 10 more to take its answer; the time in which a request is answered isn't counted. Where 256 are open, the oldest that
+/// has no answer on its way and whose question wasn't thought on makes room for the next; where there is none, the next
+/// waits. A backup that is asked for is made between two requests.
 ///
 /// `NoMemory` before the first connection; `Port` where none can be accepted for good, or waited for, and then the rest isn't
 /// served.
