@@ -44,8 +44,8 @@ abbrev pub reason : Mistake → List ℕ
 reason NoOrder = codes "'--order <CODE>' is missing: --order, --terminal and --number stand together"
 reason NoTerminal = codes "'--terminal <N>' is missing: --order, --terminal and --number stand together"
 reason NoNumber = codes "'--number <N>' is missing: --order, --terminal and --number stand together"
-reason NoStep = codes "'--step <N>' is missing: it may be left out with '--whole' alone"
-reason LoneCalls = codes "'--calls <N>' stands with '--whole' alone"
+reason NoStep = codes "'--step <N>' is missing: it may be left out only with '--whole'"
+reason LoneCalls = codes "'--calls <N>' may be given only with '--whole'"
 reason _ = codes "the words ask for nothing"
 
 -- the text of a mistake

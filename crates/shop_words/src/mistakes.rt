@@ -128,8 +128,8 @@ fn reason(mistake: Mistake<'_>) -> &'static str
         Mistake::NoNumber => {
             "'--number <N>' is missing: --order, --terminal and --number stand together"
         }
-        Mistake::NoStep => "'--step <N>' is missing: it may be left out with '--whole' alone",
-        Mistake::LoneCalls => "'--calls <N>' stands with '--whole' alone",
+        Mistake::NoStep => "'--step <N>' is missing: it may be left out only with '--whole'",
+        Mistake::LoneCalls => "'--calls <N>' may be given only with '--whole'",
         _ => "the words ask for nothing",
     }
 }
