@@ -293,12 +293,20 @@ def streams(trial):
     trial.equal(over("replay", given=trial.folder), (1, b"fault read\n  standard input: it can't be read to its end\n"))
 
 
-@case("what a server tells of itself", "It tells its version and its store when it begins, and that it ended.")
+@case(
+    "what a server tells of itself",
+    "It tells its version, its store and how many messages it keeps when it begins, those of the shop file among them, and that it "
+    "ended. What is accepted is kept once; what is refused and what is asked isn't.",
+)
 def log(trial):
-    for is_new in (True, False):
-        shop = trial.shop("day.db", limit=1)
+    shop_file, refused = trial.write("shop.toml", STEEL), MATERIAL.replace('"kerf":1', '"kerf":201').replace('"number":1', '"number":2')
+    for is_new, kept, sent in ((True, 1, (MATERIAL, MATERIAL, refused)), (False, 2, ()), (False, 2, ())):
+        shop = trial.shop("day.db", shop_file, limit=len(sent) + 1)
+        for line in sent:
+            shop.reply(line)
         shop.get("/materials")
-        trial.equal(shop.end(), (0, f"listening on 127.0.0.1:{shop.port}\n".encode(), begin_line(shop.store, is_new) + end_line(shop.store)))
+        log = begin_line(shop.store, is_new, kept) + end_line(shop.store)
+        trial.equal(shop.end(), (0, f"listening on 127.0.0.1:{shop.port}\n".encode(), log))
 
 
 FAILED = b"cutshop: answered 99 StoreFault; look at the store's disk, and start this program anew\n"

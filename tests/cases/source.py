@@ -222,6 +222,7 @@ FAULTED = {
     "shop_machine/src/retiring.rt decide_give_back StoreFault": (1, "totals below the part's cells, by its contract"),
     "shop_machine/src/retiring.rt decide_scrap StoreFault": (1, "totals below the part's cells, by its contract"),
     "shop_serve/src/watches.rt back_up StoreFault": (2, "no backup is made"),
+    "shop_tables/src/kept_counts.rt count_kept Store": (1, "a count without its row"),
     "shop_statements/src/columns.rt code_in Store": (1, "a text that is no code"),
     "shop_statements/src/columns.rt counted Store": (1, "a count of 2^63 or more"),
     "shop_statements/src/columns.rt form_in Store": (1, "a form that is none"),

@@ -22,6 +22,7 @@ from functools import cache
 
 from kit import case as cases
 from kit.shop import answer, begin_line, end_line, request_of, status_of
+from kit.tables import select
 
 # The cases of all files, by name.
 EXCHANGES = {}
@@ -82,13 +83,14 @@ def serve(trial, steps):
     """Sends each line and request to `cutshop serve` over a file, which ends by itself behind the last of them."""
     sends = [(it, size) for it in steps for size in (PIECES if it.is_request else (None,))]
     is_new = not os.path.exists(trial.path("shop.db"))
+    kept = 0 if is_new else select(trial.path("shop.db"), "SELECT count(*) FROM kept")[0][0]
     shop = trial.shop("shop.db", limit=len(sends))
     trial.holds(shop.is_open, "the shop doesn't open")
     for step, size in sends:
         request = step.sent if step.is_request else request_of(step.sent, step.wanted)
         got = shop.exchange(request, size)
         trial.equal(got, step.answer(), request if size is None else f"in pieces of {size}: {cases.short(request)}", step.at)
-    log = begin_line(shop.store, is_new) + end_line(shop.store)
+    log = begin_line(shop.store, is_new, kept) + end_line(shop.store)
     trial.equal(shop.end(), (0, f"listening on 127.0.0.1:{shop.port}\n".encode(), log), "serve")
 
 

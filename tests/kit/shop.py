@@ -121,9 +121,10 @@ def free_port():
 VERSION = "1.0.0"
 
 
-def begin_line(store, is_new=True):
-    """The line that a server of a store tells on standard error when it begins."""
-    return f"cutshop {VERSION}: serving {store}, {'a new store' if is_new else 'a store that was there'}\n".encode()
+def begin_line(store, is_new=True, kept=0):
+    """The line that a server of a store tells on standard error when it begins, where so many messages are kept."""
+    of = "a new store" if is_new else "a store that was there"
+    return f"cutshop {VERSION}: serving {store}, {of}, messages kept: {kept}\n".encode()
 
 
 def end_line(store):

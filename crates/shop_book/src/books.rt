@@ -298,6 +298,11 @@ pub trait Book {
         ensures keeps { Keeps has_clean_disk holds may_leave failed
             (CountsFailure result) self.old self.new };
 
+    /// How many messages are kept. It is told in a log, and no clause says it.
+    fn kept_count(&mut self) -> Result<u32, BookFault>
+        ensures keeps { Keeps has_clean_disk holds may_leave failed
+            (CountsFailure result) self.old self.new };
+
     /// Makes a change that fits the content as a whole, or not at all. After an `Err` the content is what it was, whatever
     /// the change.
     fn commit(&mut self, change: Change) -> Result<(), BookFault>

@@ -501,6 +501,13 @@ impl Book for MemBook {
         Ok(last_kept(&self.kept, terminal))
     }
 
+    fn kept_count(&mut self) -> Result<u32, BookFault>
+        ensures sure { IsOk result }
+        ensures same { self.new ≡ self.old }
+    {
+        Ok(u32::try_from(self.kept.len()).unwrap_or(u32::MAX))
+    }
+
     fn commit(&mut self, change: Change) -> Result<(), BookFault>
         ensures ok { OnOk result (self.new.content ≡ changed self.old.content change) }
         ensures err { OnErr result (self.new.content ≡ self.old.content) }

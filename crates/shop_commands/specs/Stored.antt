@@ -18,6 +18,8 @@ use Rattle.shop_opening.specs.declared.shops.EntryRefused.{EntryRefused}
 use Rattle.shop_opening.specs.declared.stores.OpenFault.{OpenFault}
 use Rattle.shop_opening.specs.Shops.{HasShop, IsAccepted, IsFirstRefused}
 use Rattle.shop_book.specs.declared.books.Book.{Ghosts}
+use Rattle.shop_book.specs.declared.books.BookFault.{BookFault}
+use Rattle.shop_book.specs.Failures.{CountsFailure}
 use Rattle.shop_book.specs.Kept.{Unchanged, OnContent}
 use Rattle.shop_text.specs.Printing.{CountsPrint, IsPrinted}
 use Rattle.shop_text.specs.Tickets.{ticket_of}
@@ -106,12 +108,16 @@ module _ {B : Type 0} (book : Ghosts B) where
   abbrev pub IsShopped : B → B → List MaterialEntry → Type 0
   IsShopped before after entries = HasShop book before after entries (All IsAccepted)
 
-  -- the entries are there, the port was told, and at most as many requests were served as the limit says
+  -- The entries are there, the port was told, it was looked how many messages are kept, which changes nothing, and at most as many
+  -- requests were served as the limit says.
   pub record IsBookServed (site : Site) (before after : B) (entries : List MaterialEntry) (port : ℕ) (limit : Option ℕ) (out : SinkChange) : Type 0 where
     pub mid : B
     pub shop : IsShopped before mid entries
     pub told : Adds out (listening_line port)
-    pub served : HasServed site book mid after (most_served limit)
+    pub counted : B
+    pub count : Result ℕ BookFault
+    pub keeps : Unchanged book (CountsFailure count) mid counted
+    pub served : HasServed site book counted after (most_served limit)
 
   -- memory was wanting, and nothing was done, or an entry was refused
   abbrev pub AddFailed : B → B → List MaterialEntry → Fault → Type 0
@@ -122,12 +128,15 @@ module _ {B : Type 0} (book : Ghosts B) where
   abbrev pub IsUnaccepted : Site → B → B → Option ℕ → Fault → Type 0
   IsUnaccepted site before after limit fault = ((fault ≡ NoMemory) × (after ≡ before)) ⊎ ((fault ≡ Port port_cause.Refused) × HasServed site book before after (most_served limit))
 
-  -- the entries are there, the port was told, and then serving stopped
+  -- the same, but that serving stopped
   pub record IsBookLeft (site : Site) (before after : B) (entries : List MaterialEntry) (port : ℕ) (limit : Option ℕ) (fault : Fault) (out : SinkChange) : Type 0 where
     pub mid : B
     pub shop : IsShopped before mid entries
     pub told : Adds out (listening_line port)
-    pub left : IsUnaccepted site mid after limit fault
+    pub counted : B
+    pub count : Result ℕ BookFault
+    pub keeps : Unchanged book (CountsFailure count) mid counted
+    pub left : IsUnaccepted site counted after limit fault
 
   -- no backup can be made of the store, and nothing was done; or the entries aren't all there; or they are, and the port isn't told; or
   -- it is, and serving stopped

@@ -7,18 +7,30 @@ use shop_words::VERSION;
 use std::alloc::{AllocError, Global};
 use std::io::Eprint;
 
-// The line with which it begins, of a store that was made.
-fn new_line(alloc: Global, store: &str) -> Result<String, AllocError>
-    ensures { IfOk result (λ line. string_bytes line ≡ spec.new_line store.now) }
+// How many messages are kept, where that was counted.
+fn kept_text(alloc: Global, kept: Option<u32>) -> Result<String, AllocError>
+    ensures { IfOk result (λ text. string_bytes text ≡ spec.kept_text kept) }
 {
-    format!(in alloc; "cutshop {VERSION}: serving {store}, a new store\n")
+    match kept {
+        Some(kept) => format!(in alloc; ", messages kept: {kept}"),
+        None => Ok(String::new(alloc)),
+    }
+}
+
+// The line with which it begins, of a store that was made.
+fn new_line(alloc: Global, store: &str, kept: Option<u32>) -> Result<String, AllocError>
+    ensures { IfOk result (λ line. string_bytes line ≡ spec.new_line store.now kept) }
+{
+    let kept = kept_text(alloc, kept)?;
+    format!(in alloc; "cutshop {VERSION}: serving {store}, a new store{kept}\n")
 }
 
 // The line with which it begins, of a store that was there.
-fn known_line(alloc: Global, store: &str) -> Result<String, AllocError>
-    ensures { IfOk result (λ line. string_bytes line ≡ spec.known_line store.now) }
+fn known_line(alloc: Global, store: &str, kept: Option<u32>) -> Result<String, AllocError>
+    ensures { IfOk result (λ line. string_bytes line ≡ spec.known_line store.now kept) }
 {
-    format!(in alloc; "cutshop {VERSION}: serving {store}, a store that was there\n")
+    let kept = kept_text(alloc, kept)?;
+    format!(in alloc; "cutshop {VERSION}: serving {store}, a store that was there{kept}\n")
 }
 
 // The line with which it ends.
@@ -34,12 +46,18 @@ fn note<R: Eprint>(rt: &R, line: Result<String, AllocError>) {
     }
 }
 
-/// Tells that a store is served, which was made or was there.
-pub(crate) fn note_begin<R: Eprint>(rt: &R, alloc: Global, store: &str, is_new: bool) {
+/// Tells that a store is served, which was made or was there, and how many messages it keeps, where that was counted.
+pub(crate) fn note_begin<R: Eprint>(
+    rt: &R,
+    alloc: Global,
+    store: &str,
+    is_new: bool,
+    kept: Option<u32>,
+) {
     if is_new {
-        note(rt, new_line(alloc, store));
+        note(rt, new_line(alloc, store, kept));
     } else {
-        note(rt, known_line(alloc, store));
+        note(rt, known_line(alloc, store, kept));
     }
 }
 

@@ -272,7 +272,8 @@ fn serve_book<R: Net + Clock + Eprint + Files, B: Book, W: Sink>(
     let backups = backups_of(rt, alloc, store, backup)?;
     add_entries(alloc, book, entries)?;
     let listener = bind_and_announce(rt, alloc, port, sink)?;
-    note_begin(rt, alloc, store, is_new);
+    let kept = book.kept_count().ok();
+    note_begin(rt, alloc, store, is_new, kept);
     match serve_connections(rt, alloc, &listener, limit, site, backups.as_ref(), book) {
         Ok(()) => Ok(()),
         Err(fault) => Err(fault),

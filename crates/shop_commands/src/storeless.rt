@@ -175,6 +175,10 @@ impl Book for StorelessBook {
         self.book.last_number(terminal)
     }
 
+    fn kept_count(&mut self) -> Result<u32, BookFault> {
+        self.book.kept_count()
+    }
+
     fn commit(&mut self, change: Change) -> Result<(), BookFault> {
         self.book.commit(change)
     }

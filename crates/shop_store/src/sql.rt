@@ -32,9 +32,9 @@ use shop_records::{
     Pair, Part, PartList, PartVisitor, Totals, no_totals,
 };
 use shop_tables::{
-    AdoptFault, Adopted, TableFault, adopt_tables, find_demand, find_import, find_job, find_kept,
-    find_last_act, find_last_demand, find_last_number, find_material, find_order, find_part,
-    find_totals, list_lines, list_materials, list_orders, renew_shop,
+    AdoptFault, Adopted, TableFault, adopt_tables, count_kept, find_demand, find_import, find_job,
+    find_kept, find_last_act, find_last_demand, find_last_number, find_material, find_order,
+    find_part, find_totals, list_lines, list_materials, list_orders, renew_shop,
 };
 use sqlite::{Alter, Connection, MemStore};
 use std::alloc::Global;
@@ -570,6 +570,11 @@ impl<S: Alter> Book for SqlBook<S> {
 
     fn last_number(&mut self, terminal: u32) -> Result<u32, BookFault> {
         let answer = find_last_number(&mut self.conn, terminal);
+        self.count_fault(answer)
+    }
+
+    fn kept_count(&mut self) -> Result<u32, BookFault> {
+        let answer = count_kept(&mut self.conn);
         self.count_fault(answer)
     }
 
