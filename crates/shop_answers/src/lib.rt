@@ -12,5 +12,5 @@ pub use listing::{
 };
 pub use planning::{
     FoundDemand, FoundList, answer_bound, answer_plan, can_be_planned, demands_refusal, left_of,
-    planner_refusal, wants_of,
+    planner_refusal, tree_text, wants_of,
 };

@@ -1,6 +1,6 @@
 //! Lists of what stands, is open, waits or was ordered: the first rows, and whether others follow; and the answer on a job.
 
-ghost use Rattle.std.specs.Prelude.{◌≡◌, ◌≢◌, ◌+◌, ◌<◌, ◌^◌, ℕ, List, Some, IfOk, AllPairs, take};
+ghost use Rattle.std.specs.Prelude.{◌≡◌, ◌≢◌, ◌+◌, ◌<◌, ℕ, List, Some, IfOk, AllPairs, take};
 ghost use Rattle.shop_answers.specs.declared.listing.TheConstants.{MOST_TOLD};
 ghost use Rattle.shop_records.specs.declared.records.Demand.{Demand as DemandOf};
 ghost use Rattle.shop_records.specs.declared.records.Part.{Part as PartOf};
@@ -12,6 +12,7 @@ ghost use Rattle.shop_records.specs.Lists as lists;
 
 use crate::planning::tree_text;
 use cut_measure::{Code, PartName, RowList};
+use shop_machine::wide;
 use shop_records::{Demand, Job, JobRow, OrderList, OrderRow, Part, Refusal, Reply};
 use std::alloc::{AllocError, Global};
 
@@ -90,13 +91,6 @@ pub fn job_row(job: u32, name: PartName, cuts: u32, part: &Part) -> JobRow
         part: name,
         w: part.size.w(),
     }
-}
-
-fn wide(n: u32) -> u64
-    ensures value { result ≡ n }
-    ensures range { result < 2 ^ 32 }
-{
-    u64::from(n)
 }
 
 // A sum with one number more, or the greatest number of 64 bits where it is greater.

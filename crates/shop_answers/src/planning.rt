@@ -148,8 +148,8 @@ fn asked_wants(
     }
 }
 
-// The text of a plan's tree.
-pub(crate) fn tree_text(alloc: Global, plan: &Plan) -> Result<Text, AllocError>
+/// The text of a plan's tree. An Err is want of memory.
+pub fn tree_text(alloc: Global, plan: &Plan) -> Result<Text, AllocError>
     ensures { IfOk result (λ text. text ≡ text_of plan.now.tree) }
 {
     let mut text = String::new(alloc);

@@ -55,10 +55,6 @@ IsPiece p = (1 ≤ p.w) × (p.w ≤ MOST_WIDTH) × (1 ≤ p.h) × (p.h ≤ MOST_
 abbrev pub ArePieces : List Piece → Type 0
 ArePieces pieces = (1 ≤ length pieces) × (length pieces ≤ MOST_PIECES) × AllByRecursion IsPiece pieces
 
--- the runs, of which the first has index i, go on with `prefix`, which is in range, and then with a run at this place
-abbrev pub ComesTo : ℕ → List DigitRun → List DigitRun → ℕ → Type 0
-ComesTo i runs prefix place = AllFit i prefix × ((run : DigitRun) × (more : List DigitRun) × (runs ≡ prefix ++ run ∷ more) × (run.place ≡ place))
-
 -- a number before the `most`th is out of range, the first of them at this place
 abbrev pub IsBadNumber : ℕ → List DigitRun → ℕ → ℕ → Type 0
 IsBadNumber i runs most place =

@@ -12,7 +12,8 @@ use csv::{ByteRecord, Reader, ReaderBuilder};
 use cut_measure::{Code, RowList, digits_value_of, read_mm};
 use std::alloc::Global;
 
-/// A line of an order file.
+/// A line of an order file. Its sides are 0 to 9999999 tenths of a millimetre and its other numbers of 32 bits: whoever
+/// makes demands of it judges their ranges.
 #[derive(Clone, Copy, Debug)]
 pub struct OrderLine {
     pub line: u32,
@@ -23,7 +24,9 @@ pub struct OrderLine {
     pub h: u32,
     /// Whether the piece may be turned.
     pub turn: bool,
+    /// How many pieces are wanted.
     pub count: u32,
+    /// What one piece is worth.
     pub worth: u32,
 }
 

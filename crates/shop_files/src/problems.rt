@@ -17,13 +17,13 @@ use std::alloc::{AllocError, Global};
 /// A piece that may be cut from a problem's rectangle.
 #[derive(Clone, Copy, Debug, PartialEq, Eq)]
 pub struct Piece {
-    /// The side along the rectangle's width.
+    /// The side along the rectangle's width, in tenths of a millimetre: 1 to 200000.
     pub w: u32,
-    /// The side along the rectangle's height.
+    /// The side along the rectangle's height, in tenths of a millimetre: 1 to 60000.
     pub h: u32,
-    /// How many of it there may be.
+    /// How many of it there may be: 1 to 1000000.
     pub most: u32,
-    /// What one of it is worth.
+    /// What one of it is worth: 1 to 1000000000.
     pub worth: u32,
 }
 

@@ -11,13 +11,16 @@ use cut_measure::{Code, Kind, RowList, read_mm};
 use std::alloc::Global;
 use toml::{Table, Value};
 
-/// A material in a shop file.
+/// A material in a shop file. Its lengths are 0 to 9999999 tenths of a millimetre: whoever adds it judges their ranges.
 #[derive(Clone, Copy, Debug)]
 pub struct MaterialEntry {
     pub code: Code,
     pub kind: Kind,
+    /// How wide the saw cuts.
     pub kerf: u32,
+    /// The least longer side of a remnant.
     pub min_long: u32,
+    /// The least shorter side of a remnant.
     pub min_short: u32,
 }
 

@@ -44,10 +44,6 @@ leaves_in found = map (λ (f : FoundLeaf). f.leaf) found
 abbrev pub AreDemandsFound : (ℕ → Option Demand) → List FoundLeaf → Type 0
 AreDemandsFound at found = All (λ f. f.demand ≡ at f.leaf.demand) found
 
--- the leaves are those of the plan, with the rows of their demands
-abbrev pub AreLeavesFound : (ℕ → Option Demand) → Pattern → List FoundLeaf → Type 0
-AreLeavesFound at plan found = (leaves_in found ≡ plan_leaves plan) × AreDemandsFound at found
-
 abbrev pub recount_by : Recount → ℕ → Demand → Demand
 recount_by Reserved n demand = with_reserved n demand
 recount_by (Laid laid) n demand = with_laid laid.now n demand

@@ -11,7 +11,8 @@ use cut_measure::{Code, Kind, Limits};
 use shop_records::{Change, Material, MaterialTotals, Refusal, Reply, no_totals};
 use std::alloc::Global;
 
-/// Adds a material: one that is known is accepted again with equal values.
+/// Adds a material: one that is known is accepted again with equal values. Refused `BadMaterial`, then `MaterialExists` with
+/// other values.
 pub fn decide_material(
     alloc: Global,
     known: Option<Material>,

@@ -28,7 +28,8 @@ fn amended(alloc: Global, demand: Demand, wanted: u32) -> Result<Change, AllocEr
     })
 }
 
-/// Says how many pieces of a demand are wanted from now on, from its row.
+/// Says how many pieces of a demand are wanted from now on, from its row. Refused `NoDemand`, then `BadLine` for more than
+/// 1000000, then `TooMany` for fewer than are reserved and made.
 pub fn decide_amend(alloc: Global, demand: Option<Demand>, wanted: u32) -> Result<Change, Refusal>
     ensures decision { Decides (amend_refusal demand wanted)
         (λ change. MatchOption demand ⊥ (λ row. change ≡ amend_change row wanted)) result }

@@ -428,7 +428,8 @@ fn decide_end(
 }
 
 /// Finishes a job, from its row, the rows of its part and the part's material, the material's totals, and its plan's
-/// leaves with the rows of their demands.
+/// leaves with the rows of their demands. Refused, in this order, `NoJob`, `JobOver`, and `StoreFault` where a row on which it
+/// rests is missing or contradicts it.
 pub fn decide_done(
     alloc: Global,
     job: Option<Job>,
@@ -451,7 +452,8 @@ pub fn decide_done(
     Ok(change)
 }
 
-/// Breaks a job off, the work on its plan having halted so, from the same rows.
+/// Breaks a job off, the work on its plan having halted so, from the same rows. Refused, in this order, `NoJob`, `JobOver`,
+/// `BadCut` where the work can't have halted so or hadn't begun, and `StoreFault` as a job that is finished.
 pub fn decide_break(
     alloc: Global,
     job: Option<Job>,
@@ -475,7 +477,7 @@ pub fn decide_break(
     Ok(change)
 }
 
-/// Releases a job, from the same rows.
+/// Releases a job, from the same rows. Refused as one that is finished.
 pub fn decide_release(
     alloc: Global,
     job: Option<Job>,

@@ -66,7 +66,7 @@ pub fn problem_lines(
     Ok(lines)
 }
 
-/// Accepts an import that came before, with the reply that was told of it.
+/// Accepts an import that came before, with the reply that was told of it. Refused `StoreFault` where there is none.
 pub fn decide_again(alloc: Global, earlier: Option<Reply>) -> Result<Change, Refusal>
     requires { IfSome earlier (λ answer. IsTrue (is_accepted answer)) }
     ensures decision { Decides (again_refusal earlier)
@@ -91,7 +91,7 @@ fn imported(change: Change, row: ImportRow, reply: Reply) -> Change
 }
 
 /// Imports an order file, from whether its order's code is used, its lines with the rows of their materials, and the next
-/// demand's number.
+/// demand's number. Refused as an order.
 pub fn decide_lines(
     alloc: Global,
     used: bool,
@@ -160,7 +160,8 @@ fn with_receipt(change: Change, receipt: Change) -> Change
 
 /// Imports a problem file as an order, and receives a unit of its rectangle, the order's code being its batch: from whether
 /// the code is used, the row of the material and its totals, the problem's lines with the rows of their materials, and the
-/// next act's and the next demand's number.
+/// next act's and the next demand's number. Refused, in this order, `OrderExists`, `NoMaterial`, `BadSize`, line by line
+/// `NoMaterial` and `BadLine`, then as a receipt and as an order.
 pub fn decide_problem(
     alloc: Global,
     used: bool,

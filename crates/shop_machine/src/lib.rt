@@ -19,7 +19,7 @@ pub use decisions::no_change;
 pub use laws::{
     accepted_changes_fit, histories_have_accounts, imports_stay, shared_cells_are_laid,
 };
-pub use recounts::FoundLeaf;
+pub use recounts::{FoundLeaf, wide};
 pub use shop_files::MOST_LINES;
 pub use shop_records::{
     Change, CodeList, Column, Command, Demand, DemandList, Form, ImportRow, Job, JobList, JobRow,

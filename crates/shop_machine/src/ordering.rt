@@ -111,6 +111,8 @@ fn new_demands(
 }
 
 /// Adds an order, from whether its code is used, its lines with the rows of their materials, and the next demand's number.
+/// Refused, in this order, `OrderExists`, `BadLine` for no line or over 200, line by line `NoMaterial` and `BadLine`, and
+/// `NumbersSpent`.
 pub fn decide_order(
     alloc: Global,
     used: bool,

@@ -46,7 +46,8 @@ fn received_parts(
     Ok(rows)
 }
 
-/// Receives units of one size, from the row of their material, its totals, and the next act's number.
+/// Receives units of one size, from the row of their material, its totals, and the next act's number. Refused, in this order,
+/// `NoMaterial`, `BadSize`, `BadCount`, `TooMuch`, `NumbersSpent`, and `StoreFault` where more is in stock than was received.
 pub fn decide_receive(
     alloc: Global,
     known: Option<Material>,

@@ -35,6 +35,7 @@ pub enum Recount<'a> {
     Freed,
 }
 
+/// A number of 32 bits as one of 64.
 pub fn wide(n: u32) -> u64
     ensures value { result ≡ n }
     ensures range { result < 2 ^ 32 }

@@ -157,7 +157,9 @@ fn plan_refusal(part: &Part, plan: &Plan, leaves: &[FoundLeaf], act: u32) -> Opt
 }
 
 /// Reserves a part for a plan, from the rows of the part and its material, the plan that was read for the part, its leaves
-/// with the rows of their demands, and the next act's number.
+/// with the rows of their demands, and the next act's number. Refused, in this order, `NoPart`, `NotStanding`, `StoreFault`
+/// without the material's row, `BadTree` without a plan or a piece, leaf by leaf `NoDemand`, `WrongMaterial` and `WrongSize`,
+/// `TooMany`, and `NumbersSpent`.
 pub fn decide_reserve(
     alloc: Global,
     part: Option<Part>,

@@ -30,7 +30,8 @@ fn turned(alloc: Global, part: Part, state: State, totals: &Totals, reply: Reply
     }
 }
 
-/// Makes a standing part scrap, from its row and the totals of its material.
+/// Makes a standing part scrap, from its row and the totals of its material. Refused, in this order, `NoPart`, `NotStanding`,
+/// and `StoreFault` where the totals don't hold the part.
 pub fn decide_scrap(alloc: Global, part: Option<Part>, totals: Totals) -> Result<Change, Refusal>
     ensures decision { Decides (scrap_refusal part totals)
         (λ change. MatchOption part ⊥
@@ -50,7 +51,8 @@ pub fn decide_scrap(alloc: Global, part: Option<Part>, totals: Totals) -> Result
     Ok(turned(alloc, part, State::Scrap, &totals, reply))
 }
 
-/// Returns a standing unit to its supplier, from its row and the totals of its material.
+/// Returns a standing unit to its supplier, from its row and the totals of its material. Refused, in this order, `NoPart`,
+/// `NotStanding`, `NotWhole`, and `StoreFault` where the totals don't hold the unit.
 pub fn decide_give_back(
     alloc: Global,
     part: Option<Part>,

@@ -16,6 +16,7 @@ use Rattle.cut_bound.specs.Cuttings.{CutUnit, units_at}
 use Rattle.cut_bound.specs.Planned.{cutting_of}
 use Rattle.cut_order.proofs.GrownUnits.{sum_pushed}
 use Rattle.shop_records.specs.Same.{same_name}
+use Rattle.shop_plans.specs.declared.limits.TheConstants.{UNIT_COST}
 use Rattle.shop_plans.specs.declared.answers.ToldPlan.{ToldPlan}
 use Rattle.shop_plans.specs.declared.questions.BuySize.{BuySize}
 use Rattle.shop_planning.specs.declared.posed.Posed.{Posed}
@@ -147,12 +148,12 @@ module _ (ranked : List StockPart) (name : Name) where
     where
       by : (t : Bool) → sum_by (λ (s : StockSize). among_all s.limit s) (filter_map (bought_size kind) bs) ≡ 0
           → sum_by (λ (s : StockSize). among_all s.limit s)
-          (cons_option (option_map (λ (size : Extent). let s : StockSize = record { size = size; cost = size.w * size.h * 100; limit = None } in s) (if t then Some (record { w = b.w; h = b.h }) else None)) (filter_map (bought_size kind) bs))
+          (cons_option (option_map (λ (size : Extent). let s : StockSize = record { size = size; cost = size.w * size.h * UNIT_COST; limit = None } in s) (if t then Some (record { w = b.w; h = b.h }) else None)) (filter_map (bought_size kind) bs))
           ≡ 0
       by true more =
           omega (
             arith,
-            sum_by-cons (λ (s : StockSize). among_all s.limit s) (record { size = record { w = b.w; h = b.h }; cost = b.w * b.h * 100; limit = None }) (filter_map (bought_size kind) bs),
+            sum_by-cons (λ (s : StockSize). among_all s.limit s) (record { size = record { w = b.w; h = b.h }; cost = b.w * b.h * UNIT_COST; limit = None }) (filter_map (bought_size kind) bs),
             more,
           )
       by false more = more

@@ -14,6 +14,7 @@ use Rattle.cut_bound.specs.declared.stock.StockSize.{StockSize}
 use Rattle.cut_bound.specs.declared.limits.TheConstants.{MOST_BOUGHT_SIZES, MOST_PARTS}
 use Rattle.cut_order.specs.declared.question.TheConstants.{MOST_COST}
 use Rattle.cut_order.specs.Stocks.{IsStock, parts_of}
+use Rattle.shop_plans.specs.declared.limits.TheConstants.{UNIT_COST}
 use Rattle.shop_plans.specs.declared.questions.BuySize.{BuySize}
 use Rattle.shop_planning.specs.declared.posed.StockPart.{StockPart}
 use Rattle.shop_planning.specs.Stock.{IsStockPart, IsStockSize, are_alike, bought_size, firsts, part_size, part_sizes, sizes_of}
@@ -48,11 +49,11 @@ none_at_hand kind [] = refl
 none_at_hand kind (b ∷ bs) = by (is_size kind b.w b.h) (none_at_hand kind bs)
   where
     by : (t : Bool) → parts_of (filter_map (bought_size kind) bs) ≡ 0
-        → parts_of (cons_option (option_map (λ (size : Extent). let s : StockSize = record { size = size; cost = size.w * size.h * 100; limit = None } in s) (if t then Some (record { w = b.w; h = b.h }) else None)) (filter_map (bought_size kind) bs)) ≡ 0
+        → parts_of (cons_option (option_map (λ (size : Extent). let s : StockSize = record { size = size; cost = size.w * size.h * UNIT_COST; limit = None } in s) (if t then Some (record { w = b.w; h = b.h }) else None)) (filter_map (bought_size kind) bs)) ≡ 0
     by true more =
         omega (
           arith,
-          sum_by-cons (λ (s : StockSize). unwrap_or s.limit 0) (record { size = record { w = b.w; h = b.h }; cost = b.w * b.h * 100; limit = None }) (filter_map (bought_size kind) bs),
+          sum_by-cons (λ (s : StockSize). unwrap_or s.limit 0) (record { size = record { w = b.w; h = b.h }; cost = b.w * b.h * UNIT_COST; limit = None }) (filter_map (bought_size kind) bs),
           more,
         )
     by false more = more

@@ -4,12 +4,13 @@ use Rattle.std.specs.List.{list_any}
 use Rattle.cut_measure.specs.Names.{Name}
 use Rattle.cut_bound.specs.declared.limits.TheConstants.{MOST_BOUGHT_SIZES, MOST_CALLS, MOST_ORDER_WANTS, MOST_PARTS}
 use Rattle.shop_records.specs.Same.{same_name}
+use Rattle.shop_plans.specs.declared.limits.TheConstants.{UNIT_COST}
 use Rattle.shop_plans.specs.declared.questions.BuySize.{BuySize}
 use Rattle.shop_plans.specs.declared.questions.PlansQuery.{PlansQuery}
 
 -- a remnant's cell costs 1 to 100, and the search makes 1 to 5000 tables
 abbrev pub is_in_range : PlansQuery → Bool
-is_in_range q = nat_le 1 q.remnant && nat_le q.remnant 100 && nat_le 1 q.calls && nat_le q.calls MOST_CALLS
+is_in_range q = nat_le 1 q.remnant && nat_le q.remnant UNIT_COST && nat_le 1 q.calls && nat_le q.calls MOST_CALLS
 
 -- something stands twice
 abbrev pub has_twice : {A : Type 0} → (A → A → Bool) → List A → Bool

@@ -5,18 +5,20 @@ use Rattle.cut_measure.specs.declared.sizes.Kind.{Kind}
 use Rattle.cut_measure.specs.declared.sizes.Kind.TheVariants.{Bar, Sheet}
 use Rattle.cut_measure.specs.Measures.{Extent, size_of}
 use Rattle.cut_bound.specs.declared.stock.StockSize.{StockSize}
+use Rattle.cut_sheets.specs.declared.sheet.TheConstants.{MOST_STEPS}
 use Rattle.cut_order.specs.declared.question.TheConstants.{MOST_COST}
 use Rattle.shop_records.specs.declared.records.Part.{Part}
 use Rattle.shop_records.specs.Columns.{is_whole}
 use Rattle.shop_answers.specs.Planning.{planned_size}
+use Rattle.shop_plans.specs.declared.limits.TheConstants.{UNIT_COST}
 use Rattle.shop_plans.specs.declared.questions.BuySize.{BuySize}
 use Rattle.shop_planning.specs.declared.posed.StockPart.{StockPart}
 
 -- ---- parts
 
--- 100 for each cell of a unit, and for one of a remnant as much as the question says
+-- each cell of a unit costs 100, and one of a remnant as much as the question says
 abbrev pub part_cost : (remnant : ℕ) → Part → Extent → ℕ
-part_cost remnant part size = if is_whole part then size.w * size.h * 100 else size.w * size.h * remnant
+part_cost remnant part size = if is_whole part then size.w * size.h * UNIT_COST else size.w * size.h * remnant
 
 -- a part at a place of the stock's list
 abbrev pub stock_part : Kind → (remnant place : ℕ) → Part → StockPart
@@ -58,7 +60,7 @@ part_sizes parts = map (part_size parts) (firsts are_alike [] parts)
 
 -- a size that may be bought, without limit, where units of the kind may have it
 abbrev pub bought_size : Kind → BuySize → Option StockSize
-bought_size kind b = option_map (λ (size : Extent). let s : StockSize = record { size = size; cost = size.w * size.h * 100; limit = None } in s) (size_of kind b.w b.h)
+bought_size kind b = option_map (λ (size : Extent). let s : StockSize = record { size = size; cost = size.w * size.h * UNIT_COST; limit = None } in s) (size_of kind b.w b.h)
 
 -- the sizes of the parts, and then those that may be bought
 abbrev pub sizes_of : Kind → List StockPart → List BuySize → List StockSize
@@ -73,7 +75,7 @@ pub record IsStockSize (kind : Kind) (s : StockSize) : Type 0 where
 
 -- the least step by which no side of the sizes has over 500 steps
 abbrev pub least_step : (kerf : ℕ) → List StockSize → ℕ
-least_step k sizes = fold (λ step s. max step ((max s.size.w s.size.h + k) / 501 + 1)) 1 sizes
+least_step k sizes = fold (λ step s. max step ((max s.size.w s.size.h + k) / (MOST_STEPS + 1) + 1)) 1 sizes
 
 -- none for a bar; else the one that is given, or the least one
 abbrev pub step_for : Kind → (kerf : ℕ) → Option ℕ → List StockSize → ℕ

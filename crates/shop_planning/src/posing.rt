@@ -8,6 +8,7 @@ ghost use Rattle.cut_order.specs.Stocks.{IsStock};
 ghost use Rattle.shop_records.specs.declared.refusals.Refusal.TheVariants.{NoMemory, StoreFault};
 ghost use Rattle.shop_answers.specs.Planning.{HasNumber};
 ghost use Rattle.shop_book.specs.Kept.{Unchanged, OnContent};
+ghost use Rattle.shop_plans.specs.declared.limits.TheConstants.{UNIT_COST};
 ghost use Rattle.shop_planning.specs.Asked as asked;
 ghost use Rattle.shop_planning.specs.Faults.{CountsRefusal};
 ghost use Rattle.shop_planning.specs.Lists.{has_bad_list};
@@ -105,7 +106,7 @@ fn gather(
     kind: Kind,
     rows: &AskedRows,
 ) -> Result<Gathered, AllocError>
-    requires remnant { query.now.remnant ≤ 100 }
+    requires remnant { query.now.remnant ≤ UNIT_COST }
     requires parts { length rows.now.parts.items ≤ MOST_PARTS }
     requires buy { length query.now.buy ≤ MOST_BOUGHT_SIZES }
     requires numbers { All HasNumber rows.now.demands.items }
@@ -172,7 +173,7 @@ fn posed_of(
     material: &Material,
     rows: &AskedRows,
 ) -> Result<Posed, Refusal>
-    requires remnant { query.now.remnant ≤ 100 }
+    requires remnant { query.now.remnant ≤ UNIT_COST }
     requires parts { length rows.now.parts.items ≤ MOST_PARTS }
     requires buy { length query.now.buy ≤ MOST_BOUGHT_SIZES }
     ensures ok { IfOk result (question.IsPosedBy query.now material.now rows.now.demands.items rows.now.parts.items) }
@@ -196,7 +197,7 @@ fn posed_for<B: Book>(
     query: &PlansQuery,
     material: &Material,
 ) -> Result<Posed, Refusal>
-    requires remnant { query.now.remnant ≤ 100 }
+    requires remnant { query.now.remnant ≤ UNIT_COST }
     requires lists { has_bad_list query.now ≡ false }
     ensures ok { OnContent B.Book book.old book.new (λ m. IfOk result (question.IsPosedOf m query.now material.now)) }
     ensures err { OnContent B.Book book.old book.new

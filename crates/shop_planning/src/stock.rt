@@ -5,13 +5,16 @@ ghost use Rattle.std.specs.List.{list_any};
 ghost use Rattle.cut_bound.specs.declared.limits.TheConstants.{MOST_BOUGHT_SIZES, MOST_PARTS};
 ghost use Rattle.cut_measure.specs.declared.ranges.TheConstants.{MOST_KERF};
 ghost use Rattle.cut_order.specs.Stocks.{IsStock};
+ghost use Rattle.cut_order.specs.declared.question.TheConstants.{MOST_COST};
+ghost use Rattle.shop_plans.specs.declared.limits.TheConstants.{UNIT_COST};
 ghost use Rattle.shop_answers.specs.Planning.{planned_size};
 ghost use Rattle.shop_planning.specs.Stock as spec;
 
 use crate::posed::StockPart;
 use cut_bound::StockSize;
 use cut_measure::{Kind, Size};
-use shop_plans::BuySize;
+use cut_sheets::sheet::MOST_STEPS;
+use shop_plans::{BuySize, UNIT_COST};
 use shop_records::Part;
 use std::alloc::{AllocError, Global};
 
@@ -30,13 +33,13 @@ fn planned_size(kind: Kind, size: Size) -> Size
 
 // What a part costs whose sides are these.
 fn part_cost(part: &Part, size: Size, remnant: u32) -> u64
-    requires { remnant ≤ 100 }
+    requires { remnant ≤ UNIT_COST }
     ensures value { result ≡ spec.part_cost remnant part.now size }
-    ensures most { result ≤ 4000000000000 }
+    ensures most { result ≤ MOST_COST }
 {
     let cells = size.cells();
     if part.is_whole() {
-        cells * 100
+        cells * u64::from(UNIT_COST)
     } else {
         cells * u64::from(remnant)
     }
@@ -44,7 +47,7 @@ fn part_cost(part: &Part, size: Size, remnant: u32) -> u64
 
 // A part of the stock.
 fn stock_part(kind: Kind, remnant: u32, part: &Part, place: usize) -> StockPart
-    requires { remnant ≤ 100 }
+    requires { remnant ≤ UNIT_COST }
     ensures value { result ≡ spec.stock_part kind remnant place part.now }
     ensures sound { spec.IsStockPart kind result }
 {
@@ -64,7 +67,7 @@ pub fn stock_parts(
     remnant: u32,
     found: &[Option<Part>],
 ) -> Result<Vec<StockPart>, AllocError>
-    requires { remnant ≤ 100 }
+    requires { remnant ≤ UNIT_COST }
     ensures items { IfOk result (λ parts. parts.items ≡ spec.stock_parts kind remnant found.now) }
     ensures few { IfOk result (λ parts. length parts.items ≤ length found.now) }
     ensures sound { IfOk result (λ parts. All (spec.IsStockPart kind) parts.items) }
@@ -129,7 +132,7 @@ fn bought_size(kind: Kind, buy: &BuySize) -> Option<StockSize>
     let size = Size::new(kind, buy.w, buy.h)?;
     Some(StockSize {
         size,
-        cost: size.cells() * 100,
+        cost: size.cells() * u64::from(UNIT_COST),
         limit: None,
     })
 }
@@ -174,7 +177,7 @@ fn least_step(kerf: u32, sizes: &[StockSize]) -> u32
     let mut step = 1;
     for stock in sizes {
         let side = stock.size.w().max(stock.size.h());
-        step = step.max((side + kerf) / 501 + 1);
+        step = step.max((side + kerf) / (MOST_STEPS + 1) + 1);
     }
     step
 }

@@ -4,7 +4,6 @@ ghost use Rattle.std.specs.Prelude.{◌≡◌, ◌≤◌, ◌<◌, ◌+◌, IfOk
 ghost use Rattle.std.specs.List.Sorted.{IsPermutation, IsSorted};
 ghost use Rattle.cut_bound.specs.declared.limits.TheConstants.{MOST_BOUGHT_SIZES, MOST_PARTS, MOST_UNITS};
 ghost use Rattle.cut_order.specs.Places.{unit_count};
-ghost use Rattle.cut_tree.specs.Spelling.{text_of};
 ghost use Rattle.shop_planning.specs.Answers.{IsPlanOf, IsPlansReply, IsPlansText};
 ghost use Rattle.shop_planning.specs.Answers as answers;
 ghost use Rattle.shop_planning.specs.Entries as entries;
@@ -14,7 +13,7 @@ use crate::shares::shares_of;
 use cut_bound::{MOST_PARTS, PlannedUnit, Price, StockSize, units_at};
 use cut_order::OrderPlan;
 use cut_plan::Want;
-use cut_tree::Plan;
+use shop_answers::tree_text;
 use shop_plans::{DemandPrice, MissingPieces, NameList, PlansReply, ToldPlan, plans_text};
 use shop_records::{RowList, Text};
 use std::alloc::{AllocError, Global};
@@ -86,15 +85,6 @@ fn first_place(parts: &[StockPart]) -> usize
         first = first.min(part.place);
     }
     first
-}
-
-// The text of a plan's tree.
-fn tree_text(alloc: Global, plan: &Plan) -> Result<Text, AllocError>
-    ensures { IfOk result (λ text. text ≡ text_of plan.now.tree) }
-{
-    let mut text = String::new(alloc);
-    plan.write(&mut text)?;
-    Ok(Text::of(text))
 }
 
 // A plan by which parts of a size are cut.

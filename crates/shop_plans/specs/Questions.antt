@@ -4,6 +4,7 @@ use Rattle.cut_measure.specs.Names.{Name, spelled_name}
 use Rattle.serde_json.specs.Data.{Data}
 use Rattle.serde_json.specs.Find.{get, as_str}
 use Rattle.shop_forms.specs.Fields.{number_at, number_of, code_at, word_at, elements_at, all_of, row}
+use Rattle.shop_plans.specs.declared.limits.TheConstants.{MOST_CALLS, UNIT_COST, USUAL_CALLS, USUAL_REMNANT}
 use Rattle.shop_plans.specs.declared.questions.BuySize.{BuySize}
 use Rattle.shop_plans.specs.declared.questions.PlansQuery.{PlansQuery}
 
@@ -59,13 +60,13 @@ abbrev pub buy_of : Data → Option (List BuySize)
 buy_of d = option_map (λ sizes. unwrap_or sizes []) (given (rows_in size_of) (codes "buy") d)
 
 abbrev pub remnant_of : Data → Option ℕ
-remnant_of d = number_within 1 100 90 (codes "remnant") d
+remnant_of d = number_within 1 UNIT_COST USUAL_REMNANT (codes "remnant") d
 
 abbrev pub step_of : Data → Option (Option ℕ)
 step_of d = given number_at (codes "step") d
 
 abbrev pub calls_of : Data → Option ℕ
-calls_of d = number_within 1 5000 500 (codes "calls") d
+calls_of d = number_within 1 MOST_CALLS USUAL_CALLS (codes "calls") d
 
 abbrev pub plans_fields : Data → Option PlansQuery
 plans_fields d =

@@ -6,6 +6,7 @@ ghost use Rattle.shop_records.specs.declared.refusals.Refusal.TheVariants.{BadMe
 ghost use Rattle.shop_forms.specs.Fields.{all_of, elements_at, number_at as number_there};
 ghost use Rattle.shop_plans.specs.Questions as form;
 
+use crate::limits::{MOST_CALLS, UNIT_COST, USUAL_CALLS, USUAL_REMNANT};
 use cut_measure::{Code, PartName, RowList};
 use serde_json::Value;
 use shop_forms::{Read, code_at, has_keys, number_at, rows_at, word_at};
@@ -189,9 +190,9 @@ fn plans_fields(alloc: Global, value: &Value) -> Result<Option<PlansQuery>, Allo
 {
     let (Some(material), Some(remnant), Some(step), Some(calls)) = (
         code_at(value, "material"),
-        number_within(value, "remnant", 1, 100, 90),
+        number_within(value, "remnant", 1, UNIT_COST, USUAL_REMNANT),
         given_number(value, "step"),
-        number_within(value, "calls", 1, 5000, 500),
+        number_within(value, "calls", 1, MOST_CALLS, USUAL_CALLS),
     ) else {
         return Ok(None);
     };

@@ -8,6 +8,7 @@ use Rattle.cut_wants.specs.declared.wants.Want.{Want}
 use Rattle.cut_plan.specs.declared.faults.PlanFault.{PlanFault}
 use Rattle.cut_plan.specs.declared.faults.PlanFault.TheVariants.{BadWant, BadStep, NoMemory}
 use Rattle.cut_plan.specs.Faults.{are_bad_wants, is_bad_step}
+use Rattle.cut_sheets.specs.declared.sheet.TheConstants.{MOST_STEPS}
 use Rattle.cut_bound.specs.declared.limits.TheConstants.{MOST_ORDER_WANTS}
 use Rattle.cut_bound.specs.declared.stock.StockSize.{StockSize}
 use Rattle.cut_bound.specs.Orders.{order_fault}
@@ -24,7 +25,7 @@ kind_of size pieces = if size.h == 1 && list_all (λ p. p.h == 1) pieces then Ba
 
 -- the step that is given, or the least one by which no side has over 500 steps
 abbrev pub step_for : Extent → (kerf : ℕ) → Option ℕ → ℕ
-step_for size k None = (max size.w size.h + k) / 501 + 1
+step_for size k None = (max size.w size.h + k) / (MOST_STEPS + 1) + 1
 step_for size k (Some step) = step
 
 -- the rectangle, as often as is wanted; each costs 1, so that costs are numbers of rectangles

@@ -15,6 +15,7 @@ use cut_lines::{OrderSummary, order_lines};
 use cut_measure::{Kind, MOST_KERF, Size};
 use cut_order::{OrderPlan, plan_order};
 use cut_plan::{PlanFault, Want, are_bad_wants, is_bad_step};
+use cut_sheets::sheet::MOST_STEPS;
 use shop_files::{Piece, Problem};
 use std::alloc::{AllocError, Global};
 
@@ -58,7 +59,7 @@ fn step_for(size: Size, how: WholePlan) -> u32
 {
     match how.step {
         Some(step) => step,
-        None => (size.w().max(size.h()) + how.kerf) / 501 + 1,
+        None => (size.w().max(size.h()) + how.kerf) / (MOST_STEPS + 1) + 1,
     }
 }
 

@@ -27,7 +27,7 @@ pub type CodeList = RowList<Code>;
 /// Numbers of demands or of jobs, in order.
 pub type NumberList = RowList<u32>;
 
-/// What a terminal wants done. Numbers are as they came: the shop judges their ranges.
+/// What a terminal wants done. Lengths are tenths of a millimetre. Numbers are as they came: the shop judges their ranges.
 #[derive(Debug, Drop)]
 pub enum Command {
     AddMaterial {
@@ -93,7 +93,7 @@ pub struct Message {
     pub command: Command,
 }
 
-/// What a terminal asks.
+/// What a terminal asks. Sides and steps are tenths of a millimetre.
 #[derive(Debug, Drop)]
 pub enum Query {
     Totals {
@@ -156,7 +156,7 @@ pub enum Query {
     },
 }
 
-/// What a message or a query is answered.
+/// What a message or a query is answered. Sides and places are tenths of a millimetre.
 #[derive(Debug, Drop)]
 pub enum Reply {
     AddMaterial {

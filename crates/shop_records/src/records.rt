@@ -11,7 +11,7 @@ use std::cmp::Ordering;
 /// The most cells of a material that may be received in all.
 pub const MOST_RECEIVED: u64 = 1_000_000_000_000_000;
 
-/// A material that was added.
+/// A material that was added, with limits of its kind.
 #[derive(Clone, Copy, Debug, PartialEq)]
 pub struct Material {
     pub code: Code,
@@ -91,14 +91,17 @@ impl State {
     }
 }
 
-/// A part of a received unit, by its place in that unit.
+/// A part of a received unit, by its place in that unit. It lies in a rectangle of 200000 by 60000 tenths of a millimetre.
 #[derive(Clone, Copy, Debug, PartialEq)]
 pub struct Part {
     pub name: PartName,
     pub material: Code,
     pub batch: Code,
+    /// The received unit that it is a part of.
     pub root: PartName,
+    /// Its place along the unit's width, in tenths of a millimetre: 0 to 199999.
     pub x: u32,
+    /// Its place along the unit's height, in tenths of a millimetre: 0 to 59999.
     pub y: u32,
     pub size: Size,
     pub state: State,
@@ -128,9 +131,10 @@ impl JobState {
 /// A part that was reserved for a cutting plan, under the number of the reservation's act.
 #[derive(Drop, PartialEq)]
 pub struct Job {
+    /// The number of the act, which is the job's: 1 to 2147483647.
     pub act: u32,
     pub part: PartName,
-    /// How wide the saw cuts, in tenths of a millimetre.
+    /// How wide the saw cuts, in tenths of a millimetre: 0 to 200.
     pub kerf: u32,
     pub plan: Plan,
     pub state: JobState,
@@ -175,19 +179,23 @@ impl Clone for Job {
 /// many are made.
 #[derive(Clone, Copy, Debug, PartialEq)]
 pub struct Demand {
+    /// 1 to 2147483647.
     pub number: u32,
     pub order: Code,
+    /// The number of its line in the order, from 1 on.
     pub line: u32,
     pub material: Code,
     pub size: Size,
     pub may_turn: bool,
+    /// What a piece is worth: 1 to 1000000000.
     pub worth: u32,
+    /// 0 to 1000000, and never under `reserved` and `made` together.
     pub wanted: u32,
     pub reserved: u32,
     pub made: u32,
 }
 
-/// A part on the rack, as it is told.
+/// A part on the rack, as it is told. Its sides are tenths of a millimetre.
 #[derive(Clone, Copy, Debug, PartialEq)]
 pub struct RackRow {
     pub h: u32,
@@ -196,7 +204,8 @@ pub struct RackRow {
     pub w: u32,
 }
 
-/// A waiting job, as it is told: how many cuts its plan has, and its part with that one's material and sides.
+/// A waiting job, as it is told: how many cuts its plan has, 0 to 255, and its part with that one's material and sides, in
+/// tenths of a millimetre.
 #[derive(Clone, Copy, Debug, PartialEq)]
 pub struct JobRow {
     pub cuts: u32,
@@ -217,11 +226,13 @@ pub struct OrderRow {
     pub wanted: u64,
 }
 
-/// What is told of a material, in cells.
+/// What is told of a material, in cells: 0 to 1000000000000000 each, and the others add up to `received`.
 #[derive(Clone, Copy, Debug, PartialEq, Eq)]
 pub struct Totals {
     pub received: u64,
+    /// Of units as they were received, standing or reserved.
     pub stock: u64,
+    /// Of parts that jobs left, standing or reserved.
     pub rack: u64,
     pub pieces: u64,
     pub kerf: u64,

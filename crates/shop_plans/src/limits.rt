@@ -1,0 +1,13 @@
+//! The ranges of a question's numbers, and what they are where a question doesn't say.
+
+/// What a cell of a unit costs. A cell of a remnant costs 1 to as much.
+pub const UNIT_COST: u32 = 100;
+
+/// What a cell of a remnant costs where a question doesn't say.
+pub const USUAL_REMNANT: u32 = 90;
+
+/// The most tables that a question may let the search make.
+pub const MOST_CALLS: u32 = 5000;
+
+/// How many tables the search may make where a question doesn't say.
+pub const USUAL_CALLS: u32 = 500;
