@@ -10,8 +10,17 @@ use Rattle.cut_tree.specs.Tree.{Tree, leaf_sum, count_of, Rest, Piece, Trim, Cut
 use Rattle.cut_measure.specs.declared.sizes.Axis.TheVariants.{X, Y}
 use Rattle.cut_wants.specs.Legal.{Legal, of_demand, worth_of, IsWithinCounts, HaveOwnDemands}
 use Rattle.cut_wants.specs.Best.{IsBestWithin}
-use Rattle.cut_bars.specs.Counts.{AreCounts, total_of, room_taken, worth_of_counts, AreBestCounts, AreBarWants, AreUprightOfHeightOne, HaveLength}
+use Rattle.cut_bars.specs.Counts.{AreCounts, total_of, room_taken, worth_of_counts, AreBestCounts, AreUprightOfHeightOne, HaveLength}
 use Rattle.cut_wants.proofs.LeafSums.{of_demand_found, Contains-head, Contains-tail, weigh, weigh-count}
+
+-- a piece of a bar: of some length, flat, and not to be turned
+pub record IsBarWant (x : Want) : Type 0 where
+  pub some : 1 ≤ x.size.w
+  pub flat : x.size.h ≡ 1
+  pub upright : x.may_turn ≡ false
+
+abbrev pub AreBarWants : List Want → Type 0
+AreBarWants wants = (x : Want) → Contains wants x → IsBarWant x
 
 pub bar_wants : (wants : List Want) → HaveLength wants → AreUprightOfHeightOne wants → AreBarWants wants
 bar_wants wants some flat = λ x has. record { some = some x has; flat = (flat x has).flat; upright = (flat x has).upright }

@@ -46,11 +46,3 @@ pub record IsUprightOfHeightOne (x : Want) : Type 0 where
 
 abbrev pub AreUprightOfHeightOne : List Want → Type 0
 AreUprightOfHeightOne wants = (x : Want) → Contains wants x → IsUprightOfHeightOne x
-
-pub record IsBarWant (x : Want) : Type 0 where
-  pub some : 1 ≤ x.size.w
-  pub flat : x.size.h ≡ 1
-  pub upright : x.may_turn ≡ false
-
-abbrev pub AreBarWants : List Want → Type 0
-AreBarWants wants = (x : Want) → Contains wants x → IsBarWant x

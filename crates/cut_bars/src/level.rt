@@ -15,7 +15,9 @@ use std::alloc::{AllocError, Global};
 /// What counts reach: an entry for each room that they take, or a cell for each room.
 #[derive(Drop)]
 pub enum Level<T> {
+    /// Rising by the room.
     Listed(Vec<Entry>),
+    /// 0 where no counts take the room, else one more than their best worth.
     Tabled(Vec<T>),
 }
 

@@ -9,7 +9,9 @@ use std::alloc::{AllocError, Global};
 /// A room that counts of pieces take, and the greatest worth of such counts.
 #[derive(Clone, Copy, Debug, PartialEq, Eq)]
 pub struct Entry {
+    /// Tenths of a millimetre, a kerf after each piece: at most 150200.
     pub room: u32,
+    /// The sum of the pieces' worths, below 2^48.
     pub worth: u64,
 }
 

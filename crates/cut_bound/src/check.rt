@@ -17,6 +17,7 @@ use std::alloc::{AllocError, Global};
 pub struct CheckedOrder {
     /// How many pieces are missing of each want, in the order of the wants.
     pub missing: Vec<u32>,
+    /// The sum of the units' costs.
     pub cost: u128,
     /// Nothing is missing, and the cost is the bound: no cutting that makes all costs less.
     pub proved: bool,
@@ -34,6 +35,7 @@ pub enum CheckFault {
     TooMany,
     /// The cost has no number of 128 bits.
     TooCostly,
+    /// Want of memory.
     NoMemory,
 }
 

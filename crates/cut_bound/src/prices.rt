@@ -10,6 +10,7 @@ use std::alloc::{AllocError, Global};
 /// The price of a demand's pieces.
 #[derive(Clone, Copy, Debug, PartialEq, Eq)]
 pub struct Price {
+    /// The demand's number, as the want has it.
     pub demand: u32,
     /// 1 to 1000000000.
     pub worth: u32,

@@ -6,6 +6,12 @@ use cut_tree::{MOST_CUTS, Node};
 use cut_wants::wants::Want;
 use std::alloc::{AllocError, Global};
 
+/// So many wants are planned at most, the first ones.
+pub(crate) const MOST_PLANNED: u32 = 1000;
+
+/// A tree is tried again with fewer pieces so many times at most.
+const MOST_TRIES: u32 = 40;
+
 /// Sides in tenths of a millimetre.
 #[derive(Clone, Copy, PartialEq, Eq)]
 pub(crate) struct Sides {
@@ -212,7 +218,7 @@ impl Saw<'_> {
         counts: &[u32],
     ) -> Result<Laid, AllocError> {
         let mut pieces = MOST_CUTS;
-        for _ in 0..40 {
+        for _ in 0..MOST_TRIES {
             let counts = counts.to_vec(alloc)?;
             let tree = kept(alloc, tree, &mut Allowed { counts, pieces })?;
             let node = self.lay(alloc, &tree, room)?;

@@ -1,7 +1,7 @@
 //! Gilmore and Gomory's two stages: strips across a rectangle, each a knapsack of pieces that aren't higher than it, and a
 //! knapsack of strips. Of a want no more stand in one strip than are left, and of a strip no more than its pieces allow.
 
-use crate::lay::{Saw, Sides, want_sides};
+use crate::lay::{MOST_PLANNED, Saw, Sides, want_sides};
 use crate::tree::join;
 use cut_fill_bars::knapsack::{Item, Table};
 use cut_measure::Axis;
@@ -10,6 +10,12 @@ use std::alloc::{AllocError, Global};
 
 /// So many places, times the items, has a knapsack at most: longer ones count coarser units.
 const MOST_WORK: usize = 3_000_000;
+
+/// But so many places it may always have.
+const LEAST_PLACES: usize = 1000;
+
+/// More divisions than Euclid's method takes for two numbers of 32 bits.
+const MOST_DIVISIONS: u32 = 100;
 
 /// A piece that may stand in a strip: its side along the strip and the other.
 #[derive(Clone, Copy)]
@@ -46,7 +52,7 @@ fn along(axis: Axis, sides: Sides) -> Sides {
 
 fn divisor(a: u32, b: u32) -> u32 {
     let (mut a, mut b) = (a, b);
-    for _ in 0..100 {
+    for _ in 0..MOST_DIVISIONS {
         if b == 0 {
             return a;
         }
@@ -60,7 +66,10 @@ fn unit_of(lengths: &[u32], whole: u32, kerf: u32) -> u32 {
     let exact = lengths
         .iter()
         .fold(0, |a, b| divisor(a, b.saturating_add(kerf)));
-    let places = MOST_WORK.checked_div(lengths.len()).unwrap_or(0).max(1000);
+    let places = MOST_WORK
+        .checked_div(lengths.len())
+        .unwrap_or(0)
+        .max(LEAST_PLACES);
     let coarse = (whole as usize / places).saturating_add(1);
     exact.max(u32::try_from(coarse).unwrap_or(1))
 }
@@ -121,7 +130,7 @@ impl Saw<'_> {
         axis: Axis,
     ) -> Result<Vec<Lying>, AllocError> {
         let mut pieces = Vec::new(alloc);
-        for (place, (want, left)) in (0..1000u32).zip(self.wants.iter().zip(left)) {
+        for (place, (want, left)) in (0..MOST_PLANNED).zip(self.wants.iter().zip(left)) {
             for turned in [false, true] {
                 let sides = want_sides(want, turned);
                 let may = want.may_turn && sides.w != sides.h || !turned;

@@ -38,7 +38,9 @@ pub(crate) struct Best {
 /// Lengths in steps.
 #[derive(Clone, Copy)]
 pub(crate) struct Scale {
+    /// Tenths of a millimetre.
     pub kerf: u32,
+    /// Tenths of a millimetre; 0 counts as 1.
     pub step: u32,
 }
 

@@ -1,6 +1,6 @@
 //! The plan of one sheet: trees of a table and of strips, and what still fits their rests.
 
-use crate::lay::{Laid, Saw, Sides, want_sides};
+use crate::lay::{Laid, MOST_PLANNED, Saw, Sides, want_sides};
 use crate::table::{Best, Rounding, Scale, best_trees};
 use crate::tree::{count, refilled};
 use cut_measure::Axis;
@@ -10,6 +10,9 @@ use std::alloc::{AllocError, Global};
 
 /// So many rests are filled without a table in one step at most.
 const FREELY_FILLED: u32 = 16;
+
+/// A rest is planned as finely as so many steps of its longer side allow, or by the sheet's step where that is smaller.
+const REST_STEPS: u32 = 120;
 
 /// A rest that is to be filled, by its place among the rests, and whether it takes a table.
 #[derive(Clone, Copy, PartialEq, Eq)]
@@ -54,15 +57,16 @@ pub(crate) struct Unit {
 #[derive(Drop)]
 pub(crate) struct Planned {
     pub tree: Node,
+    /// How many pieces of each want it has.
     pub counts: Vec<u32>,
 }
 
-// The step of a rest: small ones are planned as finely as 120 steps allow.
+// The step of a rest.
 fn rest_scale(scale: Scale, rest: Sides) -> Scale {
     let longest = rest.w.max(rest.h).saturating_add(scale.kerf);
     Scale {
         kerf: scale.kerf,
-        step: scale.step.min((longest / 120).saturating_add(1)),
+        step: scale.step.min((longest / REST_STEPS).saturating_add(1)),
     }
 }
 
@@ -83,7 +87,7 @@ impl Saw<'_> {
     fn dearest(&self, left: &[u32], rest: Sides) -> Node {
         let mut best = 0;
         let mut piece = Node::Rest;
-        for (place, (want, left)) in (0..1000u32).zip(self.wants.iter().zip(left)) {
+        for (place, (want, left)) in (0..MOST_PLANNED).zip(self.wants.iter().zip(left)) {
             if *left > 0 && want.worth > best && Saw::fits(want, rest) {
                 best = want.worth;
                 piece = Node::Piece(place, !rest.hold(want_sides(want, false)));

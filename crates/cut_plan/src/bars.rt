@@ -17,12 +17,14 @@ use std::alloc::{AllocError, Global};
 #[derive(Drop)]
 pub struct Proposal {
     pub plan: Plan,
+    /// The sum of the pieces' worths, at most 256000000000.
     pub worth: u64,
 }
 
 /// The pieces of a bar, each with its demand and length, and what they are worth.
 #[derive(Drop)]
 pub struct Pieces {
+    /// Demand, and length in tenths of a millimetre.
     pub pieces: Vec<(u32, u32)>,
     pub worth: u64,
 }

@@ -16,7 +16,9 @@ use std::alloc::{AllocError, Global};
 /// What no unit is worth more than, and how many units of a size it takes at least to make all that is left.
 #[derive(Clone, Copy, Debug, PartialEq, Eq)]
 pub struct Bound {
+    /// A sum of worths of pieces, at least 1 and below 2^62.
     pub best: u64,
+    /// At least 1, and at most 40000000000000000.
     pub units: u64,
 }
 

@@ -46,9 +46,8 @@ fn faultless_map(
 }
 
 /// What pieces of the wants, each at most as often as is left and each with a kerf after it, take together of a bar and
-/// a kerf, and for each such sum the greatest worth of counts that have it (a knapsack that keeps reached sums alone).
-/// Faults in the order of `PlanFault`, but never for a plan of many cuts; the bar has a height of 1, and demands are in
-/// 1..=2147483647.
+/// a kerf, and for each such sum the greatest worth of counts that have it (an integer knapsack). Faults in the order of
+/// `PlanFault`, but never for a plan of many cuts; the bar has a height of 1, and demands are in 1..=2147483647.
 pub fn reached(
     alloc: Global,
     size: Size,

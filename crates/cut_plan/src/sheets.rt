@@ -28,8 +28,11 @@ use std::alloc::{AllocError, Global};
 #[derive(Drop)]
 pub struct SheetProposal {
     pub plan: Plan,
+    /// The sum of the pieces' worths, at most 256000000000.
     pub worth: u64,
+    /// At most 250000 pieces.
     pub dropped: u32,
+    /// A sum of worths of pieces, below 2^62.
     pub ceiling: u64,
 }
 

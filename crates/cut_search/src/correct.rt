@@ -6,10 +6,36 @@ use crate::draft::{Draft, have_some, times_within};
 use crate::order::{Order, Rated};
 use crate::planner::Planner;
 use cut_fill_bars::bars::Priced;
+use cut_master::fixed::ONE;
 use std::alloc::{AllocError, Global};
 
 /// After so many rounds the values begin again.
 const ROUNDS: u32 = 20;
+
+/// The natural logarithm of 2, in 1000ths.
+const LN_2: i64 = 693;
+
+/// Values count 1024ths of a cell.
+const VALUE_PARTS: u64 = 1024;
+
+/// What is 1 in the share of its room by which a piece is worth more or less: 1000ths of a power
+/// times 1000ths of a logarithm.
+const WHOLE_SHARE: i128 = 1_000_000;
+
+/// The weight in a new value of what the piece would cost by the loss.
+const LOSS_WEIGHT: u128 = 1000;
+
+/// The old value's weight beside it at least, where one unit was cut and no more pieces are left.
+const LEAST_WEIGHT: u64 = 667;
+
+/// That weight at most.
+const MOST_WEIGHT: u64 = 1500;
+
+/// How much the power of a room is above 1 at least, in 1000ths.
+const LEAST_POWER: u64 = 20;
+
+/// How much it is at most.
+const MOST_POWER: u64 = 99;
 
 /// What was asked of the planner.
 #[derive(Clone, Copy, PartialEq, Eq)]
@@ -77,11 +103,11 @@ fn logarithm(number: u64) -> i64 {
 /// room.
 fn raised(cells: u64, most: u64, power: u64) -> u64 {
     let after = logarithm(cells).saturating_sub(logarithm(most));
-    let log = after.saturating_mul(693) / 256;
+    let log = after.saturating_mul(LN_2) / 256;
     let share = (power as i128)
         .saturating_mul(log as i128)
-        .saturating_add(1_000_000);
-    let raised = (cells as i128 * 1024).saturating_mul(share) / 1_000_000;
+        .saturating_add(WHOLE_SHARE);
+    let raised = (cells as i128 * VALUE_PARTS as i128).saturating_mul(share) / WHOLE_SHARE;
     u64::try_from(raised).unwrap_or(1).max(1)
 }
 
@@ -106,18 +132,20 @@ fn corrected(value: u64, cells: u64, count: u32, often: u64, loss: &Loss) -> u64
         .unwrap_or(0);
     let sum = weight
         .saturating_mul(value as u128)
-        .saturating_add(target.saturating_mul(1000));
-    let mean = sum.checked_div(weight.saturating_add(1000)).unwrap_or(0);
+        .saturating_add(target.saturating_mul(LOSS_WEIGHT));
+    let mean = sum
+        .checked_div(weight.saturating_add(LOSS_WEIGHT))
+        .unwrap_or(0);
     u64::try_from(mean).unwrap_or(u64::MAX).max(1)
 }
 
 /// What the prices of the program are in room: a unit that costs most is worth the most room, in
 /// 1024ths.
 pub fn values_of(alloc: Global, order: &Order, prices: &[u64]) -> Result<Vec<u64>, AllocError> {
-    let most = order.most_cells() as u128 * 1024;
+    let most = order.most_cells() as u128 * VALUE_PARTS as u128;
     let mut values = Vec::new(alloc);
     for price in prices {
-        let value = (*price as u128).saturating_mul(most) >> 40;
+        let value = (*price as u128).saturating_mul(most) / ONE as u128;
         values.push(u64::try_from(value).unwrap_or(u64::MAX).max(1))?;
     }
     Ok(values)
@@ -233,8 +261,8 @@ impl Correct {
             most: order.most_cells(),
             unit: order.unit_cells.get(size).copied().unwrap_or(0),
             used,
-            weight: roll_within(&mut self.dice, 667, 1500),
-            power: roll_within(&mut self.dice, 20, 99),
+            weight: roll_within(&mut self.dice, LEAST_WEIGHT, MOST_WEIGHT),
+            power: roll_within(&mut self.dice, LEAST_POWER, MOST_POWER),
         };
         let pieces = order.piece_cells.iter().zip(counts).zip(&self.draft.left);
         for (value, ((cells, count), left)) in self.values.iter_mut().zip(pieces) {

@@ -5,11 +5,13 @@ use std::alloc::{AllocError, Global};
 /// Units of a size that are cut alike.
 #[derive(Drop)]
 pub struct Batch {
+    /// The place of their size in the stock's list.
     pub size: usize,
     /// Pieces of each want.
     pub counts: Vec<u32>,
     /// The planner's number of the plan.
     pub tag: usize,
+    /// How many units they are.
     pub times: u32,
 }
 
@@ -17,8 +19,11 @@ pub struct Batch {
 #[derive(Drop)]
 pub struct Draft {
     pub batches: Vec<Batch>,
+    /// How many pieces of each want.
     pub left: Vec<u32>,
+    /// How many units of each size, where that is limited.
     pub free: Vec<Option<u32>>,
+    /// The sum of the units' costs.
     pub cost: u64,
 }
 

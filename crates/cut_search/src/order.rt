@@ -18,22 +18,28 @@ pub struct Order {
     pub limits: Vec<Option<u32>>,
     /// How many of each want are left to make.
     pub left: Vec<u32>,
-    /// The sides of a unit of each size, and of a piece of each want, and how wide the saw cuts.
+    /// The sides of a unit of each size.
     pub units: Vec<Size>,
+    /// The wants, with the sides of a piece of each.
     pub pieces: Vec<Want>,
+    /// How wide the saw cuts, in tenths of a millimetre: 0 to 200.
     pub kerf: u32,
-    /// Room that a unit of each size has, and a piece of each want takes: each with a kerf.
+    /// Room that a unit of each size has, with a kerf.
     pub unit_cells: Vec<u64>,
+    /// Room that a piece of each want takes, with a kerf.
     pub piece_cells: Vec<u64>,
-    /// The greatest of the costs, and their greatest common divisor.
+    /// The greatest of the costs.
     pub dearest: u64,
+    /// The greatest common divisor of the costs.
     pub grain: u64,
 }
 
 /// Worths of the wants, and what a unit of each size is worth at most by them.
 #[derive(Drop)]
 pub struct Rated {
+    /// What a piece of each want is worth, 0 to 1000000000.
     pub worths: Vec<u32>,
+    /// What a unit of each size is worth at most.
     pub bests: Vec<u64>,
 }
 

@@ -7,7 +7,7 @@ use crate::order::{Order, Rated, rounded_up};
 use crate::planner::Planner;
 use cut_fill_bars::bars::Priced;
 use cut_master::column::Plan;
-use cut_master::fixed::ratio;
+use cut_master::fixed::{ONE, ratio};
 use cut_master::master::{End, LEAST_GAIN, Master, Size, Taken};
 use std::alloc::{AllocError, Global};
 
@@ -38,8 +38,9 @@ pub struct Relax {
     asked: Vec<u32>,
     /// The prices of the program, in its fixed point.
     pub prices: Vec<u64>,
-    /// The best bound, and the worths that gave it.
+    /// The best bound of the cost.
     pub least: u64,
+    /// The worths that gave it.
     pub rated: Option<Rated>,
 }
 
@@ -166,7 +167,7 @@ impl Relax {
     pub fn most_bound(&self, order: &Order) -> u64 {
         let value = u128::try_from(self.master.value().saturating_sub(LEAST_GAIN)).unwrap_or(0);
         let cost = value.saturating_mul(order.dearest as u128);
-        rounded_up(cost.div_ceil(1 << 40), order.grain)
+        rounded_up(cost.div_ceil(ONE as u128), order.grain)
     }
 
     /// Asks the planner by the program's prices.

@@ -2,8 +2,12 @@
 
 use crate::draft::{Draft, times_within};
 use crate::order::Order;
+use cut_master::fixed::ONE;
 use cut_master::master::Taken;
 use std::alloc::{AllocError, Global};
+
+/// An amount that lacks no more of a whole one counts as it: 2^-16.
+const NEARLY: i128 = 16_777_216;
 
 /// The places of what is taken, those with the greatest amounts first.
 fn greatest_first(alloc: Global, taken: &[Taken]) -> Result<Vec<(i128, usize)>, AllocError> {
@@ -17,7 +21,7 @@ fn greatest_first(alloc: Global, taken: &[Taken]) -> Result<Vec<(i128, usize)>, 
 
 /// How many whole units an amount has: a little below one counts as one.
 fn whole_units(amount: i128) -> u32 {
-    u32::try_from(amount.saturating_add(1 << 24) >> 40).unwrap_or(0)
+    u32::try_from(amount.saturating_add(NEARLY) / ONE).unwrap_or(0)
 }
 
 /// Adds the whole parts of what is taken to a draft, as far as what is left and the stock allow.

@@ -36,6 +36,9 @@ const DIVES: usize = 3;
 /// So many times some units are taken apart.
 const REPAIRS: u32 = 100;
 
+/// What chance begins with in that.
+const REPAIR_SEED: u64 = 2_463_534_242;
+
 /// Rounds of value correction for each.
 const REPAIR_ROUNDS: u32 = 3;
 
@@ -47,7 +50,9 @@ const STEPS: u32 = 64;
 pub struct FoundUnit {
     /// The place of their size in the stock's list.
     pub place: usize,
+    /// How many units they are.
     pub times: u32,
+    /// The tree of their plan.
     pub node: Node,
 }
 
@@ -171,7 +176,7 @@ impl Search {
             dive: None,
             dives: 0,
             repairs: 0,
-            dice: 2_463_534_242,
+            dice: REPAIR_SEED,
             plan: None,
             rated: None,
             bound: 0,

@@ -5,6 +5,7 @@ use cut_measure::Size;
 /// A size of units.
 #[derive(Clone, Copy)]
 pub struct SearchSize {
+    /// The sides of a unit, in tenths of a millimetre.
     pub size: Size,
     /// What a unit costs.
     pub cost: u64,

@@ -13,9 +13,13 @@ use cut_wants::wants::Scaled;
 /// What stands first in a best tree of a rectangle.
 #[derive(Clone, Copy)]
 pub enum Choice {
+    /// A rest.
     Waste,
+    /// A piece of the want at this place, and whether it is turned.
     Whole(usize, bool),
+    /// A cut of the width after so many steps.
     CutX(usize),
+    /// A cut of the height after so many steps.
     CutY(usize),
 }
 

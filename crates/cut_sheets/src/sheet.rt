@@ -16,7 +16,9 @@ pub const MOST_STEPS: u32 = 500;
 /// The best worths of rectangles by height and then width, in narrow numbers where they do.
 #[derive(Drop)]
 pub enum Table {
+    /// Worths below 2^32.
     Narrow(Vec<Vec<u32>>),
+    /// Worths below 2^64.
     Wide(Vec<Vec<u64>>),
 }
 

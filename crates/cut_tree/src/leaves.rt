@@ -13,13 +13,16 @@ use std::alloc::AllocError;
 /// A piece leaf of a plan: its demand, whether it is turned, and its sides in tenths of a millimetre.
 #[derive(Clone, Copy, PartialEq, Eq, Debug)]
 pub struct Leaf {
+    /// 1 to 2147483647.
     pub demand: u32,
     pub turned: bool,
+    /// 1 to 200000.
     pub w: u32,
+    /// 1 to 60000.
     pub h: u32,
 }
 
-// Appends the piece leaves of a node and the parts below it.
+/// Appends the piece leaves of a node and the parts below it.
 pub fn add_leaves(
     node: &Node,
     rect: Rect,

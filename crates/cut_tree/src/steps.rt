@@ -15,10 +15,15 @@ use std::alloc::AllocError;
 /// there: the cut, the piece or the rest.
 #[derive(Clone, Copy, PartialEq, Eq, Debug)]
 pub struct Step {
+    /// 0 to 510.
     pub node: u32,
+    /// 0 to 199999.
     pub x: u32,
+    /// 0 to 59999.
     pub y: u32,
+    /// 1 to 200000.
     pub w: u32,
+    /// 1 to 60000.
     pub h: u32,
     pub what: Token,
 }
@@ -38,7 +43,7 @@ fn push(steps: &mut Vec<Step>, node: u32, rect: Rect, what: Token) -> Result<(),
     Ok(())
 }
 
-// Appends the steps of a node and the parts below it, the node's number being `number`.
+/// Appends the steps of a node and the parts below it, the node's number being `number`.
 pub fn step_node(
     node: &Node,
     rect: Rect,

@@ -71,7 +71,7 @@ pub fn number(digits: &[u8]) -> Option<u32>
     Some(n)
 }
 
-/// The sides of a rectangle.
+/// The sides of a rectangle, in tenths of a millimetre: at most 200000.
 #[derive(Clone, Copy, PartialEq, Eq, Debug)]
 pub struct Sides {
     pub w: u32,
