@@ -574,6 +574,7 @@ const GERMAN = new Map(Object.entries({
   "Print: {0}": "Drucken: {0}",
   "Propose plans": "Pläne vorschlagen",
   "Receive them": "Eingang buchen",
+  "Receive {0} of them": "Eingang von {0} davon buchen",
   "Reserve all": "Alle reservieren",
   "Reserve all of {0}": "Alle von {0} reservieren",
   "Reserve all: {0} sent": "Alle reservieren: {0} gesendet",

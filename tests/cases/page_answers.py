@@ -147,6 +147,7 @@ def many_to_buy(trial):
         trial.equal(asked[-1], [{"h": 7005, "w": 13000}])
         trial.equal(it.text("planNow"), "1 sheet, 149 sheets to buy: proved best")
         trial.holds(it.text("buyWords").startswith("149 sheets of 1300.0 × 700.5\u00a0mm have to be bought."), it.text("buyWords"))
+        trial.equal(it.value(f"{by_id('buyWords')}.querySelector('button').textContent"), "Receive 100 of them")
         it.click(f"{by_id('buyWords')}.querySelector('button')")
         it.until("!document.getElementById('stock').hidden")
         it.type(by_id("receiveBatch"), "COIL-2026-000117")

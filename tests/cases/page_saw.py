@@ -369,7 +369,7 @@ def equal_plans(trial):
 
 # A sheet of 1200.0 by 800.0 mm: a turned piece of 300.0 by 400.0 mm at its left, one that isn't turned beside it, and a rest of
 # 494.0 by 47.0 mm, which isn't kept. Its cuts are the nodes 0, 1, 4, 5 and 8.
-TURNED = "x3000 y4000 p2t r x4000 y3000 p2 r y7500 r r"
+TURNED = "x3000 y4000 p2t r x4000 y3000 p3 r y7500 r r"
 
 
 def cells_told(words):
@@ -389,7 +389,7 @@ def to_the_letter(trial):
     shop = open_shop(trial)
     send = sender(shop)
     send(do="receive", material="GLASS", batch="G-1", w=12000, h=8000, count=1)
-    send(do="order", order="A-1", lines=[{**LINES[0], "count": 1}, {**LINES[1], "turn": True}])
+    send(do="order", order="A-1", lines=[LINES[0], {**LINES[1], "turn": True}, {**LINES[1], "line": 3}])
     job = send(do="reserve", part="1/0", tree=TURNED)["job"]
     with Terminal(trial, shop) as it:
         begin_at_saw(it, job)
@@ -397,14 +397,14 @@ def to_the_letter(trial):
         trial.equal(figures(it), ["1200.0 × 800.0\u00a0mm part to cut", "3.0 mm kerf", "5 cuts", "2 pieces", "waits state"])
         cuts = it.value("[...document.querySelectorAll('#cutList .cut')].map(e => [...e.querySelectorAll('.mark, b, .quiet')].map(e => e.textContent))")
         trial.equal([row[0] for row in cuts], list("12345"))
-        piece = "gives piece {} of A-1 line 2 (no. 2){}; rest {}, kept as {}/{}"
+        piece = "gives piece {} of A-1 line {}{}; rest {}, kept as {}/{}"
         trial.equal(
             [row[2] for row in cuts],
             [
                 "",
-                piece.format("300.0 × 400.0\u00a0mm", " turned", "300.0 × 397.0\u00a0mm", job, 3),
+                piece.format("300.0 × 400.0\u00a0mm", "2 (no. 2)", " turned", "300.0 × 397.0\u00a0mm", job, 3),
                 "",
-                piece.format("400.0 × 300.0\u00a0mm", "", "400.0 × 497.0\u00a0mm", job, 7),
+                piece.format("400.0 × 300.0\u00a0mm", "3 (no. 3)", "", "400.0 × 497.0\u00a0mm", job, 7),
                 f"gives rest 494.0 × 750.0\u00a0mm, kept as {job}/9; rest 494.0 × 47.0\u00a0mm, scrap",
             ],
         )
@@ -420,7 +420,8 @@ def to_the_letter(trial):
         pieces = it.value("[...document.querySelectorAll('#jobPieces tr')].map(e => [...e.cells].map(e => e.textContent))")
         rests = ((3, "300.0 × 397.0\u00a0mm"), (7, "400.0 × 497.0\u00a0mm"), (9, "494.0 × 750.0\u00a0mm"))
         kept = [["rest", size, f"kept: label it {job}/{node}"] for node, size in rests]
-        trial.equal(pieces, [["2 ×", "400.0 × 300.0\u00a0mm", "order A-1, line 2 (no. 2)"], *kept])
+        ordered = [["1 ×", "400.0 × 300.0\u00a0mm", f"order A-1, line {line} (no. {line})"] for line in (2, 3)]
+        trial.equal(pieces, [*ordered, *kept])
         paper = it.value("[...document.querySelectorAll('#jobSheet p')].map(e => e.textContent)")
         trial.equal(
             paper,
@@ -428,7 +429,7 @@ def to_the_letter(trial):
                 "☐ 1 across 300.0 mm of 1200.0 × 800.0\u00a0mm",
                 f"☐ 2 along 400.0 mm of 300.0 × 800.0\u00a0mm → A-1/2 ↻, keep {job}/3",
                 "☐ 3 across 400.0 mm of 897.0 × 800.0\u00a0mm",
-                f"☐ 4 along 300.0 mm of 400.0 × 800.0\u00a0mm → A-1/2, keep {job}/7",
+                f"☐ 4 along 300.0 mm of 400.0 × 800.0\u00a0mm → A-1/3, keep {job}/7",
                 f"☐ 5 along 750.0 mm of 494.0 × 800.0\u00a0mm → keep {job}/9, scrap",
             ],
         )
