@@ -161,7 +161,7 @@ def many_to_buy(trial):
 @case(
     "what is asked of the grids of one part",
     "On grids at most 40 kinds of pieces are asked for that aren't smaller than the least grid, and the others are told; a plan's "
-    "share is that of the least ceiling; the bound is asked of the part's own length and width.",
+    "share is that of the least ceiling; Enter at a grid that is typed tries it; the bound is asked of the part's own length and width.",
 )
 def grids(trial):
     shop = open_shop(trial)
@@ -170,7 +170,7 @@ def grids(trial):
     line = {"material": "GLASS", "h": 3000, "turn": False, "count": 1, "worth": 9}
     lines = [{**line, "line": number, "w": 5000 + 10 * number} for number in range(1, 42)]
     send(do="order", order="A-1", lines=[*lines, {**line, "line": 42, "w": 300, "h": 300}])
-    tree, asked, ceilings = "x5010 y3000 p1 r r", [], [1000, 900, 950, 980]
+    tree, asked, ceilings = "x5010 y3000 p1 r r", [], [1000, 900, 950, 980, 990]
 
     def answer(question):
         asked.append(question)
@@ -198,19 +198,38 @@ def grids(trial):
         with answering(it, "/plan", answer):
             it.click(by_id("propose"))
             it.until("!toCut.planning && toCut.tried.length > 2")
+            it.type(by_id("step"), "50")
+            it.key("Enter")
+            it.until("!toCut.planning && chosenPlan().step === 500")
         with answering(it, "/bound", answer):
             it.click(by_id("askBound"))
             it.until(f"{by_id('boundWords')}.textContent.includes('takes at least')")
         first = list(range(1, 41))
         by_grid = [it for it in asked if it["ask"] == "plan"]
         trial.equal([it["demands"] for it in by_grid], [first] * len(by_grid))
-        trial.equal((by_grid[0]["step"], len(by_grid) > 1), (400, True))
+        trial.equal((by_grid[0]["step"], by_grid[-1]["step"], len(by_grid) > 2), (400, 500, True))
         wanted = {"ask": "bound", "demands": first, "h": 8000, "material": "GLASS", "step": 400, "w": 200000}
         trial.equal(asked[-1], wanted)
         said = "What is left of these 40 kinds of pieces takes at least 3 units of 20000.0 × 800.0\u00a0mm."
         trial.equal(it.text("boundWords"), said)
         shares = "[...document.querySelectorAll('#triedPlans tbody tr')].filter(e => !e.textContent.includes('none')).map(e => e.cells[3].textContent)"
         trial.equal(it.value(shares), ["90.0\u00a0%"] * len(by_grid))
+        is_quiet(it)
+
+
+@case(
+    "what is pressed goes before what the page reads by itself",
+    "While the shop answers one request what was asked for by a person is sent before what a view reads, though it came later.",
+)
+def pressed_first(trial):
+    with Terminal(trial, open_shop(trial)) as it:
+        it.begin(7)
+        it.until("!refresh.running && !queue.busy")
+        it.value("(clearTimeout(refresh.timer), refreshPass = () => {}, 0)")
+        it.requests.clear()
+        asked = "request('/terminal/1', {calm: true}), request('/orders', {calm: true}), request('/terminal/2')"
+        it.value(f"Promise.all([{asked}]).then(() => 0)")
+        trial.equal([path.removeprefix(it.address) for path in it.requests], ["terminal/1", "terminal/2", "orders"])
         is_quiet(it)
 
 

@@ -876,7 +876,7 @@ def files_at_limits(trial):
         it.order_file("a-1", "most.csv", rows(200))
         it.until(f"!{by_id('sendCsv')}.disabled")
         trial.equal(it.value(f"({shown}).map(row => row[1])"), [str(line) for line in range(1, 201)])
-        head = "<img src=x onerror=alert(1)>"
+        head = "<img src=x>"
         text = f"w;Länge;drehbar;Stück;{head}\r\n300;400,5;x;2;<b>1</b>\r\n"
         it.order_file("a-2", "utf16.csv", text.encode("utf-16"))
         it.until(f"{shown}.length === 1")

@@ -384,7 +384,8 @@ def german_orders(trial):
 @case(
     "a number that is typed while others work",
     "A number that is typed at a line stays where another terminal changes that line meanwhile; an order is cancelled by what is "
-    "reserved of it when it is cancelled, not by what was shown; then the line has the number that is wanted now.",
+    "reserved of it when it is cancelled, not by what was shown; then the line has the number that is wanted now. An order's bar has "
+    "what is made, reserved and left as they are.",
 )
 def typed(trial):
     field = within("orderList", "w2")
@@ -394,6 +395,10 @@ def typed(trial):
         it.begin(7)
         it.view("orders")
         it.until(field)
+        drawn = "[...document.querySelectorAll('#orderList .ordered svg rect:has(title)')].map(e => [e.textContent, Math.round(e.getAttribute('width'))])"
+        trial.equal(it.value(drawn), [["made", 300], ["reserved", 200], ["left", 500]])
+        forms = "[...document.querySelectorAll('#orderList .ordered svg rect:has(title)')].map(e => e.classList[1])"
+        trial.equal(it.value(forms), ["piece", "scrap", "unit"])
         it.type(field, "9")
         it.value("document.activeElement.blur()")
         send(do="amend", demand=2, wanted=6)

@@ -450,13 +450,14 @@ def to_the_letter(trial):
 @case(
     "a break with many cuts that are ticked in any order",
     "Twelve cuts of a bar that are ticked from the last one on are told to the shop as they rise; that the first one went wrong is "
-    "told too.",
+    "told too. On paper each cut has a mark for what became of it.",
 )
 def any_order(trial):
     shop, send = stocked(trial)
     many = "x400 p3 " * 13 + "r"
     send(do="order", order="B-1", lines=[{**LINES[0], "w": 400}])
     first, second = send(do="reserve", part="1/0", tree=many)["job"], send(do="reserve", part="1/1", tree=BAR)["job"]
+    marks = "[...document.querySelectorAll('#jobSheet p')].map(e => e.textContent[0]).join('')"
     with Terminal(trial, shop) as it:
         begin_at_saw(it, first)
         it.click(by_id("startBreak"))
@@ -464,6 +465,7 @@ def any_order(trial):
         it.click(by_id("sendBreak"))
         it.says(f"Break off job {first}: pieces 480.0\u00a0mm, kept 0.0\u00a0mm")
         trial.equal(it.ask("/demand/3")["made"], 12)
+        it.until(f"atSaw.told.state === 'broken' && {marks} === '{'✓' * 12}–'")
         open_job(it, second)
         it.click(by_id("startBreak"))
         it.click("document.querySelector('[name=breakMode][value=lost]')")
@@ -471,6 +473,7 @@ def any_order(trial):
         it.click(by_id("sendBreak"))
         it.says(f"Break off job {second}: pieces 0.0\u00a0mm, kept 0.0\u00a0mm, kerf 0.0\u00a0mm, scrap 600.0\u00a0mm")
         trial.equal(it.ask(f"/trace/{second}/0")["state"], "scrap")
+        it.until(f"atSaw.told.state === 'broken' && {marks} === '✗–––'")
         trial.equal(it.faults, [])
 
 
