@@ -283,7 +283,7 @@ const GERMAN = new Map(Object.entries({
   "The file has {0} rows; an order has at most {1}.": "Die Datei hat {0} Zeilen; ein Auftrag hat höchstens {1}.",
   "The file is over {0} bytes long.": "Die Datei ist über {0} Bytes lang.",
   "The file can't be read. Pick it again.": "Die Datei kann nicht gelesen werden. Neu wählen.",
-  "line of\u00a0the\u00a0file": "Zeile\u00a0der\u00a0Datei",
+  "line of\u00a0the\u00a0file": "Zeile der\u00a0Datei",
   "Rows of the file": "Zeilen der Datei",
   "{0} read{1}": "{0} gelesen{1}",
   ", {0} of them bad": ", {0} davon schlecht",
