@@ -519,7 +519,12 @@ def in_words(trial):
             ("/order/A-9", None, "there is no order with this code (43 NoOrder)"),
             ("/plan", plan(part="3/2", demands=[2]), "the plan has a piece of another material (61 WrongMaterial)"),
             ("/bound", {**plan(w=9000), "ask": "bound", "material": "STEEL", "h": 1}, "none of the pieces fits the part (90 NothingFits)"),
-            ("/plan", plan(demands=[]), "there is nothing to plan: choose kinds of pieces of which some are left, at most 40 for a grid and 100 for all (93 BadWant)"),
+            (
+                "/plan",
+                plan(demands=[]),
+                "there is nothing to plan: choose kinds of pieces of which some are left, at most 40 for a grid and 100 for all (93 "
+                "BadWant)",
+            ),
         )
         for path, body, words in asked:
             if path == "/bound":

@@ -395,7 +395,10 @@ def typed(trial):
         it.begin(7)
         it.view("orders")
         it.until(field)
-        drawn = "[...document.querySelectorAll('#orderList .ordered svg rect:has(title)')].map(e => [e.textContent, Math.round(e.getAttribute('width'))])"
+        drawn = (
+            "[...document.querySelectorAll('#orderList .ordered svg rect:has(title)')].map(e => [e.textContent, "
+            "Math.round(e.getAttribute('width'))])"
+        )
         trial.equal(it.value(drawn), [["made", 300], ["reserved", 200], ["left", 500]])
         forms = "[...document.querySelectorAll('#orderList .ordered svg rect:has(title)')].map(e => e.classList[1])"
         trial.equal(it.value(forms), ["piece", "scrap", "unit"])

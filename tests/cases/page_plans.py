@@ -467,7 +467,10 @@ def what_is_left(trial):
     send(do="done", job=send(do="reserve", part="1/0", tree="x5000 y2000 p1 r r")["job"])
     send(do="reserve", part="1/1", tree="x5000 y2000 p1 y2000 p1 r r")
     rows = "[...document.querySelectorAll('#wanted .demand')].map(row => [...row.cells].slice(1).map(cell => cell.textContent))"
-    stands = "[...document.querySelectorAll('#cutFrom .row')].map(e => [...[...e.querySelectorAll('b, .tag, .quiet')].map(e => e.textContent), !e.querySelector('button').disabled])"
+    stands = (
+        "[...document.querySelectorAll('#cutFrom .row')].map(e => [...[...e.querySelectorAll('b, .tag, .quiet')].map(e => "
+        "e.textContent), !e.querySelector('button').disabled])"
+    )
     boxes = "[...document.querySelectorAll('#cutFrom .row input')].map(e => e.checked)"
     with Terminal(trial, shop) as it:
         it.begin(7)

@@ -499,7 +499,10 @@ def of_one_material(trial):
         it.until(f"atSaw.job === {jobs[2]}")
         it.until("atSaw.plans.size === 2")
         it.value("(window.print = () => { window.asked = (window.asked || 0) + 1; }, window.asked = 0)")
-        sheet = "[...document.querySelectorAll('#sheets .ticket')].map(e => [e.querySelector('h2'), e.querySelector('p'), ...e.querySelectorAll('.pieces tr')].map(e => e.textContent))"
+        sheet = (
+            "[...document.querySelectorAll('#sheets .ticket')].map(e => [e.querySelector('h2'), e.querySelector('p'), "
+            "...e.querySelectorAll('.pieces tr')].map(e => e.textContent))"
+        )
         labels = "[...document.querySelectorAll('#sheets .labels tr')].map(e => [...e.cells].map(cell => cell.textContent))"
 
         def printed(material):
