@@ -1,5 +1,8 @@
 // ---- What has to be bought: the same question, where units of one size may be bought besides.
 
+// A receipt is of at most so many units.
+const MOST_RECEIVED = 100;
+
 function adaptBuy(isOpen) {
   const isBar = kindOf(shop.material) === "bar", {found, part} = toCut;
   $("buyPanel").hidden = !isOpen || Boolean(part);
@@ -18,16 +21,17 @@ function boughtWords(buy, bought) {
   const size = sizeText(kindOf(shop.material), buy.w, buy.h), units = count(bought, ...unitWords(kindOf(shop.material)));
   if (!bought) return [el("p", {text: tr`None of ${size} has to be bought.`})];
   const words = bought === 1 ? tr`${units} of ${size} has to be bought.` : tr`${units} of ${size} have to be bought.`;
+  const receive = bought > MOST_RECEIVED ? tr`Receive ${MOST_RECEIVED} of them` : tr`Receive them`;
   return [
     el("p", {}, el("b", {text: words})),
-    el("button", {class: "small", text: tr`Receive them`, "data-key": "receive", on: {click: () => receiveBought(buy, bought)}})
+    el("button", {class: "small", text: receive, "data-key": "receive", on: {click: () => receiveBought(buy, bought)}})
   ];
 }
 
 // Opens the stock with what was bought filled in.
 function receiveBought({w, h}, units) {
   $("receiveMaterial").value = shop.material;
-  [$("receiveW").value, $("receiveH").value, $("receiveCount").value] = [mm(w), mm(h), String(Math.min(units, 100))];
+  [$("receiveW").value, $("receiveH").value, $("receiveCount").value] = [mm(w), mm(h), String(Math.min(units, MOST_RECEIVED))];
   location.hash = "stock";
   adaptReceive();
 }

@@ -3,9 +3,10 @@
 import json
 import os
 import signal
+import subprocess
 import time
 
-from browser.terminal import Terminal, by_id, exchange, open_shop
+from browser.terminal import SHOP_FILE, Terminal, by_id, exchange, open_shop
 from cases.page import is_quiet, stock
 from kit.case import case
 
@@ -456,3 +457,206 @@ def type_bars(it):
         it.type(field.format(name), text)
     it.key("Enter")
     it.says("Order A-1: 1 line ordered")
+
+
+def refused(it, commands):
+    """Sends commands from the page, and gives what it tells of each."""
+    texts = [f"send({json.dumps(command)}, '{place}')" for place, command in enumerate(commands)]
+    it.value(f"void [{', '.join(texts)}]")
+    it.until("terminal.kept().length === 0")
+    told = it.value("terminal.answered().map(message => message.words)")[-len(commands) :]
+    return [words.removeprefix(f"Refused: {place}: ") for place, words in enumerate(told)]
+
+
+@case(
+    "refusals at the page in words",
+    "Messages and questions that the shop refuses, one for each of its reasons that a terminal can meet, are told in the words of "
+    "that reason, with its number and name.",
+)
+def in_words(trial):
+    shop = open_shop(trial)
+    with Terminal(trial, shop) as it:
+        number = iter(range(1, 99))
+        by_other = lambda **keys: exchange(shop, "/message", {**keys, "number": next(number), "terminal": 8})
+        sheet = {"line": 2, "material": "GLASS", "w": 4000, "h": 3000, "turn": False, "count": 2, "worth": 5}
+        line = {"line": 1, "material": "STEEL", "w": 10000, "h": 1, "turn": False, "count": 2, "worth": 5}
+        by_other(do="receive", material="STEEL", batch="S-1", w=60000, h=1, count=2)
+        by_other(do="receive", material="GLASS", batch="G-1", w=12000, h=8000, count=1)
+        by_other(do="order", order="A-1", lines=[line, sheet])
+        by_other(do="reserve", part="1/0", tree="x10000 p1 r")
+        trial.equal(by_other(do="done", job=3).get("ok"), "done")
+        trial.equal(by_other(do="reserve", part="2/0", tree="x4000 y3000 p2 r r").get("job"), 4)
+        reserve = lambda tree: {"do": "reserve", "part": "1/1", "tree": tree}
+        wanted = (
+            ({**bar("B-1"), "material": "WOOD"}, "there is no such material (20 NoMaterial)"),
+            ({**bar("B-1"), "h": 2}, "this material can't have these sides: nothing is over 20000.0 × 6000.0 mm (30 BadSize)"),
+            ({**bar("B-1"), "count": 101}, "1 to 100 units are received at a time (31 BadCount)"),
+            ({"do": "order", "order": "A-1", "lines": [line]}, "an order with this code is there already (40 OrderExists)"),
+            (
+                {"do": "order", "order": "A-2", "lines": [sheet, line]},
+                "a line can't be ordered so: line numbers have to rise, sides have to be the material's, a bar can't turn (41 BadLine)",
+            ),
+            ({"do": "amend", "demand": 9, "wanted": 1}, "there are no such pieces wanted (42 NoDemand)"),
+            ({"do": "scrap", "part": "9/9"}, "there is no such part (50 NoPart)"),
+            ({"do": "scrap", "part": "1/0"}, "the part doesn't stand any more: it is reserved, cut, scrap or returned (51 NotStanding)"),
+            ({"do": "return", "part": "3/2"}, "only a whole unit, as it was received, can be returned (52 NotWhole)"),
+            (reserve("x10000 r r"), "the plan isn't one of this part, or has no piece (60 BadTree)"),
+            (reserve("x10000 p2 r"), "the plan has a piece of another material (61 WrongMaterial)"),
+            (reserve("x9000 p1 r"), "a piece of the plan hasn't the size that is wanted (62 WrongSize)"),
+            (reserve("x10000 p1 x10000 p1 r"), "only 1 of pieces no. 1 is left (63 TooMany)"),
+            ({"do": "done", "job": 9}, "there is no such job (70 NoJob)"),
+            ({"do": "done", "job": 3}, "the job is over already (71 JobOver)"),
+            (
+                {"do": "break", "job": 4, "cuts": [1], "lost": False},
+                "work can't have halted so: each cut needs all cuts above it (72 BadCut)",
+            ),
+            ({"do": "import", "form": "csv", "order": "A-3", "text": "A"}, "the file's text isn't of its form (80 BadText)"),
+        )
+        it.begin(7)
+        trial.equal(refused(it, [command for command, _ in wanted]), [words for _, words in wanted])
+        plan = lambda **keys: {"ask": "plan", "demands": [1], "part": "1/1", "step": 0, **keys}
+        asked = (
+            ("/order/A-9", None, "there is no order with this code (43 NoOrder)"),
+            ("/plan", plan(part="3/2", demands=[2]), "the plan has a piece of another material (61 WrongMaterial)"),
+            ("/bound", {**plan(w=9000), "ask": "bound", "material": "STEEL", "h": 1}, "none of the pieces fits the part (90 NothingFits)"),
+            (
+                "/plan",
+                plan(demands=[]),
+                "there is nothing to plan: choose kinds of pieces of which some are left, at most 40 for a grid and 100 for all (93 "
+                "BadWant)",
+            ),
+        )
+        for path, body, words in asked:
+            if path == "/bound":
+                del body["part"]
+            options = f"{{body: {json.dumps(json.dumps(body))}}}" if body else "{}"
+            trial.equal(it.value(f"ask('{path}', {options}).then(() => 'accepted', faultWords)"), words)
+        trial.equal(it.ask("/terminal/7")["last"], 0)
+        is_quiet(it)
+
+
+@case(
+    "what is pressed twice at the page",
+    "While the shop is silent a receipt that is pressed twice is kept once; units that are being returned are a row of their own "
+    "without buttons, and those that were surely not sent are dropped by one press, which is told. Escape at a question is no.",
+)
+def pressed_twice(trial):
+    rows = "[...document.querySelectorAll('#stockList .fold > div > .stocked')].map(e => [e.children[0].children[1].textContent, "
+    rows += "e.querySelectorAll(':scope > .buttons > button').length])"
+    with Terminal(trial, open_shop(trial)) as it:
+        it.begin(7)
+        it.view("stock")
+        it.material("stock", "STEEL")
+        os.kill(it.shop.process.pid, signal.SIGSTOP)
+        it.receive("STEEL", "S-1", "6000", None, 5)
+        it.key("Enter")
+        it.until(f"{WAITING}.length && {WAITING}[0].textContent.startsWith('Receive 5')")
+        trial.equal(it.value("terminal.kept().length"), 1)
+        os.kill(it.shop.process.pid, signal.SIGCONT)
+        it.says("5 units received, 1/0 to 1/4")
+        it.until(f"{rows}.length === 1")
+        trial.equal(it.value(rows), [["5 units, standing", 2]])
+        for key in ("mr1/0", "ms1/0"):
+            it.click(f"document.querySelector('#stockList [data-key=\"{key}\"]')")
+            it.until(f"{by_id('confirm')}.open")
+            it.key("Escape")
+            it.until(f"!{by_id('confirm')}.open")
+        trial.equal((it.value("terminal.kept().length"), it.ask("/trace/1/0")["state"]), (0, "standing"))
+        it.until("!refresh.running && !queue.busy")
+        os.kill(it.shop.process.pid, signal.SIGSTOP)
+        it.type("document.querySelector('#stockList [data-count=\"1/0\"]')", "2")
+        it.click("document.querySelector('#stockList [data-key=\"mr1/0\"]')")
+        it.confirm()
+        it.until(f"{rows}.length === 2")
+        trial.equal(it.value(rows), [["2 units, waits for its answer", 0], ["3 units, standing", 2]])
+        it.until(f"{by_id('keptNotice')}.querySelector('.waiting button')")
+        trial.equal(it.text("keptNotice").partition("comes.")[2], "Return 2 × STEEL 6000.0\u00a0mm: 0 of 2 answeredDrop the rest")
+        it.click(f"{by_id('keptNotice')}.querySelector('.waiting button')")
+        it.until("sending.dropping.size === 2")
+        os.kill(it.shop.process.pid, signal.SIGCONT)
+        it.says("Return 2 × STEEL 6000.0\u00a0mm: 0 of 2 done; 2 dropped")
+        it.until(f"{rows}.length === 1")
+        trial.equal((it.value(rows), it.ask("/terminal/7")["last"]), ([["5 units, standing", 2]], 1))
+        is_quiet(it)
+
+
+@case(
+    "the terminal's number at the page",
+    "A number by which no message was sent is offered; of another one it is told where it goes on. Without a number nothing is "
+    "sent, and while a message with a number waits it isn't changed. The log tells what was refused. Digits that are typed in a "
+    "field open no view.",
+)
+def own_number(trial):
+    shop = open_shop(trial)
+    with Terminal(trial, shop) as it:
+        for number in (4, 7):
+            trial.equal(exchange(shop, "/message", {**bar("B-1"), "number": number, "terminal": 1}).get("ok"), "receive")
+        it.go(it.address)
+        it.until(f"{by_id('terminalWords')}.textContent === 'No message was sent as terminal 2 yet.'")
+        trial.equal(it.value(f"{by_id('terminalNumber')}.value"), "2")
+        it.value(f"{by_id('terminalDialog')}.close()")
+        it.receive("STEEL", "S-1", "6000", None, 1)
+        it.until(f"{by_id('terminalDialog')}.open")
+        trial.equal(it.value("storage.keys(MESSAGE).length"), 0)
+        it.until(f"{by_id('terminalNumber')}.value")
+        it.type(by_id("terminalNumber"), "1")
+        it.key("Enter")
+        it.says("Terminal 1 goes on behind its message 7. No other device may have this number.")
+        for view, field in (("stock", "receiveBatch"), ("saw", "jobNumber")):
+            it.view(view)
+            it.type(by_id(field), "1")
+            it.key("3")
+            it.key("5")
+            trial.equal((it.value(f"{by_id(field)}.value"), it.value("viewName()")), ("135", view))
+        it.view("stock")
+        with it.losing_answers():
+            it.receive("STEEL", "S-1", "6000", None, 1)
+            it.until(f"{by_id('keptNotice')}.textContent.includes('(number 8)')")
+            it.click(by_id("terminalButton"))
+            it.type(by_id("terminalNumber"), "2")
+            it.key("Enter")
+            words = "Messages of this terminal wait for an answer. Change the number when they are answered."
+            it.until(f"{by_id('terminalFault')}.textContent === {json.dumps(words)}")
+            it.key("Escape")
+            it.until(f"!{by_id('terminalDialog')}.open")
+        it.says("Receive 1 × STEEL 6000.0\u00a0mm: 1 unit received, 3/0")
+        it.value("void send({do: 'scrap', part: '9/9'}, 'Scrap 9/9')")
+        it.says("Refused: Scrap 9/9: there is no such part (50 NoPart)")
+        it.click(by_id("terminalButton"))
+        log = [
+            "9: ✗ Refused: Scrap 9/9: there is no such part (50 NoPart)",
+            "8: ✓ Receive 1 × STEEL 6000.0\u00a0mm: 1 unit received, 3/0",
+        ]
+        it.until(f"{by_id('messageLog')}.querySelectorAll('div').length === 2")
+        trial.equal(it.value(f"[...{by_id('messageLog')}.querySelectorAll('div')].map(e => e.textContent)"), log)
+        is_quiet(it)
+
+
+NEW_MATERIAL = '\n[[material]]\ncode = "WIRE"\nkind = "bar"\nkerf = "0.0"\nmin_long = "10.0"\nmin_short = "0.1"\n'
+
+
+@case(
+    "a material that the shop has new at the page",
+    "Where the shop was started again with another material, it stands at the page as soon as the shop answers again.",
+)
+def new_material(trial):
+    shop = open_shop(trial)
+    with Terminal(trial, shop) as it:
+        it.begin(7)
+        it.view("stock")
+        names = "[...document.querySelectorAll('#stock .materials button')].map(e => e.firstChild.data)"
+        it.until(f"{names}.length === 2")
+        words = "[...document.querySelectorAll('#stock .materials small')].map(e => e.textContent)"
+        steel, glass = "bar, kerf 2.5 mm, keeps from 300.0\u00a0mm", "sheet, kerf 3.0 mm, keeps from 300.0 × 100.0\u00a0mm"
+        trial.equal(it.value(words), [glass, steel])
+        shop.kill(signal.SIGKILL)
+        it.until(f"{by_id('link')}.textContent === 'no connection'")
+        command = shop.process.args
+        with open(command[command.index("--shop") + 1], "w", encoding="utf-8") as file:
+            file.write(SHOP_FILE + NEW_MATERIAL)
+        it.value("(refresh.materials = performance.now(), 0)")
+        shop.process = subprocess.Popen(command, stdin=subprocess.DEVNULL, stdout=subprocess.PIPE, stderr=subprocess.PIPE)
+        trial.equal(shop.process.stdout.readline(), f"listening on 127.0.0.1:{shop.port}\n".encode())
+        it.until(f"{names}.join() === 'GLASS,STEEL,WIRE'", 60)
+        trial.equal(it.value(words), [glass, steel, "bar, kerf 0.0 mm, keeps from 10.0\u00a0mm"])
+        trial.equal(it.text("link"), "connected")

@@ -707,3 +707,281 @@ def office_rows(path):
             cells += [value] * int(cell.get(f"{table}number-columns-repeated", 1))
         rows.append(cells)
     return rows
+
+
+SHEET = {"line": 1, "material": "GLASS", "w": 1000, "h": 1000, "turn": False, "count": 20, "worth": 5}
+
+
+# Of the last rectangle of a form in a trace's picture its place and sides.
+SIDES_DRAWN = """(form => (e => ['x', 'y', 'width', 'height'].map(name => Number(e.getAttribute(name))))(
+  [...document.querySelectorAll(`#tracePicture rect.${form}`)].at(-1)))"""
+
+
+@case(
+    "a part at the page that came of many jobs",
+    "A remnant of a remnant of remnants tells each job on the way and its place in the unit, and is drawn there within the parts that "
+    "it was cut from; a trace tells what is a piece, kerf, scrap, cut, or reserved. A remnant can be scrapped and not returned.",
+)
+def many_jobs(trial):
+    with Terminal(trial, open_shop(trial)) as it:
+        number = iter(range(99))
+        send = lambda **keys: exchange(it.shop, "/message", {"number": next(number), "terminal": 8, **keys})
+        send(do="receive", material="GLASS", batch="G-1", w=12000, h=8000, count=2)
+        send(do="order", order="A-1", lines=[SHEET])
+        # (from the left, from the top, and twice from the left 100.0 mm and a kerf of 3.0 mm)
+        part = "1/0"
+        for job, tree in ((2, "x1000 y1000 p1 r r"), (3, "y1000 x1000 p1 r r"), (4, "x1000 y1000 p1 r r"), (5, "x1000 y1000 p1 r r")):
+            trial.equal(send(do="reserve", part=part, tree=tree).get("job"), job)
+            trial.equal(send(do="done", job=job).get("ok"), "done")
+            part = f"{job}/4"
+        trial.equal(send(do="reserve", part="5/4", tree="x1000 y1000 p1 r r").get("job"), 6)
+        trial.equal(send(do="scrap", part="1/1").get("ok"), "scrap")
+        it.begin(7)
+        it.view("stock")
+        it.material("stock", "GLASS")
+        lay = "It lay in unit 1/0 (1200.0 × 800.0\u00a0mm) at {} mm from the left, {} mm from the top. Batch G-1."
+        came = ["5/4 came of job 5, which cut 4/4", "4/4 came of job 4, which cut 3/4", "3/4 came of job 3, which cut 2/4"]
+        came = "; ".join([*came, "2/4 came of job 2, which cut 1/0"]) + "."
+        first = "2/{} came of job 2, which cut 1/0."
+        for name, state, fate, rest in (
+            ("5/4", "891.0 × 697.0\u00a0mm: reserved for job 6.", "kept", [lay.format("309.0", "103.0"), came]),
+            ("2/4", "1097.0 × 800.0\u00a0mm: cut by job 3.", "kept", [lay.format("103.0", "0.0"), first.format(4)]),
+            ("2/2", "100.0 × 100.0\u00a0mm: a piece of order A-1, line 1 (no. 1).", "piece", [lay.format("0.0", "0.0"), first.format(2), "Order A-1"]),
+            ("2/0", "3.0 × 800.0\u00a0mm: taken by the saw.", "kerf", [lay.format("100.0", "0.0"), first.format(0)]),
+            ("2/3", "100.0 × 697.0\u00a0mm: stands.", "kept", [lay.format("0.0", "103.0"), first.format(3)]),
+            ("1/1", "1200.0 × 800.0\u00a0mm: scrap.", "scrap", ["It is a unit as it was received. Batch G-1."]),
+        ):
+            it.type(by_id("tracePart"), name)
+            it.key("Enter")
+            it.until(f"{by_id('traceWords')}.firstChild?.textContent.startsWith('{name}, ') && document.querySelector('#tracePicture svg')")
+            trial.equal(it.value(f"[...{by_id('traceWords')}.children].map(e => e.textContent)"), [f"{name}, {state}", *rest])
+            told = it.ask(f"/trace/{name}")
+            unit, drawn = it.value(f"['unit', '{fate}'].map({SIDES_DRAWN})")
+            corner = [place - other for place, other in zip(drawn[:2], unit[:2])]
+            got = [round(length * 12000 / unit[2]) for length in (*corner, *drawn[2:])]
+            trial.equal(got if fate != "kerf" else got[:2], [told[key] for key in ("x", "y", "w", "h")][: 2 if fate == "kerf" else 4], name)
+            within = it.value("document.querySelectorAll('#tracePicture rect.within').length")
+            trial.equal(within, 3 if name == "5/4" else 0, name)
+        buttons = "[...document.querySelectorAll('#stockList .fold > div > .stocked')].map(e => [e.querySelector(':scope > div > div').textContent, "
+        buttons += "...[...e.querySelectorAll(':scope > .buttons > button')].map(b => b.textContent)])"
+        rest, busy = ["remnant, standing", "Trace", "Scrap"], ["remnant, reserved, job 6", "Trace"]
+        # (4/3 and 5/3 have the same sides)
+        trial.equal(sorted(it.value(buttons)), sorted([busy, rest, rest, ["2 remnants, standing", "Scrap"]]))
+        is_quiet(it)
+
+
+@case(
+    "a report at the page of over a hundred parts",
+    "The report of a material has all parts that stand, behind the first hundred too, each as a unit or a remnant, standing or with "
+    "its job, and the share of pieces of all that came and wasn't returned.",
+)
+def long_report(trial):
+    with Terminal(trial, open_shop(trial)) as it:
+        number = iter(range(99))
+        send = lambda **keys: exchange(it.shop, "/message", {"number": next(number), "terminal": 8, **keys})
+        for batch, w, count in (("S-1", 20000, 100), ("S-2", 20000, 3), ("S-3", 200000, 3)):
+            send(do="receive", material="STEEL", batch=batch, w=w, h=1, count=count)
+        send(do="order", order="A-1", lines=[{**LINE, "count": 9}])
+        trial.equal(send(do="reserve", part="2/0", tree="x10000 p1 r").get("job"), 4)
+        send(do="done", job=4)
+        trial.equal(send(do="reserve", part="2/1", tree="x10000 p1 r").get("job"), 5)
+        for place in range(3):
+            trial.equal(send(do="return", part=f"3/{place}").get("ok"), "return")
+        it.begin(7)
+        it.view("yield")
+        it.click("document.querySelector('#yieldBars [data-key=ySTEEL]')")
+        it.until("document.querySelectorAll('#report table').length === 2")
+        trial.equal(it.value("document.querySelector('#report h3').textContent"), "103 parts standing or reserved")
+        rows = it.value("[...document.querySelectorAll('#report table')[1].rows].map(row => [...row.cells].map(cell => cell.textContent))")
+        unit = lambda name, state: [name, "2000.0\u00a0mm", "unit", state]
+        wanted = [*[unit(f"1/{n}", "standing") for n in range(100)], unit("2/1", "reserved, job 5"), unit("2/2", "standing")]
+        trial.equal(rows, [*wanted, ["4/2", "997.5\u00a0mm", "remnant", "standing"]])
+        # (1 m of 206 m, as 60 m of 266 m were returned)
+        heads = "Object.fromEntries([...document.querySelectorAll('#report table')[0].rows].map(row => [row.cells[0].textContent, "
+        heads += "[row.cells[1].textContent, row.cells[2].textContent]]))"
+        told = it.value(heads)
+        trial.equal(told["received"], ["266.000\u00a0m", ""])
+        trial.equal(told["returned"], ["60.000\u00a0m", ""])
+        trial.equal(told["pieces"], ["1.000\u00a0m", "0.4\u00a0%"])
+        trial.equal(told["yield: pieces of all that came and wasn't returned"], ["", "0.4\u00a0%"])
+        is_quiet(it)
+
+
+LINES_TYPED = "[...document.querySelectorAll('#orderLines .orderline')]"
+
+
+def type_line(it, place, material, turn=False, **texts):
+    """Types a line of the order by hand."""
+    field = f"{LINES_TYPED}[{place}].querySelector('[data-field={{}}]')"
+    it.choose(field.format("material"), material)
+    for name, text in texts.items():
+        it.type(field.format(name), text)
+    if turn:
+        it.click(field.format("turn"))
+
+
+@case(
+    "lines of an order by hand",
+    "Lines are typed, one is removed, and what stands there is ordered, may turn where that is ticked; a bar has no width and can't "
+    "turn. Then the form is empty. No 201st line can be typed.",
+)
+def lines_by_hand(trial):
+    with Terminal(trial, open_shop(trial)) as it:
+        it.begin(7)
+        it.view("orders")
+        it.until(f"{LINES_TYPED}.length === 1")
+        it.type(by_id("orderCode"), "HALL-2026-000117")
+        type_line(it, 0, "GLASS", turn=True, length="600", width="450,5", count="2")
+        it.click(by_id("addLine"))
+        type_line(it, 1, "GLASS", length="7", width="8", count="9")
+        it.click(by_id("addLine"))
+        type_line(it, 2, "STEEL", length="1200.5", count="3", worth="77")
+        disabled = f"{LINES_TYPED}.map(line => ['width', 'turn'].map(name => line.querySelector(`[data-field=${{name}}]`).disabled))"
+        trial.equal(it.value(disabled), [[False, False], [False, False], [True, True]])
+        it.click(f"{LINES_TYPED}[1].querySelector('button')")
+        it.until(f"{LINES_TYPED}.length === 2")
+        trial.equal(it.value(f"{LINES_TYPED}.map(line => line.getAttribute('aria-label'))"), ["Line 1", "Line 2"])
+        it.click("document.querySelector('#orderForm .act')")
+        it.says("Order HALL-2026-000117: 2 lines ordered, pieces wanted from no. 1 on")
+        keys = ("line", "material", "w", "h", "turn", "wanted", "worth")
+        rows = [[row[key] for key in keys] for row in it.ask("/order/HALL-2026-000117")["lines"]]
+        trial.equal(rows, [[1, "GLASS", 6000, 4505, True, 2, 270300], [2, "STEEL", 12005, 1, False, 3, 77]])
+        it.until(f"{LINES_TYPED}.length === 1 && !{by_id('orderCode')}.value")
+        empty = f"{LINES_TYPED}.flatMap(line => [...line.querySelectorAll('input')].map(e => e.type === 'checkbox' ? e.checked : e.value))"
+        trial.equal(it.value(empty), ["", "", False, "", ""])
+        it.value(f"void Array.from({{length: 198}}, addOrderLine)")
+        it.click(by_id("addLine"))
+        trial.equal((it.value(f"{LINES_TYPED}.length"), it.value(f"{by_id('orderFault')}.hidden")), (200, True))
+        it.click(by_id("addLine"))
+        it.until(f"{by_id('orderFault')}.textContent === 'An order has at most 200 lines.'")
+        trial.equal(it.value(f"{LINES_TYPED}.length"), 200)
+        is_quiet(it)
+
+
+@case(
+    "limits of files at the page",
+    "200 rows are shown, all of them, and can be ordered, 201 can't; a file in UTF-16 is read; what stands in a file is text and no "
+    "markup. Of a problem file its unit and pieces are shown, at most 200 are taken, and 65536 bytes.",
+)
+def files_at_limits(trial):
+    rows = lambda number: HEADER + "".join(f"{line},STEEL,1200.5,0.1,no,1,1\n" for line in range(1, number + 1))
+    shown = "[...document.querySelectorAll('#csvPreview tbody tr')].map(row => [...row.cells].map(cell => cell.textContent))"
+    with Terminal(trial, open_shop(trial)) as it:
+        it.begin(7)
+        it.until("shop.materials.length")
+        it.order_file("a-1", "many.csv", rows(201))
+        fault = "document.querySelector('#csvPreview .fault').textContent"
+        trial.equal(it.value(fault), "The file has 201 rows; an order has at most 200.")
+        trial.equal(it.value(f"{by_id('sendCsv')}.disabled"), True)
+        it.order_file("a-1", "most.csv", rows(200))
+        it.until(f"!{by_id('sendCsv')}.disabled")
+        trial.equal(it.value(f"({shown}).map(row => row[1])"), [str(line) for line in range(1, 201)])
+        head = "<img src=x>"
+        text = f"w;Länge;drehbar;Stück;{head}\r\n300;400,5;x;2;<b>1</b>\r\n"
+        it.order_file("a-2", "utf16.csv", text.encode("utf-16"))
+        it.until(f"{shown}.length === 1")
+        trial.equal(it.value(shown), [["2", "1", "GLASS", "400.5← 400,5", "300", "yes← x", "2", "120150"]])
+        trial.equal(it.text("csvLeftOut"), f"Left out: “{head}”, column 5.")
+        trial.equal(it.value("document.querySelectorAll('#csvPreview :is(img, b)').length"), 0)
+        heads = "document.querySelector('#csvPreview .check input')"
+        trial.equal(it.value(f"{heads}.checked"), False)
+        it.click(heads)
+        it.until(f"{shown}.length > 1")
+        trial.equal(it.value(f"{heads}.checked"), True)
+        it.choose(by_id("problemMaterial"), "GLASS")
+        it.pick(by_id("problemFile"), trial.write("sheet.txt", "2\n6000 4000\n1500 1000 4 150\n700 800 9 60\n"))
+        it.until(by_id("sendProblem"))
+        lines = "[...document.querySelectorAll('#problemPreview :is(p, li)')].map(e => e.textContent)"
+        pieces = ["4 of 150.0 × 100.0\u00a0mm, price for the planner 150", "9 of 70.0 × 80.0\u00a0mm, price for the planner 60"]
+        trial.equal(it.value(lines), ["A unit of 600.0 × 400.0\u00a0mm and 2 lines:", *pieces])
+        judged = lambda number: it.value(f"problemFault({json.dumps(f'{number} 6000 4000' + ' 10 10 1 1' * number)})")
+        trial.equal((judged(200), judged(201)), ("", "Number 1 of the file is 201; 1 to 200 is wanted."))
+        long = lambda size: it.value(f"problemFault({json.dumps('1 6000 4000 10 10 1 1'.ljust(size))})")
+        trial.equal((long(65536), long(65537)), ("", "The file is over 65536 bytes long."))
+        trial.equal(it.ask("/terminal/7")["last"], 0)
+        is_quiet(it)
+
+
+# By language: the fields of a receipt; the buttons of the stock, of the saw, and of the saw's dialog; how two cuts of a sheet and
+# the state of an order read.
+SAID = {
+    "en": (
+        ("Batch (A–Z, 0–9, -)", "Length in mm", "Width in mm", "Units"),
+        ("Receive", "Scrap", "Return"),
+        ("Release", "Broken off…", "Done: all cuts made"),
+        ("Saw across at 400.0 mm from the left", "Saw along at 300.0 mm from the top"),
+        "1 made · 2 reserved · 3 left of 6",
+    ),
+    "de-DE": (
+        ("Charge (A–Z, 0–9, -)", "Länge in mm", "Breite in mm", "Stück"),
+        ("Eingang", "Verschrotten", "Zurückgeben"),
+        ("Freigeben", "Abgebrochen…", "Fertig: alle Schnitte gemacht"),
+        ("Quer sägen bei 400,0 mm von links", "Längs sägen bei 300,0 mm von oben"),
+        "1 fertig · 2 reserviert · 3 offen von 6",
+    ),
+}
+
+
+def by_words(it, language):
+    """What is found by its words in a language does what they say."""
+    fields, (receive, scrap, give_back), (release, broken, done), cuts, sums = SAID[language]
+    shop = it.shop
+    number = iter(range(1, 99))
+    send = lambda **keys: exchange(shop, "/message", {**keys, "number": next(number), "terminal": 8})
+    labelled = "[...document.querySelectorAll('#receiveForm label')].find(e => e.firstChild.data === {}).querySelector('input')"
+    button = "[...document.querySelectorAll('{} button')].find(e => e.checkVisibility() && e.textContent === {})"
+    it.begin(7)
+    it.view("stock")
+    it.choose(by_id("receiveMaterial"), "GLASS")
+    for name, text in zip(fields, ("G-1", "1200", "800", "3")):
+        it.type(labelled.format(json.dumps(name)), text)
+    it.click(button.format("#receiveForm", json.dumps(receive)))
+    it.until("shop.parts.length === 3")
+    for place, words, state in ((0, scrap, "scrap"), (1, give_back, "returned")):
+        part = it.ask(f"/trace/1/{place}")
+        it.trial.equal([part[key] for key in ("batch", "w", "h", "state")], ["G-1", 12000, 8000, "standing"])
+        it.material("stock", "GLASS")
+        it.click(button.format("#stockList .fold > div > .stocked > .buttons", json.dumps(words)))
+        it.confirm()
+        it.until(f"shop.parts.length === {2 - place}")
+        it.trial.equal(it.ask(f"/trace/1/{place}")["state"], state)
+    send(do="order", order="A-1", lines=[{**SHEET, "w": 4000, "h": 3000, "count": 6}])
+    it.view("saw")
+    for words, state in ((release, "released"), (done, "done")):
+        job = send(do="reserve", part="1/2", tree="x4000 y3000 p1 r r")["job"]
+        it.until(f"document.querySelector('#jobList [data-key=j{job}]')")
+        it.click(f"document.querySelector('#jobList [data-key=j{job}]')")
+        it.until(f"atSaw.told.job === {job}")
+        for place, told in enumerate(cuts):
+            it.trial.holds(it.value(f"document.querySelectorAll('#cutList .cut')[{place}].textContent").startswith(f"{place + 1}{told}"), told)
+        it.click(button.format("#jobButtons", json.dumps(broken)))
+        it.until(f"!{by_id('breakPanel')}.hidden")
+        it.click(by_id("stopBreak"))
+        it.click(button.format("#jobButtons", json.dumps(words)))
+        it.confirm()
+        it.until(f"atSaw.told.job === {job} && atSaw.told.state === '{state}'")
+        it.trial.equal(it.ask(f"/job/{job}")["state"], state)
+    rest = next(row for row in it.ask("/parts/GLASS")["parts"] if row["w"] > 7000)
+    it.trial.holds("ok" in send(do="reserve", part=rest["part"], tree="y3000 x4000 p1 r y3000 x4000 p1 r r"), "not reserved")
+    it.view("orders")
+    it.until(f"{by_id('orderList')}.querySelector('.ordered > p')?.textContent === {json.dumps(sums)}")
+    is_quiet(it)
+
+
+@case(
+    "buttons of the page that do what they say",
+    "Found by their words, the fields of a receipt take what they name, and *Scrap*, *Return*, *Release*, *Broken off…* and *Done* do "
+    "that; cuts across and along, and what is made, reserved and left, are told as they are.",
+)
+def as_they_say(trial):
+    with Terminal(trial, open_shop(trial)) as it:
+        by_words(it, "en")
+
+
+@case(
+    "buttons of the page in German that do what they say",
+    "In a German browser, found by their German words, fields and buttons do the same.",
+)
+def as_they_say_in_german(trial):
+    with Terminal(trial, open_shop(trial), "de-DE") as it:
+        by_words(it, "de-DE")

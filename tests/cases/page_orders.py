@@ -379,3 +379,44 @@ def german_orders(trial):
         it.until(f"document.querySelector('#findForm .fault')?.textContent === {json.dumps(words)}")
         is_german(it, "orders-none")
         is_quiet(it)
+
+
+@case(
+    "a number that is typed while others work",
+    "A number that is typed at a line stays where another terminal changes that line meanwhile; an order is cancelled by what is "
+    "reserved of it when it is cancelled, not by what was shown; then the line has the number that is wanted now. An order's bar has "
+    "what is made, reserved and left as they are.",
+)
+def typed(trial):
+    field = within("orderList", "w2")
+    with Terminal(trial, open_shop(trial)) as it:
+        send = sender(it.shop)
+        half_made(send)
+        it.begin(7)
+        it.view("orders")
+        it.until(field)
+        drawn = (
+            "[...document.querySelectorAll('#orderList .ordered svg rect:has(title)')].map(e => [e.textContent, "
+            "Math.round(e.getAttribute('width'))])"
+        )
+        trial.equal(it.value(drawn), [["made", 300], ["reserved", 200], ["left", 500]])
+        forms = "[...document.querySelectorAll('#orderList .ordered svg rect:has(title)')].map(e => e.classList[1])"
+        trial.equal(it.value(forms), ["piece", "scrap", "unit"])
+        it.type(field, "9")
+        it.value("document.activeElement.blur()")
+        send(do="amend", demand=2, wanted=6)
+        it.value("refreshNow()")
+        it.until(f"{LISTED}[0][2] === {json.dumps(card('', '', 3, 2, 11)[2])}")
+        trial.equal(it.value(f"{field}.value"), "9")
+        it.until("!refresh.running")
+        it.value("(clearTimeout(refresh.timer), refreshPass = () => {}, 0)")
+        send(do="reserve", part="1/3", tree="x10000 p2 x10000 p3 x10000 p3 r")
+        it.click(within("orderList", "coA-1"))
+        it.until(f"{by_id('confirm')}.open")
+        asked = "Cancel order A-1? 3 pieces fewer are wanted then. 3 made and 5 reserved stay wanted. "
+        trial.equal(it.text("confirmWords"), asked + "To cancel what is reserved too, release its jobs first.")
+        it.click(by_id("confirmYes"))
+        it.says("Cancel order A-1: 2 of 2 done")
+        trial.equal(lines_of(it, "A-1"), [[2, 0, 2], [4, 3, 1], [2, 2, 0]])
+        it.until(f"{field}.value === '4'", 10)
+        is_quiet(it)

@@ -9,6 +9,7 @@ from collections import Counter
 
 from browser.terminal import TOP, Terminal, by_id, exchange, open_shop
 from cases.page import PLACE_OF, is_german, is_quiet
+from cases.page_messages import open_tab
 from cases.page_saw import sender
 from kit.case import Skipped, case
 
@@ -412,4 +413,131 @@ def long_search(trial):
         it.until("document.body.classList.contains('sheets')")
         it.trial.equal(it.value("document.querySelectorAll('#sheets .labels tr').length"), it.value("countOf(toCut.found.plans)"))
         it.sheets("german-tickets")
+        is_quiet(it)
+
+
+@case(
+    "plans at the page that use remnants",
+    "A remnant is told as a remnant among what is cut up and at its plan; the shares of pieces, kept rests, kerf and scrap are those "
+    "of what is cut up, and what is kept of a plan stands at it. Two parts are reserved by one press. Another material has no plans.",
+)
+def of_remnants(trial):
+    shop = open_shop(trial)
+    send = sender(shop)
+    for w in (60000, 50000):
+        send(**{**BARS, "w": w}, count=1)
+    send(do="order", order="A-1", lines=[{**PIECES, "w": 11500, "count": 9}])
+    send(do="done", job=send(do="reserve", part="2/0", tree="x11500 p1 r")["job"])
+    with Terminal(trial, shop) as it:
+        it.begin(7)
+        it.plan_all("STEEL")
+        # (five pieces of 1150.0 mm and a rest of 237.5 mm of the bar, three and one of 390.0 mm of the remnant, eight cuts)
+        trial.holds(it.text("planNow").startswith("1 bar, 1 remnant: "), it.text("planNow"))
+        heads = [re.sub(r"\s", " ", text) for text in it.value(CARDS)]
+        trial.equal(sorted(heads), ["3847.5 mm remnant 3/2", "6000.0 mm 1/0"])
+        figures = it.value(FIGURES)
+        names = ("are cut up", "pieces", "cuts", "in pieces", "kept as rests, 390.0\u00a0mm", "kerf and scrap")
+        wanted = ["1 bar, 1 remnant", "8", "8", "93.4\u00a0%", "3.9\u00a0%", "2.6\u00a0%"]
+        trial.equal([figures.get(name) for name in names], wanted)
+        rests = "[...document.querySelectorAll('#planList .rests')].map(e => e.textContent)"
+        trial.equal(it.value(rests), ["Kept on the rack: 390.0\u00a0mm"])
+        it.material("tocut", "GLASS")
+        trial.equal(it.value(f"[toCut.found, {by_id('planList')}.children.length, {by_id('planFigures')}.children.length]"), [None, 0, 0])
+        it.plan_all("STEEL")
+        it.click(by_id("reserve"))
+        it.says("Reserve all of STEEL: 2 of 2 done")
+        trial.equal(sorted(row["part"] for row in it.ask("/jobs/0")["jobs"]), ["1/0", "3/2"])
+        is_quiet(it)
+
+
+@case(
+    "what is left and what it is cut from",
+    "At a material, at its demands and at the question stands what is left, not what is reserved or made. What stands is listed where "
+    "something fits first, turned where it may, remnants before units and small before large, units of a size with how many; what "
+    "nothing fits can't be planned alone. What is left out is so in each tab and over a reload, as is the material.",
+)
+def what_is_left(trial):
+    shop = open_shop(trial)
+    send = sender(shop)
+    for batch, w, h, count in (("G-1", 12000, 8000, 3), ("G-2", 2500, 5500, 4), ("G-3", 3000, 1500, 2)):
+        send(do="receive", material="GLASS", batch=batch, w=w, h=h, count=count)
+    wide = {"line": 1, "material": "GLASS", "w": 5000, "h": 2000, "turn": True, "count": 5, "worth": 9}
+    send(do="order", order="A-1", lines=[wide, {**wide, "line": 2, "w": 4000, "h": 2400, "turn": False, "count": 2}])
+    # (rests of 500.0 by 597.0 mm, and of 697.0 by 800.0 mm; then one piece is made, two are reserved)
+    send(do="done", job=send(do="reserve", part="1/0", tree="x5000 y2000 p1 r r")["job"])
+    send(do="reserve", part="1/1", tree="x5000 y2000 p1 y2000 p1 r r")
+    rows = "[...document.querySelectorAll('#wanted .demand')].map(row => [...row.cells].slice(1).map(cell => cell.textContent))"
+    stands = (
+        "[...document.querySelectorAll('#cutFrom .row')].map(e => [...[...e.querySelectorAll('b, .tag, .quiet')].map(e => "
+        "e.textContent), !e.querySelector('button').disabled])"
+    )
+    boxes = "[...document.querySelectorAll('#cutFrom .row input')].map(e => e.checked)"
+    with Terminal(trial, shop) as it:
+        it.begin(7)
+        it.view("tocut")
+        it.material("tocut", "GLASS")
+        it.until(f"{rows}.length === 2 && {stands}.length === 5")
+        trial.equal(it.value(rows), [["1", "500.0 × 200.0 ↻", "2 of 5", "1"], ["2", "400.0 × 240.0", "2 of 2", "2"]])
+        button = "[...document.querySelectorAll('#tocut .materials button')].map(e => [...e.childNodes].map(e => e.textContent))"
+        trial.equal(it.value(button)[0], ["GLASS", "4 to cut", "sheet, kerf 3.0 mm, keeps from 300.0 × 100.0\u00a0mm"])
+        trial.equal(it.text("planWords"), "4 pieces of 2 kinds, 9 parts to cut from.")
+        both, one, none = "2 kinds of pieces fit", "1 kind of pieces fits", "nothing chosen fits"
+        wanted = [
+            ["500.0 × 597.0\u00a0mm", "remnant", "4/3, batch G-1", both, True],
+            ["697.0 × 800.0\u00a0mm", "remnant", "4/4, batch G-1", both, True],
+            ["250.0 × 550.0\u00a0mm", "4 units", "2/0, batch G-2", one, True],
+            ["1200.0 × 800.0\u00a0mm", "1 unit", "1/2, batch G-1", both, True],
+            ["300.0 × 150.0\u00a0mm", "2 units", "3/0, batch G-3", none, False],
+        ]
+        trial.equal(it.value(stands), wanted)
+        first = it.session
+        other = open_tab(it, "tocut")
+        it.until(f"{boxes}.length === 5")
+        it.session = first
+        it.call("Page.bringToFront")
+        it.click("document.querySelector('#cutFrom [data-key=\"b2/0\"]')")
+        it.until(f"{by_id('cutFrom')}.textContent.startsWith('1 size left out')")
+        out = [True, True, False, True, True]
+        trial.equal((it.value(boxes), it.text("planWords")), (out, "4 pieces of 2 kinds, 5 parts to cut from."))
+        it.call("Page.reload")
+        it.until(f"document.readyState === 'complete' && {boxes}.length === 5")
+        trial.equal(it.value(boxes), out)
+        it.session = other
+        it.call("Page.bringToFront")
+        it.until(f"JSON.stringify({boxes}) === '{json.dumps(out, separators=(',', ':'))}'")
+        it.material("tocut", "STEEL")
+        trial.equal(it.value(f"{by_id('receiveMaterial')}.value"), "STEEL")
+        it.call("Page.reload")
+        it.until("document.readyState === 'complete' && shop.partsOf")
+        trial.equal(it.value("[shop.material, shop.partsOf]"), ["STEEL", "STEEL"])
+        is_quiet(it)
+
+
+@case(
+    "lists of the page at once behind an answer",
+    "What was reserved or scrapped is gone from the lists with the answer, before they are read again.",
+)
+def at_once(trial):
+    shop, send = bars(trial)
+    with Terminal(trial, shop) as it:
+        it.begin(7)
+        it.propose("STEEL")
+        part, planned = it.value("[chosenPlan().part, chosenPlan().counts.get(1)]")
+        it.until("!refresh.running")
+        it.value("(clearTimeout(refresh.timer), refreshPass = () => {}, 0)")
+        it.click(by_id("reserve"))
+        it.says(f"Reserve {part}: job ")
+        it.until("!terminal.kept().length")
+        it.value("showView()")
+        left = "document.querySelector('#wanted .demand').cells[3].textContent"
+        trial.equal(it.value(left), f"{12 - planned} of 12")
+        trial.equal(it.value("document.querySelector('#cutFrom .row .tag').textContent"), "3 units")
+        it.view("stock")
+        rows = "[...document.querySelectorAll('#stockList .fold > div > .stocked')].map(e => e.children[0].children[1].textContent)"
+        trial.equal(sorted(it.value(rows)), ["3 units, standing", "unit, reserved, job 2"])
+        it.click("document.querySelector('#stockList .fold > div > .stocked > .buttons [data-key^=ms]')")
+        it.confirm()
+        it.says("Scrap 1/")
+        it.until("!terminal.kept().length")
+        it.until(f"{rows}.includes('2 units, standing')", 10)
         is_quiet(it)

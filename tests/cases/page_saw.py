@@ -365,3 +365,163 @@ def equal_plans(trial):
         it.until("atSaw.told.state === 'done'")
         trial.equal(it.ask(f"/job/{jobs[1]}")["state"], "waiting", "another plan was taken for the same")
         trial.equal(it.faults, [])
+
+
+# A sheet of 1200.0 by 800.0 mm: a turned piece of 300.0 by 400.0 mm at its left, one that isn't turned beside it, and a rest of
+# 494.0 by 47.0 mm, which isn't kept. Its cuts are the nodes 0, 1, 4, 5 and 8.
+TURNED = "x3000 y4000 p2t r x4000 y3000 p3 r y7500 r r"
+
+
+def cells_told(words):
+    """How many cells a text like “0.2400 m²” or “8382.00 mm²” is, and how much it may be off by its last digit."""
+    number, unit = words.replace("\u202f", "").split("\u00a0")
+    per = {"mm²": 100, "m²": 100000000}[unit]
+    return float(number) * per, per * 10 ** -len(number.partition(".")[2]) / 2
+
+
+@case(
+    "a ticket of a sheet to the letter",
+    "Of a sheet with a turned piece the ticket tells kerf and sides, each cut by its number in the list, in the picture and on paper, "
+    "across or along, with what it gives, whose piece and whether turned; its pieces; the legend; and when it is done the cells and "
+    "the names to write on what is kept.",
+)
+def to_the_letter(trial):
+    shop = open_shop(trial)
+    send = sender(shop)
+    send(do="receive", material="GLASS", batch="G-1", w=12000, h=8000, count=1)
+    send(do="order", order="A-1", lines=[LINES[0], {**LINES[1], "turn": True}, {**LINES[1], "line": 3}])
+    job = send(do="reserve", part="1/0", tree=TURNED)["job"]
+    with Terminal(trial, shop) as it:
+        begin_at_saw(it, job)
+        it.until("document.querySelector('#jobPicture svg')")
+        trial.equal(figures(it), ["1200.0 × 800.0\u00a0mm part to cut", "3.0 mm kerf", "5 cuts", "2 pieces", "waits state"])
+        cuts = it.value("[...document.querySelectorAll('#cutList .cut')].map(e => [...e.querySelectorAll('.mark, b, .quiet')].map(e => e.textContent))")
+        trial.equal([row[0] for row in cuts], list("12345"))
+        piece = "gives piece {} of A-1 line {}{}; rest {}, kept as {}/{}"
+        trial.equal(
+            [row[2] for row in cuts],
+            [
+                "",
+                piece.format("300.0 × 400.0\u00a0mm", "2 (no. 2)", " turned", "300.0 × 397.0\u00a0mm", job, 3),
+                "",
+                piece.format("400.0 × 300.0\u00a0mm", "3 (no. 3)", "", "400.0 × 497.0\u00a0mm", job, 7),
+                f"gives rest 494.0 × 750.0\u00a0mm, kept as {job}/9; rest 494.0 × 47.0\u00a0mm, scrap",
+            ],
+        )
+        marks = "[...document.querySelectorAll('#jobPicture .mark')].map(e => [e.textContent, e.classList[1]]).sort()"
+        trial.equal(it.value(marks), [[str(place), "open"] for place in range(1, 6)])
+        it.click(row(1))
+        trial.equal(it.value(marks), [[str(place), "made" if place < 3 else "open"] for place in range(1, 6)])
+        rulers = "[...document.querySelectorAll('#jobPicture .ruler')].map(e => [e.textContent, e.getAttribute('transform')?.includes('rotate') ?? false])"
+        trial.equal(it.value(rulers), [["1200.0 mm", False], ["800.0 mm", True]])
+        legend = "[...document.querySelectorAll('#jobPicture .legend li')].map(e => [e.querySelector('rect').classList[1], e.textContent])"
+        wanted = {"piece": "piece", "kept": "rest kept", "scrap": "scrap", "kerf": "kerf 3.0 mm"}
+        trial.equal(dict(it.value(legend)), wanted)
+        pieces = it.value("[...document.querySelectorAll('#jobPieces tr')].map(e => [...e.cells].map(e => e.textContent))")
+        rests = ((3, "300.0 × 397.0\u00a0mm"), (7, "400.0 × 497.0\u00a0mm"), (9, "494.0 × 750.0\u00a0mm"))
+        kept = [["rest", size, f"kept: label it {job}/{node}"] for node, size in rests]
+        ordered = [["1 ×", "400.0 × 300.0\u00a0mm", f"order A-1, line {line} (no. {line})"] for line in (2, 3)]
+        trial.equal(pieces, [*ordered, *kept])
+        paper = it.value("[...document.querySelectorAll('#jobSheet p')].map(e => e.textContent)")
+        trial.equal(
+            paper,
+            [
+                "☐ 1 across 300.0 mm of 1200.0 × 800.0\u00a0mm",
+                f"☐ 2 along 400.0 mm of 300.0 × 800.0\u00a0mm → A-1/2 ↻, keep {job}/3",
+                "☐ 3 across 400.0 mm of 897.0 × 800.0\u00a0mm",
+                f"☐ 4 along 300.0 mm of 400.0 × 800.0\u00a0mm → A-1/3, keep {job}/7",
+                f"☐ 5 along 750.0 mm of 494.0 × 800.0\u00a0mm → keep {job}/9, scrap",
+            ],
+        )
+        it.click(by_id("done"))
+        it.until(f"{by_id('confirm')}.open")
+        trial.equal(it.text("confirmWords"), "Only 2 of 5 cuts are ticked. Were all made? A job that is done stays done.")
+        it.confirm()
+        it.says(f"Job {job} done: pieces")
+        told = re.search(r"pieces ([^,]+), kept ([^,]+), kerf ([^,]+), scrap (.+?)\. Label what is kept: (.*?)(?:Close|$)", it.told())
+        totals = it.ask("/totals/GLASS")
+        for words, heap in zip(told.groups(), ("pieces", "rack", "kerf", "scrap")):
+            number, off = cells_told(words)
+            trial.holds(abs(number - totals[heap]) <= off, f"{heap}: {words} of {totals[heap]}")
+        trial.equal(told[5], ", ".join(f"{job}/{node} ({size})" for node, size in rests))
+        trial.equal(it.faults, [])
+
+
+@case(
+    "a break with many cuts that are ticked in any order",
+    "Twelve cuts of a bar that are ticked from the last one on are told to the shop as they rise; that the first one went wrong is "
+    "told too. On paper each cut has a mark for what became of it.",
+)
+def any_order(trial):
+    shop, send = stocked(trial)
+    many = "x400 p3 " * 13 + "r"
+    send(do="order", order="B-1", lines=[{**LINES[0], "w": 400}])
+    first, second = send(do="reserve", part="1/0", tree=many)["job"], send(do="reserve", part="1/1", tree=BAR)["job"]
+    marks = "[...document.querySelectorAll('#jobSheet p')].map(e => e.textContent[0]).join('')"
+    with Terminal(trial, shop) as it:
+        begin_at_saw(it, first)
+        it.click(by_id("startBreak"))
+        it.click(row(11))
+        it.click(by_id("sendBreak"))
+        it.says(f"Break off job {first}: pieces 480.0\u00a0mm, kept 0.0\u00a0mm")
+        trial.equal(it.ask("/demand/3")["made"], 12)
+        it.until(f"atSaw.told.state === 'broken' && {marks} === '{'✓' * 12}–'")
+        open_job(it, second)
+        it.click(by_id("startBreak"))
+        it.click("document.querySelector('[name=breakMode][value=lost]')")
+        it.click(row(0))
+        it.click(by_id("sendBreak"))
+        it.says(f"Break off job {second}: pieces 0.0\u00a0mm, kept 0.0\u00a0mm, kerf 0.0\u00a0mm, scrap 600.0\u00a0mm")
+        trial.equal(it.ask(f"/trace/{second}/0")["state"], "scrap")
+        it.until(f"atSaw.told.state === 'broken' && {marks} === '✗–––'")
+        trial.equal(it.faults, [])
+
+
+@case(
+    "jobs of one material at the saw",
+    "Where a material is chosen its jobs alone are listed, opened by *Next job* and printed; a ticket of many jobs names all of them, "
+    "and on each rest all of its names; a turned piece's label has its sides as they were ordered.",
+)
+def of_one_material(trial):
+    shop = open_shop(trial)
+    send = sender(shop)
+    stock(send)
+    send(do="order", order="B-1", lines=[{**LINES[1], "line": 1, "turn": True}])
+    short = "x1000 p1 r"
+    jobs = [send(do="reserve", part=part, tree=tree)["job"] for part, tree in (("1/0", short), ("2/0", "x3000 y4000 p3t r r"), ("1/1", short))]
+    with Terminal(trial, shop) as it:
+        begin_at_saw(it, jobs[0])
+        listed = "[...document.querySelectorAll('#jobList .row b')].map(e => e.textContent)"
+        it.choose(by_id("jobMaterial"), "STEEL")
+        it.until(f"{listed}.length === 2")
+        trial.equal(it.value(listed), [f"Job {jobs[0]}", f"Job {jobs[2]}"])
+        it.click(by_id("nextJob"))
+        it.until(f"atSaw.job === {jobs[2]}")
+        it.until("atSaw.plans.size === 2")
+        it.value("(window.print = () => { window.asked = (window.asked || 0) + 1; }, window.asked = 0)")
+        sheet = (
+            "[...document.querySelectorAll('#sheets .ticket')].map(e => [e.querySelector('h2'), e.querySelector('p'), "
+            "...e.querySelectorAll('.pieces tr')].map(e => e.textContent))"
+        )
+        labels = "[...document.querySelectorAll('#sheets .labels tr')].map(e => [...e.cells].map(cell => cell.textContent))"
+
+        def printed(material):
+            it.choose(by_id("jobMaterial"), material)
+            it.value("window.asked = 0")
+            it.click(by_id("printWaiting"))
+            it.until("window.asked === 1")
+            return it.value(sheet), it.value(labels)
+
+        both = f"{jobs[0]}, {jobs[2]}"
+        steel = [
+            "2 × STEEL 600.0\u00a0mm",
+            f"Jobs {both} (1/0 to 1/1), 1 cut",
+            "1 ×100.0\u00a0mmorder A-1, line 1 (no. 1)",
+            f"rest497.5\u00a0mmkept: label it {jobs[0]}/2, {jobs[2]}/2",
+        ]
+        rows = [["A-1", "line 1", "100.0\u00a0mm", f"piece {place + 1} of 40", f"job {job}"] for place, job in enumerate((jobs[0], jobs[2]))]
+        trial.equal(printed("STEEL"), ([steel], rows))
+        tickets, rows = printed("GLASS")
+        trial.equal([ticket[1] for ticket in tickets], [f"Job {jobs[1]} (2/0), 2 cuts"])
+        trial.equal(rows, [["B-1", "line 1", "400.0 × 300.0\u00a0mm", "piece 1 of 9", f"job {jobs[1]}"]])
+        trial.equal(it.faults, [])

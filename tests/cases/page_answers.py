@@ -1,0 +1,257 @@
+"""What the page asks and shows where a case answers in the shop's place: searches that find worse, what has to be bought, grids
+of one part, and answers that are none."""
+
+import base64
+import json
+import re
+from contextlib import contextmanager
+
+from browser.terminal import Terminal, by_id, open_shop
+from cases.page import is_quiet
+from cases.page_plans import PIECES, bars
+from cases.page_saw import sender
+from kit.case import case
+
+
+@contextmanager
+def answering(it, path, answer):
+    """Requests of a path are answered by a function, which takes the body's object and gives a status and a text or an object;
+    or gives nothing, so that no answer comes."""
+    held = []
+
+    def paused(event):
+        said = answer(json.loads(event["request"].get("postData") or "null"))
+        if said is None:
+            held.append(event["requestId"])
+            return
+        status, reply = said
+        text = reply if isinstance(reply, str) else json.dumps(reply)
+        body = base64.b64encode(text.encode()).decode()
+        it.post("Fetch.fulfillRequest", requestId=event["requestId"], responseCode=status, body=body)
+
+    it.on_paused = paused
+    it.call("Fetch.enable", patterns=[{"urlPattern": f"*{path}", "requestStage": "Request"}])
+    yield
+    for name in held:
+        it.post("Fetch.failRequest", requestId=name, errorReason="ConnectionReset")
+    it.call("Fetch.disable")
+    it.on_paused = None
+
+
+def plans(rows, cost, bound, missing=0, step=0, proved=False):
+    """An answer to a question for plans. `rows` are parts' names, how many are bought, the tree, and the sides; `missing` is how
+    many pieces of demand 1 are."""
+    told = [{"buy": buy, "h": h, "parts": parts, "tree": tree, "w": w} for parts, buy, tree, w, h in rows]
+    return {
+        "bound": bound,
+        "cost": cost,
+        "missing": [{"demand": 1, "pieces": missing}] if missing else [],
+        "ok": "plans",
+        "plans": told,
+        "prices": [],
+        "proved": proved,
+        "short": missing > 0,
+        "step": step,
+    }
+
+
+def bar_of(pieces):
+    """A plan of a bar with so many pieces."""
+    return "x10000 p1 " * pieces + "r"
+
+
+@case(
+    "longer searches at the page that find worse",
+    "What a longer search finds is shown only where it is better, and its bound only where it is higher; how near it is is told in "
+    "bars, the bound rounded up, and drawn. *Stop* ends a search whose answer doesn't come and keeps what was found, *Search longer* "
+    "goes on.",
+)
+def worse(trial):
+    shop, _ = bars(trial)
+    row = lambda pieces, *parts: (list(parts), 0, bar_of(pieces), 60000, 1)
+    cost = lambda bars: bars * 60000 * 100
+    best = plans([row(5, "1/0", "1/1"), row(2, "1/2")], cost(3), cost(3) * 11 // 18)
+    replies = [
+        best,
+        plans([row(3, "1/0", "1/1", "1/2", "1/3")], cost(4), cost(1)),
+        plans([row(5, "1/0", "1/1")], cost(2), cost(1), missing=2),
+    ]
+    asked = []
+
+    def answer(question):
+        asked.append(question["calls"])
+        return (200, replies[len(asked) - 1]) if len(asked) <= len(replies) else None
+
+    progress = f"[{by_id('planNow')}.textContent, Math.round(18 * {by_id('planBar')}.value / {by_id('planBar')}.max)]"
+    cards = "[...document.querySelectorAll('#planList .planned h3')].map(e => e.innerText.replace(/\\s+/g, ' ').trim())"
+    heads = ["2 × 6000.0 mm 1/0 to 1/1", "6000.0 mm 1/2"]
+    with Terminal(trial, shop) as it:
+        it.begin(7)
+        it.view("tocut")
+        it.material("tocut", "STEEL")
+        with answering(it, "/plans", answer):
+            it.click(by_id("planAll"))
+            for place, button in ((4, by_id("planAll")), (5, f"{by_id('boundSays')}.querySelector('button')")):
+                if place == 5:
+                    it.click(button)
+                it.until(f"{by_id('planNow')}.textContent === '3 bars, at least 2 · searching on…'")
+                for _ in range(200):
+                    if len(asked) == place:
+                        break
+                    it.value("pause(20)")
+                trial.equal(it.value(progress), ["3 bars, at least 2 · searching on…", 11])
+                trial.equal([re.sub(r"\s", " ", text) for text in it.value(cards)], heads)
+                it.click(by_id("stopPlan"))
+                it.until(f"{by_id('planNow')}.textContent === '3 bars, at least 2'", 5)
+                trial.equal([re.sub(r"\s", " ", text) for text in it.value(cards)], heads)
+                trial.holds(it.text("boundSays").startswith("No plan takes fewer than 2."), it.text("boundSays"))
+        trial.equal((len(asked), sorted(set(asked))), (5, asked))
+        is_quiet(it)
+
+
+@case(
+    "over a hundred sheets to buy at the page",
+    "The largest unit's sides are offered; by others it is asked what has to be bought, as length and width were typed. Of more "
+    "than the 100 units of a receipt 100 are filled in, which *Receive* takes as they are.",
+)
+def many_to_buy(trial):
+    shop = open_shop(trial)
+    send = sender(shop)
+    for w, h in ((6000, 4000), (12000, 8000), (5000, 4000)):
+        send(do="receive", material="GLASS", batch="G-1", w=w, h=h, count=1)
+    send(do="order", order="A-1", lines=[{**PIECES, "material": "GLASS", "w": 5000, "h": 3000, "count": 300}])
+    tree, asked = "x5000 y3000 p1 y3000 p1 r r", []
+
+    def answer(question):
+        asked.append(question.get("buy"))
+        stand = (["2/0"], 0, tree, 12000, 8000)
+        if not asked[-1]:
+            return 200, plans([stand], 12000 * 8000 * 100, 12000 * 8000 * 100, missing=298, step=24)
+        cost = (12000 * 8000 + 149 * 13000 * 7005) * 100
+        return 200, plans([stand, ([], 149, tree, 13000, 7005)], cost, cost, step=26, proved=True)
+
+    with Terminal(trial, shop) as it:
+        it.begin(7)
+        it.view("tocut")
+        it.material("tocut", "GLASS")
+        with answering(it, "/plans", answer):
+            it.click(by_id("planAll"))
+            it.planned()
+            trial.equal(it.text("planNow"), "1 sheet, 298 pieces missing")
+            trial.equal(it.value(f"['buyW', 'buyH'].map(id => document.getElementById(id).value)"), ["1200.0", "800.0"])
+            it.type(by_id("buyW"), "1300")
+            it.type(by_id("buyH"), "700,5")
+            it.key("Enter")
+            it.until("toCut.found?.asked.buy")
+            it.planned()
+        trial.equal(asked[-1], [{"h": 7005, "w": 13000}])
+        trial.equal(it.text("planNow"), "1 sheet, 149 sheets to buy: proved best")
+        trial.holds(it.text("buyWords").startswith("149 sheets of 1300.0 × 700.5\u00a0mm have to be bought."), it.text("buyWords"))
+        trial.equal(it.value(f"{by_id('buyWords')}.querySelector('button').textContent"), "Receive 100 of them")
+        it.click(f"{by_id('buyWords')}.querySelector('button')")
+        it.until("!document.getElementById('stock').hidden")
+        it.type(by_id("receiveBatch"), "COIL-2026-000117")
+        it.key("Enter")
+        it.says("Receive 100 × GLASS 1300.0 × 700.5\u00a0mm: 100 units received, 4/0 to 4/99")
+        part = it.ask("/trace/4/99")
+        trial.equal([part[key] for key in ("w", "h", "batch")], [13000, 7005, "COIL-2026-000117"])
+        is_quiet(it)
+
+
+@case(
+    "what is asked of the grids of one part",
+    "On grids at most 40 kinds of pieces are asked for that aren't smaller than the least grid, and the others are told; a plan's "
+    "share is that of the least ceiling; Enter at a grid that is typed tries it; the bound is asked of the part's own length and width.",
+)
+def grids(trial):
+    shop = open_shop(trial)
+    send = sender(shop)
+    send(do="receive", material="GLASS", batch="G-1", w=200000, h=8000, count=1)
+    line = {"material": "GLASS", "h": 3000, "turn": False, "count": 1, "worth": 9}
+    lines = [{**line, "line": number, "w": 5000 + 10 * number} for number in range(1, 42)]
+    send(do="order", order="A-1", lines=[*lines, {**line, "line": 42, "w": 300, "h": 300}])
+    tree, asked, ceilings = "x5010 y3000 p1 r r", [], [1000, 900, 950, 980, 990]
+
+    def answer(question):
+        asked.append(question)
+        if question["ask"] == "plans":
+            return 200, plans([(["1/0"], 0, tree, 200000, 8000)], 200000 * 8000 * 100, 200000 * 8000 * 100, step=400, proved=True)
+        if question["ask"] == "bound":
+            return 200, {"best": 1, "ok": "bound", "units": 3}
+        ceiling = ceilings[len([it for it in asked if it["ask"] == "plan"]) - 1]
+        return 200, {"ceiling": ceiling, "dropped": 0, "ok": "plan", "tree": tree, "worth": 810}
+
+    with Terminal(trial, shop) as it:
+        it.begin(7)
+        it.view("tocut")
+        it.material("tocut", "GLASS")
+        with answering(it, "/plans", answer):
+            it.click(f"{by_id('cutFrom')}.querySelector('.row button')")
+            it.until("!toCut.planning && chosenPlan()")
+        it.click("document.querySelector('#otherStep summary')")
+        words = (
+            "No. 42 (30.0 × 30.0\u00a0mm) left out: a side with the kerf is under 40.0 mm, the least grid here. 1 left out: at most 40 "
+            "are planned at once, the oldest first. A side of 20000.0 mm is planned on a grid of at most 500 steps, so on none under "
+            "40.0 mm."
+        )
+        trial.equal(it.text("stepsWords"), words)
+        with answering(it, "/plan", answer):
+            it.click(by_id("propose"))
+            it.until("!toCut.planning && toCut.tried.length > 2")
+            it.type(by_id("step"), "50")
+            it.key("Enter")
+            it.until("!toCut.planning && chosenPlan().step === 500")
+        with answering(it, "/bound", answer):
+            it.click(by_id("askBound"))
+            it.until(f"{by_id('boundWords')}.textContent.includes('takes at least')")
+        first = list(range(1, 41))
+        by_grid = [it for it in asked if it["ask"] == "plan"]
+        trial.equal([it["demands"] for it in by_grid], [first] * len(by_grid))
+        trial.equal((by_grid[0]["step"], by_grid[-1]["step"], len(by_grid) > 2), (400, 500, True))
+        wanted = {"ask": "bound", "demands": first, "h": 8000, "material": "GLASS", "step": 400, "w": 200000}
+        trial.equal(asked[-1], wanted)
+        said = "What is left of these 40 kinds of pieces takes at least 3 units of 20000.0 × 800.0\u00a0mm."
+        trial.equal(it.text("boundWords"), said)
+        shares = "[...document.querySelectorAll('#triedPlans tbody tr')].filter(e => !e.textContent.includes('none')).map(e => e.cells[3].textContent)"
+        trial.equal(it.value(shares), ["90.0\u00a0%"] * len(by_grid))
+        is_quiet(it)
+
+
+@case(
+    "what is pressed goes before what the page reads by itself",
+    "While the shop answers one request what was asked for by a person is sent before what a view reads, though it came later.",
+)
+def pressed_first(trial):
+    with Terminal(trial, open_shop(trial)) as it:
+        it.begin(7)
+        it.until("!refresh.running && !queue.busy")
+        it.value("(clearTimeout(refresh.timer), refreshPass = () => {}, 0)")
+        it.requests.clear()
+        asked = "request('/terminal/1', {calm: true}), request('/orders', {calm: true}), request('/terminal/2')"
+        it.value(f"Promise.all([{asked}]).then(() => 0)")
+        trial.equal([path.removeprefix(it.address) for path in it.requests], ["terminal/1", "terminal/2", "orders"])
+        is_quiet(it)
+
+
+@case(
+    "answers of the shop that do nothing",
+    "A message that is answered 503 waits, told with why, and is sent again under its number and done once; one that is answered 403 "
+    "isn't sent again, and where the page has to be opened is told.",
+)
+def none_done(trial):
+    with Terminal(trial, open_shop(trial)) as it:
+        it.begin(7)
+        with answering(it, "/message", lambda _: (503, {"name": "StoreFault", "refused": 99})):
+            it.receive("STEEL", "S-1", "6000", None, 2)
+            it.until(f"{by_id('keptNotice')}.textContent.includes('(number 1)')")
+            it.until(f"{by_id('keptNotice')}.textContent.includes(\"Last time the shop's store failed (99 StoreFault).\")")
+            trial.equal(it.value("document.querySelectorAll('#lastNotice .notice').length"), 0)
+        it.says("Receive 2 × STEEL 6000.0\u00a0mm: 2 units received, 1/0 to 1/1")
+        with answering(it, "/message", lambda _: (403, "")):
+            it.receive("STEEL", "S-2", "6000", None, 3)
+            it.says(
+                "Refused: Receive 3 × STEEL 6000.0\u00a0mm: the shop takes this from its own page alone: open it at 127.0.0.1 or "
+                "localhost (status 403)"
+            )
+        trial.equal(it.value("terminal.kept().length"), 0)
+        trial.equal((it.ask("/totals/STEEL")["received"], it.ask("/terminal/7")["last"]), (2 * 60000, 1))
