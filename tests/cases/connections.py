@@ -2,6 +2,7 @@
 
 import os
 import socket
+import time
 
 from kit.case import case
 from kit.shop import answer, begin_line, end_line, is_silent, read_all, request_of
@@ -138,6 +139,22 @@ def over_limit(trial):
         first.sendall(request_of(TOTALS))
         trial.equal(read_all(first), answer(200, totals(0, 0, 0, 0).replace(b":80,", b":0,")))
         trial.equal((shop.end()[0], read_all(third)), (0, b""))
+
+
+@case(
+    "a shop that waits rests",
+    "While the only connection that is open says nothing a shop takes less than a third of a processor, be its limit reached by it or not.",
+)
+def rests(trial):
+    for limit in (1, 2):
+        shop = trial.shop(f"{limit}.db", limit=limit)
+        with shop.connect():
+            time.sleep(0.2)
+            before = shop.busy()
+            time.sleep(1)
+            seconds = shop.busy() - before
+            trial.holds(seconds < 1 / 3, f"busy for {seconds:.2f} of a second, with a limit of {limit}")
+        shop.kill()
 
 
 @case("terminals at both ends", "Terminals 1 and 4294967295 are served, and 0 is refused 10, for it is the shop file's.")
