@@ -5,6 +5,7 @@ import socket
 import time
 
 from kit.case import case
+from kit.faults import Faults
 from kit.shop import answer, begin_line, end_line, is_silent, read_all, request_of
 
 GLASS = '{"do":"material","kerf":1,"kind":"sheet","material":"GLASS","min_long":5,"min_short":4,"number":1,"terminal":1}'
@@ -143,17 +144,19 @@ def over_limit(trial):
 
 @case(
     "a shop that waits rests",
-    "While the only connection that is open says nothing a shop takes less than a third of a processor, be its limit reached by it or not.",
+    "While a connection says nothing, or has not taken its answer, a shop wakes once a second and no more, be its limit reached or not.",
 )
 def rests(trial):
-    for limit in (1, 2):
-        shop = trial.shop(f"{limit}.db", limit=limit)
-        with shop.connect():
-            time.sleep(0.2)
-            before = shop.busy()
-            time.sleep(1)
-            seconds = shop.busy() - before
-            trial.holds(seconds < 1 / 3, f"busy for {seconds:.2f} of a second, with a limit of {limit}")
+    page = trial.write("page.html", b"x" * 1048576)
+    for limit in (2, 3):
+        faults = Faults(trial, "wait")
+        shop = trial.shop(f"{limit}.db", limit=limit, environment=faults.environment, words=("--page", page))
+        with shop.connect(), shop.connect() as unread:
+            unread.sendall(b"GET / HTTP/1.1\r\nHost: localhost\r\n\r\n")
+            time.sleep(0.5)
+            before = faults.calls()
+            time.sleep(2)
+            trial.holds(faults.calls() - before <= 4, f"{faults.calls() - before} waits in two seconds, with a limit of {limit}")
         shop.kill()
 
 

@@ -28,7 +28,7 @@ NOT_ALLOWED = "this account may not read it"
 @case("why a file can't be read", "A file that isn't there and a folder are told by their names, as problem, order, shop file and page.")
 def files(trial):
     trial.write("shop.toml", STEEL)
-    for name, why in (("no.txt", MISSING), ("no/such.txt", MISSING), (".", FOLDER)):
+    for name, why in (("no.txt", MISSING), ("no/such.txt", MISSING), ("shop.toml/such.txt", MISSING), (".", FOLDER)):
         for words in (("plan", name, "--kerf", "0", "--step", "1"), ("orders", name)):
             trial.ended(trial.run(*words), 1, err="fault file\n", why=f"{name}: {why}")
         serve = ("serve", "--port", "1", "--store", "a.db")
