@@ -455,17 +455,21 @@ def each_number(trial):
     "is made under it; standard error has one line for each.",
 )
 def unnamed(trial):
-    folder, calls = os.path.realpath(trial.path("backups")), []
-    counted = Faults(trial, "files", under=folder)
-    shop = open_shop(trial, "a.db", folder, environment=counted.environment)
-    trial.equal(shop.exchange(REQUEST), told(1))
-    calls = counted.calls()
+    folder = os.path.realpath(trial.path("backups"))
+
+    def asked(store, at):
+        faults, terminal = Faults(trial, "files", at=at, under=folder), Terminal(1)
+        shop = open_shop(trial, store, folder, environment=faults.environment, limit=5)
+        trial.equal(terminal.send_all(shop, 2), None)
+        return shop, terminal, shop.exchange(REQUEST), faults.calls()
+
+    shop, _, got, calls = asked("a.db", 0)
+    trial.equal(got, told(1))
     shop.kill()
     shutil.rmtree(folder)
-    faults = Faults(trial, "files", at=calls, under=folder)
-    shop, terminal = open_shop(trial, "b.db", folder, environment=faults.environment, limit=5), Terminal(1)
-    trial.equal(terminal.send_all(shop, 2), None)
-    trial.equal(shop.exchange(REQUEST), answer(503, FAULT))
+    shop, terminal, got, last = asked("b.db", calls)
+    # (behind the one that fails its name is taken back, and what was made of it is taken away)
+    trial.equal((got, last > calls), (answer(503, FAULT), True))
     trial.equal(names(trial), [])
     trial.equal(shop.exchange(REQUEST), told(1))
     shop.get("/materials")
