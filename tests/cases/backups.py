@@ -17,7 +17,7 @@ from cases.terminals import Terminal, judged_by_modes
 from kit import crowds, tables
 from kit.case import case, fault_in
 from kit.faults import Faults, sweep
-from kit.shop import answer, begin_line
+from kit.shop import answer, begin_line, end_line
 
 FAULT = b'{"name":"StoreFault","refused":99}'
 NO_MEMORY = b'{"name":"NoMemory","refused":98}'
@@ -447,6 +447,92 @@ def each_number(trial):
     errors = shop.end()[2].decode()
     trial.equal(errors.count(f"{FAILED}{folder}: each number up to 1000000 is taken; name another folder\n"), 1, errors)
     trial.equal(faults.calls(), FIRST_WRITE - 3 + 1000000)
+
+
+@case(
+    "a backup whose name can't be had on the disk",
+    "Where the last step of a backup fails, by which its name is on the disk, it is refused 99, none has its name, and the next one "
+    "is made under it; standard error has one line for each.",
+)
+def unnamed(trial):
+    folder = os.path.realpath(trial.path("backups"))
+
+    def asked(store, at):
+        faults, terminal = Faults(trial, "files", at=at, under=folder), Terminal(1)
+        shop = open_shop(trial, store, folder, environment=faults.environment, limit=5)
+        trial.equal(terminal.send_all(shop, 2), None)
+        return shop, terminal, shop.exchange(REQUEST), faults.calls()
+
+    shop, _, got, calls = asked("a.db", 0)
+    trial.equal(got, told(1))
+    shop.kill()
+    shutil.rmtree(folder)
+    shop, terminal, got, last = asked("b.db", calls)
+    # (behind the one that fails its name is taken back, and what was made of it is taken away)
+    trial.equal((got, last > calls), (answer(503, FAULT), True))
+    trial.equal(names(trial), [])
+    trial.equal(shop.exchange(REQUEST), told(1))
+    shop.get("/materials")
+    lines = f"{FAILED}{folder}: files can't be made in it\ncutshop: made backup 1 in {folder}\n".encode()
+    trial.equal(shop.end()[2], begin_line(shop.store) + lines + end_line(shop.store))
+    trial.equal(is_whole(trial, trial.path("backups/1/b.db"), [terminal]), [2])
+
+
+@case(
+    "a store on another disk",
+    "Where under the name of the store, or of its log, lies a file of another disk, be its number there the same, no backup is made, and "
+    "that is told; the shop goes on, and once it is the old file again one is.",
+)
+def other_disk(trial):
+    os.mkdir(trial.path("data"))
+    under = os.path.realpath(trial.path("data"))
+    counted = Faults(trial, "disk", under=under)
+    shop = open_shop(trial, f"{under}/a.db", environment=counted.environment)
+    calls = counted.calls()
+    shop.kill()
+    why = "the store's names lead to other files than those that are open; start this program anew"
+    # (a file is looked at once when it is opened for a backup: the store, and then its log)
+    for number, half in enumerate(("store", "log"), 1):
+        faults = Faults(trial, "disk", at=calls + number, under=under)
+        shop = open_shop(trial, f"{under}/{half}.db", environment=faults.environment, limit=2)
+        trial.equal(shop.exchange(REQUEST), answer(503, FAULT), half)
+        trial.equal(shop.exchange(REQUEST), told(number), half)
+        lines = f"{FAILED}backups: {why}\ncutshop: made backup {number} in backups\n".encode()
+        trial.equal(shop.end()[2], begin_line(shop.store) + lines + end_line(shop.store), half)
+
+
+@case(
+    "a store that can't be read to its end for a backup",
+    "Where a read of the store, or of its log, fails while it is copied a backup is refused 99, it is told that they can't be read, "
+    "and what was made of it is taken away; the shop goes on, and then one is made.",
+)
+def unread_to_its_end(trial):
+    def asked(at):
+        # (a request is read by some calls, too: it is asked for again)
+        faults = Faults(trial, "read", at=at, under=os.path.realpath(trial.path("backups")))
+        shop = open_shop(trial, f"{at}.db", environment=faults.environment, limit=2)
+        first = faults.calls()
+        got = shop.exchange(REQUEST)
+        last = faults.calls()
+        again = shop.exchange(REQUEST)
+        return first, last, got, again, shop.end()[2].decode()
+
+    first, last, got, _, _ = asked(0)
+    trial.equal(got, told(1))
+    shutil.rmtree(trial.path("backups"))
+    refused = 0
+    for at in range(first + 1, last + 1):
+        _, _, got, again, errors = asked(at)
+        count = errors.count(f"{FAILED}backups: the store and its log can't be read\n")
+        if got == answer(503, FAULT):
+            refused += 1
+            trial.equal((count, again, names(trial)), (1, told(1), ["1"]), f"read {at}: {errors}")
+        else:
+            # (the read of a request, or the one behind it)
+            trial.holds(count == 0 and got in (b"", told(1)), f"read {at}: {got}, {errors}")
+        shutil.rmtree(trial.path("backups"))
+    # (of each file a read or more bring its bytes, and one its end)
+    trial.holds(refused >= 4, f"{refused} of {last - first} reads are told")
 
 
 # ---- each call in turn

@@ -135,10 +135,14 @@ def sheets(trial):
 def seconds_of(trial, problem, calls, *step):
     """Seconds of the processor's time that the plan of a whole order takes, the least of three runs."""
     path = trial.write("order.txt", problem.text())
-    words = [trial.program, "plan", path, "--whole", "--kerf", "0", "--calls", str(calls), *step]
+    return seconds_of_words(trial, "plan", path, "--whole", "--kerf", "0", "--calls", str(calls), *step)
+
+
+def seconds_of_words(trial, *words):
+    """Seconds of the processor's time that a run on these words takes, the least of three."""
     least = None
     for _ in range(3):
-        run = subprocess.Popen(words, stdout=subprocess.DEVNULL)
+        run = subprocess.Popen([trial.program, *words], stdout=subprocess.DEVNULL)
         _, status, used = os.wait4(run.pid, 0)
         run.returncode = os.waitstatus_to_exitcode(status)
         trial.equal(run.returncode, 0, words)
@@ -162,6 +166,23 @@ def times(trial):
         seconds = seconds_of(trial, order(scale), calls)
         why = f"{seconds} seconds by {calls} calls of lengths times {scale}, {short} of the short ones by 40"
         trial.holds(seconds < 6 * short + 0.05, why)
+
+
+@case(
+    "time of a call of a search for sheets",
+    "A search for sheets of 40 calls, which is not done then, takes at most three times as long as 40 plans of one such sheet, as a "
+    "call makes one table at most.",
+)
+def a_call(trial):
+    kinds = [(25 * (1 + it % 4) + it % 23, 25 * (1 + 3 * it % 5) + 7 * it % 29, 10 + it % 7) for it in range(1, 41)]
+    problem = sheet(400, 300, *kinds)
+    begin = seconds_of_words(trial, "--version")
+    one, search = [
+        seconds_of_words(trial, "plan", trial.write("order.txt", problem.text()), "--kerf", "0", "--step", "1", *words) - begin
+        for words in ((), ("--whole", "--calls", "40"))
+    ]
+    trial.equal(planned(trial, problem, 0, "--calls", 40, "--step", 1)[1].proved, False)
+    trial.holds(search < 3 * 40 * one, f"{search} seconds for 40 calls, {one} for one plan")
 
 
 @case(

@@ -1,8 +1,11 @@
 """Streams that fail, are interrupted, or take one byte at a time: what is answered, and what is told."""
 
 import errno
+import os
+import subprocess
 
 from cases.connections import DONE, DONE_REPLY, TOTALS, reserved, totals
+from cases.limits_of_lines import material
 from kit.case import case, fault_in
 from kit.days import ASKED, day_of
 from kit.faults import Faults
@@ -29,6 +32,30 @@ def bytes_alone(trial):
     shop = trial.shop(environment=Faults(trial, by=1).environment)
     for line, reply in zip(day.lines, day.replies):
         trial.equal(shop.reply(line), reply, line)
+
+
+# So many bytes of replies are held before they are written.
+HELD = 65536
+
+
+@case(
+    "replies go out together",
+    "The replies to 1000 lines of a file that are at hand together are one write of `replay`; where they take more than 65536 bytes "
+    "each write has so many, and not more than a reply over it.",
+)
+def together(trial):
+    lines = [material(f"M-{it}", it + 1) for it in range(300)]
+    for count, asked, replies in ((0, ['{"ask":"materials"}'] * 1000, 1000), (300, ['{"ask":"materials"}'] * 300, 600)):
+        path = trial.write("lines.txt", "".join(f"{it}\n" for it in [*lines[:count], *asked]))
+        faults = Faults(trial, "write")
+        with open(path, "rb") as given, open(trial.path("replies.txt"), "wb") as out:
+            ran = subprocess.run([trial.program, "replay"], stdin=given, stdout=out, env={**os.environ, **faults.environment})
+        with open(trial.path("replies.txt"), "rb") as file:
+            told = file.read().splitlines(keepends=True)
+        trial.equal((ran.returncode, len(told)), (0, replies))
+        total, longest = sum(map(len, told)), max(map(len, told))
+        least, most = total // (HELD + longest), 1 + total // HELD
+        trial.holds(least <= faults.calls() <= most, f"{faults.calls()} writes of {total} bytes, the longest reply {longest}")
 
 
 @case(

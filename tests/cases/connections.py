@@ -2,8 +2,10 @@
 
 import os
 import socket
+import time
 
 from kit.case import case
+from kit.faults import Faults
 from kit.shop import answer, begin_line, end_line, is_silent, read_all, request_of
 
 GLASS = '{"do":"material","kerf":1,"kind":"sheet","material":"GLASS","min_long":5,"min_short":4,"number":1,"terminal":1}'
@@ -138,6 +140,22 @@ def over_limit(trial):
         first.sendall(request_of(TOTALS))
         trial.equal(read_all(first), answer(200, totals(0, 0, 0, 0).replace(b":80,", b":0,")))
         trial.equal((shop.end()[0], read_all(third)), (0, b""))
+
+
+@case(
+    "a shop that waits rests",
+    "While the connections that are open say nothing a shop wakes about once a second, be its limit reached or not.",
+)
+def rests(trial):
+    for limit in (2, 3):
+        faults = Faults(trial, "wait")
+        shop = trial.shop(f"{limit}.db", limit=limit, environment=faults.environment)
+        with shop.connect(), shop.connect():
+            time.sleep(0.5)
+            before = faults.calls()
+            time.sleep(2)
+            trial.holds(faults.calls() - before <= 4, f"{faults.calls() - before} waits in two seconds, with a limit of {limit}")
+        shop.kill()
 
 
 @case("terminals at both ends", "Terminals 1 and 4294967295 are served, and 0 is refused 10, for it is the shop file's.")

@@ -97,14 +97,16 @@ def stocked_file(trial, count):
 
 @case(
     "pages of a large stock",
-    "Where 60000 units stand and 60000 demands are open the first page of either takes at most three times the processor time "
-    "that it takes where these are 2000, over a file and in memory; in memory a page from the middle on does, too.",
+    "Where 60000 units stand and 60000 demands are open the first page of either, and plans of the first of them, take at most three "
+    "times the processor time that they take where these are 2000, over a file and in memory; in memory a page from the middle on "
+    "does, too.",
 )
 def pages(trial):
     first = {
         "parts": '{"after":"","ask":"parts","material":"STEEL"}',
         "demands": '{"after":0,"ask":"demands"}',
         "demands of a material": '{"after":0,"ask":"demands","material":"STEEL"}',
+        "plans": '{"ask":"plans","calls":1,"material":"STEEL"}',
     }
     in_file, in_memory = [], []
     for count in STOCKS:

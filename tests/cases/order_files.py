@@ -188,6 +188,33 @@ UNITS = {
 }
 
 
+# Of each command's help what the line of each option says that no other one of its lines does.
+MEANT = {
+    "plan": {"--whole": "all pieces", "--calls": "in tables", "--kerf": "saw", "--step": "rounded"},
+    "orders": {"--order": "order's code", "--terminal": "terminal that sends", "--number": "message's number"},
+    "serve": {
+        "--port": "port of this machine",
+        "--store": "keeps the shop's book",
+        "--shop": "its materials",
+        "--limit": "connections",
+        "--page": "page that browsers get",
+        "--backup": "backup of the store is made",
+    },
+    "ticket": {"--store": "keeps the shop's book", "JOB": "job's number"},
+    "yield": {"--store": "keeps the shop's book", "MATERIAL": "material's code"},
+}
+
+
+@case("what help says of each option", "Help says of each option and each word of a command what it is, at its own line and at no other one's.")
+def meant(trial):
+    for command, options in MEANT.items():
+        ran = trial.run(command, "--help")
+        lines = [it.strip() for it in ran.out.decode().split("\n")]
+        for option, words in options.items():
+            said = [it.startswith((option, f"<{option}>")) for it in lines if words in it]
+            trial.equal((ran.status, said), (0, [True]), f"{command} {option}: {words}")
+
+
 @case("units in help", "Help says of each number and of each file in which unit it is, at its own line.")
 def units(trial):
     ran = trial.run("--help")

@@ -7,7 +7,7 @@ from cases.command_line import serving
 from cases.connections import GLASS, TOTALS
 from kit.case import case
 from kit.faults import Faults
-from kit.shop import begin_line, free_port, request_of
+from kit.shop import begin_line, free_port, read_all, request_of
 
 REFUSES = "the system refuses it, or accepts no connection any more"
 NONE_YET = b'{"name":"NoMaterial","refused":20}'
@@ -56,6 +56,32 @@ def not_watched(trial):
         ran = serving(trial, port, store, shop_file, environment=faults.environment)
         told = begin_line(store) + f"fault port\n  port {port}: {REFUSES}\n".encode()
         trial.equal((ran.status, ran.out, ran.err), (1, listening(port), told), f"{of} {at}")
+
+
+@case(
+    "a clock that can't be read",
+    "Where the clock can't be read at the start the shop ends with `fault port`; where it can't be read later, for a while or from then "
+    "on, connections are answered, also one that sends its request in two pieces.",
+)
+def no_clock(trial):
+    shop_file, port, store = trial.write("shop.toml", ""), free_port(), "first.db"
+    ran = serving(trial, port, store, shop_file, environment=Faults(trial, "clock", at=1, on=True).environment)
+    told = begin_line(store) + f"fault port\n  port {port}: {REFUSES}\n".encode()
+    trial.equal((ran.status, ran.out, ran.err), (1, listening(port), told))
+    request, counted = request_of(TOTALS), Faults(trial, "clock")
+    trial.equal(trial.shop("counted.db", environment=counted.environment).reply(TOTALS), NONE_YET)
+    # (a start that takes longer reads it some times more)
+    at = counted.calls() + 3
+    for on in (True, False):
+        shop = trial.shop(f"{on}.db", environment=Faults(trial, "clock", at=at, on=on).environment)
+        for _ in range(3):
+            with shop.connect() as it:
+                it.sendall(request[:9])
+                time.sleep(0.2)
+                trial.equal(shop.reply(TOTALS), NONE_YET, f"on: {on}")
+                it.sendall(request[9:])
+                trial.equal(read_all(it).partition(b"\r\n\r\n")[2], NONE_YET, f"on: {on}, in two pieces")
+        shop.kill()
 
 
 @case("a wait that is interrupted", "The shop goes on, and the next connection is answered.")

@@ -2,6 +2,7 @@
 
 import errno
 import os
+import re
 import shutil
 import sqlite3
 import subprocess
@@ -11,8 +12,9 @@ from cases.connections import GLASS as MATERIAL
 from cases.earlier_files import made
 from cases.plans_memory import yard_of
 from cases.stores import numbers
+from cases.terminals import judged_by_modes
 from kit import tables
-from kit.case import Skipped, case
+from kit.case import case
 from kit.days import REFUSED
 from kit.faults import Faults
 from kit.shop import answer, begin_line, end_line, request_of
@@ -26,7 +28,7 @@ NOT_ALLOWED = "this account may not read it"
 @case("why a file can't be read", "A file that isn't there and a folder are told by their names, as problem, order, shop file and page.")
 def files(trial):
     trial.write("shop.toml", STEEL)
-    for name, why in (("no.txt", MISSING), ("no/such.txt", MISSING), (".", FOLDER)):
+    for name, why in (("no.txt", MISSING), ("no/such.txt", MISSING), ("shop.toml/such.txt", MISSING), (".", FOLDER)):
         for words in (("plan", name, "--kerf", "0", "--step", "1"), ("orders", name)):
             trial.ended(trial.run(*words), 1, err="fault file\n", why=f"{name}: {why}")
         serve = ("serve", "--port", "1", "--store", "a.db")
@@ -42,6 +44,33 @@ def two_lines(trial):
     for name in ("a\nb", "no\n", "\n"):
         ran = trial.run("plan", name, "--kerf", "0", "--step", "1")
         trial.ended(ran, 1, err="fault file\n", why=f"a name of two lines: {MISSING}", sent=name)
+
+
+@case(
+    "long names and far places of faults",
+    "A name of 255 characters, a path of 3000 and one of other letters are told whole; so are the last byte of a long problem's text, "
+    "and the last of many materials by its line, or by its number where all stand in one line.",
+)
+def far(trial):
+    plan = ("--kerf", "0", "--step", "1")
+    for name in ("n" * 255, "./" * 1500 + "no.txt", "Prüfung 切.txt"):
+        trial.ended(trial.run("plan", name, *plan), 1, err="fault file\n", why=f"{name}: {MISSING}", sent=name)
+    for name in ("n" * 240, "Prüfung 切.db"):
+        why = f"no/{name}: its folder isn't there; make it first"
+        trial.ended(trial.run("ticket", "--store", f"no/{name}", "1"), 1, err="fault store\n", why=why, sent=name)
+    for at in (256, 65535):
+        trial.write("p.txt", "1 10 8 4 3 2".ljust(at) + "x")
+        why = f"p.txt, byte {at}: only digits, spaces, tabs and line ends may stand here"
+        trial.ended(trial.run("plan", "p.txt", *plan), 1, err=f"fault text {at} Byte\n", why=why)
+    good = 'code="A"\nkind="bar"\nkerf="0"\nmin_long="1"\nmin_short="1"\n'
+    bad = good.replace("bar", "rod")
+    table, row = "[[material]]\n{}", "{{{}}}"
+    in_lines = "".join(table.format(it) for it in [good] * 899 + [bad])
+    in_a_line = ",".join(row.format(it.strip().replace("\n", ",")) for it in [good] * 999 + [bad])
+    for text, entry, place in ((in_lines, 900, f"line {6 * 899 + 3}"), (f"material=[{in_a_line}]", 1000, "material 1000")):
+        trial.write("shop.toml", text)
+        why = f'shop.toml, {place}: the kind is "bar" or "sheet"'
+        trial.ended(serving(trial, 1, ".", "shop.toml"), 1, err=f"fault shop entry {entry}\n", why=why)
 
 
 @case("why a problem has no plan", "The byte of a text's fault and the planner's refusal are told in words.")
@@ -69,6 +98,7 @@ SHOPS = [
     ("material = [" + "1," * 1001 + "]", "fault shop text", ": it has over 1000 materials"),
     ("material = [1]", "fault shop entry 1", "material 1: it is no table; write [[material]] above each material"),
     (STEEL.replace("kerf", "kerff"), "fault shop entry 1", "line 4: no key is named kerff"),
+    (STEEL + "min = 1\n", "fault shop entry 1", "line 7: no key is named min"),
     (STEEL + "[[material]]\ncode = 1\n", "fault shop entry 2", "line 7: the material has no key kind"),
     *[
         (f"\n{STEEL}".replace(f"\n{key} =", f"\n# {key} ="), "fault shop entry 1", f"line 2: the material has no key {key}")
@@ -98,6 +128,11 @@ def shops(trial):
         trial.write("shop.toml", text)
         why = f"shop.toml{why}" if why.startswith(":") else f"shop.toml, {why}"
         trial.ended(serving(trial, 1, ".", "shop.toml"), 1, err=f"{line}\n", why=why, sent=text)
+    # (a key in quotes stands in the lines of its material, whatever stands in those of the next one)
+    trial.write("shop.toml", STEEL.replace("kerf", '"kerff"') + GLASS.replace("kerf", "kerff"))
+    ran = serving(trial, 1, ".", "shop.toml")
+    told = re.fullmatch(rb"fault shop entry 1\n  shop.toml, (?:material 1|line [1-6]): no key is named kerff\n", ran.err)
+    trial.holds(told, ran.err)
 
 
 @case("why an entry is refused", "An entry of the shop file that the shop refuses is told by its number, with the refusal in words.")
@@ -378,13 +413,23 @@ def wanting(trial):
         trial.holds(refused and (line != asked or refused[-1] > (last - first) // 2), f"{line}: 98 at {refused} of {last - first}")
 
 
-@case("files of others", "A file and a store that this account may not read are told so.")
+@case(
+    "files of others",
+    "A problem, an order file, a shop file and a page that this account may not read, or in whose folder it may not look, are told so, "
+    "and so is a store.",
+)
 def not_allowed(trial):
-    if os.geteuid() == 0:
-        raise Skipped("it runs as root, which may read all")
-    for name in ("p.txt", "a.db"):
+    os.mkdir(trial.path("folder"))
+    trial.write("shop.toml", "")
+    for name in ("a.txt", "folder/a.txt", "a.db"):
         os.chmod(trial.write(name, ""), 0)
-    ran = trial.run("plan", "p.txt", "--kerf", "0", "--step", "1")
-    trial.ended(ran, 1, err="fault file\n", why=f"p.txt: {NOT_ALLOWED}")
+    os.chmod(trial.path("folder"), 0)
+    serve = ("serve", "--port", "1", "--store", "no/a.db", "--shop")
+    for name in ("a.txt", "folder/a.txt"):
+        plan, page = ("plan", name, "--kerf", "0", "--step", "1"), (*serve, "shop.toml", "--page", name)
+        for words in (plan, ("orders", name), (*serve, name), page):
+            ran = trial.run(*words, prepare=judged_by_modes)
+            trial.ended(ran, 1, err="fault file\n", why=f"{name}: {NOT_ALLOWED}", sent=words)
     why = "a.db: this account may not read and write it, or may not write in its folder"
-    trial.ended(trial.run("ticket", "--store", "a.db", "1"), 1, err="fault store\n", why=why)
+    trial.ended(trial.run("ticket", "--store", "a.db", "1", prepare=judged_by_modes), 1, err="fault store\n", why=why)
+    os.chmod(trial.path("folder"), 0o700)

@@ -73,7 +73,7 @@ def day_of(trial, name):
     """The day of an example, from a run that nothing disturbs."""
     with LOCK:
         if name not in KNOWN:
-            shop = trial.shop("undisturbed.db")
+            shop = trial.shop(f"undisturbed {name}.db")
             day = Day([], [], [], {})
             for line, wanted in steps_of(name):
                 day.states.append(questions_of(shop))

@@ -3,7 +3,8 @@
 //
 //   FAULT_OF     memory (the program asks by malloc and realloc alone), read, write (of streams: all but standard error and
 //                the files below FAULT_UNDER), files (calls that change files there), looks (that open, lock or read them),
-//                port (that listen to one), accept, watch (that have a descriptor reported) or wait (for a report)
+//                port (that listen to one), accept, watch (that have a descriptor reported), wait (for a report), clock
+//                (that tell the time) or disk (that tell what a file there is: it is told to be on another disk)
 //   FAULT_UNDER  the path of a folder
 //   FAULT_AT     the number of the call, from 1, that fails; 0: none
 //   FAULT_ON     once, or on: that call alone, or each from then on
@@ -21,6 +22,7 @@ enum { AT_FDCWD = -100, STANDARD_ERROR = 2 };
 enum { READ_CALL = 0, WRITE_CALL = 1, CLOSE_CALL = 3, LSEEK_CALL = 8, PREAD_CALL = 17, PWRITE_CALL = 18, ACCESS_CALL = 21 };
 enum { SOCKET_CALL = 41, ACCEPT_CALL = 43, BIND_CALL = 49, LISTEN_CALL = 50, ACCEPT4_CALL = 288 };
 enum { EPOLL_WAIT_CALL = 232, EPOLL_CTL_CALL = 233, EPOLL_CREATE1_CALL = 291 };
+enum { CLOCK_GETTIME_CALL = 228, STATX_CALL = 332, STATX_DISK = 35 };
 enum { SENDTO_CALL = 44, RECVFROM_CALL = 45, FCNTL_CALL = 72, FSYNC_CALL = 74, FDATASYNC_CALL = 75, FTRUNCATE_CALL = 77 };
 enum { RENAME_CALL = 82, MKDIR_CALL = 83, RMDIR_CALL = 84, UNLINK_CALL = 87, FCHMOD_CALL = 91, FCHOWN_CALL = 93, OPENAT_CALL = 257 };
 
@@ -37,7 +39,7 @@ extern void *memset(void *, int, size_t);
 extern void *mmap(void *, size_t, int, int, int, long);
 extern void _exit(int) __attribute__((noreturn));
 
-enum { MEMORY = 1, READ, WRITE, FILES, LOOKS, PORT, ACCEPT, WATCH, WAIT };
+enum { MEMORY = 1, READ, WRITE, FILES, LOOKS, PORT, ACCEPT, WATCH, WAIT, CLOCK, DISK };
 enum { KEPT = 1, DROPPED, TORN };
 enum { SECTOR = 512, MOST_PATHS = 64, MOST_NOTES = 1 << 16, MOST_NUMBERS = 1024, MOST_LENGTH = 512 };
 
@@ -95,7 +97,7 @@ static int word(const char *name, const char *const *words) {
 }
 
 __attribute__((constructor)) static void begin(void) {
-    static const char *const kinds[] = {"memory", "read", "write", "files", "looks", "port", "accept", "watch", "wait", 0};
+    static const char *const kinds[] = {"memory", "read", "write", "files", "looks", "port", "accept", "watch", "wait", "clock", "disk", 0};
     static const char *const stops[] = {"kept", "dropped", "torn", 0};
     static const char *const times[] = {"on", 0};
     find_real();
@@ -137,6 +139,25 @@ static int standing(int path, long sector) {
     return (mixed >> 33) % (note_count + 1);
 }
 
+// What of a path stands behind a folder's, from its slash on, or 0.
+static const char *behind(const char *name, const char *folder) {
+    size_t length = strlen(folder);
+    return !strncmp(name, folder, length) && name[length] == '/' ? name + length : 0;
+}
+
+// Gives what is below a folder the paths that it has below another name of that.
+static void move(const char *from, const char *to) {
+    for (int i = 0; i < path_count; i++) {
+        const char *rest = behind(paths[i].name, from);
+        if (!rest) continue;
+        char moved[2 * MOST_LENGTH];
+        strncpy(moved, to, MOST_LENGTH - 1);
+        moved[MOST_LENGTH - 1] = 0;
+        strncpy(moved + strlen(moved), rest, MOST_LENGTH);
+        strncpy(paths[i].name, moved, MOST_LENGTH - 1);
+    }
+}
+
 // Undoes, from the last on, what wasn't synced.
 static void restore(void) {
     for (int i = note_count - 1; i >= 0; i--) {
@@ -146,7 +167,10 @@ static void restore(void) {
         int is_undone = stop == DROPPED || i >= standing(it->path, -1);
         if (it->how == FILE_MADE && is_undone) syscall(UNLINK_CALL, name);
         if (it->how == FOLDER_MADE && is_undone) syscall(RMDIR_CALL, name);
-        if (it->how == RENAMED && is_undone) syscall(RENAME_CALL, name, paths[it->at].name);
+        if (it->how == RENAMED && is_undone) {
+            syscall(RENAME_CALL, name, paths[it->at].name);
+            move(name, paths[it->at].name);
+        }
         for (long k = 0, size; k < it->count; k += size) {
             long sector = (it->at + k) / SECTOR, left = (sector + 1) * SECTOR - it->at - k;
             size = it->count - k < left ? it->count - k : left;
@@ -183,11 +207,22 @@ static void note(int path, int how, long place, long count) {
 
 static void note_of(int file, long place, long count) { note(places[file] - 1, CHANGED, place, count); }
 
-// A file is synced, or by its folder that files and folders were made and renamed.
+// Whether a path is that of something in a folder, and not in one below.
+static int is_in(const char *name, const char *folder) {
+    const char *rest = behind(name, folder);
+    while (rest && *++rest)
+        if (*rest == '/') return 0;
+    return rest != 0;
+}
+
+// A file is synced, or by its folder that files and folders were made and renamed in it.
 static void forget(int file) {
     int path = places[file] - 1, left = 0, is_folder = paths[path].own < 0;
-    for (int i = 0; i < note_count; i++)
-        if (is_folder ? !notes[i].how : notes[i].how || notes[i].path != path) notes[left++] = notes[i];
+    for (int i = 0; i < note_count; i++) {
+        struct note *it = &notes[i];
+        int is_synced = is_folder ? it->how && is_in(paths[it->path].name, paths[path].name) : !it->how && it->path == path;
+        if (!is_synced) notes[left++] = *it;
+    }
     note_count = left;
 }
 
@@ -320,7 +355,10 @@ int mkdir(const char *name, unsigned mode) {
 int rename(const char *from, const char *to) {
     if (is_under(from) && file_fails()) return -1;
     int result = syscall(RENAME_CALL, from, to);
-    if (!result && is_under(from)) note(place_of(to), RENAMED, place_of(from), 0);
+    if (!result && is_under(from)) {
+        note(place_of(to), RENAMED, place_of(from), 0);
+        move(from, to);
+    }
     return result;
 }
 
@@ -348,4 +386,12 @@ int epoll_ctl(int set, int what, int file, void *event) {
 
 int epoll_wait(int set, void *events, int most, int wait) {
     return fails(WAIT) ? -1 : syscall(EPOLL_WAIT_CALL, set, events, most, wait);
+}
+
+int clock_gettime(int which, void *to) { return fails(CLOCK) ? -1 : syscall(CLOCK_GETTIME_CALL, which, to); }
+
+int statx(int folder, const char *name, int flags, unsigned mask, void *to) {
+    int result = syscall(STATX_CALL, folder, name, flags, mask, to);
+    if (!result && (is_below(folder) || (name && is_under(name))) && is_hit(DISK)) ((unsigned *)to)[STATX_DISK]++;
+    return result;
 }

@@ -43,10 +43,10 @@ def library():
 
 
 class Faults:
-    """Which calls fail: `of` memory, read, write, files, looks, port, accept, watch or wait, as faults.c says; the `at`-th, from
-    1 (0: none); once or from then `on`; with this error. Streams take at most `by` bytes a call. `stop`: the program ends
-    there, with what wasn't synced kept, dropped or torn by a `seed`. `under` is the folder of the files, the case's own where
-    none is given."""
+    """Which calls fail: `of` memory, read, write, files, looks, port, accept, watch, wait, clock or disk, as faults.c says; the
+    `at`-th, from 1 (0: none); once or from then `on`; with this error. Streams take at most `by` bytes a call. `stop`: the
+    program ends there, with what wasn't synced kept, dropped or torn by a `seed`. `under` is the folder of the files, the case's
+    own where none is given."""
 
     def __init__(self, trial, of="", at=0, on=False, error=errno.EIO, by=0, stop="", seed=0, under=None):
         # (each run has its own count)
