@@ -8,7 +8,7 @@ use cut_measure::{Kind, MOST_KERF, Size};
 use cut_tree::{BarFault, CutList, Halt, Plan, Row, SpellFault, Stop, bar_plan};
 use std::alloc::Global;
 
-/// Sides of a unit, and the kerf that it is cut under.
+/// Sides of a unit, and the kerf that it is cut under, in tenths of a millimetre as a line says them.
 #[derive(Clone, Copy)]
 pub struct Unit {
     pub w: u32,

@@ -18,7 +18,7 @@ pub struct OrderSummary {
     pub units: u64,
     /// How many units whoever makes all takes at least.
     pub bound: u64,
-    /// Whether no plan takes fewer.
+    /// Whether it is proved that no plan takes fewer.
     pub proved: bool,
     /// How many pieces aren't planned.
     pub missing: u128,

@@ -19,11 +19,13 @@ use std::alloc::{AllocError, Global};
 /// A plan of an order, and how good it is at least.
 #[derive(Drop)]
 pub struct OrderPlan {
+    /// At most 100000 units in all.
     pub units: Vec<PlannedUnit>,
     /// How many pieces of each want are missing, in the order of the wants.
     pub missing: Vec<u32>,
+    /// The sum of the units' costs, below 2^63.
     pub cost: u64,
-    /// Whoever makes all that is left pays at least so much.
+    /// Whoever makes all that is left pays at least so much: at most 10^18.
     pub bound: u64,
     /// The prices of the bound, in the order of the wants; a want without a price isn't there.
     pub prices: Vec<Price>,

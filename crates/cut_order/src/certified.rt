@@ -10,7 +10,9 @@ use std::alloc::{AllocError, Global};
 /// A bound, and the numbers that are the wants' prices.
 #[derive(Drop)]
 pub struct Certificate {
+    /// In the order of the wants: one outside 1..=1000000000 is no price.
     pub numbers: Vec<u32>,
+    /// What making all costs at least: at most 10^18.
     pub bound: u64,
 }
 

@@ -18,7 +18,9 @@ use std::alloc::{AllocError, Global};
 #[derive(Drop)]
 pub struct Kept {
     pub units: Vec<PlannedUnit>,
+    /// How many pieces: at most 100000000.
     pub missing: u128,
+    /// The sum of the units' costs.
     pub cost: u128,
 }
 

@@ -18,9 +18,13 @@ pub const MOST_COST: u64 = 4_000_000_000_000;
 #[derive(Drop)]
 pub struct Question {
     pub kind: Kind,
+    /// Tenths of a millimetre, 0 to 200.
     pub kerf: u32,
+    /// Tenths of a millimetre, at least 1; a bar ignores it.
     pub step: u32,
+    /// At most 1010.
     pub sizes: Vec<StockSize>,
+    /// 1 to 100.
     pub wants: Vec<Want>,
     ghost narrow: { kerf ≤ MOST_KERF },
     ghost stocked: { IsStock kind sizes.items },
