@@ -192,7 +192,7 @@ def stores(trial):
 
 # What is told of a store and of a folder of backups where the system says this.
 ALLOWED = "this account may not read and write it, or may not write in its folder"
-OTHER = "it or its log can't be read and written; look at the permissions of both and of their folder"
+OTHER = "it or its log can't be read and written; look at the permissions of both and of their folder, and at the room on their disk"
 SYSTEM = {
     errno.EROFS: ("its disk is read-only", "its disk is read-only"),
     errno.ENOSPC: ("the disk is full; make room", "its disk is full; make room"),

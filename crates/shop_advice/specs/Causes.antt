@@ -32,7 +32,7 @@ store_text store.NotPlain = codes "it is no plain file with one name; name one, 
 store_text store.NoDatabase = codes "it is no SQLite database; name another file"
 store_text store.Damaged = codes "it or its disk is damaged; put a copy of it and its log in its place"
 store_text store.Full = codes "the disk is full; make room"
-store_text store.Failed = codes "it or its log can't be read and written; look at the permissions of both and of their folder"
+store_text store.Failed = codes "it or its log can't be read and written; look at the permissions of both and of their folder, and at the room on their disk"
 
 -- of a folder in which no backup can be made
 abbrev pub backup_text : BackupCause → List ℕ

@@ -150,7 +150,7 @@ impl StoreCause {
                 "it or its disk is damaged; put a copy of it and its log in its place",
             StoreCause::Full => "the disk is full; make room",
             StoreCause::Failed => {
-                "it or its log can't be read and written; look at the permissions of both and of their folder"
+                "it or its log can't be read and written; look at the permissions of both and of their folder, and at the room on their disk"
             }
         }
     }
