@@ -7,6 +7,20 @@ use shop_words::VERSION;
 use std::alloc::{AllocError, Global};
 use std::io::Eprint;
 
+// What it tells when it begins, of a store that was made.
+fn new_line(alloc: Global, store: &str) -> Result<String, AllocError>
+    ensures { IfOk result (λ line. string_bytes line ≡ spec.new_line store.now) }
+{
+    format!(in alloc; "cutshop {VERSION}: serving {store}, a new store")
+}
+
+// What it tells when it begins, of a store that was there.
+fn known_line(alloc: Global, store: &str) -> Result<String, AllocError>
+    ensures { IfOk result (λ line. string_bytes line ≡ spec.known_line store.now) }
+{
+    format!(in alloc; "cutshop {VERSION}: serving {store}, a store that was there")
+}
+
 // How many messages are kept, where that was counted.
 fn kept_text(alloc: Global, kept: Option<u32>) -> Result<String, AllocError>
     ensures { IfOk result (λ text. string_bytes text ≡ spec.kept_text kept) }
@@ -17,20 +31,15 @@ fn kept_text(alloc: Global, kept: Option<u32>) -> Result<String, AllocError>
     }
 }
 
-// The line with which it begins, of a store that was made.
-fn new_line(alloc: Global, store: &str, kept: Option<u32>) -> Result<String, AllocError>
-    ensures { IfOk result (λ line. string_bytes line ≡ spec.new_line store.now kept) }
+// The line with which it begins, of both.
+fn begin_line(alloc: Global, told: &str, kept: &str) -> Result<String, AllocError>
+    ensures { IfOk result (λ line. string_bytes line ≡ spec.begin_line told.now kept.now) }
 {
-    let kept = kept_text(alloc, kept)?;
-    format!(in alloc; "cutshop {VERSION}: serving {store}, a new store{kept}\n")
-}
-
-// The line with which it begins, of a store that was there.
-fn known_line(alloc: Global, store: &str, kept: Option<u32>) -> Result<String, AllocError>
-    ensures { IfOk result (λ line. string_bytes line ≡ spec.known_line store.now kept) }
-{
-    let kept = kept_text(alloc, kept)?;
-    format!(in alloc; "cutshop {VERSION}: serving {store}, a store that was there{kept}\n")
+    let mut line = String::new(alloc);
+    line.push_str(told)?;
+    line.push_str(kept)?;
+    line.push_str("\n")?;
+    Ok(line)
 }
 
 // The line with which it ends.
@@ -54,10 +63,15 @@ pub(crate) fn note_begin<R: Eprint>(
     is_new: bool,
     kept: Option<u32>,
 ) {
-    if is_new {
-        note(rt, new_line(alloc, store, kept));
+    let told = if is_new {
+        new_line(alloc, store)
     } else {
-        note(rt, known_line(alloc, store, kept));
+        known_line(alloc, store)
+    };
+    if let Ok(told) = told {
+        if let Ok(kept) = kept_text(alloc, kept) {
+            note(rt, begin_line(alloc, told.as_str(), kept.as_str()));
+        }
     }
 }
 
