@@ -336,7 +336,7 @@ def streams(trial):
 def log(trial):
     shop_file, refused = trial.write("shop.toml", STEEL), MATERIAL.replace('"kerf":1', '"kerf":201').replace('"number":1', '"number":2')
     for is_new, kept, sent in ((True, 1, (MATERIAL, MATERIAL, refused)), (False, 2, ()), (False, 2, ())):
-        shop = trial.shop("day.db", shop_file, limit=len(sent) + 1)
+        shop = trial.shop("day.db", shop_file=shop_file, limit=len(sent) + 1)
         for line in sent:
             shop.reply(line)
         shop.get("/materials")

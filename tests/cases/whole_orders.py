@@ -364,9 +364,9 @@ plan a.txt --whole --kerf 1 --calls = '--calls <N>'
 plan a.txt --whole --kerf 1 --calls 2 --calls 3 = '--calls <N>'
 plan a.txt --whole --kerf 1 --turn = '--turn'
 plan a.txt b.txt --whole --kerf 1 = 'b.txt'
-plan a.txt --kerf 1 = --step or --whole
-plan a.txt --kerf 1 --calls 5 = --calls only with --whole
-plan a.txt --kerf 1 --step 1 --calls 5 = --calls only with --whole
+plan a.txt --kerf 1 = '--step <N>' is missing: it may be left out only with '--whole'
+plan a.txt --kerf 1 --calls 5 = '--step <N>' is missing
+plan a.txt --kerf 1 --step 1 --calls 5 = '--calls <N>' may be given only with '--whole'
 plan a.txt --kerf 1 --step 1 --whole=no = '--whole'
 orders a.csv --whole = '--whole'
 replay --whole = '--whole'
