@@ -2,10 +2,10 @@
 //! knapsack of strips. Of a want no more stand in one strip than are left, and of a strip no more than its pieces allow.
 
 use crate::lay::{MOST_PLANNED, Saw, Sides, want_sides};
-use crate::tree::join;
+use crate::tree::{Allowed, join};
 use cut_fill_bars::knapsack::{Item, Table};
 use cut_measure::Axis;
-use cut_tree::Node;
+use cut_tree::{MOST_CUTS, Node};
 use std::alloc::{AllocError, Global};
 
 /// So many places, times the items, has a knapsack at most: longer ones count coarser units.
@@ -214,7 +214,8 @@ impl Saw<'_> {
         Ok(strips)
     }
 
-    /// The best strips of a rectangle whose pieces lie one after another along an axis.
+    /// The best strips of a rectangle whose pieces lie one after another along an axis: of them the pieces that a plan may
+    /// have, no more than are left of each want, and no more than there are cuts.
     pub(crate) fn strips(
         &self,
         alloc: Global,
@@ -233,15 +234,62 @@ impl Saw<'_> {
         }
         let rooms = Rooms::new(alloc, &heights, &gains, depth, self.kerf)?;
         let times = rooms.choice(alloc, strips.len(), strips.len())?;
+        let rows = rows_of(alloc, &pieces, &strips, &times, left)?;
         let mut tree = Node::Rest;
-        for (strip, times) in strips.iter().zip(&times) {
-            for _ in 0..*times {
-                let row = row_of(alloc, &pieces, &strip.counts, axis)?;
-                tree = join(alloc, other(axis), row, tree)?;
-            }
+        for row in rows.iter().rev() {
+            let row = row_of(alloc, &pieces, row, axis)?;
+            tree = join(alloc, other(axis), row, tree)?;
         }
         Ok(tree)
     }
+}
+
+// Of a strip so many of each of its pieces as are allowed, the last ones first, and whether there are any.
+fn allowed_of(
+    alloc: Global,
+    pieces: &[Lying],
+    counts: &[u32],
+    allowed: &mut Allowed,
+) -> Result<(Vec<u32>, bool), AllocError> {
+    let mut row = vec![in alloc; 0u32; counts.len()]?;
+    let mut has_piece = false;
+    for ((piece, count), taken) in pieces.iter().zip(counts).zip(row.iter_mut()).rev() {
+        for _ in 0..*count {
+            if !allowed.take(piece.want) {
+                break;
+            }
+            *taken = taken.saturating_add(1);
+            has_piece = true;
+        }
+    }
+    Ok((row, has_piece))
+}
+
+// The strips of a rectangle, the last ones first, with no more pieces than any plan has, and of no want more than are left:
+// a tree goes as deep as it has pieces, and what goes down it takes room on the stack for each.
+fn rows_of(
+    alloc: Global,
+    pieces: &[Lying],
+    strips: &[Strip],
+    times: &[u32],
+    left: &[u32],
+) -> Result<Vec<Vec<u32>>, AllocError> {
+    let counts = left.to_vec(alloc)?;
+    let mut allowed = Allowed {
+        counts,
+        pieces: MOST_CUTS,
+    };
+    let mut rows = Vec::new(alloc);
+    for (strip, times) in strips.iter().zip(times).rev() {
+        for _ in 0..*times {
+            let (row, has_piece) = allowed_of(alloc, pieces, &strip.counts, &mut allowed)?;
+            if !has_piece {
+                break;
+            }
+            rows.push(row)?;
+        }
+    }
+    Ok(rows)
 }
 
 // The pieces of a strip one after another.

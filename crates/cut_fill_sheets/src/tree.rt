@@ -31,8 +31,8 @@ pub(crate) struct Allowed {
 }
 
 impl Allowed {
-    // Whether one more piece of the want is allowed, which is counted then.
-    fn take(&mut self, want: u32) -> bool {
+    /// Whether one more piece of the want is allowed, which is counted then.
+    pub(crate) fn take(&mut self, want: u32) -> bool {
         match self.counts.get_mut(want as usize) {
             Some(count) if *count > 0 && self.pieces > 0 => {
                 *count -= 1;
