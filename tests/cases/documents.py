@@ -91,6 +91,9 @@ def edits(trial):
     crates = set(os.listdir(f"{TOP}/crates"))
     trial.equal(sorted(cited - edit_names() - crates), [])
     trial.equal(sorted(edit_names("must-fail") - cited), [])
+    # A crate that has any is proved twice.
+    proved_twice = {it.split("/")[-3] for it in glob.glob(f"{TOP}/crates/*/must-fail/*.edit")}
+    trial.holds(len(proved_twice) <= 17, f"{len(proved_twice)} crates have edits in must-fail/, each of which is proved twice for them")
 
 
 def edited(path):
