@@ -23,6 +23,13 @@ def blocks(document, begin, end=None):
     return [it.split("\n")[:-1] for it in re.findall(r"```\n(.*?)```", passage, re.DOTALL)]
 
 
+def passages(document, begin, end):
+    """What stands before each block of code of a document between two texts."""
+    with open(os.path.join(TOP, document), encoding="utf-8") as file:
+        passage = file.read().partition(begin)[2].partition(end)[0]
+    return re.split(r"```\n.*?```", passage, flags=re.DOTALL)
+
+
 def is_sent(line):
     return line.startswith("{") and ("do" in json.loads(line) or "ask" in json.loads(line))
 
@@ -86,10 +93,11 @@ TYPED = ("export", "cutshop", "curl", "mkdir", "cp")
 
 
 class Typist:
-    """Types lines into a shell, at the top of a repository whose program is built; `8017` is a port of the case's own."""
+    """Types lines into windows at the top of a repository whose program is built; `8017` is a port of the case's own. What a
+    window exports holds in that window alone."""
 
     def __init__(self, trial):
-        self.trial, self.port, self.before, self.served = trial, free_port(), "", None
+        self.trial, self.port, self.exported, self.served = trial, free_port(), {}, None
         os.makedirs(trial.path("crates/cutshop/out"))
         os.symlink(trial.program, trial.path("crates/cutshop/out/cutshop"))
         for name in ("docs", "page"):
@@ -103,23 +111,24 @@ class Typist:
             self.served.kill()
             self.served.communicate()
 
-    def type(self, line):
-        """What a line prints. One that sets a variable holds for those behind it; a shop is left open."""
+    def type(self, line, window=1):
+        """What a line prints. A shop that it opens is left open."""
         line = line.replace("8017", str(self.port))
+        before = self.exported.setdefault(window, "")
         if line.startswith("export "):
-            self.before += f"{line}; "
+            self.exported[window] += f"{line}; "
         elif "cutshop serve " in line:
-            self.open(line)
+            self.open(before + f"exec {line}")
         else:
             ran = subprocess.run(
-                ["sh", "-c", self.before + line], cwd=self.trial.folder, capture_output=True, text=True, timeout=SECONDS
+                ["sh", "-c", before + line], cwd=self.trial.folder, capture_output=True, text=True, timeout=SECONDS
             )
             self.trial.equal(ran.returncode, 0, f"{line}\n  {ran.stderr}")
             return ran.stdout
         return ""
 
     def open(self, line):
-        shell = ["sh", "-c", f"{self.before}exec {line}"]
+        shell = ["sh", "-c", line]
         # (where the suite runs in the background, ctrl-C is ignored below it)
         self.served = subprocess.Popen(
             shell,
@@ -140,20 +149,23 @@ class Typist:
 
 @case(
     "the shop's day as typed",
-    "README's lines of a shop's day, typed into a shell in turn, print what stands behind them, and the copy of the "
-    "store holds the day.",
+    "README's lines of a shop's day, typed in turn into two windows, the first of which opens the shop and is told to close it "
+    "by ctrl-C, print what stands behind them, and the copy of the store holds the day.",
 )
 def day(trial):
     if not shutil.which("curl"):
         raise Skipped("no curl is installed (apt-get install curl)")
     shown = blocks("README.md", "\n## A shop's day\n", "\n## What is proved\n")
+    opened, copied = [at for at, it in enumerate(shown) if "cutshop serve " in it[-1] or it[0].startswith("mkdir")]
+    closing = passages("README.md", "\n## A shop's day\n", "\n## What is proved\n")[copied]
+    trial.holds("Press ctrl-C in the first window." in closing, closing)
     with Typist(trial) as typist:
-        for block, behind in zip(shown, [*shown[1:], ["cutshop"]]):
+        for at, (block, behind) in enumerate(zip(shown, [*shown[1:], ["cutshop"]])):
             if block[0].split()[0] not in TYPED:
                 continue
-            if block[0].startswith("mkdir"):
+            if at == copied:
                 typist.close()
-            printed = [typist.type(line).rstrip("\n") for line in block]
+            printed = [typist.type(line, 1 if at == opened else 2).rstrip("\n") for line in block]
             wanted = [] if behind[0].split()[0] in TYPED else behind
             trial.equal("\n".join(it for it in printed if it), "\n".join(wanted), "\n".join(block))
         with open(trial.path("ticket.txt"), encoding="utf-8") as file:

@@ -153,6 +153,11 @@ class Trial:
         self.shops.append(shop)
         return shop
 
+    def is_watched(self):
+        """Whether the program is one that was built without proofs: it watches its memory, and its calls take more of the stack."""
+        with open(self.program, "rb") as file:
+            return b"AddressSanitizer" in file.read()
+
     def places(self, count, stride=7):
         """The numbers below `count`: all of them in a whole run, else each `stride`-th, and the first and last few."""
         if self.whole:

@@ -1,0 +1,227 @@
+"""The stack: which functions call themselves, how deep each goes, and the hardest questions with little of it."""
+
+import json
+import re
+import resource
+from collections import defaultdict
+
+from cases.source import closing, sources
+from kit.case import Skipped, case
+from kit.questions import compact
+from kit.yards import Yard
+
+# No logic knows a stack, so each function that calls itself is listed here, with how deep it goes and why.
+TREE = "a tree of at most 255 cuts, by `MOST_CUTS`"
+DEPTHS = {
+    "cut_bars/src/bar.rt fill_counts": (10, "halves of at most 1000 wants"),
+    "cut_bound/src/divisors.rt common_divisor": (48, "Euclid's method on two numbers of 32 bits"),
+    "cut_fill_sheets/src/lay.rt lay": (1000, "a tree of at most 255 pieces, or one of a table"),
+    "cut_fill_sheets/src/lay.rt named": (256, TREE),
+    "cut_fill_sheets/src/lay.rt need": (1000, "as `lay`"),
+    "cut_fill_sheets/src/lay.rt rests": (256, TREE),
+    "cut_fill_sheets/src/tree.rt count": (256, TREE),
+    "cut_fill_sheets/src/tree.rt cuts": (1000, "as `lay`, laid"),
+    "cut_fill_sheets/src/tree.rt kept": (1000, "strips of at most 255 pieces, or a tree of a table"),
+    "cut_fill_sheets/src/tree.rt refilled": (1000, "a tree of at most 255 cuts, or one of a table in the place of a rest"),
+    "cut_fill_sheets/src/tree.rt write": (256, TREE),
+    "cut_order/src/found.rt cuts_within": (256, TREE),
+    "cut_order/src/found.rt has_demands": (256, TREE),
+    "cut_order/src/found.rt is_shaped": (256, TREE),
+    "cut_sheets/src/keep.rt keep": (1000, "each cut leaves a step less of a side, and both sides have at most 500"),
+    "cut_sheets/src/place.rt place": (1000, "a tree of a table, as `keep`"),
+    "cut_tree/src/bars.rt bar_node": (256, "a bar's pieces, each with a cut, of which a plan has at most 255"),
+    "cut_tree/src/halts.rt are_closed": (256, TREE),
+    "cut_tree/src/lay.rt lay_node": (256, TREE),
+    "cut_tree/src/leaves.rt add_leaves": (256, TREE),
+    "cut_tree/src/node.rt count_cuts": (1000, "a tree that is judged before it is a plan: of a table, or of a text of 511 words"),
+    "cut_tree/src/node.rt count_nodes": (256, TREE),
+    "cut_tree/src/node.rt count_pieces": (256, TREE),
+    "cut_tree/src/node.rt is_same": (256, TREE),
+    "cut_tree/src/read.rt read_node": (512, "a word of the text for each node, of which 511 are read"),
+    "cut_tree/src/steps.rt step_node": (256, TREE),
+    "cut_tree/src/write.rt write_node": (256, TREE),
+    "shop_answers/src/planning.rt demands_refusal": (100, "the demands of a question"),
+    "shop_answers/src/planning.rt stands_twice": (100, "the demands of a question"),
+    "shop_machine/src/ending.rt are_reserved": (256, "the leaves of a tree"),
+    "shop_machine/src/ordering.rt lines_refusal": (200, "the lines of an order"),
+    "shop_machine/src/reserving.rt is_too_many": (256, "the leaves of a tree"),
+    "shop_machine/src/reserving.rt leaves_refusal": (256, "the leaves of a tree"),
+    "shop_planning/src/lists.rt has_twice": (1000, "the parts of a question"),
+    "shop_planning/src/posing.rt parts_refusal": (1000, "the parts of a question"),
+    "shop_planning/src/posing.rt sizes_refusal": (10, "the sizes to be bought"),
+    "shop_request/src/fields.rt values_named": (64, "the fields of a head"),
+    "shop_request/src/guards.rt has_cross_site": (64, "the fields of a head"),
+    "shop_request/src/routes.rt add_all": (100, "the routes"),
+    "shop_tables/src/laying.rt run_all": (100, "the statements that make the tables"),
+    "shop_tables/src/writing.rt write_all": (1000, "the rows that one message writes"),
+}
+
+
+def defined(crate):
+    """The functions of a crate: their file, their type or trait, and their name, with the body of each."""
+    found = {}
+    for path, code in sources().items():
+        if not path.startswith(f"{crate}/"):
+            continue
+        blocks = [
+            (it.end(), closing(code, it.end() - 1), it[1])
+            for it in re.finditer(r"\b(?:impl|trait)\b[^{;]*?(\w+)(?:<[^{;]*>)?\s*\{", code)
+        ]
+        for it in re.finditer(r"\bfn (\w+)[^{};]*\{", code):
+            of = [name for begin, end, name in blocks if begin <= it.start() < end]
+            body = code[it.end() : closing(code, it.end() - 1)]
+            found.setdefault((path, of[0] if of else None, it[1]), "")
+            found[path, of[0] if of else None, it[1]] += body
+    return found
+
+
+def callees(known, caller, body):
+    """The functions of a crate that a body names in a call: plain ones by their name or their module's, those of a type by
+    its name or on `self`. What is called on another value is another type's: no type but a tree's node has one of its own."""
+    for it in re.finditer(r"(?:\b(\w+)(?:::<[^()]*?>)?::)?(\bself\.)?(\.)?\b(\w+)(?:::<[^()]*?>)?\(", body):
+        of, on_self, on_other, name = it.groups()
+        for path, own, other in known:
+            module = path.rpartition("/")[2].removesuffix(".rt")
+            is_plain = own is None and not on_self and not on_other and of in (None, module)
+            is_own = own is not None and (of in (own, "Self") and own in (of, caller[1]) or on_self and own == caller[1])
+            if other == name and (is_plain or is_own):
+                yield path, own, other
+
+
+def circles(known):
+    """The functions that come to be called again before they return."""
+    calls = {it: set(callees(known, it, body)) for it, body in known.items()}
+    reached = defaultdict(set)
+    for it in known:
+        todo = list(calls[it])
+        while todo:
+            if (next_one := todo.pop()) not in reached[it]:
+                reached[it].add(next_one)
+                todo += calls[next_one]
+    return {it for it in known if it in reached[it]}
+
+
+@case(
+    "what calls itself has a depth",
+    "In the source of the crates the functions that call themselves, directly or through others, are those of a list, each with "
+    "the depth that its data have at most.",
+)
+def depths(trial):
+    found = set()
+    for crate in sorted({it.partition("/")[0] for it in sources()}):
+        found |= {f"{path} {name}" for path, _, name in circles(defined(crate))}
+    trial.equal(sorted(found), sorted(DEPTHS))
+    trial.holds(max(depth for depth, _ in DEPTHS.values()) <= 1000, "a depth of over 1000")
+
+
+
+
+# Sheets of 20 by 6 metres, pieces of a fifth of a millimetre of which the tallest strip holds 15385, and the kerf of a saw.
+NARROW = [
+    {"do": "material", "kerf": 2, "kind": "sheet", "material": "GLASS", "min_long": 20, "min_short": 3},
+    {"batch": "B-1", "count": 1, "do": "receive", "h": 60000, "material": "GLASS", "w": 200000},
+    {"do": "order", "order": "A-1", "lines": [(13, 11, False, 1000000, 1), (6, 2, False, 3, 1000000000), (3, 2, True, 1, 1), (2, 2, False, 1000000, 6)]},
+    {"do": "order", "order": "A-2", "lines": [(72, 13, False, 3, 1), (43, 6, True, 5, 1), (2, 2, True, 1000000, 4), (2, 1, True, 5, 2)]},
+    {"do": "order", "order": "A-4", "lines": [(5, 2, False, 2, 1), (57, 1, False, 1000000, 1), (75, 6, True, 2, 450), (51, 1, False, 1000000, 36)]},
+]
+
+
+def narrow_lines():
+    """The messages of a shop with these sheets, and a question for plans of them."""
+    for number, message in enumerate(NARROW, 1):
+        if "lines" in message:
+            rows = [
+                {"count": count, "h": h, "line": line, "material": "GLASS", "turn": turn, "w": w, "worth": worth}
+                for line, (w, h, turn, count, worth) in enumerate(message["lines"], 1)
+            ]
+            message = {**message, "lines": rows}
+        yield compact({**message, "number": number, "terminal": 1})
+    yield compact({"ask": "plans", "buy": [{"h": 18, "w": 11}], "demands": [11, 7, 6, 4, 12], "material": "GLASS"})
+    yield compact({"ask": "plans", "demands": [8], "material": "GLASS"})
+
+
+@case(
+    "strips of many thousand pieces",
+    "A question for plans of a sheet of 20 by 6 metres, of whose strips each could hold thousands of pieces, is answered.",
+)
+def strips(trial):
+    answered(trial, trial.replay(narrow_lines()), 7)
+
+
+def answered(trial, ran, count):
+    """So many lines were answered, none of them by a refusal."""
+    told = [json.loads(it) for it in ran.out.split(b"\n")[:-1]]
+    trial.equal((ran.status, ran.err), (0, b""))
+    trial.equal(len(told), count)
+    trial.equal([it for it in told if "ok" not in it], [])
+    return told
+
+
+def little():
+    """Gives the new process a stack of 256 KiB."""
+    resource.setrlimit(resource.RLIMIT_STACK, (256 * 1024, 256 * 1024))
+
+
+def compiled(trial):
+    """Skips a program that was built without proofs."""
+    if trial.is_watched():
+        raise Skipped("the program was built without proofs, and takes many times as much of the stack")
+
+
+@case("strips with little stack", "So is that question, with a stack of 256 KiB.")
+def little_strips(trial):
+    compiled(trial)
+    answered(trial, trial.replay(narrow_lines(), prepare=little), 7)
+
+
+def comb(pieces):
+    """A tree of so many pieces of the first demand, each cut off the rest of the one before."""
+    return " ".join(["x1 p1"] * (pieces - 1) + ["p1"])
+
+
+@case(
+    "deep trees with little stack",
+    "With a stack of 256 KiB a bar is cut by a tree of 255 cuts, each in what the one before left, and a sheet of 500 by 500 "
+    "steps, of whose table the best tree cuts off one step at a time, is planned; 100000 brackets are refused.",
+)
+def deep(trial):
+    compiled(trial)
+    yard = Yard()
+    yard.material("BAR", 0)
+    yard.material("GLASS", 0, "sheet")
+    yard.bars("BAR", (1, 1000))
+    job = yard.cut(yard.receive("BAR", 256), comb(256))
+    sheet = yard.receive("GLASS", 500, 500)
+    demand = yard.order("GLASS", (1, 1, 1000000, False))
+    asked = [
+        {"ask": "trace", "part": f"{job}/511"},
+        {"ask": "plan", "demands": [demand], "part": sheet, "step": 1},
+        {"ask": "plans", "demands": [demand], "material": "GLASS", "step": 1},
+        {"ask": "plans", "calls": 20, "demands": [demand], "material": "GLASS", "parts": [sheet]},
+    ]
+    lines = [*yard.lines, *map(compact, asked)]
+    told = answered(trial, trial.replay(lines, prepare=little), len(lines))
+    trial.holds(told[-3]["worth"] > 0, told[-3])
+    brackets = trial.replay([*yard.lines, "[" * 100000], prepare=little)
+    trial.equal((brackets.status, json.loads(brackets.out.split(b"\n")[-2])["refused"]), (0, 10))
+
+
+@case(
+    "many parts and lines with little stack",
+    "With a stack of 256 KiB an order of 200 lines is taken, and a question for plans names 100 demands and 1000 parts.",
+)
+def many(trial):
+    compiled(trial)
+    yard = Yard()
+    yard.material("BAR", 1)
+    first = yard.bars("BAR", *[(100 + it, 3) for it in range(200)])
+    yard.receive("BAR", 6000, count=1000)
+    asked = {
+        "ask": "plans",
+        "calls": 20,
+        "demands": list(range(first, first + 100)),
+        "material": "BAR",
+        "parts": [f"{yard.acts}/{it}" for it in range(1000)],
+    }
+    lines = [*yard.lines, compact(asked)]
+    answered(trial, trial.replay(lines, prepare=little), len(lines))
