@@ -221,3 +221,16 @@ def contracts(trial):
         met = set().union(*(there.get(it, set()) for it in calls))
         lost += [f"{first}: clause {it}" for it in clauses if it not in met]
     trial.equal(lost, [])
+
+
+@case(
+    "the library's page quotes whole files",
+    "Each program in docs/LIBRARY.md is, to the byte, the file of `cut_example` that is named before it, which the gate proves, "
+    "compiles and runs.",
+)
+def quoted(trial):
+    shown = re.findall(r"`(crates/[\w/]+\.rt)`:\n\n```rust\n(.*?)```", text_of("docs/LIBRARY.md"), re.DOTALL)
+    trial.equal(len(shown), text_of("docs/LIBRARY.md").count("```rust"))
+    trial.holds(len(shown) >= 2, shown)
+    for path, text in shown:
+        trial.equal(text, text_of(path), path)
