@@ -115,29 +115,18 @@ def depths(trial):
 
 
 
-
-# Sheets of 20 by 6 metres, pieces of a fifth of a millimetre of which the tallest strip holds 15385, and the kerf of a saw.
+# Sheets of 20 by 6 metres, and pieces of fractions of a millimetre, of which a strip holds thousands.
 NARROW = [
-    {"do": "material", "kerf": 2, "kind": "sheet", "material": "GLASS", "min_long": 20, "min_short": 3},
-    {"batch": "B-1", "count": 1, "do": "receive", "h": 60000, "material": "GLASS", "w": 200000},
-    {"do": "order", "order": "A-1", "lines": [(13, 11, False, 1000000, 1), (6, 2, False, 3, 1000000000), (3, 2, True, 1, 1), (2, 2, False, 1000000, 6)]},
-    {"do": "order", "order": "A-2", "lines": [(72, 13, False, 3, 1), (43, 6, True, 5, 1), (2, 2, True, 1000000, 4), (2, 1, True, 5, 2)]},
-    {"do": "order", "order": "A-4", "lines": [(5, 2, False, 2, 1), (57, 1, False, 1000000, 1), (75, 6, True, 2, 450), (51, 1, False, 1000000, 36)]},
+    '{"do":"material","kerf":2,"kind":"sheet","material":"GLASS","min_long":20,"min_short":3,"number":0,"terminal":4294967295}',
+    '{"batch":"B-1","count":1,"do":"receive","h":60000,"material":"GLASS","number":0,"terminal":3,"w":200000}',
+    '{"do":"order","lines":[{"count":1000000,"h":11,"line":3,"material":"GLASS","turn":false,"w":13,"worth":1},{"count":3,"h":2,"line":6,"material":"GLASS","turn":false,"w":6,"worth":1000000000},{"count":1,"h":2,"line":7,"material":"GLASS","turn":true,"w":3,"worth":1},{"count":1000000,"h":2,"line":8,"material":"GLASS","turn":false,"w":2,"worth":6}],"number":1,"order":"A-1","terminal":3}',
+    '{"do":"import","form":"csv","number":3,"order":"A-2","terminal":4294967295,"text":"line,material,length,width,turn,count,worth\\n\\n1,\\"GLASS\\",7.2,1.3,no,3,1\\n\\n2,GLASS,4.3,0.6,yes,5,1\\n\\n3,GLASS,0.2,0.2,yes,1000000,4\\n\\n4,GLASS,0.2,0.1,yes,5,2"}',
+    '{"do":"import","form":"csv","number":2,"order":"A-4","terminal":3,"text":"line,material,length,width,turn,count,worth\\n\\n1,\\"GLASS\\",0.5,0.2,no,2,1\\n\\n2,GLASS,5.7,0.1,no,1000000,1\\n\\n3,GLASS,7.5,0.6,yes,2,450\\n\\n6,GLASS,5.1,0.1,no,1000000,36\\n\\n"}',
+    '{"do":"import","form":"cgcut","material":"GLASS","number":5,"order":"A-5","terminal":1,"text":"1 9 9 3 4 3 12"}',
+    '{"do":"material","kerf":3,"kind":"sheet","material":"0123456789ABCDE-","min_long":5,"min_short":3,"number":7,"terminal":1}',
+    '{"do":"order","lines":[{"count":5,"h":2,"line":2,"material":"GLASS","turn":false,"w":6,"worth":45},{"count":3,"h":5,"line":4,"material":"0123456789ABCDE-","turn":true,"w":3,"worth":1},{"count":5,"h":2,"line":7,"material":"GLASS","turn":false,"w":2,"worth":4},{"count":3,"h":5,"line":8,"material":"0123456789ABCDE-","turn":true,"w":2,"worth":1}],"number":8,"order":"A-7","terminal":1}',
+    '{"ask":"plans","buy":[{"h":18,"w":11}],"calls":20,"demands":[16,11,6,4,12],"material":"GLASS"}',
 ]
-
-
-def narrow_lines():
-    """The messages of a shop with these sheets, and a question for plans of them."""
-    for number, message in enumerate(NARROW, 1):
-        if "lines" in message:
-            rows = [
-                {"count": count, "h": h, "line": line, "material": "GLASS", "turn": turn, "w": w, "worth": worth}
-                for line, (w, h, turn, count, worth) in enumerate(message["lines"], 1)
-            ]
-            message = {**message, "lines": rows}
-        yield compact({**message, "number": number, "terminal": 1})
-    yield compact({"ask": "plans", "buy": [{"h": 18, "w": 11}], "demands": [11, 7, 6, 4, 12], "material": "GLASS"})
-    yield compact({"ask": "plans", "demands": [8], "material": "GLASS"})
 
 
 @case(
@@ -145,7 +134,7 @@ def narrow_lines():
     "A question for plans of a sheet of 20 by 6 metres, of whose strips each could hold thousands of pieces, is answered.",
 )
 def strips(trial):
-    answered(trial, trial.replay(narrow_lines()), 7)
+    answered(trial, trial.replay(NARROW), len(NARROW))
 
 
 def answered(trial, ran, count):
@@ -171,7 +160,7 @@ def compiled(trial):
 @case("strips with little stack", "So is that question, with a stack of 256 KiB.")
 def little_strips(trial):
     compiled(trial)
-    answered(trial, trial.replay(narrow_lines(), prepare=little), 7)
+    answered(trial, trial.replay(NARROW, prepare=little), len(NARROW))
 
 
 def comb(pieces):
