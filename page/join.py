@@ -1,6 +1,6 @@
 #!/usr/bin/env python3
 """Joins the files of page/src to page/terminal.html, which the program serves: document.html, in which each line {{NAME}} stands
-for the file of that name."""
+for the file of that name, a script's without the lines that are comments."""
 
 import os
 import re
@@ -13,8 +13,13 @@ def source(name):
         return file.read()
 
 
+def part(name):
+    text = source(name)
+    return re.sub(r"(?m)^ *//.*\n", "", text) if name.endswith(".js") else text
+
+
 def joined():
-    return re.sub(r"(?m)^\{\{(.+)\}\}\n", lambda line: source(line[1]), source("document.html"))
+    return re.sub(r"(?m)^\{\{(.+)\}\}\n", lambda line: part(line[1]), source("document.html"))
 
 
 if __name__ == "__main__":

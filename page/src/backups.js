@@ -10,6 +10,8 @@ const backups = {
   last: null
 };
 
+class NoFolder extends Error {}
+
 const LAST_BACKUP = "cutshop.backup";
 
 async function readBackups() {
@@ -48,7 +50,7 @@ async function makeBackup() {
   showView();
   say(tr`A backup is being made…`);
   try {
-    const {backup} = await ask("/backup", {body: "", patience: 600000});
+    const {backup} = await askForBackup();
     noteBackup({number: backup, at: Date.now()});
     tell(tr`Backup ${backup} was made`, "good");
   } catch (error) {
@@ -58,6 +60,12 @@ async function makeBackup() {
   backups.isMaking = false;
   showView();
   refreshNow();
+}
+
+async function askForBackup() {
+  const {status, reply} = await request("/backup", {body: "", patience: 600000});
+  if (reply?.ok) return reply;
+  throw reply ? new Refused(reply) : status === 404 ? new NoFolder() : new NoAnswer(strangeWords(status));
 }
 
 // The later one of what this tab was told and what is kept for all tabs.
@@ -76,8 +84,8 @@ function noteBackup(last) {
 // Why no backup was made, or that it isn't known whether one was.
 async function noBackupWords(error) {
   if (error instanceof NoAnswer) return tr`No answer came, so whether a backup was made isn't known. Make another one.`;
-  const words = isRefused(error, 404) ? tr`the program has no folder for backups any more`
-    : isRefused(error, 99)            ? tr`look at its folder and that folder's disk, the program's log says what it was (99 StoreFault)`
-                                      : await faultWords(error);
+  const words = error instanceof NoFolder ? tr`the program has no folder for backups any more`
+    : isRefused(error, 99)                ? tr`look at its folder and that folder's disk, the program's log says what it was (99 StoreFault)`
+                                          : await faultWords(error);
   return tr`No backup was made: ${words}. The shop goes on.`;
 }

@@ -14,7 +14,10 @@ function el(name, given = {}, ...children) {
   return made;
 }
 
-const drawn = new WeakMap();
+// What each holder shows.
+let drawn = new WeakMap();
+
+function drawAllAnew() { drawn = new WeakMap(); }
 
 // What the pointer or the space bar holds down, and what is filled once it is let go: a press on a button that is made anew
 // meanwhile would be lost.

@@ -24,6 +24,7 @@ const terminal = {
   message(mark) { return storage.read(MESSAGE + mark, null); },
   messages() { return storage.keys(MESSAGE).map(key => storage.read(key, null)).filter(Boolean); },
   kept() { return this.messages().filter(message => !message.reply && message.terminal === this.number); },
+  keptHere() { return this.kept().filter(isTypedHere); },  // those that are for the shop that is shown
   answered() { return this.messages().filter(message => message.reply); },
   keep(message) {
     storage.write(MESSAGE + message.mark, message);
@@ -37,22 +38,23 @@ const terminal = {
   isSpent: false,  // whether a message was sent under the last number that there is
 };
 
-// What to do in this tab when a message that was typed here is accepted, by the message's mark.
-const whenAccepted = new Map();
+// What to do in this tab when a message that was typed here is accepted or refused, by the message's mark.
+const whenAccepted = new Map(), whenRefused = new Map();
 
 // Two tabs of one browser are one terminal: one of them at a time numbers and sends.
 function alone(work) { return navigator.locks ? navigator.locks.request("cutshop.terminal", work) : work(); }
 
 function pause(time) { return new Promise(resolve => setTimeout(resolve, time)); }
 
-// Keeps a command as a message and sends it; false where it can't be kept. One that waits already isn't kept twice.
-function send(command, what, accepted = () => {}) {
+// Keeps a command as a message and sends it; false where it can't be kept. One that waits already isn't kept twice. `refused` is
+// called where the shop refuses it, and may give a link for that notice.
+function send(command, what, accepted = () => {}, refused = () => null) {
   if (!terminal.number) {
     chooseTerminal();
     return false;
   }
   try {
-    keepCommand({what, command}, accepted);
+    whenRefused.set(keepCommand({what, command}, accepted), refused);
   } catch {
     tell(tr`${what}: not sent, because this browser can't keep it until it is answered`, "refused");
     return false;
@@ -61,11 +63,15 @@ function send(command, what, accepted = () => {}) {
   return true;
 }
 
-function keepCommand({what, command, many}, accepted, known = terminal.kept()) {
+function keepCommand({what, command, many}, accepted, known = terminal.keptHere()) {
   const text = JSON.stringify(command), same = known.find(kept => JSON.stringify(kept.command) === text);
   const mark = same ? same.mark : newMark();
-  if (!same) terminal.keep({mark, terminal: terminal.number, number: 0, what, command, end: endOf(command), many});
+  const {run} = running, sender = terminal.number;
+  if (!same)
+    terminal.keep(
+      {mark, terminal: sender, number: 0, what, command, end: endOf(command), many, run, rows: rowsShown(command)});
   whenAccepted.set(mark, accepted);
+  return mark;
 }
 
 // Takes over what waits in lists, one for each terminal, as earlier pages kept it.
@@ -102,6 +108,7 @@ async function sendKept() {
     terminal.isSpent = false;
   } catch (error) {
     terminal.isSpent = error instanceof NumbersSpent;
+    if (error instanceof NoAnswer) terminal.trouble = error.came;
     if (!(error instanceof NoAnswer || error instanceof Refused || terminal.isSpent)) console.error(error);
   }
   sending.busy = false;
@@ -114,17 +121,21 @@ function sendLater() {
   if (terminal.kept().length) sending.timer = setTimeout(sendKept, 3000);
 }
 
-// True where the first kept message waits no more.
+// True where the first kept message waits no more, or was typed under a run that isn't the one that answers.
 async function sendFirst() {
+  if (!await isForThisShop()) return false;
   const first = await numbered(terminal.kept()[0]);
   if (!first) return true;
   const body = JSON.stringify({...first.command, number: first.number, terminal: first.terminal});
-  const {status, text} = await request("/message", {body});
-  const reply = readReply(text);
-  terminal.trouble = status >= 500 && reply ? await refusalWords(reply) : "";
-  if (status >= 500 || (status === 200 && !reply)) return false;
-  await answered(first, reply || {refused: status});
-  return true;
+  const {status, reply} = await request("/message", {body, run: first.run});
+  if (first.run && status === 412) {
+    await meetShop();
+    return running.run !== first.run;
+  }
+  const isDone = reply && status < 500;
+  terminal.trouble = isDone ? "" : reply ? await refusalWords(reply) : strangeWords(status);
+  if (isDone) await answered(first, reply);
+  return isDone;
 }
 
 // The message with its number, which is kept before it is sent, and stays. What waits is read anew once the shop told the
@@ -155,10 +166,10 @@ function moveUnsent(number) {
 }
 
 // Keeps an answer in place of its command, and tells it.
-async function answered({mark, terminal: sender, number, what, command, end, many}, reply) {
+async function answered({mark, terminal: sender, number, what, command, end, many, run}, reply) {
   const isRefused = reply.refused !== undefined, why = isRefused ? await refusalWords(reply, command) : "";
   const words = isRefused ? tr`Refused: ${what}: ${why}` : `${what}: ${outcomeWords(command, reply, end)}`;
-  terminal.keep({mark, terminal: sender, number, words, reply, many});
+  terminal.keep({mark, terminal: sender, number, words, reply, many, run});
   if (many)
     changeMany(many, told => {
       if (isRefused) told.refused.push([command.part || what, why]);
@@ -170,12 +181,20 @@ async function answered({mark, terminal: sender, number, what, command, end, man
 
 function tellAnswer({mark, words, reply, many}) {
   const isRefused = reply.refused !== undefined;
-  if (!many) tell(words, isRefused ? "refused" : "good", linkOf(reply));
+  const link = isRefused ? whenRefused.get(mark)?.() : linkOf(reply);
+  if (!many) tell(words, isRefused ? "refused" : "good", link);
   if (!isRefused) whenAccepted.get(mark)?.(reply);
-  whenAccepted.delete(mark);
+  for (const when of [whenAccepted, whenRefused]) when.delete(mark);
   if (many) tellMany(many);
   if (!many || manyTold.has(many)) refreshNow();
   else showKept();
+}
+
+// A form is emptied when it is sent. What was refused comes back into it where it is still empty, else by a link.
+function giveBack(isEmpty, fillIn) {
+  if (!isEmpty()) return {words: tr`Take back what was typed`, go: fillIn};
+  fillIn();
+  return null;
 }
 
 // Where to go on from an answer.
@@ -285,7 +304,7 @@ function sendMany(what, parts, accepted, over = () => {}, view = "") {
   }
   for (const key of storage.keys(MANY_KEPT))
     if (isOver(storage.read(key, {}))) storage.forget(key);
-  const many = newMark(), known = terminal.kept();
+  const many = newMark(), known = terminal.keptHere();
   let kept = 0;
   try {
     storage.write(MANY_KEPT + many, {what, of: parts.length, done: 0, dropped: 0, refused: [], view});

@@ -55,10 +55,12 @@ function showKeptSoon() {
 }
 
 function showKept() {
-  const kept = terminal.kept().filter(message => Date.now() - timeOf(message.mark) >= SLOW);
-  const rows = kept.map(message => [message, sending.dropping.has(message.mark)]), shown = waitingRows().length;
-  fill($("keptNotice"), [rows, terminal.trouble, terminal.isSpent], () => kept.length && el("div", {class: "notice kept"},
-    el("div", {}, el("span", {text: keptWords(kept)}), ...keptRows(rows)),
+  const kept = terminal.kept().filter(message => Date.now() - timeOf(message.mark) >= SLOW), doubted = kept.filter(isDoubted);
+  const sure = kept.filter(message => !isDoubted(message)), shown = waitingRows().length;
+  const rows = sure.map(message => [message, sending.dropping.has(message.mark)]);
+  fill($("keptNotice"), [rows, doubted, terminal.trouble, terminal.isSpent], () => kept.length && el("div", {class: "notice kept"},
+    el("div", {}, ...(doubted.length ? doubtRows(doubted) : []), sure.length ? el("span", {text: keptWords(sure)}) : null,
+      ...keptRows(rows)),
     terminal.isSpent ? el("button", {class: "small", text: tr`Another number`, on: {click: chooseTerminal}}) : null));
   if (waitingRows().length > shown) bringUp(waitingRows()[waitingRows().length - 1]);
 }

@@ -1,6 +1,6 @@
 // ---- Orders: one checker of a line's seven texts, for the form and for files.
 
-const FIELDS = ["line", "material", "length", "width", "turn", "count", "worth"];
+const FIELDS = ["line", "material", "length", "width", "turn", "count", "worth"], SIDES = ["length", "width"];
 
 // A field's name as people read it.
 function fieldWords(name) { return word(name === "worth" ? tr`price for the planner` : name); }
@@ -103,11 +103,38 @@ function sendOrder(event) {
   markField($("orderCode"), codeFault(order));
   lines.forEach((line, i) => markFields(line, lineFaults(texts[i], i)));
   if (goToFault($("orderForm")) || !lines.length) return;
-  send({do: "order", lines: texts.map(lineOf), order}, tr`Order ${order}`, clearOrder);
+  const typed = [$("orderCode").value, lines.map(typedLine)], isEmpty = () => !isOrderTyped();
+  const command = {do: "order", lines: texts.map(lineOf), order};
+  if (send(command, tr`Order ${order}`, () => {}, () => giveBack(isEmpty, () => fillOrder(...typed)))) fillOrder("", [{}]);
 }
 
-function clearOrder() {
-  $("orderCode").value = "";
+function fieldsOf(line) { return [...line.querySelectorAll("[data-field]")]; }
+
+function isTick(field) { return field.type === "checkbox"; }
+
+// What is typed into a line, by field.
+function typedLine(line) {
+  return Object.fromEntries(fieldsOf(line).map(field => [field.dataset.field, isTick(field) ? field.checked : field.value]));
+}
+
+function isOrderTyped() {
+  const fields = [...$("orderLines").children].flatMap(fieldsOf).filter(field => field.tagName === "INPUT");
+  return Boolean($("orderCode").value) || fields.some(field => isTick(field) ? field.checked : field.value);
+}
+
+// Fills the form of an order anew; the focus stays in it.
+function fillOrder(code, lines) {
+  const hadFocus = $("orderLines").contains(document.activeElement);
+  $("orderCode").value = code;
   $("orderLines").replaceChildren();
-  addOrderLine();
+  for (const typed of lines) {
+    addOrderLine();
+    for (const field of fieldsOf($("orderLines").lastChild)) {
+      const value = typed[field.dataset.field];
+      if (isTick(field)) field.checked = Boolean(value);
+      else if (value !== undefined) field.value = value;
+    }
+  }
+  adaptLines();
+  if (hadFocus) $("orderCode").focus({preventScroll: true});
 }

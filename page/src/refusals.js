@@ -38,9 +38,6 @@ const REFUSALS = {
 // What a refusal says, with its number; of 63 also which demand it is or what is the least, of 61 and 62 nothing that isn't
 // told.
 async function refusalWords(reply, command = {}) {
-  if (reply.refused === 403)
-    return tr`the shop takes this from its own page alone: open it at 127.0.0.1 or localhost (status 403)`;
-  if (!reply.name) return tr`the shop didn't take it (status ${reply.refused})`;
   let words = REFUSALS[reply.refused] || tr`the shop refused it`;
   if (command.do === "amend") words = await amendFault(command, reply) || words;
   else if (reply.refused === 63) words = await overdrawnWords(countPieces(command.tree)) || words;

@@ -172,7 +172,7 @@ function limitsOf(told) {
 }
 
 // The message that ends a job, while it has no answer.
-function endSent(job) { return terminal.kept().map(entry => entry.command).find(command => command.job === job); }
+function endSent(job) { return terminal.keptHere().map(entry => entry.command).find(command => command.job === job); }
 
 // The halt that is marked, or to which a job that isn't done was sent or came; none where no trace was read yet.
 function shownHalt(told, sent, state) {
@@ -456,7 +456,7 @@ function endJob(told, command, what) {
     if (command.do === "break") halts.set(keyOf(told), haltOf(command));
     ticks.forget(told.job);
     toldJobs.delete(`/job/${told.job}`);
-    if (told.job !== atSaw.job) return;
+    if (!atSaw.told || keyOf(atSaw.told) !== keyOf(told)) return;
     atSaw.told = {...atSaw.told, state: ENDS[command.do]};
     setBreaking(false);
     if (command.do === "done") openSame(told);

@@ -48,13 +48,13 @@ async function searchPlans(planning, asked, calls, time) {
   const begun = performance.now(), late = Number.isFinite(time) && setTimeout(() => toCut.found && planning.abort(), time);
   let early = null;
   while (calls) {
-    const from = performance.now(), reply = await askPlans(asked, calls, planning.signal);
-    if (reply) await learnPieces(reply);
+    const from = performance.now(), told = await askPlans(asked, calls, planning.signal);
+    if (told) await learnPieces(told.reply);
     if (planning !== toCut.planning) return clearTimeout(late);
-    if (!reply) break;
+    if (!told) break;
     const next = roundAfter(calls);
-    early = !toCut.found && isEarly(reply) && next ? reply : null;
-    if (!early) takePlans(asked, reply, calls);
+    early = !toCut.found && isEarly(told.reply) && next ? told : null;
+    if (!early) takePlans(asked, told, calls);
     showToCut();
     const isOver = !early && (toCut.found.proved || (asked.part && calls > CALLS_ALONE));
     calls = isOver ? 0 : early ? next : nextCalls(calls, performance.now() - from, begun + time - performance.now());
@@ -78,11 +78,12 @@ function nextCalls(calls, took, left) {
   return next >= 1.5 * calls ? next : 0;
 }
 
-// Searches on from what was found, as long as it takes.
-function searchOn() {
-  const planning = toCut.planning = new AbortController();
+// Searches on from what was found, as long as it takes, for what is left and stands by now.
+async function searchOn() {
+  const planning = toCut.planning = new AbortController(), {asked} = toCut.found;
   showToCut();
-  return searchPlans(planning, toCut.found.asked, MOST_CALLS, Infinity);
+  await readLists();
+  if (planning === toCut.planning) await searchPlans(planning, asked, MOST_CALLS, Infinity);
 }
 
 function stopPlan() {
@@ -90,15 +91,26 @@ function stopPlan() {
   $("stopPlan").disabled = true;
 }
 
-// What is asked: all, or where something is left out what isn't.
+// What is asked: all, or where something is left out what isn't. Parts are named, so that what is found is known to be of these,
+// unless there are more than are known.
 function plansQuestion({part, buy}, calls) {
   const query = {ask: "plans", calls, material: shop.material}, stock = freeParts();
   const open = demandsToCut().filter(row => leftOf(row) > 0), chosen = open.filter(row => !isLeftOut(row));
   if (chosen.length < open.length) query.demands = chosen.slice(0, MAX_KINDS).map(row => row.demand);
   if (part) query.parts = [part];
-  else if (shop.partsGoing.size || stock.some(isPartOut)) query.parts = partNames(stock.filter(row => !isPartOut(row)));
+  else if (!shop.moreParts || shop.partsGoing.size || stock.some(isPartOut))
+    query.parts = partNames(stock.filter(row => !isPartOut(row)));
   if (buy) query.buy = [buy];
   return query;
+}
+
+// What an answer is of: how many pieces of which demands, from which parts and units to buy; or nothing where the question didn't
+// name its parts. (Each piece that is left is planned or told as missing.)
+function answerOf({parts, buy, material}, {plans, missing}) {
+  const pieces = new Map(missing.map(row => [row.demand, row.pieces]));
+  for (const plan of plans)
+    for (const [demand, inOne] of countPieces(plan.tree)) pieces.set(demand, (pieces.get(demand) || 0) + inOne * unitsOf(plan));
+  return parts ? JSON.stringify([material, parts, buy, [...pieces].sort((a, b) => a[0] - b[0])]) : null;
 }
 
 function partNames(parts) { return parts.slice(0, MAX_PARTS).map(row => row.part); }
@@ -109,16 +121,20 @@ function freeParts() {
   return shop.parts.filter(row => isFree(row) && !(isBar && row.w > MAX_BAR));
 }
 
-// The shop's answer, or nothing where it was stopped or refused. A part that another terminal took just now is left out.
-async function askPlans(asked, calls, signal, isFirst = true) {
-  const body = JSON.stringify(plansQuestion(asked, calls));
+// So often a question is asked again, each time without the parts that another terminal took just now.
+const MAX_AGAIN = 5;
+
+// The shop's answer with what it is of, or nothing where it was stopped or refused.
+async function askPlans(asked, calls, signal, again = MAX_AGAIN) {
+  const query = plansQuestion(asked, calls);
   try {
-    return await ask("/plans", {body, patience: 600000, signal, beside: true});
+    const reply = await ask("/plans", {body: JSON.stringify(query), patience: 600000, signal, beside: true});
+    return {reply, of: answerOf(query, reply)};
   } catch (error) {
     if (signal.aborted) return null;
-    if (isFirst && !asked.part && (isRefused(error, 50) || isRefused(error, 51))) {
+    if (again && !asked.part && (isRefused(error, 50) || isRefused(error, 51))) {
       await readLists();
-      return askPlans(asked, calls, signal, false);
+      return askPlans(asked, calls, signal, again - 1);
     }
     toCut.fault = tr`No plan came: ${await faultWords(error)}.`;
     return null;
@@ -132,14 +148,17 @@ async function learnPieces({plans, missing}) {
     if (!shop.lines.has(demand)) await ask(`/demand/${demand}`).then(row => learnLines([row]), () => {});
 }
 
-// Takes what was found where it is better than what is shown; a bound holds also beside other plans.
-function takePlans(asked, reply, calls) {
-  const material = materialOf(shop.material), old = toCut.found, plans = reply.plans.map(plan => foundPlan(plan, material));
+// Takes what was found where it is better than what is shown; a bound holds also beside other plans. What is shown counts only
+// where both are of the same pieces and parts: else it goes.
+function takePlans(asked, {reply, of}, calls) {
+  const material = materialOf(shop.material), old = of !== null && toCut.found?.of === of ? toCut.found : null;
+  const plans = reply.plans.map(plan => foundPlan(plan, material));
   const isWorse = old && (piecesOf(old.missing) - piecesOf(reply.missing) || old.cost - reply.cost) < 0;
   const bound = Math.max(reply.bound, old?.bound || 0), best = isWorse ? old : {...reply, plans};
   toCut.found = {
     ...best,
     asked,
+    of,
     material,
     calls,
     bound,

@@ -1,7 +1,13 @@
 // ---- The server: the one place that talks to it. One request at a time; what people ask for goes first. What takes long goes
 // beside them.
 
-class NoAnswer extends Error {}
+// came: what came in place of an answer of the shop, if anything did.
+class NoAnswer extends Error {
+  constructor(came = "") {
+    super(came || tr`no answer came`);
+    this.came = came;
+  }
+}
 class NumbersSpent extends Error {}
 class Refused extends Error {
   constructor(reply) {
@@ -16,10 +22,11 @@ const queue = {
   busy: false
 };
 
-function request(path, {body, calm = false, beside = false, patience = 20000, signal} = {}) {
-  if (beside) return fetchOnce({path, body, patience, signal});
+// `run`: the one that is asked, where it isn't the one that answers as far as is known.
+function request(path, {body, calm = false, beside = false, patience = 20000, signal, run} = {}) {
+  if (beside) return fetchOnce({path, body, patience, signal, run});
   return new Promise((resolve, reject) => {
-    (calm ? queue.calm : queue.asked).push({path, body, patience, signal, resolve, reject});
+    (calm ? queue.calm : queue.asked).push({path, body, patience, signal, run, resolve, reject});
     serveQueue();
   });
 }
@@ -35,27 +42,41 @@ async function serveQueue() {
   serveQueue();
 }
 
-async function fetchOnce({path, body, patience, signal}) {
+// Asks the shop once it is known which run of it answers.
+async function fetchOnce(asked) {
+  if (!running.isMet) await meetShop();
+  const {run = running.run} = asked, answer = await fetchAlone({...asked, run});
+  if (run && answer.status === 412) leaveRun();
+  return answer;
+}
+
+// An answer's status and its reply, which is none where the answer isn't the shop's, or where another run answers than is asked.
+async function fetchAlone({path, body, patience, signal, run}) {
   const stop = new AbortController(), timer = setTimeout(() => stop.abort(), patience);
   if (signal) signal.addEventListener("abort", () => stop.abort());
   try {
     if (signal && signal.aborted) stop.abort();
-    const answer =
-      await fetch(path, {method: body === undefined ? "GET" : "POST", body, signal: stop.signal, cache: "no-store"});
-    const text = await answer.text();
-    showLink(true);
-    return {status: answer.status, text};
+    const method = body === undefined ? "GET" : "POST", headers = run ? {"If-Match": `"${run}"`} : {};
+    const answer = await fetch(path, {method, body, headers, signal: stop.signal, cache: "no-store"});
+    const {status} = answer, reply = readReply(await answer.text());
+    if (reply) showLink(true);
+    else if (!isBare(path, status)) showLink(false, strangeWords(status));
+    return {status, reply};
   } catch {
     if (!(signal && signal.aborted)) showLink(false);
-    throw new NoAnswer("no answer");
+    throw new NoAnswer();
   } finally { clearTimeout(timer); }
+}
+
+// What the shop answers without a reply: of a route that the program may be without, and of another run than is asked.
+function isBare(path, status) {
+  return status === 412 || (path === "/backup" && status === 405) || (["/backup", "/health"].includes(path) && status === 404);
 }
 
 // A reply's object; a refusal is thrown.
 async function ask(path, options) {
-  const {status, text} = await request(path, options);
-  const reply = readReply(text);
-  if (!reply) throw status >= 400 && status < 500 ? new Refused({refused: status}) : new NoAnswer(`status ${status}`);
+  const {status, reply} = await request(path, options);
+  if (!reply) throw new NoAnswer(status === 412 ? tr`the program was started anew` : strangeWords(status));
   if (reply.refused !== undefined) throw new Refused(reply);
   if (reply.ok === "job") toldJobs.set(path, {...reply});
   return reply;
@@ -76,20 +97,35 @@ function isAsTold(told) {
   return row && ["material", "part", "w", "h", "cuts"].every(key => row[key] === told[key]);
 }
 
+// An answer of the shop is a JSON object that says what was done or why not; another program may listen at its port, or stand
+// between.
 function readReply(text) {
   try {
-    return JSON.parse(text);
+    const told = JSON.parse(text), isReply = told?.ok !== undefined || told?.refused !== undefined;
+    return isReply && !Array.isArray(told) ? told : null;
   } catch { return null; }
+}
+
+// What came that is no answer of the shop.
+function strangeWords(status) {
+  return status === 403
+    ? tr`the shop takes this from its own page alone: open it at 127.0.0.1 or localhost (status 403)`
+    : tr`status ${status} came, which is no answer of the shop`;
 }
 
 async function faultWords(error, command) {
   if (error instanceof Refused) return refusalWords(error.reply, command);
-  return error instanceof NoAnswer ? tr`no answer came` : String(error);
+  return error instanceof NoAnswer ? error.message : String(error);
 }
 
-function showLink(isOn) {
+// Whether the shop answers; where something else did, that is told beside it.
+function showLink(isOn, why = "") {
   const words = isOn ? tr`connected` : tr`no connection`;
-  if (!isOn) refresh.lost = true;
+  if (!isOn) {
+    refresh.lost = true;
+    running.isMet = false;
+  }
   if ($("link").textContent !== words) $("link").textContent = words;
+  $("link").title = why;
   $("link").classList.toggle("off", !isOn);
 }

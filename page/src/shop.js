@@ -37,7 +37,7 @@ const shop = {
 
 // Takes from the kept messages which parts and pieces are promised, and what is amended.
 function notePromised() {
-  const sent = terminal.kept().map(message => message.command), reserved = sent.filter(command => command.do === "reserve");
+  const sent = terminal.keptHere().map(message => message.command), reserved = sent.filter(command => command.do === "reserve");
   shop.promisedParts = new Set(reserved.map(command => command.part));
   shop.partsGoing = new Set(sent.filter(command => ["scrap", "return"].includes(command.do)).map(command => command.part));
   shop.amending = new Map(sent.filter(command => command.do === "amend").map(({demand, wanted}) => [demand, wanted]));

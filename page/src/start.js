@@ -56,7 +56,7 @@ function listenToOrders() {
     });
   $("csvFile").addEventListener("change", showCsv);
   $("problemFile").addEventListener("change", showProblem);
-  $("problemMaterial").addEventListener("change", showProblem);
+  $("problemMaterial").addEventListener("change", showProblemFile);
   $("findForm").addEventListener("submit", findOrder);
   $("finishedToo").addEventListener("change", () => {
     showView();

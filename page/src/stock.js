@@ -179,11 +179,19 @@ function receive(event) {
   });
   if (goToFault($("receiveForm"))) return;
   const w = readMm(length), h = readMm(width), units = Number(pieces);
-  send(
-    {batch, count: units, do: "receive", h, material, w}, tr`Receive ${units} × ${material} ${sizeText(kind, w, h)}`, () => {
-      for (const id of ["receiveBatch", "receiveW", "receiveH"]) $(id).value = "";
-      $("receiveCount").value = "1";
-    });
+  const typed = RECEIPT_FIELDS.map(id => $(id).value), isEmpty = () => !RECEIPT_FIELDS.slice(1, 4).some(id => $(id).value);
+  const what = tr`Receive ${units} × ${material} ${sizeText(kind, w, h)}`;
+  const command = {batch, count: units, do: "receive", h, material, w};
+  if (send(command, what, () => {}, () => giveBack(isEmpty, () => fillReceipt(typed)))) fillReceipt([material, "", "", "", "1"]);
+}
+
+const RECEIPT_FIELDS = ["receiveMaterial", "receiveBatch", "receiveW", "receiveH", "receiveCount"];
+
+function fillReceipt(texts) {
+  RECEIPT_FIELDS.forEach((id, i) => {
+    $(id).value = texts[i];
+  });
+  adaptReceive();
 }
 
 async function trace(name) {

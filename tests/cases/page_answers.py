@@ -3,10 +3,11 @@ of one part, and answers that are none."""
 
 import base64
 import json
+import os
 import re
 from contextlib import contextmanager
 
-from browser.terminal import Terminal, by_id, open_shop
+from browser.terminal import TOP, Terminal, by_id, exchange, open_shop
 from cases.page import is_quiet
 from cases.page_plans import PIECES, bars
 from cases.page_saw import sender
@@ -106,6 +107,63 @@ def worse(trial):
                 trial.equal([re.sub(r"\s", " ", text) for text in it.value(cards)], heads)
                 trial.holds(it.text("boundSays").startswith("No plan takes fewer than 2."), it.text("boundSays"))
         trial.equal((len(asked), sorted(set(asked))), (5, asked))
+        is_quiet(it)
+
+
+with open(os.path.join(TOP, "docs", "shop.toml"), encoding="utf-8") as shop_file:
+    SMALL_SHOP = shop_file.read()
+
+
+@case(
+    "plans at the page of what was ordered meanwhile",
+    "A plan and a bound of an earlier answer count for a later one only where both are of the same pieces and parts. Where a piece is "
+    "ordered elsewhere, *Search longer* shows the plan of all, 7 sheets, at least 6, and never one of another answer that is proved "
+    "best by the later bound; where a part goes, no plan that needs it stays.",
+)
+def other_pieces(trial):
+    shop = open_shop(trial, SMALL_SHOP)
+    send = sender(shop)
+    send(do="receive", material="GLASS", batch="G-1", w=60, h=40, count=12)
+    line = {**PIECES, "material": "GLASS"}
+    sizes = ((38, 10, 4), (22, 22, 5), (38, 13, 6))
+    lines = [{**line, "line": number, "w": w, "h": h, "count": count} for number, (w, h, count) in enumerate(sizes, 1)]
+    send(do="order", order="A-1", lines=lines)
+    asked, told = [], {}
+
+    def answer(question):
+        # (the shop's own answer to a search that is held at 200 tables, so that it comes at once; of a longer one the same)
+        asked.append(question)
+        held = {**question, "calls": min(200, question["calls"])}
+        key = (json.dumps(held), exchange(shop, "/terminal/8")["last"])
+        if key not in told:
+            told[key] = exchange(shop, "/plans", held)
+        return 200, told[key]
+
+    with Terminal(trial, shop) as it:
+        it.begin(7)
+        it.view("tocut")
+        it.material("tocut", "GLASS")
+        it.value("(new MutationObserver(() => (window.saidNow ??= []).push(planNow.textContent)).observe(planNow, {childList: true}), 0)")
+        with answering(it, "/plans", answer):
+            it.click(by_id("planAll"))
+            it.planned()
+            trial.equal(it.text("planNow"), "6 sheets, at least 5")
+            send(do="order", order="B-1", lines=[{**line, "w": 60, "h": 40, "count": 1}])
+            it.click(f"{by_id('boundSays')}.querySelector('button')")
+            it.until("!toCut.planning && toCut.found.calls === MOST_CALLS")
+            trial.equal(it.text("planNow"), "7 sheets, at least 6")
+            trial.equal(it.value("[countOf(toCut.found.plans), toCut.found.missing.length]"), [16, 0])
+            trial.holds(it.text("boundSays").startswith("No plan takes fewer than 6."), it.text("boundSays"))
+            trial.holds(it.text("planWords").startswith("16 pieces of 4 kinds, 12 parts to cut from."), it.text("planWords"))
+            said = it.value("window.saidNow")
+            trial.holds(not [words for words in said if "proved best" in words], said)
+            # (the parts that the plans need are named, so that each answer is known to be of these)
+            gone = it.value("toCut.found.plans[0].parts[0]")
+            send(do="scrap", part=gone)
+            it.value("void searchOn()")
+            it.until("!toCut.planning")
+            trial.holds(gone not in asked[-1]["parts"] and len(asked[-1]["parts"]) == 11, asked[-1])
+            trial.equal(it.value(f"toCut.found.plans.some(plan => plan.parts.includes('{gone}'))"), False)
         is_quiet(it)
 
 
@@ -235,8 +293,8 @@ def pressed_first(trial):
 
 @case(
     "answers of the shop that do nothing",
-    "A message that is answered 503 waits, told with why, and is sent again under its number and done once; one that is answered 403 "
-    "isn't sent again, and where the page has to be opened is told.",
+    "A message that is answered 503 waits, told with why, and is sent again under its number and done once; so is one that is answered "
+    "403, which is told with where the page has to be opened.",
 )
 def none_done(trial):
     with Terminal(trial, open_shop(trial)) as it:
@@ -249,9 +307,8 @@ def none_done(trial):
         it.says("Receive 2 × STEEL 6000.0\u00a0mm: 2 units received, 1/0 to 1/1")
         with answering(it, "/message", lambda _: (403, "")):
             it.receive("STEEL", "S-2", "6000", None, 3)
-            it.says(
-                "Refused: Receive 3 × STEEL 6000.0\u00a0mm: the shop takes this from its own page alone: open it at 127.0.0.1 or "
-                "localhost (status 403)"
-            )
-        trial.equal(it.value("terminal.kept().length"), 0)
-        trial.equal((it.ask("/totals/STEEL")["received"], it.ask("/terminal/7")["last"]), (2 * 60000, 1))
+            words = "Last time the shop takes this from its own page alone: open it at 127.0.0.1 or localhost (status 403)."
+            it.until(f"{by_id('keptNotice')}.textContent.includes({json.dumps(words)})")
+            trial.equal((it.value("terminal.kept().length"), it.text("link")), (1, "no connection"))
+        it.says("Receive 3 × STEEL 6000.0\u00a0mm: 3 units received, 2/0 to 2/2")
+        trial.equal((it.ask("/totals/STEEL")["received"], it.ask("/terminal/7")["last"]), (5 * 60000, 2))

@@ -67,7 +67,7 @@ def bars(shop):
 
 @case(
     "two tabs of a browser are one terminal",
-    "What was typed in a tab that can't reach the shop is sent by another: the first shows its answer and clears its form; "
+    "What was typed in a tab that can't reach the shop is sent by another, and the first, whose form is empty by then, shows its answer; "
     "each message is done once, under a number of its own; a refusal stays beside the success behind it.",
 )
 def two_tabs(trial):
@@ -81,7 +81,7 @@ def two_tabs(trial):
         reach(it, False)
         it.receive("STEEL", "T-1", "6000", None, 2)
         it.until("terminal.kept().length === 1")
-        trial.equal(it.value(RECEIPT), ["T-1", "6000", "", "2"], "the form is cleared before the answer")
+        trial.equal(it.value(RECEIPT), EMPTY, "the form isn't cleared before the answer")
         turn_to(it, other)
         type_order(it, "A-1")
         it.until("terminal.kept().length === 2")
@@ -90,9 +90,72 @@ def two_tabs(trial):
         it.until("terminal.kept().length === 0")
         turn_to(it, first)
         it.says("2 units received, 3/0 to 3/1")
-        it.until(f"JSON.stringify({RECEIPT}) === JSON.stringify({json.dumps(EMPTY)})")
         trial.equal((bars(it.shop), it.ask("/terminal/7")["last"]), (7, 4))
         trial.equal([row["order"] for row in it.ask("/demands/0")["demands"]], ["A-1"])
+        is_quiet(it)
+
+
+ORDER_TYPED = (
+    "[document.getElementById('orderCode').value, ...[...document.querySelectorAll('#orderLines .orderline')].map(line => "
+    "['material', 'length', 'width', 'count'].map(name => line.querySelector(`[data-field=${name}]`).value).join(' '))]"
+)
+
+
+@case(
+    "forms of the page that are emptied when they are sent",
+    "An order, a receipt and a file leave their forms empty at once, while the shop is silent: its late answers empty nothing that is "
+    "typed by then. What is refused comes back where the form is still empty, else by the notice's link.",
+)
+def emptied(trial):
+    rows = "Länge;Breite;Stück;Material\n500;400;2;GLASS\n"
+    shown = f"[{by_id('fileCode')}.value, document.querySelectorAll('#csvPreview tbody tr').length]"
+    take_back = "[...document.querySelectorAll('#refusals button')].find(e => e.textContent === 'Take back what was typed')"
+    with Terminal(trial, open_shop(trial)) as it:
+        it.begin(7)
+        it.view("orders")
+        it.until("document.querySelector('#orderLines .orderline') && shop.materials.length && !refresh.running && !queue.busy")
+        it.shop.stand_still()
+        type_order(it, "A-1")
+        it.until(f"JSON.stringify({ORDER_TYPED}) === JSON.stringify(['', `${{shop.material}}   `])")
+        it.type(by_id("orderCode"), "A-2")
+        it.order_file("f-1", "f.csv", rows)
+        it.click(by_id("sendCsv"))
+        it.until(f"JSON.stringify({shown}) === '[\"\",0]'")
+        it.type(by_id("fileCode"), "f-2")
+        it.receive("STEEL", "S-1", "6000", None, 2)
+        it.until(f"JSON.stringify({RECEIPT}) === JSON.stringify({json.dumps(EMPTY)})")
+        it.type(by_id("receiveBatch"), "S-2")
+        it.type(by_id("receiveW"), "59")
+        trial.equal(it.value("terminal.kept().map(message => message.command.do)"), ["order", "import", "receive"])
+        it.shop.go_on()
+        for words in ("Order A-1: 1 line ordered", "Order F-1 from a file: 1 line ordered", "Receive 2 × STEEL 6000.0\u00a0mm: 2 units received"):
+            it.says(words)
+        it.until("terminal.kept().length === 0")
+        trial.equal(it.value(f"[{RECEIPT}, {ORDER_TYPED}[0], {by_id('fileCode')}.value]"), [["S-2", "59", "", "1"], "A-2", "f-2"])
+        # (refused: into the form that is empty, and by a link into one that isn't)
+        refused = "Refused: Order A-1: an order with this code is there already (40 OrderExists)"
+        type_order(it, "A-1")
+        it.says(refused)
+        it.until(f"JSON.stringify({ORDER_TYPED}) === JSON.stringify(['A-1', 'GLASS 500 400 2'])")
+        trial.equal(it.value(f"Boolean({take_back})"), False)
+        it.click("document.querySelector('#refusals button')")
+        it.shop.stand_still()
+        it.click("document.querySelector('#orderForm .act')")
+        it.until(f"{by_id('orderCode')}.value === ''")
+        it.type(by_id("orderCode"), "A-3")
+        it.shop.go_on()
+        it.says(refused)
+        trial.equal(it.value(f"{ORDER_TYPED}[0]"), "A-3")
+        it.click(take_back)
+        it.until(f"JSON.stringify({ORDER_TYPED}) === JSON.stringify(['A-1', 'GLASS 500 400 2'])")
+        it.order_file("a-1", "g.csv", rows)
+        it.click(by_id("sendCsv"))
+        it.says("Refused: Order A-1 from a file: an order with this code is there already (40 OrderExists)")
+        it.until(f"JSON.stringify({shown}) === '[\"a-1\",1]'")
+        it.type(by_id("fileCode"), "a-9")
+        it.click(by_id("sendCsv"))
+        it.says("Order A-9 from a file: 1 line ordered")
+        trial.equal(it.ask("/terminal/7")["last"], 4)
         is_quiet(it)
 
 

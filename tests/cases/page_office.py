@@ -593,6 +593,99 @@ def by_heads(trial):
         is_quiet(it)
 
 
+# (text, what is sent): units of heads and of cells, to the last digit; heads with money in them; counts as spreadsheets write them.
+IN_UNITS = (
+    ("Länge (cm);Breite (cm);Stück\n79,7;59,7;2\n", "1,GLASS,797.0,597.0,no,2,475809\n"),
+    ("length m,width [m],qty\n1.2,0.8,3\n", "1,GLASS,1200.0,800.0,no,3,960000\n"),
+    ("Länge in m;Breite in cm;Stück\n1,200;80,05;3\n", "1,GLASS,1200.0,800.5,no,3,960600\n"),
+    ("Länge/mm;Breite mm;Stück\n79,7;59,7;2\n", "1,GLASS,79.7,59.7,no,2,4758\n"),
+    ("Länge;Breite;Stück\n120 cm;0,6 m;5\n600 mm;400;5\n", "1,GLASS,1200.0,600.0,no,5,720000\n2,GLASS,600,400,no,5,240000\n"),
+    ("Länge (cm);Breite (cm);Stück\n600 mm;40;5\n", "1,GLASS,600,400.0,no,5,240000\n"),
+    ("Länge (cm);Werkstoff\n1.200,5;STEEL\n", "1,STEEL,12005.0,0.1,no,1,12005\n"),
+    ("Länge;Breite m. Rand;Stück\n600;400;5\n", "1,GLASS,600,400,no,5,240000\n"),
+    ("Länge;Breite;Stück Preis;Menge\n600;400;12;5\n", "1,GLASS,600,400,no,5,240000\n"),
+    ("Länge;Breite;Stückpreis;Anzahl;Preis\n600;400;12;5;12,50\n", "1,GLASS,600,400,no,5,240000\n"),
+    ("length,width,Pieces (EUR),Qty. €,amount,sum,cost,qty\n600,400,1,2,3,4,6,5\n", "1,GLASS,600,400,no,5,240000\n"),
+    ("Länge;Breite;Betrag;Kosten Stk;Wert;Menge\n600;400;1;2;3;5\n", "1,GLASS,600,400,no,5,240000\n"),
+    ("Länge;Breite;Stück\n600;400;3,0\n600;400;8 Stk\n600;400;2 pcs\n", "1,GLASS,600,400,no,3,240000\n2,GLASS,600,400,no,8,240000\n3,GLASS,600,400,no,2,240000\n"),
+)
+
+
+@case(
+    "units and money in a spreadsheet's heads at the page",
+    "Lengths are taken in the unit that their head or cell names, cm, m or mm, to the last digit; where none is named and none is 100 "
+    "or more it is asked once. A head with money in it is no count and no worth. `3,0` and `8 Stk` are counts; what is finer than a "
+    "tenth of a millimetre is told.",
+)
+def in_units(trial):
+    shown = "[...document.querySelectorAll('#csvPreview tbody tr')].map(row => [...row.cells].map(cell => cell.textContent))"
+    answers = "[...document.querySelectorAll('#csvUnit label')]"
+    with Terminal(trial, open_shop(trial)) as it:
+        it.begin(7)
+        it.until("shop.materials.length")
+        for text, sent in IN_UNITS:
+            trial.equal(it.value(f"{READ}({json.dumps(text)})"), {"fault": "", "text": HEADER + sent, "bad": []}, text)
+        bad = it.value(f"{READ}({json.dumps('Länge (cm);Breite (cm);Stück' + chr(10) + '79,755;59,7;1.000' + chr(10))})")["bad"]
+        wanted = "count “1.000”: write a whole number from 1 to 1\u202f000\u202f000"
+        trial.equal(bad, [f"2: length “797.55”: {MILLIMETRES}", f"2: {wanted}"])
+        text = "Länge;Breite;Stück;Preis/Stück\n79,7;59,7;2;12,50\n99,9;8;1;9\n"
+        it.order_file("a-1", "cm.csv", text)
+        trial.equal(it.value("document.querySelector('#csvPreview .fault').textContent"), "Say in which unit the lengths are.")
+        trial.holds(it.value(f"{by_id('sendCsv')}.disabled"), "lengths without a unit can be ordered")
+        trial.equal(it.text("csvLeftOut"), "Left out: “Preis/Stück”, column 4.")
+        trial.equal(it.value(f"{answers}.map(e => e.textContent)"), ["99,9 mm", "99,9 cm", "99,9 m"])
+        it.at_widths("orders-units")
+        it.click(f"{answers}[0]")
+        it.until(f"{shown}[0][3] === '79.7← 79,7'")
+        it.click(f"{answers}[1]")
+        it.until(f"{shown}[0][3] === '797.0← 79,7'")
+        it.click(by_id("sendCsv"))
+        it.says("Order A-1 from a file: 2 lines ordered, pieces wanted from no. 1 on")
+        rows = [[row[key] for key in ("w", "h", "wanted")] for row in it.ask("/demands/0")["demands"]]
+        trial.equal(rows, [[7970, 5970, 2], [9990, 800, 1]])
+        # (no unit is asked for where one length is 100 or more, nor of the shop's own form)
+        for text in ("Länge;Breite\n100;60\n5;6\n", "Länge;Breite\n1.200;60\n", HEADER + "1,GLASS,3.0,4.0,no,1,1\n", "Länge (cm);Werkstoff;Breite\n5;STEEL;0,1\n"):
+            trial.equal(it.value(f"readOrderFile({json.dumps(text)}).fault"), "", text)
+        is_quiet(it)
+
+
+@case(
+    "files that no order can be at the page",
+    "A cell of 20000 to 80000 spaces, and a head of 80000 brackets, are read in less than a tenth of a second. A first row of 400000 "
+    "columns, a file of 80000 rows and one of over 262144 bytes are told at once, the last without being read.",
+)
+def no_orders(trial):
+    fault = "document.querySelector('#csvPreview .fault')?.textContent"
+    with Terminal(trial, open_shop(trial)) as it:
+        it.begin(7)
+        it.until("shop.materials.length && !refresh.running")
+        took = "(text => { const begin = performance.now(); readOrderFile(text); return performance.now() - begin; })"
+        cells = [f"'Länge;Breite;Stück\\n1' + ' '.repeat({number}) + 'x;400;2\\n'" for number in (20000, 40000, 60000)]
+        heads = ["'('.repeat(80000) + ';Länge;Breite\\n1;600;400\\n'", "'[(('.repeat(20000) + ' in'.repeat(20000) + ' '.repeat(20000) + 'x;Länge\\n1;600\\n'"]
+        for text in [*cells, "'Länge;Breite;Stück\\n1' + ' '.repeat(80000) + 'x;400;2\\n'", *heads]:
+            # (the first of three may wait for others of this machine)
+            trial.holds(it.value(f"Math.min(...[1, 2, 3].map(() => {took}({text})))") < 100, f"{text} takes too long")
+        wide = "The file has 400\u202f000 columns; at most 64 are read."
+        trial.equal(it.value("readOrderFile('a'.concat(';a'.repeat(99999)).slice(0, 199999)).fault"), wide.replace("400", "100"))
+        long = "The file is over 262144 bytes long."
+        trial.equal(it.value("readOrderFile('a;'.repeat(400000)).fault"), long)
+        it.view("orders")
+        for name, content, words in (
+            ("long.csv", "Länge;Breite\n" + "600;400\n" * 40000, long),
+            ("wide.csv", "a;" * 65 + "\n" + "1;" * 65 + "\n", wide.replace("400\u202f000", "65")),
+            ("rows.csv", "Länge;Breite\n" + "600;400\n" * 30000, "The file has 30000 rows; an order has at most 200."),
+        ):
+            it.value("(window.reads = 0, window.read = Blob.prototype.arrayBuffer, Blob.prototype.arrayBuffer = function () { reads++; return read.call(this); }, 0)")
+            it.pick(by_id("csvFile"), trial.write(name, content))
+            it.until(f"{fault} === {json.dumps(words)}")
+            trial.equal(it.value(f"reads"), 0 if words == long else 1, name)
+            it.value("(Blob.prototype.arrayBuffer = read, 0)")
+        it.choose(by_id("problemMaterial"), "GLASS")
+        it.pick(by_id("problemFile"), trial.write("long.txt", "1 " * 140000))
+        it.until(f"document.querySelector('#problemPreview .fault')?.textContent === {json.dumps(long)}")
+        is_quiet(it)
+
+
 def saved(it, view, form):
     """The rows of a view's CSV file in a form, as a spreadsheet of its language reads them, and the file's path."""
     it.view(view)

@@ -232,7 +232,8 @@ def shown(trial):
         it.click(by_id("putBack"))
         it.until("!toCut.found && !document.querySelector('#planList svg')")
         it.click("document.querySelector('#cutFrom [data-key=\"parts back\"]')")
-        trial.equal(it.value("plansQuestion({part: '', buy: null}, 20)"), {"ask": "plans", "calls": 20, "material": "STEEL"})
+        names = [f"1/{n}" for n in range(4)] + ["2/0", "2/1"]
+        trial.equal(it.value("plansQuestion({part: '', buy: null}, 20)"), {"ask": "plans", "calls": 20, "material": "STEEL", "parts": names})
         it.click(by_id("planAll"))
         it.planned()
         told = exchange(shop, "/plans", it.value("plansQuestion(toCut.found.asked, toCut.found.calls)"))
