@@ -110,9 +110,14 @@ impl Columns {
         best_trees(alloc, &scaled, &rooms)
     }
 
+    // Counts that allow any number of pieces: a column may have more than are left.
+    fn any_counts(&self, alloc: Global) -> Result<Vec<u32>, AllocError> {
+        vec![in alloc; u32::MAX; self.wants.len()]
+    }
+
     // The column of a tree that is laid on a rectangle.
     fn column(&self, alloc: Global, tree: &Node, room: Sides) -> Result<Column, AllocError> {
-        let many = vec![in alloc; u32::MAX; self.wants.len()]?;
+        let many = self.any_counts(alloc)?;
         let laid = self.saw().laid(alloc, tree, room, &many)?;
         let mut counts = vec![in alloc; 0u32; self.wants.len()]?;
         count(&laid.tree, &mut counts);
@@ -157,7 +162,8 @@ impl Columns {
             return Ok(());
         };
         let left = self.left(alloc)?;
-        let tree = self.saw().strips(alloc, &left, room, axis)?;
+        let many = self.any_counts(alloc)?;
+        let tree = self.saw().strips(alloc, &left, room, axis, &many)?;
         let column = self.column(alloc, &tree, room)?;
         if let Some(found) = self.columns.get_mut(place) {
             if column.worth > found.worth {

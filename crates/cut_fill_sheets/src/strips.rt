@@ -214,14 +214,15 @@ impl Saw<'_> {
         Ok(strips)
     }
 
-    /// The best strips of a rectangle whose pieces lie one after another along an axis: of them the pieces that a plan may
-    /// have, no more than are left of each want, and no more than there are cuts.
+    /// The best strips of a rectangle whose pieces lie one after another along an axis, for what is left: of them the pieces
+    /// that a plan may have, of each want no more than its count allows, and no more in all than there are cuts.
     pub(crate) fn strips(
         &self,
         alloc: Global,
         left: &[u32],
         room: Sides,
         axis: Axis,
+        counts: &[u32],
     ) -> Result<Node, AllocError> {
         let pieces = self.lying(alloc, left, room, axis)?;
         let Sides { w: whole, h: depth } = along(axis, room);
@@ -234,7 +235,7 @@ impl Saw<'_> {
         }
         let rooms = Rooms::new(alloc, &heights, &gains, depth, self.kerf)?;
         let times = rooms.choice(alloc, strips.len(), strips.len())?;
-        let rows = rows_of(alloc, &pieces, &strips, &times, left)?;
+        let rows = rows_of(alloc, &pieces, &strips, &times, counts)?;
         let mut tree = Node::Rest;
         for row in rows.iter().rev() {
             let row = row_of(alloc, &pieces, row, axis)?;
@@ -265,16 +266,16 @@ fn allowed_of(
     Ok((row, has_piece))
 }
 
-// The strips of a rectangle, the last ones first, with no more pieces than any plan has, and of no want more than are left:
-// a tree goes as deep as it has pieces, and what goes down it takes room on the stack for each.
+// The strips of a rectangle, the last ones first, with no more pieces than any plan has, and of no want more than its count: a
+// tree goes as deep as it has pieces, and what goes down it takes room on the stack for each.
 fn rows_of(
     alloc: Global,
     pieces: &[Lying],
     strips: &[Strip],
     times: &[u32],
-    left: &[u32],
+    counts: &[u32],
 ) -> Result<Vec<Vec<u32>>, AllocError> {
-    let counts = left.to_vec(alloc)?;
+    let counts = counts.to_vec(alloc)?;
     let mut allowed = Allowed {
         counts,
         pieces: MOST_CUTS,

@@ -340,7 +340,8 @@ impl Unit {
     fn offer_stage(&mut self, alloc: Global) -> Result<(), AllocError> {
         match self.stage {
             Stage::Strips(axis) => {
-                let tree = self.saw().strips(alloc, &self.left, self.room, axis)?;
+                let left = &self.left;
+                let tree = self.saw().strips(alloc, left, self.room, axis, left)?;
                 self.offer(alloc, &tree)?;
                 self.stage = match axis {
                     Axis::X => Stage::Strips(Axis::Y),
