@@ -190,11 +190,16 @@ function tellAnswer({mark, words, reply, many}) {
   else showKept();
 }
 
-// A form is emptied when it is sent. What was refused comes back into it where it is still empty, else by a link.
-function giveBack(isEmpty, fillIn) {
-  if (!isEmpty()) return {words: tr`Take back what was typed`, go: fillIn};
-  fillIn();
-  return null;
+// A form is emptied when it is sent. What is refused comes back into it where it is still empty, and stands where it stood in
+// the window; else a link of the notice brings it back.
+function givenBack(isEmpty, fillIn) {
+  const view = viewName(), place = scrollY;
+  return () => {
+    if (!isEmpty()) return {words: tr`Take back what was typed`, go: fillIn};
+    fillIn();
+    if (viewName() === view) scrollTo(0, place);
+    return null;
+  };
 }
 
 // Where to go on from an answer.

@@ -534,7 +534,7 @@ function sendFile(form, text, more) {
   if (!imports.before.has(order)) imports.before.set(order, imports.last ?? 0);
   const accepted = () => imports.before.delete(order), typed = [$("fileCode").value, form, {...csv}, {...problem}];
   const isEmpty = () => !$("fileCode").value && !$("csvPreview").firstChild && !$("problemPreview").firstChild;
-  const refused = () => giveBack(isEmpty, () => fillFile(...typed));
+  const refused = givenBack(isEmpty, () => fillFile(...typed));
   if (send({do: "import", form, ...more, order, text}, tr`Order ${order} from a file`, accepted, refused)) clearFile();
 }
 

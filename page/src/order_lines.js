@@ -105,7 +105,7 @@ function sendOrder(event) {
   if (goToFault($("orderForm")) || !lines.length) return;
   const typed = [$("orderCode").value, lines.map(typedLine)], isEmpty = () => !isOrderTyped();
   const command = {do: "order", lines: texts.map(lineOf), order};
-  if (send(command, tr`Order ${order}`, () => {}, () => giveBack(isEmpty, () => fillOrder(...typed)))) fillOrder("", [{}]);
+  if (send(command, tr`Order ${order}`, () => {}, givenBack(isEmpty, () => fillOrder(...typed)))) fillOrder("", [{}]);
 }
 
 function fieldsOf(line) { return [...line.querySelectorAll("[data-field]")]; }

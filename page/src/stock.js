@@ -182,7 +182,7 @@ function receive(event) {
   const typed = RECEIPT_FIELDS.map(id => $(id).value), isEmpty = () => !RECEIPT_FIELDS.slice(1, 4).some(id => $(id).value);
   const what = tr`Receive ${units} × ${material} ${sizeText(kind, w, h)}`;
   const command = {batch, count: units, do: "receive", h, material, w};
-  if (send(command, what, () => {}, () => giveBack(isEmpty, () => fillReceipt(typed)))) fillReceipt([material, "", "", "", "1"]);
+  if (send(command, what, () => {}, givenBack(isEmpty, () => fillReceipt(typed)))) fillReceipt([material, "", "", "", "1"]);
 }
 
 const RECEIPT_FIELDS = ["receiveMaterial", "receiveBatch", "receiveW", "receiveH", "receiveCount"];

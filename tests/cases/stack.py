@@ -147,6 +147,11 @@ def answered(trial, ran, count):
 
 
 def little():
+    """Gives the new process a stack of 1 MiB, an eighth of what systems give."""
+    resource.setrlimit(resource.RLIMIT_STACK, (1024 * 1024, 1024 * 1024))
+
+
+def least():
     """Gives the new process a stack of 256 KiB."""
     resource.setrlimit(resource.RLIMIT_STACK, (256 * 1024, 256 * 1024))
 
@@ -157,7 +162,7 @@ def compiled(trial):
         raise Skipped("the program was built without proofs, and takes many times as much of the stack")
 
 
-@case("strips with little stack", "So is that question, with a stack of 256 KiB.")
+@case("strips with little stack", "So is that question, with a stack of 1 MiB.")
 def little_strips(trial):
     compiled(trial)
     answered(trial, trial.replay(NARROW, prepare=little), len(NARROW))
@@ -170,8 +175,8 @@ def comb(pieces):
 
 @case(
     "deep trees with little stack",
-    "With a stack of 256 KiB a bar is cut by a tree of 255 cuts, each in what the one before left, and a sheet of 500 by 500 "
-    "steps, of whose table the best tree cuts off one step at a time, is planned; 100000 brackets are refused.",
+    "A bar is cut by a tree of 255 cuts, each in what the one before left, with a stack of 256 KiB; and with 1 MiB a sheet of 500 by "
+    "500 steps is planned, of whose table the best tree cuts off one step at a time. 100000 brackets are refused.",
 )
 def deep(trial):
     compiled(trial)
@@ -180,19 +185,18 @@ def deep(trial):
     yard.material("GLASS", 0, "sheet")
     yard.bars("BAR", (1, 1000))
     job = yard.cut(yard.receive("BAR", 256), comb(256))
+    trace = compact({"ask": "trace", "part": f"{job}/510"})
+    answered(trial, trial.replay([*yard.lines, trace], prepare=least), len(yard.lines) + 1)
+    brackets = trial.replay([*yard.lines, "[" * 100000], prepare=least)
+    trial.equal((brackets.status, json.loads(brackets.out.split(b"\n")[-2])["refused"]), (0, 10))
     sheet = yard.receive("GLASS", 500, 500)
     demand = yard.order("GLASS", (1, 1, 1000000, False))
-    asked = [
-        {"ask": "trace", "part": f"{job}/511"},
-        {"ask": "plan", "demands": [demand], "part": sheet, "step": 1},
-        {"ask": "plans", "demands": [demand], "material": "GLASS", "step": 1},
-        {"ask": "plans", "calls": 20, "demands": [demand], "material": "GLASS", "parts": [sheet]},
-    ]
-    lines = [*yard.lines, *map(compact, asked)]
-    told = answered(trial, trial.replay(lines, prepare=little), len(lines))
-    trial.holds(told[-3]["worth"] > 0, told[-3])
-    brackets = trial.replay([*yard.lines, "[" * 100000], prepare=little)
-    trial.equal((brackets.status, json.loads(brackets.out.split(b"\n")[-2])["refused"]), (0, 10))
+    plans = [{"ask": "plans", "calls": 20, "demands": [demand], "material": "GLASS", **more} for more in ({"step": 1}, {"parts": [sheet]})]
+    lines = [*yard.lines, *map(compact, plans)]
+    answered(trial, trial.replay(lines, prepare=little), len(lines))
+    plan = compact({"ask": "plan", "demands": [demand], "part": sheet, "step": 1})
+    told = trial.replay([*yard.lines, plan], prepare=little)
+    trial.equal((told.status, json.loads(told.out.split(b"\n")[-2])["refused"]), (0, 91))
 
 
 @case(
@@ -204,13 +208,13 @@ def many(trial):
     yard = Yard()
     yard.material("BAR", 1)
     first = yard.bars("BAR", *[(100 + it, 3) for it in range(200)])
-    yard.receive("BAR", 6000, count=1000)
+    units = [yard.receive("BAR", 6000, count=100).partition("/")[0] for _ in range(10)]
     asked = {
         "ask": "plans",
         "calls": 20,
         "demands": list(range(first, first + 100)),
         "material": "BAR",
-        "parts": [f"{yard.acts}/{it}" for it in range(1000)],
+        "parts": [f"{act}/{it}" for act in units for it in range(100)],
     }
     lines = [*yard.lines, compact(asked)]
-    answered(trial, trial.replay(lines, prepare=little), len(lines))
+    answered(trial, trial.replay(lines, prepare=least), len(lines))
