@@ -212,6 +212,7 @@ FAILED = re.compile(r"\b(?:TableFault|AdoptFault|BookFault|Refusal)::(Store|Stor
 # The places that tell one where none is handed on, how many each function has, and what is so there.
 FAULTED = {
     "shop_book/src/books.rt from StoreFault": (2, "hands on a book's fault"),
+    "shop_book/src/ledger_book.rt fault Store": (1, "numbers or totals that a ledger can't hold, by its contract"),
     "shop_book/src/memory.rt fault Store": (1, "numbers or totals that the book in memory can't hold, by its contract"),
     "shop_desk/src/desk_calls.rt answer_again StoreFault": (1, "the kept reply is none"),
     "shop_examples/src/stores.rt book_over Store": (1, "a connection within a transaction"),

@@ -8,3 +8,7 @@ pub mod Handed
 pub mod Lasts
 -- the lines of an order
 pub mod LinesTold
+-- rows in a ledger, and what lasts beside it
+pub mod KnownRows
+pub mod LedgerBooks
+pub mod Loaded

@@ -9,3 +9,10 @@ pub mod Memory
 pub mod Equal
 pub mod Tallies
 pub mod MemBooks
+-- rows in a ledger, and what lasts beside it
+pub mod KeptUp
+pub mod Ledgers
+pub mod Storages
+pub mod LedgerBooks
+pub mod MemStorages
+pub mod Loading

@@ -3,10 +3,26 @@
 
 mod books;
 mod keeping;
+mod known_orders;
+mod ledger;
+mod ledger_book;
+mod ledger_rows;
+mod loading;
+mod mem_storage;
+mod mem_storing;
 mod memory;
 mod memory_lists;
 mod memory_parts;
 mod order_codes;
+mod posted;
+mod posting;
+mod read_rows;
+mod storage;
 
 pub use books::{Book, BookFault, FoundJob, JobHead, MOST_FAILURES};
+pub use ledger::Ledger;
+pub use mem_storage::MemStorage;
 pub use memory::MemBook;
+pub use posted::LedgerBook;
+pub use read_rows::ReadRows;
+pub use storage::{Storage, StorageFault};

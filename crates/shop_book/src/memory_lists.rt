@@ -13,7 +13,7 @@ ghost use Rattle.shop_book.specs.FoundJobs.{head_of};
 use crate::books::JobHead;
 use cut_measure::Code;
 use shop_records::{Demand, DemandList, ImportRow, Job, RowList};
-use shop_rows::{at, find, list_demands, list_job, put, put_all};
+use shop_rows::{at, find, list_demands, list_job, put, put_all, reserve_rows};
 use std::alloc::{AllocError, Global};
 use std::cmp::Ordering;
 
@@ -45,8 +45,8 @@ pub(crate) fn reserve_both<A, B>(
         ((vec_len rows.new + count ≤ vec_capacity rows.new)
         × (vec_len others.new + count ≤ vec_capacity others.new)) }
 {
-    rows.reserve(count)?;
-    others.reserve(count)
+    reserve_rows(rows, count)?;
+    reserve_rows(others, count)
 }
 
 // Whether a material is asked for.

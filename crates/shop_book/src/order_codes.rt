@@ -28,8 +28,8 @@ use std::ops::Bound;
 /// An order, in the order of its code's bytes, and between which numbers its demands lie.
 #[derive(Clone, Copy)]
 pub struct KnownOrder {
-    code: Code,
-    span: Span,
+    pub(crate) code: Code,
+    pub(crate) span: Span,
 }
 
 /// Two are equal where their codes are.

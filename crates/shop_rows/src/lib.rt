@@ -7,6 +7,7 @@ mod lines;
 mod names;
 mod open;
 mod part_rows;
+mod room;
 mod rows;
 mod sums;
 
@@ -17,6 +18,7 @@ pub use names::{
 };
 pub use open::{OpenRows, list_demands, list_job, numbers_after};
 pub use part_rows::{Origin, PartRow, PartRows};
+pub use room::reserve_rows;
 pub use rows::{
     KeyedRow, RowKey, at, copy_rows, find, first_rows, put, put_all, put_run, put_some, rises,
     settle, take_row,

@@ -10,6 +10,7 @@ ghost use Rattle.shop_rows.specs.Keys.{part_key};
 ghost use Rattle.shop_rows.specs.Open.{own_key, open_key, list_key, names_of, room_of, finds_with, finds_with_all, AreInOrder, HaveRoom, SetsKey, KeepsMaterial, KeepMaterials, ListsParts, ListsOthers};
 ghost use Rattle.shop_rows.specs.Rows.{rise, row_at, SetsRow};
 
+use crate::room::reserve_rows;
 use crate::rows::{KeyedRow, at, place_near, put, settle};
 use cut_measure::{Code, PartName};
 use shop_records::Part;
@@ -67,7 +68,7 @@ fn widen(list: &mut NameList, count: usize) -> Result<(), AllocError>
     ensures room { OnOk result (vec_len list.new.names + count ≤ vec_capacity list.new.names) }
     ensures capacity { vec_capacity list.old.names ≤ vec_capacity list.new.names }
 {
-    list.names.reserve(count)
+    reserve_rows(&mut list.names, count)
 }
 
 // Begins a list for a material, with room for so many names.

@@ -6,6 +6,7 @@ ghost use Rattle.shop_rows.specs.declared.part_rows.Origin.{Origin as OriginOf};
 ghost use Rattle.shop_rows.specs.Keys.{part_key};
 ghost use Rattle.shop_rows.specs.PartRows.{part_of, row_key, IsNumbered};
 
+use crate::room::reserve_rows;
 use crate::rows::{KeyedRow, ends, find, gap, move_back, put};
 use cut_measure::{Code, PartName, Size};
 use shop_records::{Part, State};
@@ -206,8 +207,8 @@ impl PartRows {
         if MOST_ORIGINS < self.origins.len().saturating_add(count) {
             return Err(AllocError);
         }
-        self.origins.reserve(count)?;
-        self.rows.reserve(count)?;
+        reserve_rows(&mut self.origins, count)?;
+        reserve_rows(&mut self.rows, count)?;
         Ok(())
     }
 

@@ -3,7 +3,7 @@ use Rattle.shop_rows.proofs.part_rows.PartRows.reserve.Goals as goal
 
 pub returns-clause-room : goal.returns-clause-room
 returns-clause-room c = record {
-  rows = c.in_ok-reserve-2.ensures.ok;
-  origins = c.in_ok-reserve.ensures.ok;
-  numbers = omega (arith, c.saturating_add.ensures, c.len.ensures, c.reserve.ensures.len, c.if-saturating_add-gt-MOST_ORIGINS.false);
+  rows = c.in_ok-reserve_rows-2.ensures.ok;
+  origins = c.in_ok-reserve_rows.ensures.ok;
+  numbers = omega (arith, c.saturating_add.ensures, c.len.ensures, c.reserve_rows.ensures.len, c.if-saturating_add-gt-MOST_ORIGINS.false);
 }

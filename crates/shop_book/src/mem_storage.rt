@@ -1,0 +1,23 @@
+//! What lasts as long as a program runs: the long texts, in memory.
+
+ghost use Rattle.std.specs.Prelude.{◌≡◌, ◌<◌, IsTrue, OnOk, OnErr, IfOk, IsSome, IfErr};
+ghost use Rattle.std.specs.FinMap.{is_sorted};
+ghost use Rattle.cut_measure.specs.Codes.{code_cmp};
+ghost use Rattle.shop_records.specs.Content.{pair_cmp};
+ghost use Rattle.shop_rows.specs.Keys.{import_key};
+ghost use Rattle.shop_rows.specs.Rows.{rise};
+
+use crate::keeping::KeptText;
+use shop_records::{ImportRow, Pair};
+use std::alloc::Global;
+use std::collections::BTreeMap;
+
+/// A storage in memory, after whose end nothing is left.
+#[derive(Drop)]
+pub struct MemStorage {
+    pub(crate) alloc: Global,
+    pub(crate) kept: BTreeMap<Pair, KeptText>,
+    pub(crate) imports: Vec<ImportRow>,
+    ghost kept_rise: { IsTrue (is_sorted pair_cmp kept.entries) },
+    ghost imports_rise: { IsTrue (rise import_key code_cmp imports.items) },
+}

@@ -1,0 +1,83 @@
+//! How a ledger makes room for a change, which may fail and changes no row, and puts it, which cannot fail.
+
+ghost use Rattle.shop_book.specs.Ledgers.{bare, content_in, HasRoomFor};
+ghost use Rattle.shop_records.specs.Content.{changed, fresh};
+
+use crate::known_orders::{come_strays, put_order};
+use crate::ledger::Ledger;
+use crate::memory_lists::{put_demands, put_job, reserve_both};
+use crate::memory_parts::{put_stock, reserve_parts};
+use shop_records::Change;
+use shop_rows::{OpenRows, PartRows, put_some, reserve_names, reserve_rows};
+use std::alloc::{AllocError, Global};
+
+impl Ledger {
+    ghost use Rattle.std.specs.Prelude.{◌≡◌, OnOk, OnErr};
+
+    /// The ledger of a shop in which nothing was done yet.
+    pub fn new(alloc: Global) -> Ledger
+        ensures { content_in result ≡ fresh }
+    {
+        Ledger {
+            materials: Vec::new(alloc),
+            parts: PartRows::new(alloc),
+            totals: Vec::new(alloc),
+            jobs: Vec::new(alloc),
+            orders: Vec::new(alloc),
+            demands: Vec::new(alloc),
+            strays: false,
+            last_act: 0,
+            last_demand: 0,
+            lists: OpenRows::new(alloc),
+        }
+    }
+
+    /// Makes room for all that a change puts. No row changes, also where memory is wanting.
+    pub fn make_room(&mut self, change: &Change) -> Result<(), AllocError>
+        ensures content { content_in self.new ≡ content_in self.old }
+        ensures room { OnOk result (HasRoomFor change.now self.new) }
+    {
+        let rows = change.parts.as_slice();
+        let count = change.demands.as_slice().len();
+        self.materials.reserve(1)?;
+        reserve_parts(&mut self.parts, &mut self.totals, rows.len() + 1)?;
+        reserve_names(&mut self.lists.parts, &change.moved, rows)?;
+        reserve_both(&mut self.jobs, &mut self.lists.jobs, 1)?;
+        reserve_rows(&mut self.orders, 1)?;
+        reserve_both(&mut self.demands, &mut self.lists.demands, count)
+    }
+
+    /// Puts the rows of a change for which there is room.
+    pub fn post(&mut self, change: Change)
+        requires { HasRoomFor change self.old }
+        ensures { content_in self.new ≡ bare (changed (content_in self.old) change) }
+    {
+        let demands = change.demands;
+        let wanted = demands.as_slice();
+        put_order(&mut self.orders, change.order, wanted);
+        self.strays = come_strays(self.strays, &self.orders, &self.demands, wanted);
+        put_some(&mut self.materials, change.material);
+        let parts = change.parts;
+        put_stock(
+            &mut self.parts,
+            &mut self.totals,
+            &mut self.lists.parts,
+            change.moved,
+            parts.as_slice(),
+        );
+        put_job(&mut self.jobs, &mut self.lists.jobs, change.job);
+        put_demands(&mut self.demands, &mut self.lists.demands, wanted);
+        self.last_act = change.act.unwrap_or(self.last_act);
+        self.last_demand = change.demand.unwrap_or(self.last_demand);
+    }
+
+    /// Puts rows that are read of tables, as a change that has nothing else puts them. After an `Err` no row has changed.
+    pub fn load(&mut self, rows: Change) -> Result<(), AllocError>
+        ensures ok { OnOk result (content_in self.new ≡ bare (changed (content_in self.old) rows)) }
+        ensures err { OnErr result (content_in self.new ≡ content_in self.old) }
+    {
+        self.make_room(&rows)?;
+        self.post(rows);
+        Ok(())
+    }
+}

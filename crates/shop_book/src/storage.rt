@@ -1,0 +1,94 @@
+//! What lasts of a shop: its long texts, and each change, as a whole or not at all.
+
+ghost use Rattle.std.specs.Prelude.{◌≡◌, ◌⊎◌, IfOk, OnOk, OnErr};
+ghost use Rattle.shop_records.specs.Content.{Content, kept_at, import_at, changed};
+ghost use Rattle.shop_records.specs.Lists.{IsLastNumber};
+ghost use Rattle.shop_records.specs.Soundness.{Fits};
+ghost use Rattle.shop_book.specs.Storages.{IsRead};
+
+use cut_measure::Code;
+use shop_records::{Change, ImportRow, Kept};
+use std::alloc::{AllocError, Global};
+
+/// Why a storage has no answer.
+#[derive(Clone, Copy, Debug, PartialEq, Eq)]
+pub enum StorageFault {
+    /// Memory was wanting.
+    NoMemory,
+    /// The store failed.
+    Store,
+}
+
+impl From<AllocError> for StorageFault {
+    ghost use Rattle.std.specs.Prelude.{◌≡◌};
+    ghost use Rattle.shop_book.specs.declared.storage.StorageFault.TheVariants.{NoMemory};
+
+    ghost from_gives = { λ _ fault. fault ≡ NoMemory };
+
+    fn from(_error: AllocError) -> StorageFault {
+        StorageFault::NoMemory
+    }
+}
+
+/// What lasts, wherever it is kept. A storage answers for the long texts alone; all other rows are answered from a ledger.
+pub trait Storage {
+    /// What a crash may leave, as a later open finds it.
+    ghost Left: { Type 0 };
+
+    /// What was left stands for this content.
+    ghost stands: { Left → Content → Type 0 };
+
+    /// A crash at this moment may leave this.
+    ghost may_leave: { Self → Left → Type 0 };
+
+    /// The storage holds this content.
+    ghost holds: { Self → Content → Type 0 };
+
+    /// So far the store gave back what was put into it.
+    ghost has_clean_disk: { Self → Type 0 };
+
+    /// What is kept of the accepted message with this pair.
+    fn kept(
+        &mut self,
+        alloc: Global,
+        terminal: u32,
+        number: u32,
+    ) -> Result<Option<Kept>, StorageFault>
+        ensures row { has_clean_disk self.new → (m : Content) → holds self.old m
+            → IfOk result (λ row. row
+            ≡ kept_at m (record { terminal = terminal; number = number })) }
+        ensures leaves { IsRead has_clean_disk holds may_leave self.old self.new };
+
+    /// What is kept of the import that the order of this code came by.
+    fn import(&mut self, alloc: Global, order: Code) -> Result<Option<ImportRow>, StorageFault>
+        ensures row { has_clean_disk self.new → (m : Content) → holds self.old m
+            → IfOk result (λ row. row ≡ import_at m order) }
+        ensures leaves { IsRead has_clean_disk holds may_leave self.old self.new };
+
+    /// The greatest number under which a message of a terminal is kept, 0 where none is.
+    fn last_number(&mut self, terminal: u32) -> Result<u32, StorageFault>
+        ensures number { has_clean_disk self.new → (m : Content) → holds self.old m
+            → IfOk result (λ last. IsLastNumber m terminal last) }
+        ensures leaves { IsRead has_clean_disk holds may_leave self.old self.new };
+
+    /// How many messages are kept. It is told in a log, and no clause says it.
+    fn kept_count(&mut self) -> Result<u32, StorageFault>
+        ensures leaves { IsRead has_clean_disk holds may_leave self.old self.new };
+
+    /// Makes a change that fits the content last as a whole, or not at all. After an `Err` the content is what it was,
+    /// whatever the change.
+    fn commit(&mut self, change: &Change) -> Result<(), StorageFault>
+        ensures ok { has_clean_disk self.new → (m : Content) → holds self.old m → Fits m change.now
+            → OnOk result (holds self.new (changed m change.now)) }
+        ensures err { has_clean_disk self.new → (m : Content) → holds self.old m
+            → OnErr result (holds self.new m) }
+        ensures crash { has_clean_disk self.new → (m : Content) → holds self.old m
+            → Fits m change.now
+            → (left : Left) → may_leave self.new left → may_leave self.old left
+            ⊎ stands left (changed m change.now) }
+        ensures lasts { has_clean_disk self.new → (m : Content) → holds self.old m
+            → Fits m change.now
+            → OnOk result ((left : Left) → may_leave self.new left
+            → stands left (changed m change.now)) }
+        ensures clean_disk { has_clean_disk self.new → has_clean_disk self.old };
+}
