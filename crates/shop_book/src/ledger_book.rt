@@ -1,4 +1,4 @@
-//! A book of both: rows are answered from a ledger, and what lasts is written behind it by a storage.
+//! A book of both: a ledger answers for rows, and a storage behind it writes what lasts.
 
 ghost use Rattle.shop_book.specs.LedgerBooks.{CountsFault, fault_by, told_by};
 
@@ -29,7 +29,7 @@ impl<S: Storage> LedgerBook<S> {
         BookFault::Store
     }
 
-    // The storage's fault, which is counted where the store failed.
+    // The storage's fault as the book's. Counts it if the store failed.
     fn count_fault(&mut self, fault: StorageFault) -> BookFault
         ensures fault { result ≡ fault_by fault }
         ensures ledger { self.new.ledger ≡ self.old.ledger }
@@ -42,7 +42,7 @@ impl<S: Storage> LedgerBook<S> {
         }
     }
 
-    // What the storage answered, where a failure of the store is counted.
+    // The storage's answer as the book's. Counts a failure of the store.
     fn count<T: Drop>(&mut self, answer: Result<T, StorageFault>) -> Result<T, BookFault>
         ensures ledger { self.new.ledger ≡ self.old.ledger }
         ensures storage { self.new.storage ≡ self.old.storage }
@@ -216,8 +216,7 @@ impl<S: Storage> Book for LedgerBook<S> {
         self.count(answer)
     }
 
-    /// Room is made in the ledger for all that the change puts, then the change is made to last, then its rows are put, which
-    /// cannot fail.
+    /// Reserves capacity in the ledger, makes the change last, and then puts its rows, which can't fail.
     fn commit(&mut self, change: Change) -> Result<(), BookFault> {
         self.ledger.make_room(&change)?;
         match self.storage.commit(&change) {

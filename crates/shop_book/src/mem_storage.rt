@@ -12,7 +12,7 @@ use shop_records::{ImportRow, Pair};
 use std::alloc::Global;
 use std::collections::BTreeMap;
 
-/// A storage in memory, after whose end nothing is left.
+/// A storage in memory, which leaves nothing when it ends.
 #[derive(Drop)]
 pub struct MemStorage {
     pub(crate) alloc: Global,

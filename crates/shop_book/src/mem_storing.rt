@@ -18,7 +18,7 @@ impl MemStorage {
     ghost use Rattle.shop_book.specs.MemStorages.{HoldsTexts};
     ghost use Rattle.shop_records.specs.Content.{fresh};
 
-    /// The storage of a shop in which nothing was done yet.
+    /// The storage of a new shop.
     pub fn new(alloc: Global) -> MemStorage
         ensures { HoldsTexts result fresh }
     {

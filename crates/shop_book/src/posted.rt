@@ -3,7 +3,7 @@
 use crate::ledger::Ledger;
 use crate::storage::Storage;
 
-/// A book whose rows are in a ledger, and which lasts by a storage.
+/// A book with its rows in a ledger, and a storage that makes its changes last.
 #[derive(Drop)]
 pub struct LedgerBook<S: Storage> {
     pub(crate) ledger: Ledger,

@@ -1,4 +1,4 @@
-//! How a ledger makes room for a change, which may fail and changes no row, and puts it, which cannot fail.
+//! A ledger takes a change in two steps: reserving capacity may fail and changes no row, putting the rows can't fail.
 
 ghost use Rattle.shop_book.specs.Ledgers.{bare, content_in, HasRoomFor};
 ghost use Rattle.shop_records.specs.Content.{changed, fresh};
@@ -14,7 +14,7 @@ use std::alloc::{AllocError, Global};
 impl Ledger {
     ghost use Rattle.std.specs.Prelude.{◌≡◌, OnOk, OnErr};
 
-    /// The ledger of a shop in which nothing was done yet.
+    /// The ledger of a new shop.
     pub fn new(alloc: Global) -> Ledger
         ensures { content_in result ≡ fresh }
     {
@@ -32,7 +32,7 @@ impl Ledger {
         }
     }
 
-    /// Makes room for all that a change puts. No row changes, also where memory is wanting.
+    /// Reserves capacity for every row of a change. Changes no row, even if memory runs out.
     pub fn make_room(&mut self, change: &Change) -> Result<(), AllocError>
         ensures content { content_in self.new ≡ content_in self.old }
         ensures room { OnOk result (HasRoomFor change.now self.new) }
@@ -47,7 +47,7 @@ impl Ledger {
         reserve_both(&mut self.demands, &mut self.lists.demands, count)
     }
 
-    /// Puts the rows of a change for which there is room.
+    /// Puts the rows of a change, once `make_room` has reserved their capacity.
     pub fn post(&mut self, change: Change)
         requires { HasRoomFor change self.old }
         ensures { content_in self.new ≡ bare (changed (content_in self.old) change) }
@@ -71,7 +71,7 @@ impl Ledger {
         self.last_demand = change.demand.unwrap_or(self.last_demand);
     }
 
-    /// Puts rows that are read of tables, as a change that has nothing else puts them. After an `Err` no row has changed.
+    /// Puts rows from tables, as a change with nothing else does. After an `Err` no row has changed.
     pub fn load(&mut self, rows: Change) -> Result<(), AllocError>
         ensures ok { OnOk result (content_in self.new ≡ bare (changed (content_in self.old) rows)) }
         ensures err { OnErr result (content_in self.new ≡ content_in self.old) }

@@ -13,7 +13,7 @@ use std::alloc::{AllocError, Global};
 /// Why a storage has no answer.
 #[derive(Clone, Copy, Debug, PartialEq, Eq)]
 pub enum StorageFault {
-    /// Memory was wanting.
+    /// Memory ran out.
     NoMemory,
     /// The store failed.
     Store,
@@ -30,12 +30,12 @@ impl From<AllocError> for StorageFault {
     }
 }
 
-/// What lasts, wherever it is kept. A storage answers for the long texts alone; all other rows are answered from a ledger.
+/// Where a shop's changes last. A storage answers for the long texts alone; a ledger answers for all other rows.
 pub trait Storage {
     /// What a crash may leave, as a later open finds it.
     ghost Left: { Type 0 };
 
-    /// What was left stands for this content.
+    /// What a crash left stands for this content.
     ghost stands: { Left → Content → Type 0 };
 
     /// A crash at this moment may leave this.
@@ -44,7 +44,7 @@ pub trait Storage {
     /// The storage holds this content.
     ghost holds: { Self → Content → Type 0 };
 
-    /// So far the store gave back what was put into it.
+    /// So far the disk returned what the storage wrote.
     ghost has_clean_disk: { Self → Type 0 };
 
     /// What is kept of the accepted message with this pair.
@@ -65,18 +65,18 @@ pub trait Storage {
             → IfOk result (λ row. row ≡ import_at m order) }
         ensures leaves { IsRead has_clean_disk holds may_leave self.old self.new };
 
-    /// The greatest number under which a message of a terminal is kept, 0 where none is.
+    /// The greatest number of a terminal's kept messages, 0 if it has none.
     fn last_number(&mut self, terminal: u32) -> Result<u32, StorageFault>
         ensures number { has_clean_disk self.new → (m : Content) → holds self.old m
             → IfOk result (λ last. IsLastNumber m terminal last) }
         ensures leaves { IsRead has_clean_disk holds may_leave self.old self.new };
 
-    /// How many messages are kept. It is told in a log, and no clause says it.
+    /// The number of kept messages, for the log alone: no clause says which number it is.
     fn kept_count(&mut self) -> Result<u32, StorageFault>
         ensures leaves { IsRead has_clean_disk holds may_leave self.old self.new };
 
-    /// Makes a change that fits the content last as a whole, or not at all. After an `Err` the content is what it was,
-    /// whatever the change.
+    /// Makes a change that fits the content last as a whole, or not at all. An `Err` leaves the content as it was, whatever the
+    /// change.
     fn commit(&mut self, change: &Change) -> Result<(), StorageFault>
         ensures ok { has_clean_disk self.new → (m : Content) → holds self.old m → Fits m change.now
             → OnOk result (holds self.new (changed m change.now)) }

@@ -1,12 +1,12 @@
-//! Room for rows that come.
+//! Capacity for more rows.
 
 ghost use Rattle.std.specs.Prelude.{◌≡◌, ◌+◌, ◌≤◌, OnOk, vec_len, vec_capacity};
 
 use std::alloc::AllocError;
 
-/// Makes room for so many rows more. Where there is too little, an eighth more is made than the rows take, or as much as is asked for
-/// where that is more: so at most an eighth of a long list lies idle, where `Vec::reserve` leaves up to half of it. The rows stay, also where memory is
-/// wanting.
+/// Reserves capacity for `count` more rows. If it has to grow, the list grows by an eighth of its length, or by `count` if that is
+/// more, so that a long list keeps at most an eighth of its length spare (`Vec::reserve` keeps up to half). Changes no row, even
+/// if memory runs out.
 pub fn reserve_rows<T>(rows: &mut Vec<T>, count: usize) -> Result<(), AllocError>
     ensures items { rows.new.items ≡ rows.old.items }
     ensures len { vec_len rows.new ≡ vec_len rows.old }
