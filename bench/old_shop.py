@@ -12,7 +12,7 @@ behind the fewest.
 Over the book in memory a question's time is that of so many at once to one `cutshop replay` that had the history before,
 from the first byte to the last reply, by the least of five such runs. Over a book in a file `cutshop serve` is asked by HTTP, a connection each, and told is the time from asking
 to the last byte; `/totals` is asked too, whose cost is that of a look-up. Told beside them is how long the program takes
-to its line `listening on`, and `cutshop ticket` from its start to its end.
+to its line `listening on`, `cutshop ticket` from its start to its end, and how much memory `serve` had at most behind all questions.
 """
 
 import argparse
@@ -164,6 +164,12 @@ def served(program, folder, store):
     return child, port, time.perf_counter() - begin
 
 
+def peak(process):
+    """The most memory that a process had so far, in kB."""
+    with open(f"/proc/{process}/status", encoding="ascii") as file:
+        return next(int(it.split()[1]) for it in file if it.startswith("VmHWM:"))
+
+
 def over_tables(program, parts, times, root):
     """What each question takes over a file behind so many parts, in microseconds, and the starts."""
     with tempfile.TemporaryDirectory(dir=root) as folder:
@@ -187,6 +193,7 @@ def over_tables(program, parts, times, root):
                     answer_of(port, request)
                     each.append(time.perf_counter() - begin)
                 took[name] = statistics.median(each) * 1e6
+        took["most memory of serve, in kB"] = peak(child.pid)
         child.kill()
         child.wait()
         begin = time.perf_counter()

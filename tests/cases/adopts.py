@@ -1,7 +1,5 @@
 """Files that a shop takes over or not: tables of others, other versions, and rows that are no values."""
 
-import sqlite3
-
 from cases.stores import DAY, filled, sent
 from kit import tables
 from kit.case import case, fault_in
@@ -16,20 +14,11 @@ def opens(trial, store):
     return False
 
 
-def dump(path):
-    """The whole content of a file, as SQL."""
-    book = sqlite3.connect(path)
-    try:
-        return list(book.iterdump())
-    finally:
-        book.close()
-
-
 def refused_as_it_was(trial, path, why):
     """A file that is told as of another version stays as it was."""
-    before = dump(path)
+    before = tables.dump(path)
     trial.equal((opens(trial, path), why), (False, why))
-    trial.equal(dump(path), before, why)
+    trial.equal(tables.dump(path), before, why)
 
 
 @case(
@@ -96,9 +85,9 @@ def unread(trial):
     for number, change in enumerate(("value TO amount", "name TO word")):
         path = filled(trial, f"unread-{number}.db", DAY[:1])
         tables.change(path, f"ALTER TABLE meta RENAME COLUMN {change}")
-        before = dump(path)
+        before = tables.dump(path)
         trial.ended(trial.run("ticket", "--store", path, "2147483647"), 1, err="fault store\n", sent=change)
-        trial.equal(dump(path), before, change)
+        trial.equal(tables.dump(path), before, change)
 
 
 # What makes a part or a total no value of its type, and what makes it one again.

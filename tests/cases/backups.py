@@ -10,8 +10,10 @@ import time
 from concurrent.futures import ThreadPoolExecutor
 from contextlib import ExitStack, contextmanager
 from functools import partial
+from itertools import product
 
 from cases.command_line import STEEL
+from cases.moved_files import TOLD
 from cases.sockets import soon
 from cases.terminals import Terminal, judged_by_modes
 from kit import crowds, tables
@@ -22,6 +24,7 @@ from kit.shop import answer, begin_line, end_line
 FAULT = b'{"name":"StoreFault","refused":99}'
 NO_MEMORY = b'{"name":"NoMemory","refused":98}'
 REQUEST = b"POST /backup HTTP/1.1\r\nHost: shop\r\nContent-Length: 0\r\n\r\n"
+DISK = b"cutshop: backups lie on the store's own disk\n"
 FAILED = "cutshop: answered 99 StoreFault; no backup was made in "
 
 
@@ -125,14 +128,14 @@ def noted(trial):
         shop.get("/materials")
         status, _, errors = shop.end()
         trial.equal(status, 0)
-        lines = errors.splitlines(keepends=True)
-        trial.equal(lines[:2], [begin_line(shop.store, is_new), f"cutshop: made backup {number} in backups\n".encode()])
+        lines = begin_line(shop.store, is_new) + DISK + f"cutshop: made backup {number} in backups\n".encode()
+        trial.equal(errors[: len(lines)], lines)
         trial.equal(is_whole(trial, trial.path(f"backups/{number}/shop.db"), []), [])
 
 
 @case(
     "the number of a backup",
-    "It is the least from 1 on that nothing has, be it a folder, a file, a link, or the part of another try.",
+    "It is one more than the greatest that something has up to 1000000, be it a folder, a file, a link, or the part of another try.",
 )
 def numbers(trial):
     shop = open_shop(trial)
@@ -141,11 +144,12 @@ def numbers(trial):
     trial.write("backups/4", "")
     trial.write("backups/5.part", "")
     os.symlink("nowhere", trial.path("backups/6"))
-    for number in (3, 7, 8):
+    for name in ("0.part", "007", "+9", "9.parts", "1000001", "x"):
+        trial.write(f"backups/{name}", "")
+    for number in (7, 8):
         trial.equal(shop.exchange(REQUEST), told(number))
     os.rmdir(trial.path("backups/1"))
-    for number in (1, 9):
-        trial.equal(shop.exchange(REQUEST), told(number))
+    trial.equal(shop.exchange(REQUEST), told(9))
 
 
 @case(
@@ -286,25 +290,33 @@ def linked(trial):
     trial.equal(is_whole(trial, trial.path("backups/1/real.db"), [terminal]), [5])
 
 
+def ended_by_itself(trial, shop, words):
+    """A shop that is asked for a backup, and ends in place of an answer, since other files have its names; or makes none and then ends,
+    where they got them since it looked."""
+    try:
+        came = shop.exchange(REQUEST)
+    except OSError:
+        came = b""
+    trial.holds(came in (b"", answer(503, FAULT)), f"{words}: {came}")
+    status, _, errors = shop.end()
+    trial.equal(status, 1, words)
+    trial.holds(errors.endswith(TOLD.format(shop.store).encode()), f"{words}: {errors}")
+
+
 @case(
     "a store that was moved away",
-    "Where other files lie under the store's names, or none, no backup is made of them; the shop goes on, and once they are back one is.",
+    "Where another file has the name of the store or of its log, or none has, no backup is made of it: the shop ends, and says why.",
 )
 def moved(trial):
-    shop, terminal = open_shop(trial, limit=8), Terminal(1)
-    for end in ("", "-wal"):
-        trial.equal(shop.exchange(REQUEST), told(1 if not end else 2))
-        os.rename(shop.store + end, trial.path(f"away{end}"))
-        trial.equal(shop.exchange(REQUEST), answer(503, FAULT))
-        shutil.copy(trial.path(f"away{end}"), shop.store + end)
-        trial.equal(shop.exchange(REQUEST), answer(503, FAULT))
-        os.rename(trial.path(f"away{end}"), shop.store + end)
-    trial.equal(names(trial), ["1", "2"])
-    trial.equal(terminal.send_all(shop, 1), None)
-    trial.equal(shop.exchange(REQUEST), told(3))
-    errors = shop.end()[2]
-    why = "the store's names lead to other files than those that are open; start this program anew"
-    trial.equal(errors.count(f"{FAILED}backups: {why}\n".encode()), 4, errors)
+    for number, (end, is_copied) in enumerate(product(("", "-wal"), (False, True))):
+        where, folder = (end, is_copied), f"backups {number}"
+        shop = open_shop(trial, f"{number}.db", folder)
+        trial.equal(shop.exchange(REQUEST), told(1), where)
+        os.rename(shop.store + end, trial.path("away"))
+        if is_copied:
+            shutil.copy(trial.path("away"), shop.store + end)
+        ended_by_itself(trial, shop, where)
+        trial.equal(names(trial, folder), ["1"], where)
 
 
 WHY = {
@@ -436,17 +448,18 @@ def unread(trial):
 
 
 @case(
-    "a folder in which each number of a backup is taken",
-    "1000000 numbers are tried, no more, and then a backup is refused 99 and that is told.",
+    "a folder in which the last number of a backup is taken",
+    "Where 1000000 is taken a backup is refused 99 and that is told; a greater number is no backup's.",
 )
 def each_number(trial):
     folder = os.path.realpath(trial.path("backups"))
-    faults = Faults(trial, "files", at=FIRST_WRITE - 2, on=True, error=errno.EEXIST, under=folder)
-    shop = open_shop(trial, folder=folder, environment=faults.environment, limit=1)
+    os.makedirs(os.path.join(folder, "999999.part"), 0o700)
+    os.mkdir(os.path.join(folder, "1000001"))
+    shop = open_shop(trial, folder=folder, limit=2)
+    trial.equal(shop.exchange(REQUEST), told(1000000))
     trial.equal(shop.exchange(REQUEST), answer(503, FAULT))
     errors = shop.end()[2].decode()
     trial.equal(errors.count(f"{FAILED}{folder}: each number up to 1000000 is taken; name another folder\n"), 1, errors)
-    trial.equal(faults.calls(), FIRST_WRITE - 3 + 1000000)
 
 
 @case(
@@ -474,14 +487,14 @@ def unnamed(trial):
     trial.equal(shop.exchange(REQUEST), told(1))
     shop.get("/materials")
     lines = f"{FAILED}{folder}: files can't be made in it\ncutshop: made backup 1 in {folder}\n".encode()
-    trial.equal(shop.end()[2], begin_line(shop.store) + lines + end_line(shop.store))
+    trial.equal(shop.end()[2], begin_line(shop.store) + DISK + lines + end_line(shop.store))
     trial.equal(is_whole(trial, trial.path("backups/1/b.db"), [terminal]), [2])
 
 
 @case(
     "a store on another disk",
-    "Where under the name of the store, or of its log, lies a file of another disk, be its number there the same, no backup is made, and "
-    "that is told; the shop goes on, and once it is the old file again one is.",
+    "Where under the name of the store, or of its log, lies a file of another disk, be its number there the same, no backup is made: the "
+    "shop ends, and says why.",
 )
 def other_disk(trial):
     os.mkdir(trial.path("data"))
@@ -490,15 +503,12 @@ def other_disk(trial):
     shop = open_shop(trial, f"{under}/a.db", environment=counted.environment)
     calls = counted.calls()
     shop.kill()
-    why = "the store's names lead to other files than those that are open; start this program anew"
-    # (a file is looked at once when it is opened for a backup: the store, and then its log)
+    # (in each turn it looks at the store, and then at its log)
     for number, half in enumerate(("store", "log"), 1):
         faults = Faults(trial, "disk", at=calls + number, under=under)
-        shop = open_shop(trial, f"{under}/{half}.db", environment=faults.environment, limit=2)
-        trial.equal(shop.exchange(REQUEST), answer(503, FAULT), half)
-        trial.equal(shop.exchange(REQUEST), told(number), half)
-        lines = f"{FAILED}backups: {why}\ncutshop: made backup {number} in backups\n".encode()
-        trial.equal(shop.end()[2], begin_line(shop.store) + lines + end_line(shop.store), half)
+        shop = open_shop(trial, f"{under}/{half}.db", environment=faults.environment)
+        ended_by_itself(trial, shop, half)
+    trial.equal(names(trial), [])
 
 
 @case(

@@ -155,16 +155,16 @@ def beside_faults(trial):
 
 @case(
     "names of this machine",
-    "With a page a Host is `127.0.0.1` or `localhost`, with the port or without, and another is answered 403; "
+    "With a page a Host is `127.0.0.1`, `localhost` or `[::1]`, with the port or without, and another is answered 403; "
     "without a page each is served.",
 )
 def hosts(trial):
     page = trial.write("page.html", "<p>a page</p>")
     for words in ((), ("--page", page)):
         shop = trial.shop(f"{len(words)}.db", words=words)
-        own = [f"{name}{port}" for name in ("127.0.0.1", "localhost") for port in ("", f":{shop.port}")]
+        own = [f"{name}{port}" for name in ("127.0.0.1", "localhost", "[::1]") for port in ("", f":{shop.port}")]
         others = ["shop", "evil.example", f"evil.example:{shop.port}", f"localhost:{shop.port + 1}", "127.0.0.1:80", ""]
-        others += ["LOCALHOST", "127.0.0.2", "localhost:", f"localhost.:{shop.port}", "[::1]", f"localhost:0{shop.port}"]
+        others += ["LOCALHOST", "127.0.0.2", "localhost:", f"localhost.:{shop.port}", "::1", f"[::1]:{shop.port + 1}", f"localhost:0{shop.port}"]
         for host in own + others:
             refused = words and host not in own
             wanted = FORBIDDEN if refused else answer(404, '{"name":"NoMaterial","refused":20}')

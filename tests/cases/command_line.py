@@ -2,10 +2,10 @@
 
 import os
 import socket
-import sqlite3
 import subprocess
 from contextlib import contextmanager
 
+from kit import tables
 from kit.case import case, fault_in
 
 STEEL = '[[material]]\ncode = "STEEL"\nkind = "bar"\nkerf = "0.3"\nmin_long = "2.0"\nmin_short = "0.1"\n'
@@ -278,6 +278,10 @@ def order_of_faults(trial):
     "with other values 21.",
 )
 def growing(trial):
+    trial.write("shop.toml", STEEL)
+    shop = trial.shop("a.db", shop_file=trial.path("shop.toml"))
+    trial.holds(shop.is_open, "the shop doesn't open")
+    shop.kill()
     with taken_port() as port:
         wanted = [(STEEL, "fault port"), (STEEL, "fault port"), (STEEL + GLASS, "fault port")]
         wanted += [(STEEL.replace("0.3", "0.4") + GLASS, "shop entry 1 refused 11 NumberReused")]
@@ -319,9 +323,7 @@ def shop_files(trial):
 )
 def no_stores(trial):
     junk = trial.write("junk.db", "no database")
-    with sqlite3.connect(trial.path("other.db")) as other:
-        other.execute("CREATE TABLE parts (name TEXT) STRICT")
-    other.close()
+    tables.change(trial.path("other.db"), "CREATE TABLE parts (name TEXT) STRICT")
     for store, line in (
         (junk, "fault store"),
         (".", "fault store"),
@@ -343,6 +345,10 @@ def ranges(trial):
     for port, limit in (("1", "1"), ("65535", "1000000"), ("+1", "007")):
         ran = trial.run("serve", "--port", port, "--store", "a.db", "--shop", "no.toml", "--limit", limit)
         trial.ended(ran, 1, err="fault file\n", sent=f"{port} {limit}")
+    options = [("--host", "shop")] * 10 + [("--origin", f"https://shop-{it}.example:8017") for it in range(9)] + [("--origin", "http://[::1]")]
+    words = [word for option in options for word in option]
+    ran = trial.run("serve", "--port", "1", "--store", "a.db", "--shop", "no.toml", *words)
+    trial.ended(ran, 1, err="fault file\n", sent="ten names and ten origins")
     for kerf, step in (("0", "0"), ("200", "200000")):
         trial.ended(
             trial.run("plan", "no.txt", f"--kerf={kerf}", f"--step={step}"), 1, err="fault file\n", sent=f"{kerf} {step}"
@@ -366,6 +372,17 @@ plan a.txt --kerf 1x --step 1 = '1x' for '--kerf <N>'
 plan a.txt --kerf 1 --step 200001 = '200001' for '--step <N>'
 plan a.txt --kerf 1 --kerf 2 --step 1 = '--kerf <N>'
 plan a.txt --kerf 1 --step 1 --port 1 = '--port'
+restore --store a.db = --from <FOLDER/N>
+restore --from b/1 = --store <FILE>
+restore --store a.db --from b/1 c = 'c'
+ticket --store a.db 1 --read-only=1 = '1' for '--read-only'
+serve --port 1 --store a.db --shop a.toml --read-only = '--read-only'
+serve --port 1 --store a.db --shop a.toml --origin shop.example = 'shop.example' for '--origin <ORIGIN>'
+serve --port 1 --store a.db --shop a.toml --origin https:// = 'https://' for '--origin <ORIGIN>'
+serve --port 1 --store a.db --shop a.toml --origin https://shop.example/ = 'https://shop.example/' for '--origin <ORIGIN>'
+serve --port 1 --store a.db --shop a.toml --origin https://:8017 = 'https://:8017' for '--origin <ORIGIN>'
+serve --port 1 --store a.db --shop a.toml --origin ftp://shop.example = 'ftp://shop.example' for '--origin <ORIGIN>'
+serve --port 1 --store a.db --shop a.toml --origin https://a --origin b = 'b' for '--origin <ORIGIN>'
 ticket --store a.db 0 = '0' for '<JOB>'
 ticket --store a.db 2147483648 = '2147483648' for '<JOB>'
 ticket --store a.db x = 'x' for '<JOB>'
@@ -412,6 +429,12 @@ def all_mistaken(trial, lines):
 )
 def mistakes(trial):
     all_mistaken(trial, MISTAKES)
+    eleven = (
+        (("serve", "--port", "1", "--store", "a.db", "--shop", "a.toml"), "--host", "shop", "'--host <NAME>' may be given at most 10 times"),
+        (("serve", "--port", "1", "--store", "a.db", "--shop", "a.toml"), "--origin", "http://a", "'--origin <ORIGIN>' may be given at most 10 times"),
+    )
+    for words, option, value, named in eleven:
+        mistaken(trial, (*words, *[option, value] * 11), named)
     ran = trial.run()
     trial.equal((ran.status, ran.out, bool(ran.err)), (2, b"", True), "no word")
     ran = subprocess.run([trial.program, b"\xff"], capture_output=True, cwd=trial.folder)
@@ -460,9 +483,10 @@ COMMANDS = {
     "replay": ("lines of standard input", []),
     "plan": ("problem file", ["FILE", "--kerf", "--step", "--whole", "--calls"]),
     "orders": ("order file", ["FILE", "--order", "--terminal", "--number"]),
-    "serve": ("HTTP", ["--port", "--store", "--shop", "--limit", "--page", "--backup"]),
-    "ticket": ("ticket of a job", ["--store", "JOB"]),
-    "yield": ("became of a material", ["--store", "MATERIAL"]),
+    "serve": ("HTTP", ["--port", "--store", "--shop", "--limit", "--page", "--backup", "--existing", "--keep", "--host", "--origin"]),
+    "ticket": ("ticket of a job", ["--store", "JOB", "--read-only"]),
+    "yield": ("became of a material", ["--store", "MATERIAL", "--read-only"]),
+    "restore": ("backup in the place of a store", ["--store", "--from"]),
 }
 
 

@@ -4,7 +4,6 @@ and texts that leave a store alone. There is memory enough in each."""
 import errno
 import json
 
-from cases.adopts import dump
 from cases.broken_streams import whole
 from cases.command_line import GLASS as GLASS_ENTRY
 from cases.command_line import over
@@ -162,7 +161,7 @@ def blocked(trial):
 )
 def left(trial):
     path = filled(trial)
-    before = dump(path)
+    before = tables.dump(path)
     for _ in range(2):
         for words, status in (
             (("ticket", "--store", path, "2"), 0),
@@ -171,7 +170,7 @@ def left(trial):
             (("yield", "--store", path, "IRON"), 1),
         ):
             trial.equal(trial.run(*words).status, status, " ".join(words))
-            trial.equal(dump(path), before, " ".join(words))
+            trial.equal(tables.dump(path), before, " ".join(words))
 
 
 @case(
@@ -266,9 +265,9 @@ def same_rows(trial):
     shop = trial.shop(shop_file=shop_file, limit=1)
     shop.get("/materials")
     trial.equal(shop.end()[0], 0)
-    before = dump(shop.store)
+    before = tables.dump(shop.store)
     for words in ((), ("--page", trial.write("page.html", "<p>"))):
         again = trial.shop(shop_file=shop_file, limit=1, words=words)
         again.exchange(b"GET /materials HTTP/1.1\r\nHost: localhost\r\n\r\n")
         trial.equal(again.end()[0], 0)
-        trial.equal(dump(shop.store), before, " ".join(words))
+        trial.equal(tables.dump(shop.store), before, " ".join(words))

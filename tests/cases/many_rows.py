@@ -2,7 +2,6 @@
 
 import itertools
 import json
-import shutil
 from collections import Counter
 
 from cases.limits_of_lines import added, imported, over_both, refused
@@ -301,7 +300,7 @@ def history_file(trial, count):
 def old_store(trial, count, more=0):
     """A shop over a file with such units and demands, so much history, and then such remnants and jobs; where `more` is said also
     so many waiting jobs and open demands between."""
-    path = shutil.copy(history_file(trial, count), trial.path(f"old-{count}.db"))
+    path = tables.copy(history_file(trial, count), trial.path(f"old-{count}.db"))
     rows, first = aged.open_work(more, "STEEL", 100, 1, aged.WORK, aged.WORK, "WORK")
     tables.insert(path, rows)
     yard = begun().then(2)

@@ -1,7 +1,6 @@
 """Requests for memory that are refused, one after the other: what is answered then, and what is kept."""
 
 import os
-import shutil
 from concurrent.futures import ThreadPoolExecutor
 
 from kit import tables
@@ -189,7 +188,7 @@ def texts(trial):
     def run(faults):
         # (each run has a store of its own)
         copy = trial.path(f"{faults.at:06}.db")
-        shutil.copy(store, copy)
+        tables.copy(store, copy)
         again = opened(trial, copy, faults)
         first = faults.calls()
         for path, text in zip(paths, wanted):
@@ -222,7 +221,7 @@ def commands(trial):
 
         def run(faults):
             copy = trial.path(f"{words[0]}-{faults.at:06}.db")
-            shutil.copy(store, copy)
+            tables.copy(store, copy)
             ran = trial.run(*[copy if it == store else it for it in words], environment=faults.environment)
             trial.equal(ran == whole or (ran.status, ran.out, fault_in(ran.err) in told) == (1, b"", True), True, f"{words} {ran}")
             os.remove(copy)

@@ -8,7 +8,7 @@ import subprocess
 
 from cases.command_line import mistaken
 from kit.case import SECONDS, case, fault_in
-from kit.shop import VERSION
+from kit.shop import VERSION, version_told
 
 TOP = os.path.join(os.path.dirname(os.path.abspath(__file__)), "..", "..")
 
@@ -168,7 +168,8 @@ def words(trial):
 
 @case(
     "the version",
-    "`--version` and `-V` print `cutshop` and the version on one line, with status 0: the one that the documents tell of it.",
+    "`--version` and `-V` print `cutshop` and the version on one line, with status 0: the one that the documents tell of it, and "
+    "` (unproved)` behind it where the program was built without proofs.",
 )
 def version(trial):
     told = set()
@@ -177,7 +178,7 @@ def version(trial):
             told |= set(re.findall(r"\b(?:cutshop|[Vv]ersion) (\d+\.\d+\.\d+)\b", file.read()))
     trial.equal(told, {VERSION}, "the documents")
     for word in ("--version", "-V"):
-        trial.ended(trial.run(word), 0, f"cutshop {VERSION}\n", sent=word)
+        trial.ended(trial.run(word), 0, f"cutshop {version_told()}\n", sent=word)
 
 
 # Of each command's help the lines of these words, and the unit that each says.

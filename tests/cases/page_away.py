@@ -66,7 +66,8 @@ STRANGE = (
 @case(
     "another program at the port of the page's shop",
     "What is typed while another program or a proxy answers in the shop's place is kept, whatever it answers; the page has no "
-    "connection and tells what came. It is done once when the shop is back.",
+    "connection and tells what came. It is done once when the shop is back; where nothing of the shop was shown when it was typed, a "
+    "person is asked before.",
 )
 def other_program(trial):
     shop, said = open_shop(trial), [STRANGE[0]]
@@ -88,6 +89,9 @@ def other_program(trial):
                 trial.equal((it.text("link"), it.value("document.querySelectorAll('#refusals .notice').length")), ("no connection", 0))
             it.at_widths("another-program")
         begun_again(shop)
+        it.until(f"{by_id('keptNotice')}.textContent.includes({json.dumps(ASKED)})")
+        trial.equal(it.ask("/totals/STEEL")["received"], 0)
+        it.click(row_button(1, "Send"))
         it.says(f"{RECEIVED}: 3 units received, 1/0 to 1/2")
         it.until(f"{by_id('link')}.textContent === 'connected' && !terminal.kept().length")
         trial.equal((it.ask("/totals/STEEL")["received"], it.ask("/terminal/7")["last"]), (3 * 60000, 1))
@@ -101,6 +105,9 @@ def other_program(trial):
             it.until(f"{by_id('keptNotice')}.textContent.includes('status 404 came')")
             trial.equal(it.value("terminal.kept().map(message => message.number)"), [2])
         begun_again(shop)
+        it.until(f"!terminal.kept().length || {by_id('keptNotice')}.textContent.includes({json.dumps(ASKED)})")
+        if it.value("terminal.kept().length"):
+            it.click(row_button(1, "Send"))
         it.until("!terminal.kept().length")
         trial.equal((it.ask("/totals/STEEL")["received"], it.ask("/terminal/7")["last"]), (4 * 60000, 2))
         is_quiet(it)

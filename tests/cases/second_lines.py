@@ -4,7 +4,6 @@ import errno
 import os
 import re
 import shutil
-import sqlite3
 import subprocess
 
 from cases.command_line import STEEL, serving, taken_port
@@ -140,6 +139,10 @@ def entries(trial):
     changed = "another entry was read here before; put it back, and write new ones behind the last"
     other = "the store has this material with another kind, kerf or limits"
     bad = "the kerf or a limit is out of its range for this kind"
+    trial.write("shop.toml", STEEL)
+    shop = trial.shop("a.db", shop_file=trial.path("shop.toml"))
+    trial.holds(shop.is_open, "the shop doesn't open")
+    shop.kill()
     with taken_port() as port:
         for text, line, why in (
             (STEEL, "fault port", None),
@@ -170,6 +173,7 @@ def stores(trial):
     with open(trial.path("whole.db"), "rb") as file:
         content = file.read()
     trial.write("damaged.db", content[:16] + b"\xff" * 4096)
+    trial.write("damaged.db-wal", "")
     trial.write("journal.db", content)
     trial.write("journal.db-journal", b"\xd9\xd5\x05\xf9 \xa1c\xd7" + b"\x00" * 504)
     for name, why in (
@@ -266,9 +270,7 @@ def unreadable(trial):
     "told apart.",
 )
 def versions(trial):
-    with sqlite3.connect(trial.path("other.db")) as other:
-        other.execute("CREATE TABLE parts (name TEXT) STRICT")
-    other.close()
+    tables.change(trial.path("other.db"), "CREATE TABLE parts (name TEXT) STRICT")
     for name, change in (("newer.db", None), ("sums.db", "UPDATE totals2 SET received = received + 1")):
         shop = trial.shop(name, shop_file=trial.write("shop.toml", STEEL))
         shop.kill()
@@ -344,13 +346,13 @@ def log(trial):
         trial.equal(shop.end(), (0, f"listening on 127.0.0.1:{shop.port}\n".encode(), log))
 
 
-FAILED = b"cutshop: answered 99 StoreFault; look at the store's disk, and start this program anew\n"
+FULL = b"cutshop: answered 99 StoreFault; the disk is full; make room, and messages are accepted again\n"
 
 
 @case(
     "a disk that gets full",
     "A store that can't be made since the disk is full is told so; where it gets full while it is served messages are refused 99, "
-    "each with a line on standard error, and questions are answered.",
+    "with a line on standard error (once a minute), and questions are answered.",
 )
 def full_disk(trial):
     none = trial.path("none.db")
@@ -369,7 +371,7 @@ def full_disk(trial):
         trial.equal(shop.get("/materials"), answer(200, '{"materials":[],"ok":"materials"}'))
     shop.process.terminate()
     _, told = shop.process.communicate()
-    trial.equal(told, begin_line(shop.store) + 2 * FAILED)
+    trial.equal(told, begin_line(shop.store) + FULL)
 
 
 WANTING = b"cutshop: answered 98 NoMemory; end other programs, or give this one more memory\n"

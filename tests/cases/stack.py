@@ -50,8 +50,12 @@ DEPTHS = {
     "shop_planning/src/posing.rt parts_refusal": (1000, "the parts of a question"),
     "shop_planning/src/posing.rt sizes_refusal": (10, "the sizes to be bought"),
     "shop_request/src/fields.rt values_named": (64, "the fields of a head"),
-    "shop_request/src/guards.rt has_cross_site": (64, "the fields of a head"),
+    "shop_request/src/addresses.rt put_hosts": (10, "the names that a server is given"),
+    "shop_request/src/addresses.rt put_origins_hosts": (10, "the origins that a server is given"),
+    "shop_request/src/addresses.rt put_texts": (10, "the origins that a server is given"),
+    "shop_request/src/guards.rt has_foreign": (64, "the fields of a head"),
     "shop_request/src/routes.rt add_all": (100, "the routes"),
+    "shop_serve/src/lines.rt due_of": (256, "the lines of which it is known when they were written"),
     "shop_tables/src/laying.rt run_all": (100, "the statements that make the tables"),
     "shop_tables/src/writing.rt write_all": (1000, "the rows that one message writes"),
 }

@@ -52,7 +52,7 @@ def courses(trial):
     return [
         Course("day", day, lambda path: None, 0),
         Course("again", day, copy, end),
-        Course("earlier", day, lambda path: shutil.copy(earlier, path), end),
+        Course("earlier", day, lambda path: tables.copy(earlier, path), end),
         Course("amended", day_of(trial, AMENDED), lambda path: None, 0),
     ]
 

@@ -6,7 +6,7 @@ import subprocess
 import tempfile
 from dataclasses import dataclass, field
 
-from kit.shop import Shop
+from kit.shop import Shop, is_watched
 
 # No run of the program that ends by itself takes this long.
 SECONDS = 120
@@ -155,8 +155,7 @@ class Trial:
 
     def is_watched(self):
         """Whether the program is one that was built without proofs: it watches its memory, and its calls take more of the stack."""
-        with open(self.program, "rb") as file:
-            return b"AddressSanitizer" in file.read()
+        return is_watched(self.program)
 
     def places(self, count, stride=7):
         """The numbers below `count`: all of them in a whole run, else each `stride`-th, and the first and last few."""

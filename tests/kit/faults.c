@@ -11,9 +11,10 @@
 //   FAULT_ERROR  the error's number
 //   FAULT_BY     reads and writes of streams take at most so many bytes
 //   FAULT_STOP   kept, dropped or torn: the process ends at the call of `files`, and of what wasn't synced all stays, nothing,
-//                or in each sector what it held at some time since
+//                or in each sector what it held at some time since; halted: it stands still there until it is told to go on
 //   FAULT_SEED   which sectors are torn
-//   FAULT_COUNT  a file of a page, whose first 8 bytes count the calls of the process that was started last
+//   FAULT_COUNT  a file of a page, whose first 8 bytes count the calls of the process that was started last; so many seconds as
+//                the next 8 tell are added to each time that is told
 
 typedef unsigned long size_t;
 
@@ -24,6 +25,7 @@ enum { SOCKET_CALL = 41, ACCEPT_CALL = 43, BIND_CALL = 49, LISTEN_CALL = 50, ACC
 enum { EPOLL_WAIT_CALL = 232, EPOLL_CTL_CALL = 233, EPOLL_CREATE1_CALL = 291 };
 enum { CLOCK_GETTIME_CALL = 228, STATX_CALL = 332, STATX_DISK = 35 };
 enum { SENDTO_CALL = 44, RECVFROM_CALL = 45, FCNTL_CALL = 72, FSYNC_CALL = 74, FDATASYNC_CALL = 75, FTRUNCATE_CALL = 77 };
+enum { GETPID_CALL = 39, KILL_CALL = 62, HALT_SIGNAL = 19, LINK_CALL = 86, UNLINKAT_CALL = 263 };
 enum { RENAME_CALL = 82, MKDIR_CALL = 83, RMDIR_CALL = 84, UNLINK_CALL = 87, FCHMOD_CALL = 91, FCHOWN_CALL = 93, OPENAT_CALL = 257 };
 
 extern int *__errno_location(void);
@@ -40,7 +42,7 @@ extern void *mmap(void *, size_t, int, int, int, long);
 extern void _exit(int) __attribute__((noreturn));
 
 enum { MEMORY = 1, READ, WRITE, FILES, LOOKS, PORT, ACCEPT, WATCH, WAIT, CLOCK, DISK };
-enum { KEPT = 1, DROPPED, TORN };
+enum { KEPT = 1, DROPPED, TORN, HALTED };
 enum { SECTOR = 512, MOST_PATHS = 64, MOST_NOTES = 1 << 16, MOST_NUMBERS = 1024, MOST_LENGTH = 512 };
 
 // A file or folder that was opened, and a number of it that stays open, or -1 for a folder.
@@ -65,8 +67,8 @@ struct note {
 static int of, on, error_number, stop, ready;
 static long at, most, seed;
 static const char *under;
-static long own_count;
-static volatile long *calls = &own_count;
+static long own_page[2];
+static volatile long *calls = own_page;
 static struct path paths[MOST_PATHS];
 static int path_count;
 static struct note notes[MOST_NOTES];
@@ -98,7 +100,7 @@ static int word(const char *name, const char *const *words) {
 
 __attribute__((constructor)) static void begin(void) {
     static const char *const kinds[] = {"memory", "read", "write", "files", "looks", "port", "accept", "watch", "wait", "clock", "disk", 0};
-    static const char *const stops[] = {"kept", "dropped", "torn", 0};
+    static const char *const stops[] = {"kept", "dropped", "torn", "halted", 0};
     static const char *const times[] = {"on", 0};
     find_real();
     of = word("FAULT_OF", kinds);
@@ -184,6 +186,10 @@ static void restore(void) {
 static int file_fails(void) {
     if (!is_hit(FILES)) return 0;
     if (!stop) return failed(error_number);
+    if (stop == HALTED) {
+        syscall(KILL_CALL, syscall(GETPID_CALL), HALT_SIGNAL);
+        return 0;
+    }
     if (stop != KEPT) restore();
     _exit(9);
 }
@@ -194,7 +200,7 @@ static int is_below(int file) { return file >= 0 && file < MOST_NUMBERS && place
 
 // Notes that a path is changed here, over so many bytes.
 static void note(int path, int how, long place, long count) {
-    if (stop < DROPPED || note_count == MOST_NOTES) return;
+    if ((stop != DROPPED && stop != TORN) || note_count == MOST_NOTES) return;
     int own = paths[path].own;
     struct note *it = &notes[note_count++];
     *it = (struct note){path, how, place, count, how ? 0 : syscall(LSEEK_CALL, own, 0, SEEK_END), 0};
@@ -292,6 +298,19 @@ int open(const char *name, int flags, ...) {
     return file;
 }
 
+// (a folder is opened so, to look what is in it or to take something away there)
+int openat(int folder, const char *name, int flags, ...) {
+    __builtin_va_list rest;
+    __builtin_va_start(rest, flags);
+    int mode = flags & O_CREAT ? __builtin_va_arg(rest, int) : 0;
+    __builtin_va_end(rest);
+    int is_there = folder == AT_FDCWD && is_under(name);
+    if (is_there && fails(LOOKS)) return -1;
+    int file = syscall(OPENAT_CALL, folder, name, flags, mode);
+    if (file >= 0 && file < MOST_NUMBERS) places[file] = is_there ? place_of(name) + 1 : 0;
+    return file;
+}
+
 int close(int file) {
     if (is_below(file)) places[file] = 0;
     return syscall(CLOSE_CALL, file);
@@ -362,6 +381,13 @@ int rename(const char *from, const char *to) {
     return result;
 }
 
+int link(const char *from, const char *to) { return is_under(to) && file_fails() ? -1 : syscall(LINK_CALL, from, to); }
+
+int unlinkat(int folder, const char *name, int flags) {
+    if ((is_below(folder) || (folder == AT_FDCWD && is_under(name))) && file_fails()) return -1;
+    return syscall(UNLINKAT_CALL, folder, name, flags);
+}
+
 int unlink(const char *name) { return is_under(name) && file_fails() ? -1 : syscall(UNLINK_CALL, name); }
 
 int rmdir(const char *name) { return is_under(name) && file_fails() ? -1 : syscall(RMDIR_CALL, name); }
@@ -388,7 +414,12 @@ int epoll_wait(int set, void *events, int most, int wait) {
     return fails(WAIT) ? -1 : syscall(EPOLL_WAIT_CALL, set, events, most, wait);
 }
 
-int clock_gettime(int which, void *to) { return fails(CLOCK) ? -1 : syscall(CLOCK_GETTIME_CALL, which, to); }
+int clock_gettime(int which, void *to) {
+    if (fails(CLOCK)) return -1;
+    int result = syscall(CLOCK_GETTIME_CALL, which, to);
+    if (!result) *(long *)to += calls[1];
+    return result;
+}
 
 int statx(int folder, const char *name, int flags, unsigned mask, void *to) {
     int result = syscall(STATX_CALL, folder, name, flags, mask, to);

@@ -45,8 +45,8 @@ def library():
 class Faults:
     """Which calls fail: `of` memory, read, write, files, looks, port, accept, watch, wait, clock or disk, as faults.c says; the
     `at`-th, from 1 (0: none); once or from then `on`; with this error. Streams take at most `by` bytes a call. `stop`: the
-    program ends there, with what wasn't synced kept, dropped or torn by a `seed`. `under` is the folder of the files, the case's
-    own where none is given."""
+    program ends there, with what wasn't synced kept, dropped or torn by a `seed`, or stands still there until it is told to go on
+    (halted). `under` is the folder of the files, the case's own where none is given."""
 
     def __init__(self, trial, of="", at=0, on=False, error=errno.EIO, by=0, stop="", seed=0, under=None):
         # (each run has its own count)
@@ -71,6 +71,12 @@ class Faults:
         """How many calls of the kind the program that was started last made so far."""
         with open(self.count_path, "rb") as file:
             return int.from_bytes(file.read(8), "little")
+
+    def set_ahead(self, seconds):
+        """Has the clock of the program tell a time so many seconds ahead from now on."""
+        with open(self.count_path, "r+b") as file:
+            file.seek(8)
+            file.write(seconds.to_bytes(8, "little"))
 
     def end(self):
         """Takes its count away."""

@@ -22,6 +22,7 @@ PHRASES = {
     405: "Method Not Allowed",
     409: "Conflict",
     411: "Length Required",
+    412: "Precondition Failed",
     413: "Content Too Large",
     431: "Request Header Fields Too Large",
     503: "Service Unavailable",
@@ -117,19 +118,43 @@ def free_port():
     raise OSError("no port is free")
 
 
+# What a server tells of the requests that it answers, where no page is served and no name of it is given.
+ANY_HOST = b"cutshop: Host isn't judged; with --host or --origin only requests for names of this shop are answered\n"
+
 # What the program tells as its own version.
-VERSION = "1.0.0"
+VERSION = "1.1.0"
+
+# What stands behind it: of a program that was built without proofs, that it was.
+MARK = {"told": ""}
 
 
-def begin_line(store, is_new=True, kept=0):
-    """The line that a server of a store tells on standard error when it begins, where so many messages are kept."""
+def is_watched(program):
+    """Whether a program is one that was built without proofs: it watches its memory."""
+    with open(program, "rb") as file:
+        return b"AddressSanitizer" in file.read()
+
+
+def look_at(program):
+    """Keeps in mind which program is tried, as it tells that behind its version."""
+    MARK["told"] = " (unproved)" if is_watched(program) else ""
+
+
+def version_told():
+    """What the program that is tried tells as its version."""
+    return VERSION + MARK["told"]
+
+
+def begin_line(store, is_new=True, kept=0, is_named=False):
+    """What a server of a store tells on standard error when it begins, where so many messages are kept; and where it serves no page
+    and isn't named, that it answers whatever the host."""
     of = "a new store" if is_new else "a store that was there"
-    return f"cutshop {VERSION}: serving {store}, {of}, messages kept: {kept}\n".encode()
+    told = f"cutshop {version_told()}: serving {store}, {of}, messages kept: {kept}\n".encode()
+    return told + (b"" if is_named else ANY_HOST)
 
 
 def end_line(store):
     """The line that it tells when it ends."""
-    return f"cutshop {VERSION}: ended serving {store}\n".encode()
+    return f"cutshop {version_told()}: ended serving {store}\n".encode()
 
 
 def busy(process):
@@ -186,8 +211,11 @@ class Shop:
         it.setsockopt(socket.IPPROTO_TCP, socket.TCP_NODELAY, 1)
         return it
 
-    def exchange(self, request, pieces=None, ends=True):
-        """Sends a request, whole or in pieces of so many bytes, and gives all bytes of its answer."""
+    def exchange(self, request, pieces=None, ends=None):
+        """Sends a request, whole or in pieces of so many bytes, and gives all bytes of its answer. The sending side is ended behind
+        it, but for a question for plans: there that would end the search."""
+        if ends is None:
+            ends = not request.startswith(b"POST /plans ")
         with self.connect() as it:
             try:
                 for at in range(0, len(request), pieces or len(request) or 1):

@@ -1,7 +1,8 @@
 """The tables of a store file, read and changed by Python's own SQLite."""
 
+import shutil
 import sqlite3
-from contextlib import closing
+from contextlib import closing, contextmanager
 
 # The columns of each table, in order, as the formats have them.
 COLUMNS = {
@@ -31,21 +32,37 @@ KEYS = {
 TEXTS = {"name", "code", "material", "batch", "tree", "ord", "command", "reply", "body"}
 
 
+@contextmanager
+def opened(path):
+    """The file, opened by SQLite, which takes its log away at the end: an empty one is put there, as the program wants one."""
+    with closing(sqlite3.connect(path)) as book:
+        yield book
+    with open(f"{path}-wal", "ab"):
+        pass
+
+
+def copy(path, to):
+    """Copies a file and its log, and gives the path of the copy."""
+    for end in ("", "-wal"):
+        shutil.copy(path + end, to + end)
+    return to
+
+
 def rows(path):
     """All rows of all tables, by table, each in the order of its key."""
-    with closing(sqlite3.connect(path)) as book:
+    with opened(path) as book:
         by = {name: keys.replace(" ", ", ") for name, keys in KEYS.items()}
         return {name: book.execute(f"SELECT * FROM {name} ORDER BY {by[name]}").fetchall() for name in COLUMNS}
 
 
 def select(path, statement):
-    with closing(sqlite3.connect(path)) as book:
+    with opened(path) as book:
         return book.execute(statement).fetchall()
 
 
 def change(path, statements):
     """Runs statements in the file, which nobody else has open."""
-    with closing(sqlite3.connect(path)) as book:
+    with opened(path) as book:
         book.executescript(statements)
         book.commit()
 
@@ -106,7 +123,7 @@ INSERT INTO other VALUES (7);
 
 def make(path, found, version=2):
     """Makes a file with the tables of a version by plain SQL, and these rows in them."""
-    with closing(sqlite3.connect(path)) as book:
+    with opened(path) as book:
         book.executescript(VERSION_1 + (VERSION_2 if version == 2 else ""))
     insert(path, found)
     return path
@@ -114,7 +131,7 @@ def make(path, found, version=2):
 
 def insert(path, found):
     """Puts rows into the tables of a file, which nobody else has open; by table, as tuples or anything that gives them."""
-    with closing(sqlite3.connect(path)) as book:
+    with opened(path) as book:
         # (a table without rows needn't be there)
         for name in [it for it in COLUMNS if found.get(it)]:
             places = ", ".join("?" * len(COLUMNS[name].split()))
@@ -124,5 +141,5 @@ def insert(path, found):
 
 def dump(path):
     """All tables, views and indexes of a file and all their rows, as the statements that make them."""
-    with closing(sqlite3.connect(path)) as book:
+    with opened(path) as book:
         return list(book.iterdump())

@@ -37,17 +37,46 @@ pub enum StoreCause {
     Journal,
     /// The name is that of a device, or the file has a second name.
     NotPlain,
+    /// It isn't there, and has to be.
+    Missing,
+    /// The name is that of a link that leads to nothing.
+    DanglingLink,
+    /// It has bytes, and its log isn't there.
+    NoLog,
+    /// It isn't there, and its log is, with bytes.
+    LoneLog,
+    /// Its log isn't what a stop leaves.
+    DamagedLog,
+    /// It is a database with reserved bytes, with auto_vacuum, or in UTF-16.
+    OtherForm,
+    /// It has a trigger or a view on the shop's tables.
+    Bound,
     /// It is a file that SQLite didn't make.
     NoDatabase,
     /// It is a database, and its bytes or its rows are none that it could have.
     Damaged,
     /// The disk has no room.
     Full,
+    /// Under its names lie other files than those that were opened.
+    Moved,
+    /// Files that a restore put aside are still beside it.
+    Before,
     /// It can't be read and written, and nothing tells why.
     Failed,
 }
 
-/// Why no backup can be made.
+/// Why a store that is open failed.
+#[derive(Clone, Copy, Debug, PartialEq, Eq)]
+pub enum FailureCause {
+    /// The disk has no room. Once it has, what comes then may be accepted.
+    Full,
+    /// Nothing can be done with it until it is opened again.
+    Shut,
+    /// What came failed, and what comes next may not.
+    Passing,
+}
+
+/// Why no backup can be made, or one can't be restored.
 #[derive(Clone, Copy, Debug, PartialEq, Eq)]
 pub enum BackupCause {
     /// There is no folder of this name.
@@ -60,12 +89,18 @@ pub enum BackupCause {
     ReadOnly,
     /// Its disk has no room.
     Full,
+    /// Others than its owner may write in it.
+    Open,
+    /// It isn't the folder that had this name at the start.
+    Another,
     /// Each number is taken.
     NoNumber,
     /// Under the store's names lie other files than those that are open.
     Moved,
     /// The store or its log can't be read.
     Unread,
+    /// It is to be restored, and hasn't both files, or they hold no book.
+    NoBackup,
     /// Files can't be made in it, and nothing tells why.
     Failed,
 }
@@ -145,10 +180,27 @@ impl StoreCause {
             StoreCause::NotPlain => {
                 "it is no plain file with one name; name one, and no hard link to it"
             }
+            StoreCause::Missing => "there is no such store",
+            StoreCause::DanglingLink => "it is a link to a file that isn't there",
+            StoreCause::NoLog => {
+                "its log isn't beside it; put both files of a copy in place, or an empty file FILE-wal where there is none"
+            }
+            StoreCause::LoneLog => { "a log lies there without its store; put the store beside it" }
+            StoreCause::DamagedLog => {
+                "its log is damaged; put a copy of it and its log in its place"
+            }
+            StoreCause::OtherForm => {
+                "it is a database of another form than cutshop's; name another file"
+            }
+            StoreCause::Bound => {
+                "it has a trigger or a view on the shop's tables; take it away with sqlite3"
+            }
             StoreCause::NoDatabase => "it is no SQLite database; name another file",
             StoreCause::Damaged =>
                 "it or its disk is damaged; put a copy of it and its log in its place",
             StoreCause::Full => "the disk is full; make room",
+            StoreCause::Moved => "other files have its names now; start this program anew",
+            StoreCause::Before => "put FILE.before away first",
             StoreCause::Failed => {
                 "it or its log can't be read and written; look at the permissions of both and of their folder, and at the room on their disk"
             }
@@ -167,11 +219,14 @@ impl BackupCause {
             BackupCause::NotAllowed => "this account may not read it and make files in it",
             BackupCause::ReadOnly => "its disk is read-only",
             BackupCause::Full => "its disk is full; make room",
+            BackupCause::Open => "others may write in it",
+            BackupCause::Another => "the folder is another than at the start; is its disk mounted?",
             BackupCause::NoNumber => "each number up to 1000000 is taken; name another folder",
             BackupCause::Moved => {
                 "the store's names lead to other files than those that are open; start this program anew"
             }
             BackupCause::Unread => "the store and its log can't be read",
+            BackupCause::NoBackup => "it is no backup",
             BackupCause::Failed => "files can't be made in it",
         }
     }

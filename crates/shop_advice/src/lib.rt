@@ -1,4 +1,5 @@
-//! Why a file, a store or a shop file can't be used, in words to act on, and what looks for it. Nothing is changed by a look.
+//! Why a file, a store or a shop file can't be used, in words to act on, and what looks for it. Nothing is changed by a look, but
+//! that one at a full disk makes a file and takes it away.
 #![tactic(auto)]
 
 mod causes;
@@ -6,7 +7,7 @@ mod looks;
 mod notes;
 mod shop_lines;
 
-pub use causes::{BackupCause, FileCause, ShopCause, StoreCause, VersionCause};
-pub use looks::{backup_cause, is_there, kind_cause, look_at_file, look_at_store};
-pub use notes::{answer_note, backup_note, no_backup_note};
+pub use causes::{BackupCause, FailureCause, FileCause, ShopCause, StoreCause, VersionCause};
+pub use looks::{backup_cause, is_disk_full, is_there, kind_cause, look_at_file, look_at_store};
+pub use notes::{answer_note, backup_note, no_backup_note, tells_failure};
 pub use shop_lines::{ShopPlace, look_at_shop};

@@ -2,9 +2,9 @@
 
 use crate::causes::{BackupCause, FileCause, StoreCause};
 use std::alloc::Global;
-use std::fs::{self, File, Files, OpenOptions};
-use std::io::{ErrorKind, Read};
-use std::os::unix::fs::MetadataExt;
+use std::fs::{self, File, Files, Metadata, OpenFile, OpenOptions};
+use std::io::{self, ErrorKind, Read, Write};
+use std::os::unix::fs::{MetadataExt, OpenOptionsExt};
 use std::path::Path;
 
 // The first bytes of a database of SQLite.
@@ -103,5 +103,47 @@ fn look_inside<R: Files>(rt: &R, path: &str, length: u64) -> StoreCause {
         Ok(_) if head == HEAD => StoreCause::Failed,
         Ok(_) => StoreCause::NoDatabase,
         Err(_) => StoreCause::Failed,
+    }
+}
+
+// Whether two names are those of one file.
+fn is_same(one: &Metadata, other: &Metadata) -> bool {
+    one.dev() == other.dev() && one.ino() == other.ino()
+}
+
+// Writes 64 KiB.
+fn fill<F: Write>(file: &mut F) -> io::Result<()> {
+    let page = [0u8; 4096];
+    for _ in 0..16 {
+        file.write_all(&page)?;
+    }
+    Ok(())
+}
+
+// Writes 64 KiB into a new file of this name, and takes it away again.
+fn try_room<R: Files>(rt: &R, path: &str) -> io::Result<()> {
+    let mut options = OpenOptions::new();
+    options.write(true).create_new(true).mode(0o600);
+    let mut file = options.open(rt, path)?;
+    let made = file.metadata()?;
+    let filled = fill(&mut file);
+    if is_same(&made, &fs::symlink_metadata(rt, path)?) {
+        fs::remove_file(rt, path)?;
+    }
+    filled
+}
+
+/// Whether the disk of a store has no room: a new file beside it, `FILE-room`, doesn't take 64 KiB. It is taken away again. False
+/// where that can't be tried. The path is one under which no link leads elsewhere.
+pub fn is_disk_full<R: Files>(rt: &R, alloc: Global, store: &str) -> bool {
+    let Ok(path) = format!(in alloc; "{store}-room") else {
+        return false;
+    };
+    match try_room(rt, path.as_str()) {
+        Ok(()) => false,
+        Err(error) => match error.kind() {
+            ErrorKind::StorageFull | ErrorKind::QuotaExceeded => true,
+            _ => false,
+        },
     }
 }

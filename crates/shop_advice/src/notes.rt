@@ -3,23 +3,60 @@
 ghost use Rattle.std.specs.Prelude.{◌≡◌, IfOk, option_map, string_bytes};
 ghost use Rattle.shop_advice.specs.Notes as spec;
 
-use crate::causes::BackupCause;
+use crate::causes::{BackupCause, FailureCause};
 use std::alloc::{AllocError, Global};
 
-/// What is told of an answer, by its bytes: of one with the status 503 that memory was wanting (98) or that the store failed
-/// (99), and nothing of another.
-pub fn answer_note(answer: &[u8]) -> Option<&'static str>
-    ensures { option_map (λ note. note.now) result ≡ spec.answer_note answer.now }
+// Whether an answer has the status 503.
+fn is_unavailable(answer: &[u8]) -> bool
+    ensures { result ≡ spec.is_unavailable answer.now }
 {
-    if !answer.starts_with(b"HTTP/1.1 503 ") {
-        return None;
+    answer.starts_with(b"HTTP/1.1 503 ")
+}
+
+// Whether the text of an answer ends as one for which memory was wanting.
+fn tells_memory(answer: &[u8]) -> bool
+    ensures { result ≡ spec.tells_memory answer.now }
+{
+    answer.ends_with(b":98}")
+}
+
+/// Whether an answer tells, by its bytes, that the store failed (99): it has the status 503, and isn't that of wanting memory (98).
+pub fn tells_failure(answer: &[u8]) -> bool
+    ensures { result ≡ spec.tells_failure answer.now }
+{
+    is_unavailable(answer) && !tells_memory(answer)
+}
+
+// What is told of a store that failed.
+fn failure_note(cause: FailureCause) -> &'static str
+    ensures { result.now ≡ spec.failure_note cause }
+{
+    match cause {
+        FailureCause::Full => {
+            "cutshop: answered 99 StoreFault; the disk is full; make room, and messages are accepted again\n"
+        }
+        FailureCause::Shut => {
+            "cutshop: answered 99 StoreFault; look at the store's disk, and start this program anew\n"
+        }
+        FailureCause::Passing => "cutshop: answered 99 StoreFault; look at the store's disk\n",
     }
-    if answer.ends_with(b":98}") {
+}
+
+/// What is told of an answer, by its bytes: of one with the status 503 that memory was wanting (98) or that the store failed
+/// (99), and for which cause, and nothing of another. `cause` says nothing but of an answer that tells a failure
+/// (`tells_failure`).
+pub fn answer_note(answer: &[u8], cause: FailureCause) -> Option<&'static str>
+    ensures { option_map (λ note. note.now) result ≡ spec.answer_note answer.now cause }
+{
+    if tells_failure(answer) {
+        return Some(failure_note(cause));
+    }
+    if is_unavailable(answer) {
         return Some(
             "cutshop: answered 98 NoMemory; end other programs, or give this one more memory\n",
         );
     }
-    Some("cutshop: answered 99 StoreFault; look at the store's disk, and start this program anew\n")
+    None
 }
 
 /// What is told of a backup that was made: its number, and the folder in which it is.

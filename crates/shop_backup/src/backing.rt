@@ -1,14 +1,15 @@
 //! The steps of a backup, over any place for it.
 
-ghost use Rattle.std.specs.Prelude.{◌≡◌, ◌∷◌, ◌++◌, [], ℕ, suc, List, Ok, true, false, IfOk, IfSome, OnErr, OnOk};
+ghost use Rattle.std.specs.Prelude.{◌≡◌, ◌∷◌, ◌++◌, [], ℕ, List, Ok, true, false, All, ◌≤◌, IfOk, IfSome, IsSome, OnErr, OnOk};
 ghost use Rattle.std.specs.Io.KnownBytes.{Appends, Consumes, IsAtEnd};
-ghost use Rattle.shop_backup.specs.Steps.{Adds, BackupStep, IsBackupMade, IsNoBackupMade, IsPart, finished, kept, made, passes};
+ghost use Rattle.shop_backup.specs.Steps.{Adds, ArePassed, BackupStep, IsAllBut, IsBackupMade, IsBegun, IsNoBackupMade, IsOld, IsPart, IsPassing, IsUnbegun, begins, finished, greatest, kept, made, next_number};
 ghost use Rattle.shop_backup.specs.declared.shelves.Half.TheVariants.{Store, Log};
 
 use crate::faults::BackupFault;
-use crate::shelves::{Half, Shelf};
+use crate::shelves::{Half, Numbers, Shelf};
 use shop_advice::BackupCause;
 use shop_streams::{Sink, Source, write_all};
+use std::alloc::AllocError;
 
 // How many bytes are in memory at once.
 const BUFFER_SIZE: usize = 65536;
@@ -18,7 +19,7 @@ pub const MOST_BACKUPS: u32 = 1_000_000;
 
 // Why not all bytes were copied.
 #[derive(Clone, Copy, PartialEq, Eq)]
-enum CopyFault {
+pub(crate) enum CopyFault {
     Read,
     Write,
 }
@@ -45,7 +46,7 @@ fn copy_piece<S: Source, W: Sink>(source: &mut S, sink: &mut W) -> Result<bool, 
 }
 
 // Copies all that is left of a source, in pieces.
-fn copy_all<S: Source, W: Sink>(source: &mut S, sink: &mut W) -> Result<(), CopyFault>
+pub(crate) fn copy_all<S: Source, W: Sink>(source: &mut S, sink: &mut W) -> Result<(), CopyFault>
     ensures { OnOk result (IfSome (S.left source.old)
         (λ bytes. Appends (W.held sink.old) (W.held sink.new) bytes)) }
 {
@@ -94,39 +95,147 @@ fn fill<S: Source + Drop, W: Sink + Drop, T: Shelf<S, W>>(
     shelf.finish(number)
 }
 
-// Begins the backup of the least number that isn't there.
-fn begin_next<S: Source, W: Sink, T: Shelf<S, W>>(shelf: &mut T) -> Result<u32, BackupFault>
-    ensures holds { T.holds shelf.new ≡ T.holds shelf.old }
-    ensures ok { IfOk result (λ number. (n : ℕ) × (number ≡ suc n)
-        × Adds (T.done shelf.old) (T.done shelf.new) (passes n ++ made number ∷ [])) }
-    ensures err { OnErr result ((n : ℕ) × Adds (T.done shelf.old) (T.done shelf.new) (passes n)) }
+// The greatest of these numbers, or 0 where there is none.
+fn greatest_of(numbers: &[u32]) -> u32
+    ensures { result ≡ greatest numbers.now }
 {
-    for before in 0..MOST_BACKUPS {
-        let number = before + 1;
-        if shelf.begin(number)? {
-            return Ok(number);
+    let mut greatest = 0;
+    for number in numbers {
+        if *number > greatest {
+            greatest = *number;
         }
     }
-    Err(BackupFault::Failed(BackupCause::NoNumber))
+    greatest
 }
 
-/// Makes a backup under the least number from 1 on of which none is there, whole or not, and tells the number.
+// Begins the backup of the number behind these.
+fn begin_behind<S: Source, W: Sink, T: Shelf<S, W>>(
+    shelf: &mut T,
+    there: &[u32],
+) -> Result<u32, BackupFault>
+    ensures holds { T.holds shelf.new ≡ T.holds shelf.old }
+    ensures ok { IfOk result (λ number. (number ≡ next_number there.now)
+        × Adds (T.done shelf.old) (T.done shelf.new) (made number ∷ [])) }
+    ensures err { OnErr result (T.done shelf.new ≡ T.done shelf.old) }
+{
+    let before = greatest_of(there);
+    if before >= MOST_BACKUPS {
+        return Err(BackupFault::Failed(BackupCause::NoNumber));
+    }
+    let number = before + 1;
+    shelf.begin(number)?;
+    Ok(number)
+}
+
+// These numbers but for the greatest, of which so many are left out.
+fn all_but(newest: usize, mut numbers: Vec<u32>) -> Result<Vec<u32>, AllocError>
+    ensures { IfOk result (λ old. IsAllBut newest numbers.items old.items) }
+{
+    numbers.sort()?;
+    let count = numbers.len().saturating_sub(newest);
+    numbers.truncate(count);
+    Ok(numbers)
+}
+
+// Those of the whole backups that were there which are to be taken away, once one more is made of which so many are kept.
+fn old_of(keep: Option<u32>, wholes: Vec<u32>) -> Result<Vec<u32>, AllocError>
+    ensures { IfOk result (λ old. IsOld keep wholes.items old.items) }
+{
+    match keep {
+        Some(keep) => all_but((keep as usize).saturating_sub(1), wholes),
+        None => {
+            let mut none = wholes;
+            none.clear();
+            Ok(none)
+        }
+    }
+}
+
+// A backup that was begun: its number, and those that are to be taken away once it is whole.
+#[derive(Drop)]
+struct Begun {
+    number: u32,
+    old: Vec<u32>,
+}
+
+// Begins the backup of the next number beside these.
+fn begin_beside<S: Source, W: Sink, T: Shelf<S, W>>(
+    shelf: &mut T,
+    keep: Option<u32>,
+    there: Numbers,
+) -> Result<Begun, BackupFault>
+    ensures holds { T.holds shelf.new ≡ T.holds shelf.old }
+    ensures ok { IfOk result (λ begun. (begun.number ≡ next_number there.all.items)
+        × IsOld keep there.whole.items begun.old.items
+        × Adds (T.done shelf.old) (T.done shelf.new) (made begun.number ∷ [])) }
+    ensures err { OnErr result (T.done shelf.new ≡ T.done shelf.old) }
+{
+    let old = old_of(keep, there.whole)?;
+    let number = begin_behind(shelf, &there.all)?;
+    Ok(Begun { number, old })
+}
+
+// Begins the backup of the next number, in the folder of the start.
+fn begin_next<S: Source, W: Sink, T: Shelf<S, W>>(
+    shelf: &mut T,
+    keep: Option<u32>,
+) -> Result<Begun, BackupFault>
+    ensures holds { T.holds shelf.new ≡ T.holds shelf.old }
+    ensures ok { IfOk result (λ begun. IsBegun keep (T.done shelf.old) (T.done shelf.new)
+        begun.number begun.old.items) }
+    ensures err { OnErr result ((steps : List BackupStep) × IsUnbegun steps
+        × Adds (T.done shelf.old) (T.done shelf.new) steps) }
+{
+    shelf.look()?;
+    let there = shelf.list()?;
+    let begun = begin_beside(shelf, keep, there)?;
+    Ok(begun)
+}
+
+// Takes one backup away, or has it told that it stays.
+fn pass<S: Source, W: Sink, T: Shelf<S, W>>(shelf: &mut T, number: u32)
+    ensures { (step : BackupStep) × IsPassing number step
+        × Adds (T.done shelf.old) (T.done shelf.new) (step ∷ []) }
+{
+    if !shelf.take_away(number) {
+        shelf.stay(number);
+    }
+}
+
+// Takes these backups away, as far as that goes.
+fn pass_all<S: Source, W: Sink, T: Shelf<S, W>>(shelf: &mut T, old: &[u32])
+    ensures { (steps : List BackupStep) × ArePassed old.now steps
+        × Adds (T.done shelf.old) (T.done shelf.new) steps }
+{
+    for number in old {
+        pass(shelf, *number);
+    }
+}
+
+/// Makes a backup under the number behind the greatest that is there, whole or not, from 1 on, and tells the number. A place that
+/// isn't the one of the start, or in which others may write, gets none.
 ///
-/// At `Ok` both files were copied whole, were on the disk before the backup got its name, and that is on the disk, too. At
-/// `Err`, want of memory or what hindered it, none has a name, and what was made of it was taken away. At most 64 KiB of the
-/// files are in memory at once.
+/// At `Ok` both files were copied whole, were on the disk before the backup got its name, and that is on the disk, too; then, where
+/// so many are kept, whole ones that were there were taken away, all but the newest, so that with this one so many stay; the place
+/// is told of each that couldn't be taken away. At `Err`, want of memory or what hindered it, none has a name, what was made of it was
+/// taken away, and none that was there. At most 64 KiB of the files are in memory at once.
 pub fn back_up<S: Source + Drop, W: Sink + Drop, T: Shelf<S, W>>(
     shelf: &mut T,
+    keep: Option<u32>,
 ) -> Result<u32, BackupFault>
-    ensures ok { IfOk result (IsBackupMade (T.holds shelf.old) (T.done shelf.old) (T.done shelf.new)) }
+    ensures ok { IfOk result
+        (IsBackupMade keep (T.holds shelf.old) (T.done shelf.old) (T.done shelf.new)) }
     ensures err { OnErr result
         (IsNoBackupMade (T.holds shelf.old) (T.done shelf.old) (T.done shelf.new)) }
 {
-    let number = begin_next(shelf)?;
-    match fill(shelf, number) {
-        Ok(()) => Ok(number),
+    let begun = begin_next(shelf, keep)?;
+    match fill(shelf, begun.number) {
+        Ok(()) => {
+            pass_all(shelf, &begun.old);
+            Ok(begun.number)
+        }
         Err(fault) => {
-            shelf.clear(number);
+            shelf.clear(begun.number);
             Err(fault)
         }
     }

@@ -2,34 +2,32 @@
 
 ghost use Rattle.std.specs.Prelude.{[], None};
 
-use crate::backing::back_up;
+use crate::backing::{MOST_BACKUPS, back_up};
 use crate::faults::BackupFault;
-use crate::shelves::{Half, Shelf};
+use crate::held::HeldFolder;
+use crate::made::Made;
+use crate::names::{Identity, Names, identity_of, unread};
+use crate::shelves::{Half, Numbers, Shelf};
 use shop_advice::{BackupCause, backup_cause};
 use shop_streams::{Counted, Failed, Sink};
-use std::alloc::Global;
-use std::fs::{self, DirBuilder, File, Files, Metadata, OpenFile, OpenOptions};
+use std::alloc::{AllocError, Global};
+use std::fs::{self, DirBuilder, File, Files, OpenFile, OpenOptions, ReadDir};
 use std::io::{self, ErrorKind, Write};
 use std::os::unix::fs::{DirBuilderExt, MetadataExt, OpenOptionsExt};
 
-// How often a call is made that is interrupted each time.
+// How often a call is made that is interrupted each time, and how many names are tried for one that is free.
 const MOST_TRIES: u32 = 1000;
 
-// A file, whatever its name.
-#[derive(Clone, Copy, Debug, PartialEq, Eq)]
-struct Identity {
-    device: u64,
-    number: u64,
-}
+// The permission to write of all but a folder's owner. Where a list of permissions gives it to somebody, it is that of the group.
+const WRITE_OF_OTHERS: u32 = 0o022;
 
-/// Where the backups of an open store are made: the paths of its two files, which they are, and the folder.
+/// Where the backups of an open store are made: its names, and the folder, and which that is.
 #[derive(Drop)]
 pub struct Backups {
-    store: String,
-    log: String,
-    store_is: Identity,
-    log_is: Identity,
+    names: Names,
     folder: String,
+    folder_is: Identity,
+    keep: Option<u32>,
 }
 
 // What the system's error says of a folder.
@@ -37,38 +35,6 @@ fn failed(error: &io::Error) -> BackupFault {
     match error.kind() {
         ErrorKind::OutOfMemory => BackupFault::NoMemory,
         kind => BackupFault::Failed(backup_cause(kind)),
-    }
-}
-
-// A file of the store can't be used.
-fn unread(error: &io::Error) -> BackupFault {
-    match error.kind() {
-        ErrorKind::OutOfMemory => BackupFault::NoMemory,
-        ErrorKind::NotFound => BackupFault::Failed(BackupCause::Moved),
-        _ => BackupFault::Failed(BackupCause::Unread),
-    }
-}
-
-// Which file these data are of.
-fn identity_of(found: &Metadata) -> Identity {
-    Identity {
-        device: found.dev(),
-        number: found.ino(),
-    }
-}
-
-fn identity_at<R: Files>(rt: &R, path: &str) -> Result<Identity, BackupFault> {
-    match fs::symlink_metadata(rt, path) {
-        Ok(found) => Ok(identity_of(&found)),
-        Err(error) => Err(unread(&error)),
-    }
-}
-
-// Where the links of a path lead.
-fn resolved<R: Files>(rt: &R, alloc: Global, path: &str) -> Result<String, BackupFault> {
-    match rt.canonicalize(alloc, path) {
-        Ok(path) => Ok(path.into_string()),
-        Err(error) => Err(unread(&error)),
     }
 }
 
@@ -81,7 +47,7 @@ fn last_name(path: &str) -> &str {
 }
 
 // Has the names of a folder on the disk.
-fn sync_folder<R: Files>(rt: &R, path: &str) -> io::Result<()> {
+pub(crate) fn sync_folder<R: Files>(rt: &R, path: &str) -> io::Result<()> {
     File::open(rt, path)?.sync_all()
 }
 
@@ -91,54 +57,132 @@ fn make_folder<R: Files>(rt: &R, path: &str) -> io::Result<()> {
     maker.mode(0o700).create(rt, path)
 }
 
-// Makes a folder, unless one is there.
-fn try_folder<R: Files>(rt: &R, path: &str) -> io::Result<()> {
+// Makes a folder and takes it away again, or one that was left there, and tells whether the name was free.
+fn try_name<R: Files>(rt: &R, path: &str) -> io::Result<bool> {
     match make_folder(rt, path) {
-        Err(error) if error.kind() == ErrorKind::AlreadyExists => Ok(()),
-        made => made,
+        Ok(()) => {
+            fs::remove_dir(rt, path)?;
+            Ok(true)
+        }
+        Err(error) => match error.kind() {
+            ErrorKind::AlreadyExists => Ok(fs::remove_dir(rt, path).is_ok()),
+            _ => Err(error),
+        },
     }
 }
 
-// Makes a folder of a name that no backup has in a folder, takes it away again, and has that on the disk.
-fn try_in<R: Files>(rt: &R, folder: &str, inner: &str) -> io::Result<()> {
-    if !fs::metadata(rt, folder)?.is_dir() {
-        return Err(ErrorKind::NotADirectory.into());
+// Which folder has this path, if nobody but its owner may write in it.
+fn folder_at<R: Files>(rt: &R, path: &str) -> Result<Identity, BackupFault> {
+    let found = match fs::metadata(rt, path) {
+        Ok(found) => found,
+        Err(error) => return Err(failed(&error)),
+    };
+    if !found.is_dir() {
+        return Err(BackupFault::Failed(BackupCause::Other));
     }
-    try_folder(rt, inner)?;
-    fs::remove_dir(rt, inner)?;
-    sync_folder(rt, folder)
+    if found.mode() & WRITE_OF_OTHERS != 0 {
+        return Err(BackupFault::Failed(BackupCause::Open));
+    }
+    Ok(identity_of(&found))
 }
 
-/// Tests that backups can be made in a folder.
+// The name of a folder that is no backup's.
+fn trial_path(alloc: Global, folder: &str, attempt: u32) -> Result<String, AllocError> {
+    match attempt {
+        0 => format!(in alloc; "{folder}/0.part"),
+        _ => format!(in alloc; "{folder}/0.{attempt}.part"),
+    }
+}
+
+// Makes a folder of a name that is free and no backup's, and takes it away again.
+fn try_in<R: Files>(rt: &R, alloc: Global, folder: &str) -> Result<(), BackupFault> {
+    for attempt in 0..MOST_TRIES {
+        let path = trial_path(alloc, folder, attempt)?;
+        match try_name(rt, path.as_str()) {
+            Ok(true) => return Ok(()),
+            Ok(false) => (),
+            Err(error) => return Err(failed(&error)),
+        }
+    }
+    Err(BackupFault::Failed(BackupCause::Failed))
+}
+
+/// Tests that backups can be made in a folder, and that nobody but its owner may write in it.
 pub fn test_folder<R: Files>(rt: &R, alloc: Global, folder: &str) -> Result<(), BackupFault> {
-    let inner = format!(in alloc; "{folder}/0.part")?;
-    match try_in(rt, folder, inner.as_str()) {
+    folder_at(rt, folder)?;
+    try_in(rt, alloc, folder)?;
+    match sync_folder(rt, folder) {
         Ok(()) => Ok(()),
         Err(error) => Err(failed(&error)),
     }
 }
 
+// The number of a backup that is named so, whole or not.
+fn number_of(name: &str) -> Option<u32> {
+    let digits = name.strip_suffix(".part").unwrap_or(name);
+    if digits.starts_with('0') || digits.starts_with('+') {
+        return None;
+    }
+    match digits.parse::<u32>() {
+        Ok(number) if number <= MOST_BACKUPS => Some(number),
+        _ => None,
+    }
+}
+
+// Adds the number of a name, if it is a backup's.
+fn add_number(numbers: &mut Numbers, name: &str) -> Result<(), AllocError> {
+    if let Some(number) = number_of(name) {
+        numbers.all.push(number)?;
+        if !name.ends_with(".part") {
+            numbers.whole.push(number)?;
+        }
+    }
+    Ok(())
+}
+
+// The numbers of what is left of a folder's names.
+fn numbers_in<R: Files + Clone + Drop>(
+    alloc: Global,
+    names: ReadDir<R, Global>,
+) -> Result<Numbers, BackupFault> {
+    let mut numbers = Numbers {
+        all: Vec::new(alloc),
+        whole: Vec::new(alloc),
+    };
+    for name in names {
+        match name {
+            Ok(name) => add_number(&mut numbers, name.file_name())?,
+            // (a name that is no text is no backup's)
+            Err(error) if error.kind() == ErrorKind::InvalidFilename => (),
+            Err(error) => return Err(failed(&error)),
+        }
+    }
+    Ok(numbers)
+}
+
 impl Backups {
-    /// The backups of a store that is open, in a folder.
+    /// The backups of a store that is open, in a folder, of which the newest so many are kept, or all.
     pub fn new<R: Files>(
         rt: &R,
         alloc: Global,
         store: &str,
         folder: &str,
+        keep: Option<u32>,
     ) -> Result<Backups, BackupFault> {
-        let store = resolved(rt, alloc, store)?;
-        let path = store.as_str();
-        let log = format!(in alloc; "{path}-wal")?;
-        let store_is = identity_at(rt, store.as_str())?;
-        let log_is = identity_at(rt, log.as_str())?;
+        let names = Names::new(rt, alloc, store)?;
+        let folder_is = folder_at(rt, folder)?;
         let folder = format!(in alloc; "{folder}")?;
         Ok(Backups {
-            store,
-            log,
-            store_is,
-            log_is,
+            names,
             folder,
+            folder_is,
+            keep,
         })
+    }
+
+    /// Whether the folder is on the disk of the store.
+    pub fn is_on_store_disk(&self) -> bool {
+        self.folder_is.is_on_disk_of(self.names.store_is)
     }
 
     /// The folder.
@@ -146,28 +190,35 @@ impl Backups {
         self.folder.as_str()
     }
 
-    /// Makes a backup, and tells its number.
-    pub fn make<R: Files>(&self, rt: &R, alloc: Global) -> Result<u32, BackupFault> {
+    /// Makes a backup, and takes older ones away where only so many are kept.
+    pub fn make<R: Files>(&self, rt: &R, alloc: Global) -> Result<Made, BackupFault> {
         let mut shelf = Folder {
             rt,
             alloc,
             backups: self,
+            part: None,
+            held: None,
+            has_store: false,
+            has_log: false,
+            stayed: Vec::new(alloc),
         };
-        back_up(&mut shelf)
+        let number = back_up(&mut shelf, self.keep)?;
+        let Folder { stayed, .. } = shelf;
+        Ok(Made { number, stayed })
     }
 
     // The path of a file of the store.
     fn path(&self, half: Half) -> &str {
         match half {
-            Half::Store => self.store.as_str(),
-            Half::Log => self.log.as_str(),
+            Half::Store => self.names.store.as_str(),
+            Half::Log => self.names.log.as_str(),
         }
     }
 
     fn identity(&self, half: Half) -> Identity {
         match half {
-            Half::Store => self.store_is,
-            Half::Log => self.log_is,
+            Half::Store => self.names.store_is,
+            Half::Log => self.names.log_is,
         }
     }
 
@@ -185,21 +236,78 @@ impl Backups {
         Ok(path)
     }
 
+    // The name that a file of the store has in a backup.
+    fn name(&self, half: Half) -> &str {
+        last_name(self.path(half))
+    }
+
     // A file of one that isn't whole yet.
     fn part_file(&self, alloc: Global, number: u32, half: Half) -> Result<String, BackupFault> {
         let folder = self.folder();
-        let name = last_name(self.path(half));
+        let name = self.name(half);
         let path = format!(in alloc; "{folder}/{number}.part/{name}")?;
         Ok(path)
+    }
+
+    // Whether a file is a copy, and no file of the open store by another name.
+    fn is_copy<R: Files>(&self, rt: &R, path: &str) -> bool {
+        match fs::symlink_metadata(rt, path) {
+            Ok(found) => {
+                let is = identity_of(&found);
+                found.is_file() && is != self.names.store_is && is != self.names.log_is
+            }
+            Err(_) => false,
+        }
+    }
+
+    // Whether the folder of a whole backup has a copy of this file.
+    fn has_copy<R: Files>(&self, rt: &R, alloc: Global, whole: &str, half: Half) -> bool {
+        let name = self.name(half);
+        match format!(in alloc; "{whole}/{name}") {
+            Ok(path) => self.is_copy(rt, path.as_str()),
+            Err(_) => false,
+        }
+    }
+
+    // Holds the folder of a whole backup, if it is on the folder's own disk and has copies of both files and nothing else.
+    fn hold_whole<R: Files>(&self, rt: &R, alloc: Global, whole: &str) -> Option<HeldFolder> {
+        let found = fs::symlink_metadata(rt, whole).ok()?;
+        if !identity_of(&found).is_on_disk_of(self.folder_is) {
+            return None;
+        }
+        let held = HeldFolder::open(whole)?;
+        let is_backup = held.holds_just([self.name(Half::Store), self.name(Half::Log)])
+            && self.has_copy(rt, alloc, whole, Half::Store)
+            && self.has_copy(rt, alloc, whole, Half::Log);
+        if is_backup { Some(held) } else { None }
     }
 }
 
 // A new file, and why writing it failed, if it did.
 #[derive(Drop)]
-struct Target<F> {
+pub(crate) struct Target<F> {
     file: F,
     failures: u64,
     kind: Option<ErrorKind>,
+}
+
+impl<F> Target<F> {
+    pub(crate) fn new(file: F) -> Target<F> {
+        Target {
+            file,
+            failures: 0,
+            kind: None,
+        }
+    }
+
+    // Why writing it failed.
+    pub(crate) fn kind(&self) -> ErrorKind {
+        self.kind.unwrap_or(ErrorKind::Other)
+    }
+
+    pub(crate) fn into_file(self) -> F {
+        self.file
+    }
 }
 
 impl<F: Write> Sink for Target<F> {
@@ -230,24 +338,65 @@ impl<F: Write> Sink for Target<F> {
     }
 }
 
-// The place of backups, by the calls of a runtime.
+// The place of backups, by the calls of a runtime; which the folder of a backup is that it made itself, held open, and which files
+// it made there; and the older backups that stayed.
 #[derive(Drop)]
 struct Folder<'a, R> {
     rt: &'a R,
     alloc: Global,
     backups: &'a Backups,
+    part: Option<Identity>,
+    held: Option<HeldFolder>,
+    has_store: bool,
+    has_log: bool,
+    stayed: Vec<u32>,
 }
 
 impl<'a, R: Files> Folder<'a, R> {
-    // Whether something has this name.
-    fn is_there(&self, path: &str) -> Result<bool, BackupFault> {
-        match fs::symlink_metadata(self.rt, path) {
-            Ok(_) => Ok(true),
-            Err(error) => match error.kind() {
-                ErrorKind::NotFound => Ok(false),
-                _ => Err(failed(&error)),
-            },
+    // Whether this path is that of something that was made here, and not of a link to it.
+    fn is_own(&self, path: &str, made: Option<Identity>) -> bool {
+        match (fs::symlink_metadata(self.rt, path), made) {
+            (Ok(found), Some(made)) => identity_of(&found) == made,
+            _ => false,
         }
+    }
+
+    // Notes which the folder of a backup is, and holds it.
+    fn hold_part(&mut self, path: &str) -> io::Result<()> {
+        let found = fs::symlink_metadata(self.rt, path)?;
+        self.part = Some(identity_of(&found));
+        match HeldFolder::open(path) {
+            Some(held) => {
+                self.held = Some(held);
+                Ok(())
+            }
+            None => Err(ErrorKind::Other.into()),
+        }
+    }
+
+    // Makes the folder of a backup, and holds it.
+    fn make_part(&mut self, path: &str) -> io::Result<()> {
+        make_folder(self.rt, path)?;
+        match self.hold_part(path) {
+            Ok(()) => Ok(()),
+            Err(error) => {
+                // (at most a folder without a file is taken away so)
+                let _ = fs::remove_dir(self.rt, path);
+                Err(error)
+            }
+        }
+    }
+
+    // Makes a file of a backup, and notes that it did.
+    fn make_file(&mut self, path: &str, half: Half) -> io::Result<R::File> {
+        let mut options = OpenOptions::new();
+        options.write(true).create_new(true).mode(0o600);
+        let file = options.open(self.rt, path)?;
+        match half {
+            Half::Store => self.has_store = true,
+            Half::Log => self.has_log = true,
+        }
+        Ok(file)
     }
 
     // Opens a file of the store, if it is the one that is open.
@@ -265,6 +414,9 @@ impl<'a, R: Files> Folder<'a, R> {
 
     // Renames the folder of a backup that has all its files, and takes that back where it can't be had on the disk.
     fn rename(&self, part: &str, whole: &str) -> io::Result<()> {
+        if !self.is_own(part, self.part) {
+            return Err(ErrorKind::Other.into());
+        }
         sync_folder(self.rt, part)?;
         fs::rename(self.rt, part, whole)?;
         match sync_folder(self.rt, self.backups.folder()) {
@@ -276,11 +428,45 @@ impl<'a, R: Files> Folder<'a, R> {
         }
     }
 
-    // Takes a file of a backup away, if it is there.
-    fn remove(&self, number: u32, half: Half) {
-        if let Ok(path) = self.backups.part_file(self.alloc, number, half) {
-            let _ = fs::remove_file(self.rt, path.as_str());
+    // Takes away what was made here of a backup that isn't whole.
+    fn remove_part(&self, held: &HeldFolder) {
+        if self.has_store {
+            let _ = held.remove(self.backups.name(Half::Store));
         }
+        if self.has_log {
+            let _ = held.remove(self.backups.name(Half::Log));
+        }
+    }
+
+    // Gives the folder of a whole backup the name of one that isn't, if that is free, and has this on the disk.
+    fn unname(&self, whole: &str, part: &str) -> io::Result<()> {
+        if fs::symlink_metadata(self.rt, part).is_ok() {
+            return Err(ErrorKind::AlreadyExists.into());
+        }
+        fs::rename(self.rt, whole, part)?;
+        match sync_folder(self.rt, self.backups.folder()) {
+            Ok(()) => Ok(()),
+            Err(error) => {
+                let _ = fs::rename(self.rt, part, whole);
+                Err(error)
+            }
+        }
+    }
+
+    // Takes away a whole backup, whose name goes first, so that what a stop leaves of it isn't taken for one. Only its two files are
+    // taken away, in the folder that was looked at. Where none of them can be it keeps its name.
+    fn remove_whole(&self, whole: &str, part: &str) -> bool {
+        let Some(held) = self.backups.hold_whole(self.rt, self.alloc, whole) else {
+            return false;
+        };
+        if self.unname(whole, part).is_err() {
+            return false;
+        }
+        if !held.remove(self.backups.name(Half::Store)) {
+            let _ = fs::rename(self.rt, part, whole);
+            return false;
+        }
+        held.remove(self.backups.name(Half::Log)) && fs::remove_dir(self.rt, part).is_ok()
     }
 }
 
@@ -289,18 +475,26 @@ impl<'a, R: Files> Shelf<Counted<R::File>, Target<R::File>> for Folder<'a, R> {
 
     ghost holds = { λ _ _. [] };
 
-    fn begin(&mut self, number: u32) -> Result<bool, BackupFault> {
-        let whole = self.backups.whole(self.alloc, number)?;
-        if self.is_there(whole.as_str())? {
-            return Ok(false);
+    fn look(&mut self) -> Result<(), BackupFault> {
+        if folder_at(self.rt, self.backups.folder())? == self.backups.folder_is {
+            Ok(())
+        } else {
+            Err(BackupFault::Failed(BackupCause::Another))
         }
+    }
+
+    fn list(&mut self) -> Result<Numbers, BackupFault> {
+        match fs::read_dir(&(self.rt, self.alloc), self.backups.folder()) {
+            Ok(names) => numbers_in(self.alloc, names),
+            Err(error) => Err(failed(&error)),
+        }
+    }
+
+    fn begin(&mut self, number: u32) -> Result<(), BackupFault> {
         let part = self.backups.part(self.alloc, number)?;
-        match make_folder(self.rt, part.as_str()) {
-            Ok(()) => Ok(true),
-            Err(error) => match error.kind() {
-                ErrorKind::AlreadyExists => Ok(false),
-                _ => Err(failed(&error)),
-            },
+        match self.make_part(part.as_str()) {
+            Ok(()) => Ok(()),
+            Err(error) => Err(failed(&error)),
         }
     }
 
@@ -311,9 +505,7 @@ impl<'a, R: Files> Shelf<Counted<R::File>, Target<R::File>> for Folder<'a, R> {
 
     fn sink(&mut self, number: u32, half: Half) -> Result<Target<R::File>, BackupFault> {
         let path = self.backups.part_file(self.alloc, number, half)?;
-        let mut options = OpenOptions::new();
-        options.write(true).create_new(true).mode(0o600);
-        match options.open(self.rt, path.as_str()) {
+        match self.make_file(path.as_str(), half) {
             Ok(file) => Ok(Target {
                 file,
                 failures: 0,
@@ -351,11 +543,30 @@ impl<'a, R: Files> Shelf<Counted<R::File>, Target<R::File>> for Folder<'a, R> {
         }
     }
 
+    // (what another has put in the place of the folder stays, and what that leads to)
     fn clear(&mut self, number: u32) {
-        self.remove(number, Half::Store);
-        self.remove(number, Half::Log);
-        if let Ok(part) = self.backups.part(self.alloc, number) {
-            let _ = fs::remove_dir(self.rt, part.as_str());
+        if let Some(held) = &self.held {
+            self.remove_part(held);
         }
+        if let Ok(part) = self.backups.part(self.alloc, number) {
+            if self.is_own(part.as_str(), self.part) {
+                let _ = fs::remove_dir(self.rt, part.as_str());
+            }
+        }
+    }
+
+    fn take_away(&mut self, number: u32) -> bool {
+        match (
+            self.backups.whole(self.alloc, number),
+            self.backups.part(self.alloc, number),
+        ) {
+            (Ok(whole), Ok(part)) => self.remove_whole(whole.as_str(), part.as_str()),
+            _ => false,
+        }
+    }
+
+    // (where memory is wanting it isn't told)
+    fn stay(&mut self, number: u32) {
+        let _ = self.stayed.push(number);
     }
 }

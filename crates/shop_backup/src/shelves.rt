@@ -1,7 +1,7 @@
 //! Where backups are made: what is done there, step by step.
 
-ghost use Rattle.std.specs.Prelude.{◌≡◌, ◌∷◌, [], ℕ, List, Option, IfOk, IsSome, Ok, OnErr, OnOk, Some, true, false};
-ghost use Rattle.shop_backup.specs.Steps.{Adds, BackupStep, cleared, finished, kept, made, passed};
+ghost use Rattle.std.specs.Prelude.{◌≡◌, ◌≤◌, ◌∷◌, [], ℕ, List, Option, All, IfOk, IsSome, IsTrue, OnErr, OnOk, Some, false};
+ghost use Rattle.shop_backup.specs.Steps.{Adds, BackupStep, cleared, finished, greatest, kept, listed, looked, made, stayed, taken};
 
 use crate::faults::BackupFault;
 use shop_advice::BackupCause;
@@ -14,6 +14,13 @@ pub enum Half {
     Log,
 }
 
+/// The numbers of all that is named as a backup, whole or not, and those of what is named as a whole one.
+#[derive(Drop)]
+pub struct Numbers {
+    pub all: Vec<u32>,
+    pub whole: Vec<u32>,
+}
+
 /// A place where backups of a store are made, each under a number.
 pub trait Shelf<S: Source, W: Sink> {
     ghost use Rattle.shop_backup.specs.declared.shelves.Half.{Half};
@@ -24,13 +31,25 @@ pub trait Shelf<S: Source, W: Sink> {
     /// What a file of the store holds, where it is known what was done.
     ghost holds: { Self → Half → List ℕ };
 
-    /// Begins the backup of a number, unless one of it is there, whole or not, and tells whether it did.
-    fn begin(&mut self, number: u32) -> Result<bool, BackupFault>
+    /// Looks whether this is the place of the start, in which nobody but its owner may write.
+    fn look(&mut self) -> Result<(), BackupFault>
         ensures holds { holds self.new ≡ holds self.old }
-        ensures passed { result ≡ Ok false
-            → Adds (done self.old) (done self.new) (passed number ∷ []) }
-        ensures made { result ≡ Ok true
-            → Adds (done self.old) (done self.new) (made number ∷ []) }
+        ensures ok { OnOk result (Adds (done self.old) (done self.new) (looked ∷ [])) }
+        ensures err { OnErr result (done self.new ≡ done self.old) };
+
+    /// The numbers of what is there.
+    fn list(&mut self) -> Result<Numbers, BackupFault>
+        ensures holds { holds self.new ≡ holds self.old }
+        ensures ok { IfOk result (λ numbers. Adds (done self.old) (done self.new)
+            (listed numbers.all.items numbers.whole.items ∷ [])) }
+        ensures within { IfOk result (λ numbers. IsSome (done self.old)
+            → All (λ n. n ≤ greatest numbers.all.items) numbers.whole.items) }
+        ensures err { OnErr result (done self.new ≡ done self.old) };
+
+    /// Begins the backup of a number, of which none is there.
+    fn begin(&mut self, number: u32) -> Result<(), BackupFault>
+        ensures holds { holds self.new ≡ holds self.old }
+        ensures ok { OnOk result (Adds (done self.old) (done self.new) (made number ∷ [])) }
         ensures err { OnErr result (done self.new ≡ done self.old) };
 
     /// A file of the store, to be read from its first byte on.
@@ -66,4 +85,13 @@ pub trait Shelf<S: Source, W: Sink> {
     fn clear(&mut self, number: u32)
         ensures holds { holds self.new ≡ holds self.old }
         ensures cleared { Adds (done self.old) (done self.new) (cleared number ∷ []) };
+
+    /// Takes a whole backup away, if it holds its two files and nothing else, and tells whether it did.
+    fn take_away(&mut self, number: u32) -> bool
+        ensures gone { IsTrue result → Adds (done self.old) (done self.new) (taken number ∷ []) }
+        ensures stays { result ≡ false → done self.new ≡ done self.old };
+
+    /// Has it told of a backup that it couldn't be taken away.
+    fn stay(&mut self, number: u32)
+        ensures { Adds (done self.old) (done self.new) (stayed number ∷ []) };
 }

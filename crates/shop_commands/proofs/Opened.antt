@@ -42,7 +42,8 @@ module _ {B : Type 0} (book : Ghosts B) where
 
   pub unaccepted : (site : Site) (before after : B) (limit : Option ℕ) (fault : ServeFault) (f : Fault) → f ≡ serve_fault fault → IsUnserved site book before after (most_served limit) fault → IsUnaccepted book site before after limit f
   unaccepted site before after limit serve.NoMemory f is unserved = inl (is, unserved)
-  unaccepted site before after limit serve.Port f is unserved = inr (is, unserved)
+  unaccepted site before after limit serve.Port f is unserved = inr (inl is, unserved)
+  unaccepted site before after limit serve.Moved f is unserved = inr (inr is, unserved)
 
   module _ (gives : Result B OpenFault → Type 0) (said : Content → Result (List ℕ) Refusal) (before after : B) (out : SinkChange) (given : gives (Ok before)) where
     pub text_done : (result : Result (Unit {0}) PrintFault) → Prints book before after said out result → result ≡ Ok tt → IsTextDone book gives said out

@@ -43,9 +43,18 @@ of_store store.ReadOnly = refl
 of_store store.InUse = refl
 of_store store.Journal = refl
 of_store store.NotPlain = refl
+of_store store.Missing = refl
+of_store store.DanglingLink = refl
+of_store store.NoLog = refl
+of_store store.LoneLog = refl
+of_store store.DamagedLog = refl
+of_store store.OtherForm = refl
+of_store store.Bound = refl
 of_store store.NoDatabase = refl
 of_store store.Damaged = refl
 of_store store.Full = refl
+of_store store.Moved = refl
+of_store store.Before = refl
 of_store store.Failed = refl
 
 of_version : (c : VersionCause) → IsPlain (version_text c)
@@ -59,9 +68,12 @@ of_backup backup.Other = refl
 of_backup backup.NotAllowed = refl
 of_backup backup.ReadOnly = refl
 of_backup backup.Full = refl
+of_backup backup.Open = refl
+of_backup backup.Another = refl
 of_backup backup.NoNumber = refl
 of_backup backup.Moved = refl
 of_backup backup.Unread = refl
+of_backup backup.NoBackup = refl
 of_backup backup.Failed = refl
 
 of_shop : (c : ShopCause) → IsPlain (shop_text c)
@@ -90,6 +102,7 @@ of_port : (c : PortCause) → IsPlain (port_text c)
 of_port port.InUse = refl
 of_port port.NotAllowed = refl
 of_port port.Refused = refl
+of_port port.NoRun = refl
 
 of_refusal : (c : Refusal) → IsPlain (refused_text c)
 of_refusal refusal.BadMessage = refl

@@ -44,6 +44,7 @@ abbrev pub port_text : PortCause → List ℕ
 port_text port.InUse = codes "another program listens to it; end that one, or take another port"
 port_text port.NotAllowed = codes "this account may not listen to it; take one from 1024 on"
 port_text port.Refused = codes "the system refuses it, or accepts no connection any more"
+port_text port.NoRun = codes "the system gives no random numbers, by which each start is told from others"
 
 abbrev pub cause_text : Cause → List ℕ
 cause_text (cause.File c) = file_text c

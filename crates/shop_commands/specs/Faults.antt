@@ -12,11 +12,16 @@ use Rattle.shop_records.specs.declared.refusals.Refusal.TheVariants as refusal
 use Rattle.shop_records.specs.Refusals.{refusal_number, refusal_name}
 use Rattle.shop_backup.specs.declared.faults.BackupFault.{BackupFault}
 use Rattle.shop_backup.specs.declared.faults.BackupFault.TheVariants as backup
+use Rattle.shop_backup.specs.declared.restoring.RestoreFault.{RestoreFault}
+use Rattle.shop_backup.specs.declared.restoring.RestoreFault.TheVariants as restore
+use Rattle.shop_advice.specs.declared.causes.BackupCause.TheVariants.{NoBackup}
+use Rattle.shop_advice.specs.declared.causes.StoreCause.TheVariants.{Before}
 use Rattle.shop_opening.specs.declared.shops.AddFault.{AddFault}
 use Rattle.shop_opening.specs.declared.shops.AddFault.TheVariants as add
 use Rattle.shop_serve.specs.declared.faults.ServeFault.{ServeFault}
 use Rattle.shop_serve.specs.declared.faults.ServeFault.TheVariants as serve
 use Rattle.shop_serve.specs.declared.ports.PortCause.TheVariants as port_cause
+use Rattle.shop_advice.specs.declared.causes.StoreCause.TheVariants as store_cause
 use Rattle.shop_opening.specs.declared.stores.OpenFault.{OpenFault}
 use Rattle.shop_opening.specs.declared.stores.OpenFault.TheVariants as store
 use Rattle.shop_text.specs.declared.printing.PrintFault.{PrintFault}
@@ -102,6 +107,12 @@ abbrev pub backup_fault : BackupFault → Fault
 backup_fault backup.NoMemory = NoMemory
 backup_fault (backup.Failed cause) = Backup cause
 
+abbrev pub restore_fault : RestoreFault → Fault
+restore_fault restore.NoMemory = NoMemory
+restore_fault (restore.Store cause) = Store cause
+restore_fault restore.NoBackup = Backup NoBackup
+restore_fault restore.Before = Store Before
+
 abbrev pub add_fault : AddFault → Fault
 add_fault add.NoMemory = NoMemory
 add_fault (add.Refused e) = Entry e
@@ -113,3 +124,4 @@ print_fault print.Write = Write
 abbrev pub serve_fault : ServeFault → Fault
 serve_fault serve.NoMemory = NoMemory
 serve_fault serve.Port = Port port_cause.Refused
+serve_fault serve.Moved = Store store_cause.Moved

@@ -6,5 +6,6 @@ pub mod Sources
 pub mod Orders
 pub mod Plans
 pub mod Stored
+pub mod Restoring
 pub mod Performs
 pub mod Limits

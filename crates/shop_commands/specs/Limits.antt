@@ -16,8 +16,9 @@ use Rattle.shop_wire.specs.declared.limits.TheConstants.{MOST_HELD}
 use Rattle.shop_wire.specs.Lines.{longest_line}
 use Rattle.shop_wire.specs.Streams.{most_reads}
 use Rattle.shop_serve.specs.declared.clients.TheConstants as connections
+use Rattle.shop_serve.specs.declared.thinking.TheConstants as questions
 use Rattle.shop_serve.specs.declared.serving.TheConstants.{MOST_SERVED}
-use Rattle.shop_words.specs.declared.words.TheConstants.{LONGEST_STEP, MOST_CALLS, LAST_PORT, MOST_CONNECTIONS, MOST_PAIR, VERSION}
+use Rattle.shop_words.specs.declared.words.TheConstants.{LONGEST_STEP, MOST_CALLS, LAST_PORT, MOST_CONNECTIONS, MOST_KEPT, MOST_NAMES, MOST_PAIR, VERSION}
 use Rattle.shop_commands.specs.declared.files.TheConstants.{LONGEST_PAGE}
 
 -- sides of a unit or a piece, a kerf, in tenths of a millimetre, and a code's characters
@@ -63,19 +64,22 @@ pub record AreRequests : Type 0 where
   pub fields : most_fields ≡ 64
   pub body : most_body ≡ 131072
 
--- connections that are open, the seconds that each has for its request, and then for its answer, and how many are served where no limit is
--- said
+-- connections that are open, the seconds that each has for its request, and then for its answer, the calls that a question has though
+-- others wait, and how many are served where no limit is said
 pub record AreConnections : Type 0 where
   pub most : connections.MOST_CLIENTS ≡ 256
   pub patience : connections.PATIENCE ≡ 10
-  pub grace : connections.GRACE ≡ 200
+  pub fair : questions.FAIR_CALLS ≡ 200
   pub served : MOST_SERVED ≡ 18446744073709551615
 
--- of the command line: a step, steps of a search, a port, connections, the terminal and the number of a message, and the version
+-- of the command line: a step, steps of a search, a port, connections, backups that stay, names of a server, the terminal and the number of a
+-- message, and the version
 pub record AreWords : Type 0 where
   pub step : LONGEST_STEP ≡ 200000
   pub calls : MOST_CALLS ≡ 5000
   pub port : LAST_PORT ≡ 65535
   pub connections : MOST_CONNECTIONS ≡ 1000000
+  pub kept : MOST_KEPT ≡ 10000
+  pub names : MOST_NAMES ≡ 10
   pub pair : MOST_PAIR ≡ 4294967295
-  pub version : VERSION.now ≡ codes "1.0.0"
+  pub version : VERSION.now ≡ codes "1.1.0"

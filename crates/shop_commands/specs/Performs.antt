@@ -1,5 +1,5 @@
 -- What the program did: what was written, and with which status it ended.
-use Rattle.std.specs.Prelude.{◌≡◌, ◌≢◌, ◌⊎◌, ℕ, List, [], ◌∷◌, ◌++◌, Result, Ok, Err, codes, option_map}
+use Rattle.std.specs.Prelude.{◌≡◌, ◌≢◌, ◌⊎◌, ℕ, true, false, List, [], ◌∷◌, ◌++◌, Result, Ok, Err, codes, option_map}
 use Rattle.clap.specs.Kinds.{IsAmong}
 use Rattle.clap.specs.Faults as clap
 use Rattle.clap.specs.Words.{Text, subcommand_of}
@@ -14,7 +14,7 @@ use Rattle.shop_wire.specs.Replays.{IsReplayedFresh}
 use Rattle.shop_commands.specs.declared.faults.Fault.{Fault}
 use Rattle.shop_commands.specs.declared.faults.Fault.TheVariants.{File, Read, Write, NoMemory}
 use Rattle.shop_words.specs.declared.words.Request.{Request}
-use Rattle.shop_words.specs.declared.words.Request.TheVariants.{Replay, Plan, PlanOrder, Orders, Serve, Ticket, Yield}
+use Rattle.shop_words.specs.declared.words.Request.TheVariants.{Replay, Plan, PlanOrder, Orders, Serve, Ticket, Yield, Restore}
 use Rattle.shop_words.specs.declared.words.TheConstants.{VERSION}
 use Rattle.shop_words.specs.CommandLine.{AsksFor, AsksNothing, shop_app}
 use Rattle.shop_words.specs.Mistakes.{IsMistakeOf, mistake_text}
@@ -22,7 +22,9 @@ use Rattle.shop_words.specs.declared.mistakes.Mistake.{Mistake}
 use Rattle.shop_commands.specs.Advice.{IsFaultTold, fault_line, no_memory_line}
 use Rattle.shop_commands.specs.Orders.{IsOrdersDone, IsOrdersStopped}
 use Rattle.shop_commands.specs.Plans.{IsFilePlan, IsFileFault, IsFileWhole, IsFileWholeFault}
-use Rattle.shop_commands.specs.Stored.{IsTextDone, IsTextStopped, IsServeDone, IsServeStopped}
+use Rattle.shop_request.specs.declared.addresses.Address.{Address}
+use Rattle.shop_commands.specs.Stored.{IsAddressOf, IsTextDone, IsTextStopped, IsServeDone, IsServeStopped}
+use Rattle.shop_commands.specs.Restoring.{IsRestoreStopped, restored_lines}
 use Rattle.shop_commands.specs.Sinks.{SinkChange, Adds, AddsPrefix, AddsNone, AddsSome, IsWritten, SinkFailed}
 use Rattle.shop_commands.specs.Sources.{SourceChange, SourceFailed}
 
@@ -64,29 +66,35 @@ abbrev pub Concludes : Result (Unit {0}) Fault → (err : SinkChange) → ℕ �
 Concludes (Ok _) err status = (status ≡ 0) × AddsNone err
 Concludes (Err fault) err status = (status ≡ 1) × TellsFault fault err
 
--- ---- over what the opener of stores gives for a path
+-- ---- over what the opener of stores gives for a path, and over what that gives which only reads their files
 
-module _ {B : Type 0} (book : Ghosts B) (gives : List ℕ → Result B OpenFault → Type 0) where
+module _ {B A : Type 0} (book : Ghosts B) (apart : Ghosts A) (gives : List ℕ → Result B OpenFault → Type 0) (reads : List ℕ → Result A OpenFault → Type 0) where
   abbrev pub IsDone : Request → (input : SourceChange) → (out : SinkChange) → Type 0
   IsDone Replay input out = IsReplayDone input out
   IsDone (Plan file kerf step) input out = IsPlanDone (λ bytes. IsFilePlan bytes kerf step) out
   IsDone (PlanOrder file kerf step calls) input out = IsPlanDone (λ bytes. IsFileWhole bytes kerf step) out
-  IsDone (Serve port store shop limit page backup) input out =
-      IsServeDone book (gives store.now) port limit (option_map (λ p. p.now) page) (option_map (λ p. p.now) backup) out
+  IsDone (Serve s) input out =
+      (address : Address) × IsAddressOf s address × IsServeDone book (gives s.store.now) address s.limit (option_map (λ p. p.now) s.page) (option_map (λ p. p.now) s.backup) out
   IsDone (Orders file told) input out = IsOrdersDone told out
-  IsDone (Ticket store job) input out = IsTextDone book (gives store.now) (λ m. ticket_of m job) out
-  IsDone (Yield store material) input out = IsTextDone book (gives store.now) (λ m. yield_of m material) out
+  IsDone (Ticket store job false) input out = IsTextDone book (gives store.now) (λ m. ticket_of m job) out
+  IsDone (Ticket store job true) input out = IsTextDone apart (reads store.now) (λ m. ticket_of m job) out
+  IsDone (Yield store material false) input out = IsTextDone book (gives store.now) (λ m. yield_of m material) out
+  IsDone (Yield store material true) input out = IsTextDone apart (reads store.now) (λ m. yield_of m material) out
+  IsDone (Restore store from) input out = Adds out (restored_lines store.now from.now)
 
   abbrev pub IsStopped : Request → Fault → (input : SourceChange) → (out : SinkChange) → Type 0
   IsStopped Replay fault input out = IsReplayStopped fault input out
   IsStopped (Plan file kerf step) fault input out = IsPlanStopped (λ bytes. IsFilePlan bytes kerf step) (λ bytes. IsFileFault bytes kerf step) fault out
   IsStopped (PlanOrder file kerf step calls) fault input out =
       IsPlanStopped (λ bytes. IsFileWhole bytes kerf step) (λ bytes. IsFileWholeFault bytes kerf step) fault out
-  IsStopped (Serve port store shop limit page backup) fault input out =
-      IsServeStopped book (gives store.now) port limit (option_map (λ p. p.now) page) (option_map (λ p. p.now) backup) fault out
+  IsStopped (Serve s) fault input out =
+      (address : Address) × IsAddressOf s address × IsServeStopped book (gives s.store.now) address s.limit (option_map (λ p. p.now) s.page) (option_map (λ p. p.now) s.backup) fault out
   IsStopped (Orders file told) fault input out = IsOrdersStopped told fault out
-  IsStopped (Ticket store job) fault input out = IsTextStopped book (gives store.now) (λ m. ticket_of m job) fault out
-  IsStopped (Yield store material) fault input out = IsTextStopped book (gives store.now) (λ m. yield_of m material) fault out
+  IsStopped (Ticket store job false) fault input out = IsTextStopped book (gives store.now) (λ m. ticket_of m job) fault out
+  IsStopped (Ticket store job true) fault input out = IsTextStopped apart (reads store.now) (λ m. ticket_of m job) fault out
+  IsStopped (Yield store material false) fault input out = IsTextStopped book (gives store.now) (λ m. yield_of m material) fault out
+  IsStopped (Yield store material true) fault input out = IsTextStopped apart (reads store.now) (λ m. yield_of m material) fault out
+  IsStopped (Restore store from) fault input out = IsRestoreStopped store.now from.now fault out
 
   -- what was asked was done and nothing was told, with status 0; or a fault was told, with status 1
   abbrev pub IsConcluded : (input : SourceChange) → (out err : SinkChange) → Request → ℕ → Type 0
@@ -125,9 +133,9 @@ faults_of words = clap.fault_of shop_app words
 
 -- The words ask for something, which was done or stopped by a fault; or `clap` said something to them; or it took them, and they
 -- ask for nothing, by a mistake that was told.
-abbrev pub IsPerformed : {B : Type 0} → Ghosts B → (List ℕ → Result B OpenFault → Type 0) → List Text → (input : SourceChange) → (out err : SinkChange) → ℕ → Type 0
-IsPerformed book gives words input out err status =
-    ((request : Request) × (faults_of words ≡ []) × AsksFor (subcommand_of shop_app words) request × IsConcluded book gives input out err request status)
+abbrev pub IsPerformed : {B A : Type 0} → Ghosts B → Ghosts A → (List ℕ → Result B OpenFault → Type 0) → (List ℕ → Result A OpenFault → Type 0) → List Text → (input : SourceChange) → (out err : SinkChange) → ℕ → Type 0
+IsPerformed book apart gives reads words input out err status =
+    ((request : Request) × (faults_of words ≡ []) × AsksFor (subcommand_of shop_app words) request × IsConcluded book apart gives reads input out err request status)
     ⊎ ((kind : ErrorKind) × ((kind ≡ OutOfMemory) ⊎ IsAmong kind (faults_of words)) × IsTold out err kind status)
     ⊎ ((faults_of words ≡ []) × AsksNothing (subcommand_of shop_app words)
     × ((mistake : Mistake) × IsMistakeOf (subcommand_of shop_app words) mistake × IsMistakeTold mistake err status) × AddsNone out)

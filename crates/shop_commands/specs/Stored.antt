@@ -1,19 +1,25 @@
 -- What the commands on a store do: tickets, yield reports, and serving. A real file tells no bytes, so that a file was read or
 -- a store was opened is said of some bytes and of what the store's opener may give: some book, or some fault.
-use Rattle.std.specs.Prelude.{◌≡◌, ◌<◌, ◌≤◌, ◌⊎◌, ⊤, None, Some, length, ℕ, List, ◌++◌, codes, is_some, Option, Result, Ok, Err, All}
+use Rattle.std.specs.Prelude.{◌≡◌, ◌<◌, ◌≤◌, ◌⊎◌, ⊤, None, Some, length, ℕ, List, ◌++◌, codes, string_bytes, is_some, Option, Result, Ok, Err, All}
 use Rattle.std.specs.Fmt.{decimal}
 use Rattle.shop_files.specs.Shops.{IsShopFile, IsShopFault}
 use Rattle.shop_files.specs.declared.shops.MaterialEntry.{MaterialEntry}
 use Rattle.shop_files.specs.declared.shops.ShopFault.{ShopFault}
 use Rattle.shop_records.specs.Content.{Content}
 use Rattle.shop_records.specs.declared.refusals.Refusal.{Refusal}
+use Rattle.shop_request.specs.Guards.{IsGuardOf}
+use Rattle.shop_request.specs.declared.addresses.Address.{Address}
+use Rattle.shop_serve.specs.Runs.{IsRun}
 use Rattle.shop_serve.specs.Serving.{HasServed, most_served}
 use Rattle.shop_serve.specs.Sites.{HasPage}
 use Rattle.shop_serve.specs.declared.ports.PortCause.{PortCause}
 use Rattle.shop_serve.specs.declared.ports.PortCause.TheVariants as port_cause
 use Rattle.shop_serve.specs.declared.sites.Site.{Site}
 use Rattle.shop_advice.specs.declared.causes.BackupCause.{BackupCause}
+use Rattle.shop_advice.specs.declared.causes.StoreCause.TheVariants as store_cause
 use Rattle.shop_commands.specs.declared.files.TheConstants.{LONGEST_PAGE}
+use Rattle.shop_words.specs.declared.words.Serving.{Serving}
+use Rattle.shop_words.specs.declared.words.TheConstants.{VERSION}
 use Rattle.shop_opening.specs.declared.shops.EntryRefused.{EntryRefused}
 use Rattle.shop_opening.specs.declared.stores.OpenFault.{OpenFault}
 use Rattle.shop_opening.specs.Shops.{HasShop, IsAccepted, IsFirstRefused}
@@ -27,7 +33,7 @@ use Rattle.shop_text.specs.Yields.{yield_of}
 use Rattle.shop_text.specs.declared.printing.PrintFault.{PrintFault}
 use Rattle.shop_text.specs.declared.printing.PrintFault.TheVariants as print
 use Rattle.shop_commands.specs.declared.faults.Fault.{Fault}
-use Rattle.shop_commands.specs.declared.faults.Fault.TheVariants.{File, Entry, Refused, Write, NoMemory, Port, Backup}
+use Rattle.shop_commands.specs.declared.faults.Fault.TheVariants.{File, Entry, Refused, Write, NoMemory, Store, Port, Backup}
 use Rattle.shop_commands.specs.declared.stored.StoreText.{StoreText}
 use Rattle.shop_commands.specs.declared.stored.StoreText.TheVariants.{Ticket, Yield}
 use Rattle.shop_commands.specs.Faults.{shop_fault, store_fault}
@@ -50,14 +56,27 @@ IsPageRead (Some path) page = (bytes : List ℕ) × (page ≡ Some bytes) × (le
 abbrev pub IsPageUnread : Fault → Type 0
 IsPageUnread fault = (fault ≡ NoMemory) ⊎ (fault ≡ File)
 
+-- the files of a store that was opened aren't found under its names
+abbrev pub IsUnnamed : Fault → Type 0
+IsUnnamed fault = (fault ≡ NoMemory) ⊎ (fault ≡ Store store_cause.Moved)
+
 -- no backup can be made in the folder, or memory ran out
 abbrev pub IsUnbacked : Fault → Type 0
 IsUnbacked fault = (fault ≡ NoMemory) ⊎ ((cause : BackupCause) × (fault ≡ Backup cause))
 
--- what is served on a port, with the page of a path, and with backups where there is a folder for them
-abbrev pub IsSite : (port : ℕ) (path folder : Option (List ℕ)) → Site → Type 0
-IsSite port path folder site =
-    (site.guard.port ≡ port) × (site.guard.has_backups ≡ is_some folder) × ((page : Option (List ℕ)) × IsPageRead path page × HasPage site page)
+-- memory ran out before a run was drawn, or the system gives none
+abbrev pub IsUndrawn : Fault → Type 0
+IsUndrawn fault = (fault ≡ NoMemory) ⊎ (fault ≡ Port port_cause.NoRun)
+
+-- where a server is reached that is asked for
+abbrev pub IsAddressOf : Serving → Address → Type 0
+IsAddressOf s address = (address.port ≡ s.port) × (address.hosts.now ≡ s.hosts.items) × (address.origins.now ≡ s.origins.items)
+
+-- what is served at an address, with the page of a path, and with backups where there is a folder for them; under some run
+abbrev pub IsSite : Address → (path folder : Option (List ℕ)) → Site → Type 0
+IsSite address path folder site =
+    ((page : Option (List ℕ)) × IsPageRead path page × HasPage site page × IsGuardOf address (is_some page) (is_some folder) (string_bytes site.run) site.guard)
+    × IsRun (string_bytes site.run) × (string_bytes site.version ≡ VERSION.now)
 
 -- the opener gave no book, and this tells why
 abbrev pub IsUnopened : {B : Type 0} → (Result B OpenFault → Type 0) → Fault → Type 0
@@ -124,9 +143,9 @@ module _ {B : Type 0} (book : Ghosts B) where
   AddFailed before after entries fault =
       ((fault ≡ NoMemory) × (after ≡ before)) ⊎ ((e : EntryRefused) × (fault ≡ Entry e) × HasShop book before after entries (λ replies. IsFirstRefused replies e))
 
-  -- memory was wanting before the first connection, or no more could be accepted
+  -- memory was wanting before the first connection; or no more could be accepted, or the store's names led to other files
   abbrev pub IsUnaccepted : Site → B → B → Option ℕ → Fault → Type 0
-  IsUnaccepted site before after limit fault = ((fault ≡ NoMemory) × (after ≡ before)) ⊎ ((fault ≡ Port port_cause.Refused) × HasServed site book before after (most_served limit))
+  IsUnaccepted site before after limit fault = ((fault ≡ NoMemory) × (after ≡ before)) ⊎ (((fault ≡ Port port_cause.Refused) ⊎ (fault ≡ Store store_cause.Moved)) × HasServed site book before after (most_served limit))
 
   -- the same, but that serving stopped
   pub record IsBookLeft (site : Site) (before after : B) (entries : List MaterialEntry) (port : ℕ) (limit : Option ℕ) (fault : Fault) (out : SinkChange) : Type 0 where
@@ -138,27 +157,27 @@ module _ {B : Type 0} (book : Ghosts B) where
     pub keeps : Unchanged book (CountsFailure count) mid counted
     pub left : IsUnaccepted site counted after limit fault
 
-  -- no backup can be made of the store, and nothing was done; or the entries aren't all there; or they are, and the port isn't told; or
+  -- the store's names lead to other files by now, or no backup can be made of it, and nothing was done; or the entries aren't all there; or they are, and the port isn't told; or
   -- it is, and serving stopped
   abbrev pub IsBookUnserved : Site → (before after : B) → List MaterialEntry → (port : ℕ) → Option ℕ → Fault → (out : SinkChange) → Type 0
   IsBookUnserved site before after entries port limit fault out =
-      (IsUnbacked fault × (after ≡ before) × AddsNone out)
+      ((IsUnnamed fault ⊎ IsUnbacked fault) × (after ≡ before) × AddsNone out)
       ⊎ (AddFailed before after entries fault × AddsNone out)
       ⊎ ((IsShopped before after entries × IsUnannounced port fault out) ⊎ IsBookLeft site before after entries port limit fault out)
 
   -- a shop file's entries were added to the book of a store, which was served
-  abbrev pub IsServeDone : (Result B OpenFault → Type 0) → (port : ℕ) → (limit : Option ℕ) → (page folder : Option (List ℕ)) → (out : SinkChange) → Type 0
-  IsServeDone gives port limit page folder out =
-      (entries : List MaterialEntry) × IsShopRead entries × (site : Site) × IsSite port page folder site
-      × (before after : B) × gives (Ok before) × IsBookServed site before after entries port limit out
+  abbrev pub IsServeDone : (Result B OpenFault → Type 0) → Address → (limit : Option ℕ) → (page folder : Option (List ℕ)) → (out : SinkChange) → Type 0
+  IsServeDone gives address limit page folder out =
+      (entries : List MaterialEntry) × IsShopRead entries × (site : Site) × IsSite address page folder site
+      × (before after : B) × gives (Ok before) × IsBookServed site before after entries address.port limit out
 
-  -- the shop file's fault; or its entries were read, and then the page's fault came, or that of the folder of backups, or the
-  -- store's, or what stopped the serving of its book
-  abbrev pub IsServeStopped : (Result B OpenFault → Type 0) → (port : ℕ) → (limit : Option ℕ) → (page folder : Option (List ℕ)) → Fault → (out : SinkChange) → Type 0
-  IsServeStopped gives port limit page folder fault out =
+  -- the shop file's fault; or its entries were read, and then the page's fault came, or that of the folder of backups, or no run was
+  -- drawn; or the store's, or what stopped the serving of its book
+  abbrev pub IsServeStopped : (Result B OpenFault → Type 0) → Address → (limit : Option ℕ) → (page folder : Option (List ℕ)) → Fault → (out : SinkChange) → Type 0
+  IsServeStopped gives address limit page folder fault out =
       (IsShopUnread fault × AddsNone out)
       ⊎ ((entries : List MaterialEntry) × IsShopRead entries
-      × (((IsPageUnread fault ⊎ IsUnbacked fault) × AddsNone out)
-      ⊎ ((site : Site) × IsSite port page folder site
+      × (((IsPageUnread fault ⊎ IsUnbacked fault ⊎ IsUndrawn fault) × AddsNone out)
+      ⊎ ((site : Site) × IsSite address page folder site
       × ((IsUnopened gives fault × AddsNone out)
-      ⊎ ((before after : B) × gives (Ok before) × IsBookUnserved site before after entries port limit fault out)))))
+      ⊎ ((before after : B) × gives (Ok before) × IsBookUnserved site before after entries address.port limit fault out)))))

@@ -17,7 +17,7 @@ use shop_advice::{
 use shop_files::TextCause;
 use shop_records::Refusal;
 use shop_serve::PortCause;
-use shop_words::Request;
+use shop_words::{Request, Serving};
 use std::alloc::{AllocError, Global};
 use std::fs::Files;
 
@@ -47,7 +47,7 @@ pub enum Cause {
     Version(VersionCause),
     /// A port can't be listened to.
     Port(PortCause),
-    /// No backup can be made in a folder.
+    /// No backup can be made in a folder, or it is none.
     Backup(BackupCause),
     /// Standard input can't be read.
     Input,
@@ -114,6 +114,8 @@ fn port_text(cause: PortCause) -> &'static str
         PortCause::InUse => "another program listens to it; end that one, or take another port",
         PortCause::NotAllowed => "this account may not listen to it; take one from 1024 on",
         PortCause::Refused => "the system refuses it, or accepts no connection any more",
+        PortCause::NoRun =>
+            "the system gives no random numbers, by which each start is told from others",
     }
 }
 
@@ -185,27 +187,31 @@ fn first_name<'a>(request: &Request<'a>) -> &'a str {
         Request::Plan { file, .. } => file,
         Request::PlanOrder { file, .. } => file,
         Request::Orders { file, .. } => file,
-        Request::Serve { shop, .. } => shop,
+        Request::Serve(serving) => serving.shop,
         Request::Ticket { store, .. } => store,
         Request::Yield { store, .. } => store,
+        Request::Restore { store, .. } => store,
     }
 }
 
 // The store of a request.
 fn store_name<'a>(request: &Request<'a>) -> &'a str {
     match request {
-        Request::Serve { store, .. } => store,
+        Request::Serve(serving) => serving.store,
         _ => first_name(request),
     }
 }
 
-// The folder of a request's backups.
+// The folder of a request's backups, or of the one that is restored.
 fn backup_name<'a>(request: &Request<'a>) -> &'a str {
     match request {
-        Request::Serve {
-            backup: Some(backup),
-            ..
-        } => backup,
+        Request::Serve(
+            Serving {
+                backup: Some(backup),
+                ..
+            },
+        ) => backup,
+        Request::Restore { from, .. } => from,
         _ => first_name(request),
     }
 }
@@ -221,11 +227,13 @@ fn can_be_read<R: Files>(rt: &R, alloc: Global, path: &str) -> bool {
 // The file that can't be read: the page where the shop file can be.
 fn unread_name<'a, R: Files>(rt: &R, alloc: Global, request: &Request<'a>) -> &'a str {
     match request {
-        Request::Serve {
-            shop,
-            page: Some(page),
-            ..
-        } => {
+        Request::Serve(
+            Serving {
+                shop,
+                page: Some(page),
+                ..
+            },
+        ) => {
             if can_be_read(rt, alloc, shop) {
                 page
             } else {
@@ -239,7 +247,7 @@ fn unread_name<'a, R: Files>(rt: &R, alloc: Global, request: &Request<'a>) -> &'
 // Why a file can't be used that can be read: it is too long for a page, or no text of an order.
 fn unused_cause(request: &Request<'_>) -> FileCause {
     match request {
-        Request::Serve { page: Some(_), .. } => FileCause::Long,
+        Request::Serve(Serving { page: Some(_), .. }) => FileCause::Long,
         Request::Orders { .. } => FileCause::NoText,
         _ => FileCause::Unreadable,
     }
@@ -317,7 +325,7 @@ fn refused_advice(
 // The port of a request.
 fn port_of(request: &Request<'_>) -> u32 {
     match request {
-        Request::Serve { port, .. } => *port,
+        Request::Serve(serving) => serving.port,
         _ => 0,
     }
 }
@@ -393,7 +401,16 @@ pub(crate) fn advise<R: Files>(
 /// Whether a request on a store will make it, since none is there: what is found now.
 pub(crate) fn makes_store<R: Files>(rt: &R, request: &Request<'_>) -> bool {
     match request {
-        Request::Ticket { store, .. } | Request::Yield { store, .. } => !is_there(rt, store),
+        Request::Ticket {
+            store,
+            read_only: false,
+            ..
+        }
+        | Request::Yield {
+            store,
+            read_only: false,
+            ..
+        } => !is_there(rt, store),
         _ => false,
     }
 }

@@ -5,7 +5,7 @@ ghost use Rattle.shop_commands.specs.Faults as spec;
 
 use cut_plan::PlanFault;
 use shop_advice::{BackupCause, StoreCause, VersionCause};
-use shop_backup::BackupFault;
+use shop_backup::{BackupFault, RestoreFault};
 use shop_files::{ShopFault, TextCause, TextFault};
 use shop_opening::{AddFault, EntryRefused, OpenFault};
 use shop_records::Refusal;
@@ -77,7 +77,7 @@ pub enum Fault {
     Version(VersionCause),
     /// The port can't be listened to, or no connection can be accepted.
     Port(PortCause),
-    /// No backup can be made in the folder.
+    /// No backup can be made in the folder, or it is none.
     Backup(BackupCause),
 }
 
@@ -167,6 +167,22 @@ impl From<BackupFault> for Fault {
     }
 }
 
+impl From<RestoreFault> for Fault {
+    ghost use Rattle.std.specs.Prelude.{◌≡◌};
+    ghost use Rattle.shop_commands.specs.Faults.{restore_fault};
+
+    ghost from_gives = { λ fault result. result ≡ restore_fault fault };
+
+    fn from(fault: RestoreFault) -> Fault {
+        match fault {
+            RestoreFault::NoMemory => Fault::NoMemory,
+            RestoreFault::Store(cause) => Fault::Store(cause),
+            RestoreFault::NoBackup => Fault::Backup(BackupCause::NoBackup),
+            RestoreFault::Before => Fault::Store(StoreCause::Before),
+        }
+    }
+}
+
 impl From<AddFault> for Fault {
     ghost use Rattle.std.specs.Prelude.{◌≡◌};
     ghost use Rattle.shop_commands.specs.Faults.{add_fault};
@@ -205,6 +221,7 @@ impl From<ServeFault> for Fault {
         match fault {
             ServeFault::NoMemory => Fault::NoMemory,
             ServeFault::Port => Fault::Port(PortCause::Refused),
+            ServeFault::Moved => Fault::Store(StoreCause::Moved),
         }
     }
 }

@@ -10,6 +10,7 @@ mod orders;
 mod performing;
 mod plans;
 mod replays;
+mod restoring;
 mod running;
 mod stored;
 mod storeless;

@@ -3,9 +3,16 @@
 ghost use Rattle.std.specs.Prelude.{◌≡◌, IfOk, string_bytes};
 ghost use Rattle.shop_commands.specs.Log as spec;
 
+use shop_backup::Backups;
+use shop_serve::{Lines, Site};
 use shop_words::VERSION;
 use std::alloc::{AllocError, Global};
 use std::io::Eprint;
+use std::time::Clock;
+
+// What it tells when it begins where it judges no name.
+const ANY_HOST: &str =
+    "cutshop: Host isn't judged; with --host or --origin only requests for names of this shop are answered\n";
 
 // What it tells when it begins, of a store that was made.
 fn new_line(alloc: Global, store: &str) -> Result<String, AllocError>
@@ -49,16 +56,17 @@ fn end_line(alloc: Global, store: &str) -> Result<String, AllocError>
     format!(in alloc; "cutshop {VERSION}: ended serving {store}\n")
 }
 
-fn note<R: Eprint>(rt: &R, line: Result<String, AllocError>) {
+fn note<R: Eprint + Clock>(rt: &R, lines: &mut Lines, line: Result<String, AllocError>) {
     if let Ok(line) = line {
-        let _ = rt.eprint(line.as_str());
+        lines.write(rt, line.as_str());
     }
 }
 
 /// Tells that a store is served, which was made or was there, and how many messages it keeps, where that was counted.
-pub(crate) fn note_begin<R: Eprint>(
+pub(crate) fn note_begin<R: Eprint + Clock>(
     rt: &R,
     alloc: Global,
+    lines: &mut Lines,
     store: &str,
     is_new: bool,
     kept: Option<u32>,
@@ -70,12 +78,28 @@ pub(crate) fn note_begin<R: Eprint>(
     };
     if let Ok(told) = told {
         if let Ok(kept) = kept_text(alloc, kept) {
-            note(rt, begin_line(alloc, told.as_str(), kept.as_str()));
+            note(rt, lines, begin_line(alloc, told.as_str(), kept.as_str()));
+        }
+    }
+}
+
+/// Tells that requests under whatever name are answered, if they are.
+pub(crate) fn note_host<R: Eprint + Clock>(rt: &R, lines: &mut Lines, site: &Site) {
+    if !site.judges_host() {
+        lines.write(rt, ANY_HOST);
+    }
+}
+
+/// Tells that the backups lie where they are lost with the store, if they do.
+pub(crate) fn note_disk<R: Eprint + Clock>(rt: &R, lines: &mut Lines, backups: Option<&Backups>) {
+    if let Some(backups) = backups {
+        if backups.is_on_store_disk() {
+            lines.write(rt, "cutshop: backups lie on the store's own disk\n");
         }
     }
 }
 
 /// Tells that a store isn't served any more.
-pub(crate) fn note_end<R: Eprint>(rt: &R, alloc: Global, store: &str) {
-    note(rt, end_line(alloc, store));
+pub(crate) fn note_end<R: Eprint + Clock>(rt: &R, alloc: Global, lines: &mut Lines, store: &str) {
+    note(rt, lines, end_line(alloc, store));
 }

@@ -11,6 +11,7 @@ ghost use Rattle.shop_commands.specs.Performs as spec;
 ghost use Rattle.shop_commands.specs.Performs.{Concludes, IsDone, IsHelped, IsMistakeTold, IsPerformed, IsPlanDone, IsPlanStopped, IsStopped, IsTold, TellsFault};
 ghost use Rattle.shop_commands.specs.Plans.{IsFileFault, IsFilePlan, IsFileWhole, IsFileWholeFault};
 ghost use Rattle.shop_commands.specs.Sinks.{change_of};
+ghost use Rattle.shop_commands.specs.Stored.{IsAddressOf};
 ghost use Rattle.shop_commands.specs.Sources.{source_change};
 
 use crate::advice::{Advice, NO_MEMORY_TOLD, advise, fault_lines, makes_store, stream_advice};
@@ -19,18 +20,21 @@ use crate::files::{read_file, write_text};
 use crate::orders::check_orders;
 use crate::plans::{plan_file, plan_whole_file};
 use crate::replays::replay_fresh;
+use crate::restoring::restore;
 use crate::stored::{StoreText, print_stored, serve};
 use clap::Error;
 use clap::error::ErrorKind;
 use shop_opening::Opens;
 use shop_problems::{USUAL_CALLS, WholePlan};
+use shop_request::Address;
 use shop_store::Book;
 use shop_text::{Sink, Source};
-use shop_words::{Mistake, Reading, Request, VERSION, mistake_text, request_of};
+use shop_words::{Mistake, Reading, Request, Serving, VERSION, mistake_text, request_of};
 use std::alloc::{AllocError, Global};
 use std::fs::Files;
 use std::io::Eprint;
 use std::net::Net;
+use std::random::RandomSource;
 use std::time::Clock;
 
 // Writes the lines of a fault, and gives the status of a program that stopped.
@@ -97,10 +101,30 @@ fn plan_order<R: Files, W: Sink>(
     write_text(sink, lines.as_str())
 }
 
+// Where a server is reached.
+fn address_of<'a>(serving: &'a Serving<'a>) -> Address<'a>
+    ensures { IsAddressOf serving.now result }
+{
+    Address {
+        port: serving.port,
+        hosts: &serving.hosts,
+        origins: &serving.origins,
+    }
+}
+
 // Does what is asked, or stops.
-fn do_request<R: Files + Net + Clock + Eprint, B: Book + Drop, O: Opens<B>, S: Source, W: Sink>(
+fn do_request<
+    R: Files + Net + Clock + Eprint + RandomSource,
+    B: Book + Drop,
+    A: Book + Drop,
+    O: Opens<B>,
+    P: Opens<A>,
+    S: Source,
+    W: Sink,
+>(
     rt: &R,
     stores: O,
+    apart: P,
     alloc: Global,
     request: &Request<'_>,
     source: &mut S,
@@ -108,10 +132,10 @@ fn do_request<R: Files + Net + Clock + Eprint, B: Book + Drop, O: Opens<B>, S: S
 ) -> Result<(), Fault>
     requires { HasKerf request.now }
     ensures ok { OnOk result
-        (IsDone B.Book (O.gives stores) request.now (source_change S.Source source.old source.new)
+        (IsDone B.Book A.Book (O.gives stores) (P.gives apart) request.now (source_change S.Source source.old source.new)
         (change_of W.Sink sink.old sink.new)) }
     ensures err { IfErr result (λ f.
-        IsStopped B.Book (O.gives stores) request.now f (source_change S.Source source.old source.new)
+        IsStopped B.Book A.Book (O.gives stores) (P.gives apart) request.now f (source_change S.Source source.old source.new)
         (change_of W.Sink sink.old sink.new)) }
     ensures reads { S.reads source.new ≤ S.reads source.old + most_reads }
 {
@@ -125,22 +149,41 @@ fn do_request<R: Files + Net + Clock + Eprint, B: Book + Drop, O: Opens<B>, S: S
             calls,
         } => plan_order(rt, alloc, file, *kerf, *step, *calls, sink),
         Request::Orders { file, told } => check_orders(rt, alloc, file, *told, sink),
-        Request::Serve {
-            port,
-            store,
-            shop,
-            limit,
-            page,
-            backup,
-        } => serve(
-            rt, stores, alloc, *port, store, shop, *limit, *page, *backup, sink,
+        Request::Serve(serving) => serve(
+            rt,
+            stores,
+            alloc,
+            &address_of(serving),
+            serving.store,
+            serving.shop,
+            serving.limit,
+            serving.page,
+            serving.backup,
+            serving.existing,
+            serving.keep,
+            sink,
         ),
-        Request::Ticket { store, job } => {
-            print_stored(stores, alloc, store, StoreText::Ticket(*job), sink)
-        }
-        Request::Yield { store, material } => {
-            print_stored(stores, alloc, store, StoreText::Yield(*material), sink)
-        }
+        Request::Ticket {
+            store,
+            job,
+            read_only: false,
+        } => print_stored(stores, alloc, store, StoreText::Ticket(*job), sink),
+        Request::Ticket {
+            store,
+            job,
+            read_only: true,
+        } => print_stored(apart, alloc, store, StoreText::Ticket(*job), sink),
+        Request::Yield {
+            store,
+            material,
+            read_only: false,
+        } => print_stored(stores, alloc, store, StoreText::Yield(*material), sink),
+        Request::Yield {
+            store,
+            material,
+            read_only: true,
+        } => print_stored(apart, alloc, store, StoreText::Yield(*material), sink),
+        Request::Restore { store, from } => restore(rt, apart, alloc, store, from, sink),
     }
 }
 
@@ -237,22 +280,25 @@ fn tell_mistake<E: Sink>(alloc: Global, mistake: Mistake<'_>, errors: &mut E) ->
 /// help, 2 for a mistake in the words, and else 1, with the fault as one line of `errors`, and but for an order file's one more that
 /// begins with two spaces and tells why.
 pub fn perform<
-    R: Files + Net + Clock + Eprint,
+    R: Files + Net + Clock + Eprint + RandomSource,
     B: Book + Drop,
+    A: Book + Drop,
     O: Opens<B>,
+    P: Opens<A>,
     S: Source,
     W: Sink,
     E: Sink,
 >(
     rt: &R,
     stores: O,
+    apart: P,
     alloc: Global,
     words: &[String],
     source: &mut S,
     sink: &mut W,
     errors: &mut E,
 ) -> u8
-    ensures done { IsPerformed B.Book (O.gives stores) (map string_bytes words.now)
+    ensures done { IsPerformed B.Book A.Book (O.gives stores) (P.gives apart) (map string_bytes words.now)
         (source_change S.Source source.old source.new) (change_of W.Sink sink.old sink.new)
         (change_of E.Sink errors.old errors.new) result }
     ensures reads { S.reads source.new ≤ S.reads source.old + most_reads }
@@ -260,7 +306,7 @@ pub fn perform<
     match request_of(alloc, words) {
         Ok(Reading::Request(request)) => {
             let is_new = makes_store(rt, &request);
-            let outcome = do_request(rt, stores, alloc, &request, source, sink);
+            let outcome = do_request(rt, stores, apart, alloc, &request, source, sink);
             conclude(rt, alloc, &request, is_new, outcome, errors)
         }
         Ok(Reading::Mistake(mistake)) => tell_mistake(alloc, mistake, errors),

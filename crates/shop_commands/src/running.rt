@@ -24,8 +24,12 @@ fn refuse_words<E: Sink>(rt: &HostRuntime, error: &io::Error, errors: &mut E) ->
 }
 
 /// Does what the words of the command line ask for, over standard input, standard output and standard error and the book
-/// of the store that is opened, and gives the status.
-pub fn run<D: Alter + Drop, O: Opens<SqlBook<D>>>(rt: &HostRuntime, stores: O) -> u8 {
+/// of the store that is opened (`stores`), or whose files are only read (`apart`), and gives the status.
+pub fn run<D: Alter + Drop, M: Alter + Drop, O: Opens<SqlBook<D>>, P: Opens<SqlBook<M>>>(
+    rt: &HostRuntime,
+    stores: O,
+    apart: P,
+) -> u8 {
     let mut source = Counted::new(rt.stdin());
     let mut sink = Counted::new(rt.stdout());
     let mut errors = Counted::new(rt.stderr());
@@ -33,6 +37,7 @@ pub fn run<D: Alter + Drop, O: Opens<SqlBook<D>>>(rt: &HostRuntime, stores: O) -
         Ok(words) => perform(
             rt,
             stores,
+            apart,
             rt.alloc(),
             &words,
             &mut source,

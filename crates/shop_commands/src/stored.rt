@@ -5,7 +5,8 @@ ghost use Rattle.shop_files.specs.declared.limits.TheConstants.{MOST_ENTRIES};
 ghost use Rattle.shop_commands.specs.declared.faults.Fault.TheVariants as fault;
 ghost use Rattle.shop_commands.specs.Faults.{shop_fault};
 ghost use Rattle.shop_commands.specs.Stored as spec;
-ghost use Rattle.shop_commands.specs.Stored.{Prints, text_of, IsTextDone, IsTextStopped, IsShopRead, IsShopUnread, IsUnopened, IsShopped, AddFailed, IsUnannounced, IsUnaccepted, IsBookServed, IsBookUnserved, IsPageRead, IsPageUnread, IsServeDone, IsServeStopped, IsSite, IsUnbacked};
+ghost use Rattle.shop_commands.specs.Stored.{Prints, text_of, IsTextDone, IsTextStopped, IsShopRead, IsShopUnread, IsUnopened, IsShopped, AddFailed, IsUnannounced, IsUnaccepted, IsBookServed, IsBookUnserved, IsPageRead, IsPageUnread, IsServeDone, IsServeStopped, IsSite, IsUnbacked, IsUndrawn, IsUnnamed};
+ghost use Rattle.shop_serve.specs.Runs.{IsRun};
 ghost use Rattle.shop_files.specs.Shops.{IsShopFile, IsShopFault};
 ghost use Rattle.shop_files.specs.declared.shops.ShopFault.{ShopFault as ShopFaultOf};
 ghost use Rattle.shop_serve.specs.Serving.{HasServed, most_served};
@@ -14,19 +15,22 @@ ghost use Rattle.shop_commands.specs.Sinks.{Adds, change_of};
 
 use crate::faults::Fault;
 use crate::files::{read_file, read_page, write_text};
-use crate::log::{note_begin, note_end};
+use crate::log::{note_begin, note_disk, note_end, note_host};
 use cut_measure::Code;
-use shop_advice::is_there;
-use shop_backup::{Backups, test_folder};
+use shop_advice::StoreCause;
+use shop_backup::{BackupFault, Backups, Names, test_folder};
 use shop_files::{MaterialEntry, RowList, read_shop};
-use shop_opening::{Opens, add_shop};
-use shop_serve::{Listener, Site, listen, serve_on};
+use shop_opening::{Made, OpenAs, Opens, add_shop};
+use shop_request::Address;
+use shop_serve::{Lines, Listener, PortCause, Site, draw_run, listen, serve_on};
 use shop_store::Book;
 use shop_text::{PrintFault, Sink, ticket, yield_report};
+use shop_words::VERSION;
 use std::alloc::{AllocError, Global};
 use std::fs::Files;
 use std::io::Eprint;
 use std::net::Net;
+use std::random::RandomSource;
 use std::time::Clock;
 
 // Opens the book of a store.
@@ -34,11 +38,13 @@ fn open_store<B: Book + Drop, O: Opens<B>>(
     stores: O,
     alloc: Global,
     store: &str,
+    how: OpenAs,
+    made: &mut Made,
 ) -> Result<B, Fault>
     ensures ok { IfOk result (λ book. O.gives stores store.now (Ok book)) }
     ensures err { IfErr result (IsUnopened (O.gives stores store.now)) }
 {
-    match stores.open(alloc, store) {
+    match stores.open(alloc, store, how, made) {
         Ok(book) => Ok(book),
         Err(fault) => Err(Fault::from(fault)),
     }
@@ -82,7 +88,12 @@ pub fn print_stored<B: Book + Drop, O: Opens<B>, W: Sink>(
         IsTextStopped B.Book (O.gives stores store.now) (text_of text) f
         (change_of W.Sink sink.old sink.new)) }
 {
-    let mut book = open_store(stores, alloc, store)?;
+    let how = OpenAs {
+        existing: false,
+        merged: false,
+    };
+    let mut made = Made::nothing();
+    let mut book = open_store(stores, alloc, store, how, &mut made)?;
     let printed = print_text(alloc, &mut book, text, sink);
     O::close(book);
     match printed {
@@ -146,39 +157,65 @@ fn test_backup<R: Files>(rt: &R, alloc: Global, backup: Option<&str>) -> Result<
     }
 }
 
-// The backups of a store that is open, where there is a folder for them.
+// The backups of a store that is open, where there is a folder for them, and how many of them stay.
 fn backups_of<R: Files>(
     rt: &R,
     alloc: Global,
     store: &str,
     backup: Option<&str>,
+    keep: Option<u32>,
 ) -> Result<Option<Backups>, Fault>
     ensures { IfErr result IsUnbacked }
 {
     let Some(folder) = backup else {
         return Ok(None);
     };
-    match Backups::new(rt, alloc, store, folder) {
+    match Backups::new(rt, alloc, store, folder, keep) {
         Ok(backups) => Ok(Some(backups)),
         Err(fault) => Err(Fault::from(fault)),
     }
 }
 
-// The site of a port, with the page of a file or without one, and with backups in a folder or without any.
-fn site_of<R: Files>(
+// The names of a store that is open.
+fn names_of<R: Files>(rt: &R, alloc: Global, store: &str) -> Result<Names, Fault>
+    ensures { IfErr result IsUnnamed }
+{
+    match Names::new(rt, alloc, store) {
+        Ok(names) => Ok(names),
+        Err(BackupFault::NoMemory) => Err(Fault::NoMemory),
+        Err(BackupFault::Failed(_)) => Err(Fault::Store(StoreCause::Moved)),
+    }
+}
+
+// The run of a server that begins now.
+fn run_of<R: RandomSource>(rt: &R, alloc: Global) -> Result<String, Fault>
+    ensures ok { IfOk result (λ run. IsRun (string_bytes run)) }
+    ensures err { IfErr result IsUndrawn }
+{
+    match draw_run(rt, alloc) {
+        Ok(Some(run)) => Ok(run),
+        Ok(None) => Err(Fault::Port(PortCause::NoRun)),
+        Err(_) => Err(Fault::NoMemory),
+    }
+}
+
+// The site of an address, with the page of a file or without one, and with backups in a folder or without any, and its run.
+fn site_of<R: Files + RandomSource>(
     rt: &R,
     alloc: Global,
-    port: u32,
+    address: &Address,
     page: Option<&str>,
     backup: Option<&str>,
 ) -> Result<Site, Fault>
-    ensures ok { IfOk result (λ site. IsSite port (option_map (λ p. p.now) page.entry)
+    ensures ok { IfOk result (λ site. IsSite address.now (option_map (λ p. p.now) page.entry)
         (option_map (λ p. p.now) backup.entry) site) }
-    ensures err { IfErr result (λ f. IsPageUnread f ⊎ IsUnbacked f) }
+    ensures err { IfErr result (λ f. IsPageUnread f ⊎ IsUnbacked f ⊎ IsUndrawn f) }
 {
     let page = page_in(rt, alloc, page)?;
     test_backup(rt, alloc, backup)?;
-    let site = Site::new(alloc, port, page, backup.is_some())?;
+    let run = run_of(rt, alloc)?;
+    let version = String::from_str(alloc, VERSION)?;
+    let site = Site::new(alloc, address, page, backup.is_some(), run, version)?;
     Ok(site)
 }
 
@@ -235,19 +272,23 @@ fn serve_connections<R: Net + Clock + Eprint + Files, B: Book>(
     listener: &Listener,
     limit: Option<u32>,
     site: &Site,
+    names: &Names,
     backups: Option<&Backups>,
+    lines: &mut Lines,
     book: &mut B,
 ) -> Result<(), Fault>
     ensures ok { OnOk result (HasServed site.now B.Book book.old book.new (most_served limit)) }
     ensures err { IfErr result (IsUnaccepted B.Book site.now book.old book.new limit) }
 {
-    match serve_on(rt, alloc, listener, limit, site, backups, book) {
+    match serve_on(
+        rt, alloc, listener, limit, site, names, backups, lines, book,
+    ) {
         Ok(()) => Ok(()),
         Err(fault) => Err(Fault::from(fault)),
     }
 }
 
-// Adds the shop's entries to a book and serves it on a port.
+// Adds the shop's entries to a book and serves it on a port; `begun` once it does.
 fn serve_book<R: Net + Clock + Eprint + Files, B: Book, W: Sink>(
     rt: &R,
     alloc: Global,
@@ -257,9 +298,12 @@ fn serve_book<R: Net + Clock + Eprint + Files, B: Book, W: Sink>(
     limit: Option<u32>,
     site: &Site,
     backup: Option<&str>,
+    keep: Option<u32>,
     entries: &[MaterialEntry],
     sink: &mut W,
+    lines: &mut Lines,
     book: &mut B,
+    begun: &mut bool,
 ) -> Result<(), Fault>
     requires { length entries.now ≤ MOST_ENTRIES }
     ensures ok { OnOk result
@@ -269,58 +313,101 @@ fn serve_book<R: Net + Clock + Eprint + Files, B: Book, W: Sink>(
         IsBookUnserved B.Book site.now book.old book.new entries.now port limit f
         (change_of W.Sink sink.old sink.new)) }
 {
-    let backups = backups_of(rt, alloc, store, backup)?;
+    let names = names_of(rt, alloc, store)?;
+    let backups = backups_of(rt, alloc, store, backup, keep)?;
     add_entries(alloc, book, entries)?;
     let listener = bind_and_announce(rt, alloc, port, sink)?;
+    *begun = true;
     let kept = book.kept_count().ok();
-    note_begin(rt, alloc, store, is_new, kept);
-    match serve_connections(rt, alloc, &listener, limit, site, backups.as_ref(), book) {
+    note_begin(rt, alloc, lines, store, is_new, kept);
+    note_host(rt, lines, site);
+    note_disk(rt, lines, backups.as_ref());
+    match serve_connections(
+        rt,
+        alloc,
+        &listener,
+        limit,
+        site,
+        &names,
+        backups.as_ref(),
+        lines,
+        book,
+    ) {
         Ok(()) => Ok(()),
         Err(fault) => Err(fault),
     }
 }
 
-/// Adds the materials of a shop file to the book of a store, tells the port, and serves connections on it.
-pub fn serve<R: Files + Net + Clock + Eprint, B: Book + Drop, O: Opens<B>, W: Sink>(
+// Closes a store; one that was made for a start that ended before it served is taken away instead.
+fn end_store<R: Files, B: Book + Drop, O: Opens<B>>(
+    rt: &R,
+    alloc: Global,
+    store: &str,
+    made: Made,
+    begun: bool,
+    book: B,
+) {
+    if made.is_new() && !begun {
+        made.take_away(rt, alloc, store);
+        drop(book);
+    } else {
+        O::close(book);
+    }
+}
+
+/// Adds the materials of a shop file to the book of a store, tells the port, and serves connections on it. Where it ends before
+/// that, a store that was made for it is taken away.
+pub fn serve<R: Files + Net + Clock + Eprint + RandomSource, B: Book + Drop, O: Opens<B>, W: Sink>(
     rt: &R,
     stores: O,
     alloc: Global,
-    port: u32,
+    address: &Address,
     store: &str,
     shop: &str,
     limit: Option<u32>,
     page: Option<&str>,
     backup: Option<&str>,
+    existing: bool,
+    keep: Option<u32>,
     sink: &mut W,
 ) -> Result<(), Fault>
-    ensures ok { OnOk result (IsServeDone B.Book (O.gives stores store.now) port limit
+    ensures ok { OnOk result (IsServeDone B.Book (O.gives stores store.now) address.now limit
         (option_map (λ p. p.now) page.entry) (option_map (λ p. p.now) backup.entry)
         (change_of W.Sink sink.old sink.new)) }
-    ensures err { IfErr result (λ f. IsServeStopped B.Book (O.gives stores store.now) port limit
+    ensures err { IfErr result (λ f. IsServeStopped B.Book (O.gives stores store.now) address.now limit
         (option_map (λ p. p.now) page.entry) (option_map (λ p. p.now) backup.entry) f
         (change_of W.Sink sink.old sink.new)) }
 {
     let entries = shop_entries(rt, alloc, shop)?;
-    let site = site_of(rt, alloc, port, page, backup)?;
-    let is_new = !is_there(rt, store);
-    let mut book = open_store(stores, alloc, store)?;
+    let site = site_of(rt, alloc, address, page, backup)?;
+    let how = OpenAs {
+        existing,
+        merged: true,
+    };
+    let mut made = Made::nothing();
+    let mut book = open_store(stores, alloc, store, how, &mut made)?;
+    let mut begun = false;
+    let mut lines = Lines::new(alloc);
     let served = serve_book(
         rt,
         alloc,
-        port,
+        address.port,
         store,
-        is_new,
+        made.is_new(),
         limit,
         &site,
         backup,
+        keep,
         entries.as_slice(),
         sink,
+        &mut lines,
         &mut book,
+        &mut begun,
     );
-    O::close(book);
+    end_store::<R, B, O>(rt, alloc, store, made, begun, book);
     match served {
         Ok(()) => {
-            note_end(rt, alloc, store);
+            note_end(rt, alloc, &mut lines, store);
             Ok(())
         }
         Err(fault) => Err(fault),

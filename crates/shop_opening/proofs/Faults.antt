@@ -1,12 +1,17 @@
 -- Which fault each refusal of the port is told as.
-use Rattle.std.proofs.Common.{◌≡◌, ◌⊎◌, ◌∙◌, inl, inr, refl, sym, ap}
+use Rattle.std.proofs.Common.{◌≡◌, ◌⊎◌, ◌∙◌, None, inl, inr, refl, sym, ap, subst}
 use Rattle.std.specs.Prelude.{◌≢◌}
+use Rattle.sqlite_disk.specs.declared.Disk.{Ghosts as DiskGhosts}
+use Rattle.sqlite_wal.specs.Recovery.{Image}
+use Rattle.sqlite.specs.declared.error.Error.{Error}
+use Rattle.sqlite.specs.declared.error.Error.TheVariants.{SqliteFailure}
 use Rattle.sqlite.specs.declared.error.ErrorCode.{ErrorCode}
-use Rattle.sqlite.specs.declared.error.ErrorCode.TheVariants.{OutOfMemory, DatabaseBusy, DiskFull, NotADatabase, DatabaseCorrupt}
+use Rattle.sqlite.specs.declared.error.ErrorCode.TheVariants.{CannotOpen, OutOfMemory, DatabaseBusy, DiskFull, NotADatabase, DatabaseCorrupt}
 use Rattle.shop_advice.specs.declared.causes.StoreCause.{StoreCause}
 use Rattle.shop_advice.specs.declared.causes.StoreCause.TheVariants.{InUse, Full, NoDatabase, Damaged}
+use Rattle.shop_opening.specs.declared.stores.OpenFault.{OpenFault}
 use Rattle.shop_opening.specs.declared.stores.OpenFault.TheVariants.{NoMemory, Store}
-use Rattle.shop_opening.specs.Openings.{IsCodeFault}
+use Rattle.shop_opening.specs.Openings.{AreRefused, IsCodeFault, IsLookFault, IsOpenFault}
 
 pub memory_fault : (code : ErrorCode) → code ≡ OutOfMemory → IsCodeFault code NoMemory
 memory_fault code is = record {
@@ -52,3 +57,20 @@ other_fault code cause memory used full none bad = record {
   damaged = λ e. elim e [ inl a ↦ absurd (none a) | inr b ↦ absurd (bad b) ];
   other = λ _. (cause, refl);
 }
+
+-- what a code is told as is what the refusal by it is
+coded_fault : (code : ErrorCode) (fault : OpenFault) → IsCodeFault code fault → IsOpenFault (SqliteFailure code) fault
+coded_fault code fault told = record {
+  coded = λ other is. let same : code ≡ other = cc in subst (λ (c : ErrorCode). IsCodeFault c fault) same told;
+  other = λ none. absurd (none code refl);
+}
+
+unopened_fault : (cause : StoreCause) → IsCodeFault CannotOpen (Store cause)
+unopened_fault cause = other_fault CannotOpen cause (λ e. cc) (λ e. cc) (λ e. cc) (λ e. cc) (λ e. cc)
+
+-- files that were looked at, and not opened, are as those that the port didn't open
+pub looked_refused : {D : Type 0} (g : DiskGhosts D) (image : Image) (fault : OpenFault) → IsLookFault fault → AreRefused g image fault
+looked_refused g image fault (inl none) =
+    inl (SqliteFailure OutOfMemory, None, tt, coded_fault OutOfMemory fault (subst (IsCodeFault OutOfMemory) (sym none) (memory_fault OutOfMemory refl)))
+looked_refused g image fault (inr (cause, is)) =
+    inl (SqliteFailure CannotOpen, None, tt, coded_fault CannotOpen fault (subst (IsCodeFault CannotOpen) (sym is) (unopened_fault cause)))

@@ -8,3 +8,5 @@ pub mod Faults
 pub mod After
 -- an image that a stop left
 pub mod Left
+-- a file in memory
+pub mod InMemory

@@ -1,5 +1,5 @@
 -- What the files of a store show, what an opening of them gives, and why there is none.
-use Rattle.std.specs.Prelude.{◌≡◌, ◌≢◌, ◌⊎◌, ℕ, Option, IfSome, Result, Ok, Err}
+use Rattle.std.specs.Prelude.{◌≡◌, ◌≢◌, ◌⊎◌, ℕ, List, Option, IfSome, Result, Ok, Err}
 use Rattle.std.specs.FinMap.{FinMap}
 use Rattle.sqlite_disk.specs.declared.Disk.{Ghosts as DiskGhosts}
 use Rattle.sqlite_disk.specs.declared.Files.{Files}
@@ -59,6 +59,15 @@ pub record IsOpenedOn {D : Type 0} {g : DiskGhosts D} (image : Image) (conn : He
   pub leaves : (m : Content) → ShowsContent image m → LeavesOnly (file_state conn) m
   pub uncounted : failures ≡ 0
 
+-- files that hold these bytes
+abbrev pub pair_image : (log store : List ℕ) → Image
+pair_image log store = record { log = log; db = store }
+
+-- Files in memory were opened as a book over this connection, as files with some bytes are. Of a real file no bytes are told, so
+-- that it is not said with which.
+abbrev pub IsBookApart : {D : Type 0} {g : DiskGhosts D} → Held (FileStore D g) → OpenWork → ℕ → Type 0
+IsBookApart conn work failures = (log store : List ℕ) × IsOpenedOn (pair_image log store) conn work failures
+
 -- ---- why there is none
 
 -- what a refusal of the port with this code is: want of memory is told as that, and every other refusal as the store's, by its
@@ -74,6 +83,10 @@ pub record IsCodeFault (code : ErrorCode) (fault : OpenFault) : Type 0 where
 pub record IsOpenFault (error : Error) (fault : OpenFault) : Type 0 where
   pub coded : (code : ErrorCode) → error ≡ SqliteFailure code → IsCodeFault code fault
   pub other : ((code : ErrorCode) → error ≢ SqliteFailure code) → (cause : StoreCause) × (fault ≡ Store cause)
+
+-- what is told of files that were looked at, and not opened
+abbrev pub IsLookFault : OpenFault → Type 0
+IsLookFault fault = (fault ≡ NoMemory) ⊎ ((cause : StoreCause) × (fault ≡ Store cause))
 
 -- what it is that the tables weren't taken over
 abbrev pub IsAdoptFault : BookFault → OpenFault → Type 0

@@ -1,10 +1,16 @@
 //! The books of store files, opened and closed, what a stop leaves of them, and the materials of a shop file, added to a book.
 #![tactic(auto)]
 
+mod apart;
+mod before;
+mod logs;
+mod made;
 mod shops;
 mod stops;
 mod stores;
 
+pub use apart::{ApartBook, ApartOpener, Pair, open_pair, read_apart, read_pair};
+pub use made::Made;
 pub use shops::{AddFault, EntryRefused, add_shop};
 pub use stops::stopped_stores_are_found;
-pub use stores::{OpenFault, Opener, Opens, StoreBook, open_file};
+pub use stores::{OpenAs, OpenFault, Opener, Opens, StoreBook, open_file};

@@ -3,15 +3,15 @@
 ghost use Rattle.std.specs.Prelude.{◌≡◌, ◌⊎◌, IfOk, IfErr, IfSome};
 ghost use Rattle.sqlite_wal.specs.Files.{image_at};
 ghost use Rattle.shop_advice.specs.declared.causes.StoreCause.TheVariants as cause;
-ghost use Rattle.shop_opening.specs.Openings.{AreTablesLeft, IsAdoptFault, IsCodeFault, IsOpenFault, IsOpenedOn, IsOpening, IsPortLeft};
+ghost use Rattle.shop_opening.specs.Openings.{AreTablesLeft, IsAdoptFault, IsCodeFault, IsOpenFault, IsLookFault, IsOpenedOn, IsOpening, IsPortLeft};
 
-use shop_advice::{StoreCause, VersionCause, kind_cause, look_at_store};
+use crate::before::{Found, LookFault, look_before};
+use crate::made::{Made, is_special};
+use shop_advice::{StoreCause, VersionCause, look_at_store};
 use shop_store::{BookFault, SqlBook};
-use sqlite::{Connection, Error, ErrorCode, FileFrom, FileStore, Leftover, Start};
+use sqlite::{Connection, Error, ErrorCode, FileFrom, FileStore, Leftover, Start, Unknown};
+use sqlite_disk::Disk;
 use std::alloc::Global;
-use std::fs::OpenOptions;
-use std::io::ErrorKind;
-use std::os::unix::fs::OpenOptionsExt;
 
 /// A book in the SQL tables of files that held what `S` says.
 pub type StoreBook<S> = SqlBook<FileStore<FileFrom<S>>>;
@@ -27,6 +27,15 @@ pub enum OpenFault {
     Version(VersionCause),
 }
 
+/// How a store is opened.
+#[derive(Clone, Copy, Debug)]
+pub struct OpenAs {
+    /// Whether it has to be there; else it is made where it isn't.
+    pub existing: bool,
+    /// Whether it is merged with its log before.
+    pub merged: bool,
+}
+
 /// What opens the book of a store, which is known by a path, once.
 pub trait Opens<B>: Drop {
     ghost use Rattle.std.specs.Prelude.{◌≡◌, List, Result, ℕ};
@@ -35,12 +44,13 @@ pub trait Opens<B>: Drop {
     /// An open of this path may give this: a book, or the fault for which there is none.
     ghost gives: { Self → List ℕ → Result B OpenFaultOf → Type 0 };
 
-    /// Opens a store's book, and makes the store where it isn't there.
+    /// Opens a store's book.
     ///
-    /// `NoMemory` for want of memory; `Store` where the store can't be read and written, is in use, or is no database;
-    /// `Version` where it has other tables under a book's names, or those of another version. Such a store is left as it
-    /// was.
-    fn open(self, alloc: Global, path: &str) -> Result<B, OpenFault>
+    /// `NoMemory` for want of memory; `Store` where the store can't be read and written, is in use, is no database, or has
+    /// files that aren't what a stop leaves; `Version` where it has other tables under a book's names, or those of another
+    /// version. Such a store is left as it was, and one that was made for this is taken away. Where a book is given, `made` tells
+    /// which of its files were made for it.
+    fn open(self, alloc: Global, path: &str, how: OpenAs, made: &mut Made) -> Result<B, OpenFault>
         ensures { gives self path.now result };
 
     /// Closes a store. What was accepted is in it before.
@@ -57,25 +67,17 @@ fn damage(rt: &HostRuntime, alloc: Global, path: &str) -> StoreCause
     }
 }
 
-// Why a store can't be opened, where the port doesn't tell. It was tried before to make the file, and this came of it.
-fn other_cause(rt: &HostRuntime, alloc: Global, path: &str, made: Option<ErrorKind>) -> StoreCause {
+// Why a store can't be opened, where the port doesn't tell.
+fn other_cause(rt: &HostRuntime, alloc: Global, path: &str) -> StoreCause {
     if is_special(path) {
-        return StoreCause::NotPlain;
-    }
-    match made {
-        Some(kind) => kind_cause(kind),
-        None => look_at_store(rt, alloc, path),
+        StoreCause::NotPlain
+    } else {
+        look_at_store(rt, alloc, path)
     }
 }
 
 // What a refusal of the port with this code is.
-fn code_fault(
-    rt: &HostRuntime,
-    alloc: Global,
-    path: &str,
-    code: ErrorCode,
-    made: Option<ErrorKind>,
-) -> OpenFault
+fn code_fault(rt: &HostRuntime, alloc: Global, path: &str, code: ErrorCode) -> OpenFault
     ensures { IsCodeFault code result }
 {
     match code {
@@ -84,50 +86,22 @@ fn code_fault(
         ErrorCode::DiskFull => OpenFault::Store(StoreCause::Full),
         ErrorCode::NotADatabase => OpenFault::Store(damage(rt, alloc, path)),
         ErrorCode::DatabaseCorrupt => OpenFault::Store(damage(rt, alloc, path)),
-        _ => OpenFault::Store(other_cause(rt, alloc, path, made)),
+        _ => OpenFault::Store(other_cause(rt, alloc, path)),
     }
 }
 
 // What a refusal of the port is.
-fn open_fault(
-    rt: &HostRuntime,
-    alloc: Global,
-    path: &str,
-    error: Error,
-    made: Option<ErrorKind>,
-) -> OpenFault
+fn open_fault(rt: &HostRuntime, alloc: Global, path: &str, error: Error) -> OpenFault
     ensures { IsOpenFault error result }
 {
     match error {
-        Error::SqliteFailure(code) => code_fault(rt, alloc, path, code, made),
-        _ => OpenFault::Store(other_cause(rt, alloc, path, made)),
-    }
-}
-
-// Whether a name is one that no file of a store has.
-fn is_special(path: &str) -> bool {
-    path == ":memory:" || path.starts_with("file:")
-}
-
-// Makes the file of a store, which its owner alone may read and write, where there is none. The log beside it gets the same
-// mode when it is made. Names that no file of a store has are left to the open. Why it couldn't be made, where it isn't there.
-fn make_private(rt: &HostRuntime, path: &str) -> Option<ErrorKind> {
-    if is_special(path) {
-        return None;
-    }
-    let mut options = OpenOptions::new();
-    options.write(true).create_new(true).mode(0o600);
-    match options.open(rt, path) {
-        Ok(_) => None,
-        Err(error) => match error.kind() {
-            ErrorKind::AlreadyExists => None,
-            kind => Some(kind),
-        },
+        Error::SqliteFailure(code) => code_fault(rt, alloc, path, code),
+        _ => OpenFault::Store(other_cause(rt, alloc, path)),
     }
 }
 
 // The version that the tables of a database say, where they say one.
-fn version_of<S: Start>(conn: &mut Connection<FileStore<FileFrom<S>>>) -> Option<i64> {
+fn version_of<D: Disk + Drop>(conn: &mut Connection<FileStore<D>>) -> Option<i64> {
     match conn.query_row("SELECT value FROM meta WHERE name = 'version'", &[]) {
         Ok(row) => row.get(0).ok(),
         Err(_) => None,
@@ -135,7 +109,7 @@ fn version_of<S: Start>(conn: &mut Connection<FileStore<FileFrom<S>>>) -> Option
 }
 
 // Why a database isn't taken over.
-fn foreign_cause<S: Start>(conn: &mut Connection<FileStore<FileFrom<S>>>) -> VersionCause {
+fn foreign_cause<D: Disk + Drop>(conn: &mut Connection<FileStore<D>>) -> VersionCause {
     match version_of(conn) {
         Some(version) if version > 2 => VersionCause::Newer,
         Some(1 | 2) => VersionCause::Contradicting,
@@ -144,7 +118,7 @@ fn foreign_cause<S: Start>(conn: &mut Connection<FileStore<FileFrom<S>>>) -> Ver
 }
 
 // Why a database that was opened can't be read and written.
-fn failure_of<S: Start>(conn: Connection<FileStore<FileFrom<S>>>) -> StoreCause
+fn failure_of<D: Disk + Drop>(conn: Connection<FileStore<D>>) -> StoreCause
     ensures { (result ≡ cause.Full) ⊎ (result ≡ cause.Damaged) }
 {
     if conn.into_store().tally().refused > 0 {
@@ -154,10 +128,10 @@ fn failure_of<S: Start>(conn: Connection<FileStore<FileFrom<S>>>) -> StoreCause
     }
 }
 
-// What the failure to take a database over is.
-fn adopt_fault<S: Start>(
+/// What the failure to take a database over is.
+pub(crate) fn adopt_fault<D: Disk + Drop>(
     fault: BookFault,
-    mut conn: Connection<FileStore<FileFrom<S>>>,
+    mut conn: Connection<FileStore<D>>,
 ) -> OpenFault
     ensures { IsAdoptFault fault result }
 {
@@ -199,20 +173,111 @@ fn open_book<S: Start>(
     }
 }
 
-/// Opens the book of a store file, and makes the file where it isn't there. `start` stands for what the files held.
-pub fn open_file<S: Start>(
+// Takes away what was made of a store that the port refused. As long as its files are open, no other program has them.
+fn take_back(rt: &HostRuntime, alloc: Global, path: &str, made: Made, is_open: bool) {
+    if is_open {
+        made.take_away(rt, alloc, path);
+    } else {
+        made.take_empty(rt, alloc, path);
+    }
+}
+
+// Opens the book of a store file that was looked at, of which these files were made for it.
+fn open_looked<S: Start>(
     rt: &HostRuntime,
     alloc: Global,
     path: &str,
     start: S,
+    made: Made,
 ) -> Result<StoreBook<S>, OpenFault>
     ensures { IsOpening (image_at S.Start) result }
 {
-    let made = make_private(rt, path);
     match open_book(rt, alloc, path, start) {
         Ok(book) => Ok(book),
-        Err(Ok((fault, conn))) => Err(adopt_fault(fault, conn)),
-        Err(Err((error, _))) => Err(open_fault(rt, alloc, path, error, made)),
+        Err(Ok((fault, conn))) => {
+            // As long as the files are open, no other program has them.
+            made.take_away(rt, alloc, path);
+            Err(adopt_fault(fault, conn))
+        }
+        Err(Err((error, left))) => {
+            let fault = open_fault(rt, alloc, path, error);
+            take_back(rt, alloc, path, made, left.is_some());
+            Err(fault)
+        }
+    }
+}
+
+// Makes the files of a store, and opens its book.
+fn open_new<S: Start>(
+    rt: &HostRuntime,
+    alloc: Global,
+    path: &str,
+    start: S,
+    made: &mut Made,
+) -> Result<StoreBook<S>, OpenFault>
+    ensures { IsOpening (image_at S.Start) result }
+{
+    match Made::make(rt, alloc, path) {
+        Ok(files) => {
+            *made = files;
+            open_looked(rt, alloc, path, start, files)
+        }
+        Err(fault) => Err(look_fault(fault)),
+    }
+}
+
+// Copies the log of a store into its file, where it opens as a book. What stands in the way the next open tells.
+fn merge(rt: &HostRuntime, alloc: Global, path: &str) {
+    if let Ok(book) = open_looked(rt, alloc, path, Unknown, Made::nothing()) {
+        let _ = book.into_connection().close();
+    }
+}
+
+/// What a look found, as the fault of an open.
+pub(crate) fn look_fault(fault: LookFault) -> OpenFault
+    ensures { IsLookFault result }
+{
+    match fault {
+        LookFault::NoMemory => OpenFault::NoMemory,
+        LookFault::Store(cause) => OpenFault::Store(cause),
+    }
+}
+
+// Opens the book of a store file that is there, once it was merged, where it is to be.
+fn open_there<S: Start>(
+    rt: &HostRuntime,
+    alloc: Global,
+    path: &str,
+    merged: bool,
+    start: S,
+) -> Result<StoreBook<S>, OpenFault>
+    ensures { IsOpening (image_at S.Start) result }
+{
+    if merged {
+        merge(rt, alloc, path);
+    }
+    open_looked(rt, alloc, path, start, Made::nothing())
+}
+
+/// Opens the book of a store file. `start` stands for what the files held, once they were looked at and merged. `made` tells then
+/// which files were made for it.
+pub fn open_file<S: Start>(
+    rt: &HostRuntime,
+    alloc: Global,
+    path: &str,
+    how: OpenAs,
+    start: S,
+    made: &mut Made,
+) -> Result<StoreBook<S>, OpenFault>
+    ensures { IsOpening (image_at S.Start) result }
+{
+    match look_before(rt, alloc, path, how.existing) {
+        Ok(Found::Nothing) => open_new(rt, alloc, path, start, made),
+        Ok(found) => {
+            let merged = how.merged && found == Found::Commits;
+            open_there(rt, alloc, path, merged, start)
+        }
+        Err(fault) => Err(look_fault(fault)),
     }
 }
 
@@ -237,9 +302,15 @@ impl<'a, S: Start> Opens<StoreBook<S>> for Opener<'a, S> {
 
     ghost gives = { λ _ _ result. IsOpening (image_at S.Start) result };
 
-    fn open(self, alloc: Global, path: &str) -> Result<StoreBook<S>, OpenFault> {
+    fn open(
+        self,
+        alloc: Global,
+        path: &str,
+        how: OpenAs,
+        made: &mut Made,
+    ) -> Result<StoreBook<S>, OpenFault> {
         let Opener { rt, start } = self;
-        open_file(rt, alloc, path, start)
+        open_file(rt, alloc, path, how, start, made)
     }
 
     fn close(book: StoreBook<S>) {

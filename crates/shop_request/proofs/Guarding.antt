@@ -9,6 +9,7 @@ use Rattle.httparse.specs.Grammar.{RequestHead, HasNoRequest, MayBecomeRequest}
 use Rattle.httparse.specs.Spans.{IsRequestAt, header_bytes, name_and_value, span_bytes}
 use Rattle.shop_request.specs.declared.faults.RequestFault.{RequestFault}
 use Rattle.shop_request.specs.declared.faults.RequestFault.TheVariants.{BadRequest, NotFound, OnlyGet, OnlyPost, NoLength, LargeBody, LargeHead}
+use Rattle.shop_request.specs.declared.guards.Guard.{Guard}
 use Rattle.shop_request.specs.declared.guards.Ruling.{Ruling}
 use Rattle.shop_request.specs.declared.guards.Ruling.TheVariants.{Routed}
 use Rattle.shop_request.specs.Guards.{HasRuling, ruled, ruled_head, ruled_parts}
@@ -21,21 +22,21 @@ use Rattle.httparse.proofs.GrammarLemmas.{request_unique}
 pub any_first : (test : List ℕ → Bool) (v : List ℕ) (vs all : List (List ℕ)) (b others : Bool) → all ≡ v ∷ vs → b ≡ test v → others ≡ list_any test vs → (b || others) ≡ list_any test all
 any_first test v vs all b others is e o = ap₂ (λ x y. x || y) e o ∙ sym (ap (list_any test) is)
 
-module _ (port : ℕ) (has_page has_backups : Bool) (received : List ℕ) where
+module _ (guard : Guard) (received : List ℕ) where
   refused_head : (fault : RequestFault) → IsRefused (prefix received) fault → HasHead received (Err fault)
   refused_head fault (inl large) = subst (λ f. HasHead received (Err f)) (sym large.0) (inl (large.1, large.2))
   refused_head fault (inr bad) = subst (λ f. HasHead received (Err f)) (sym bad.0) (inl bad.1)
 
-  pub refused_ruling : (fault : RequestFault) → IsRefused (prefix received) fault → HasRuling port has_page has_backups received Routed
+  pub refused_ruling : (fault : RequestFault) → IsRefused (prefix received) fault → HasRuling guard received Routed
   refused_ruling fault is = (Err fault, refused_head fault is, refl)
 
-  unfinished : (b : Bool) → nat_le 8192 (length received) ≡ b → HasNoRequest (prefix received) → MayBecomeRequest (prefix received) → HasRuling port has_page has_backups received Routed
+  unfinished : (b : Bool) → nat_le 8192 (length received) ≡ b → HasNoRequest (prefix received) → MayBecomeRequest (prefix received) → HasRuling guard received Routed
   unfinished true long none may = (Err LargeHead, inr (leb-true 8192 (length received) long, none, may), refl)
   unfinished false short none may =
       let few : length received < 8192 = leb-false 8192 (length received) short in
       (Err BadRequest, inr (few, subst HasNoRequest (take_all 8192 received (omega (arith, few))) none), refl)
 
-  pub unfinished_ruling : HasNoRequest (prefix received) → MayBecomeRequest (prefix received) → HasRuling port has_page has_backups received Routed
+  pub unfinished_ruling : HasNoRequest (prefix received) → MayBecomeRequest (prefix received) → HasRuling guard received Routed
   unfinished_ruling = unfinished (nat_le 8192 (length received)) refl
 
   module _ (headers : List HeaderSpan) (spans : RequestSpans) (h : RequestHead) (room : length headers ≡ 64) (at : IsRequestAt (prefix received) headers spans h) where
@@ -54,16 +55,16 @@ module _ (port : ℕ) (has_page has_backups : Bool) (received : List ℕ) where
     begins = record { rest = _; reads = at.reads; few = few }
 
     by_parts : (method target : List ℕ) → method ≡ span_bytes (prefix received) spans.method → target ≡ span_bytes (prefix received) spans.path
-        → ruled_parts port has_page has_backups method target spans.version (map (header_bytes (prefix received)) (take spans.headers headers)) ≡ ruled_head port has_page has_backups h
+        → ruled_parts guard method target spans.version (map (header_bytes (prefix received)) (take spans.headers headers)) ≡ ruled_head guard h
     unfolding ruled_head
     by_parts method target m t =
-        ap (λ x. ruled_parts port has_page has_backups x target spans.version (map (header_bytes (prefix received)) (take spans.headers headers))) (m ∙ at.method)
-        ∙ ap (λ x. ruled_parts port has_page has_backups h.method x spans.version (map (header_bytes (prefix received)) (take spans.headers headers))) (t ∙ at.path)
-        ∙ ap (λ x. ruled_parts port has_page has_backups h.method h.target x (map (header_bytes (prefix received)) (take spans.headers headers))) at.version
-        ∙ ap (λ x. ruled_parts port has_page has_backups h.method h.target h.minor x) at.fields
+        ap (λ x. ruled_parts guard x target spans.version (map (header_bytes (prefix received)) (take spans.headers headers))) (m ∙ at.method)
+        ∙ ap (λ x. ruled_parts guard h.method x spans.version (map (header_bytes (prefix received)) (take spans.headers headers))) (t ∙ at.path)
+        ∙ ap (λ x. ruled_parts guard h.method h.target x (map (header_bytes (prefix received)) (take spans.headers headers))) at.version
+        ∙ ap (λ x. ruled_parts guard h.method h.target h.minor x) at.fields
 
     pub whole_ruling : (method target : List ℕ) → method ≡ span_bytes (prefix received) spans.method → target ≡ span_bytes (prefix received) spans.path
-        → HasRuling port has_page has_backups received (ruled_parts port has_page has_backups method target spans.version (map (header_bytes (prefix received)) (take spans.headers headers)))
+        → HasRuling guard received (ruled_parts guard method target spans.version (map (header_bytes (prefix received)) (take spans.headers headers)))
     whole_ruling method target m t = (Ok h, begins, by_parts method target m t)
 
 -- ---- an input has one ruling
@@ -78,11 +79,11 @@ no_fault input h OnlyPost begins is = is
 no_fault input h NoLength begins is = is
 no_fault input h LargeBody begins is = is
 
-ruled_as : (port : ℕ) (has_page has_backups : Bool) (input : List ℕ) (a b : Result RequestHead RequestFault) → HasHead input a → HasHead input b → ruled port has_page has_backups a ≡ ruled port has_page has_backups b
-ruled_as port has_page has_backups input (Ok h) (Ok k) x y = ap (ruled_head port has_page has_backups) (request_unique (prefix input) h k x.rest y.rest x.reads y.reads).0
-ruled_as port has_page has_backups input (Ok h) (Err f) x y = absurd (no_fault input h f x y)
-ruled_as port has_page has_backups input (Err f) (Ok k) x y = absurd (no_fault input k f y x)
-ruled_as port has_page has_backups input (Err f) (Err g) x y = refl
+ruled_as : (guard : Guard) (input : List ℕ) (a b : Result RequestHead RequestFault) → HasHead input a → HasHead input b → ruled guard a ≡ ruled guard b
+ruled_as guard input (Ok h) (Ok k) x y = ap (ruled_head guard) (request_unique (prefix input) h k x.rest y.rest x.reads y.reads).0
+ruled_as guard input (Ok h) (Err f) x y = absurd (no_fault input h f x y)
+ruled_as guard input (Err f) (Ok k) x y = absurd (no_fault input k f y x)
+ruled_as guard input (Err f) (Err g) x y = refl
 
-pub one_ruling : (port : ℕ) (has_page has_backups : Bool) (input : List ℕ) (r s : Ruling) → HasRuling port has_page has_backups input r → HasRuling port has_page has_backups input s → r ≡ s
-one_ruling port has_page has_backups input r s x y = x.2 ∙ ruled_as port has_page has_backups input x.0 y.0 x.1 y.1 ∙ sym y.2
+pub one_ruling : (guard : Guard) (input : List ℕ) (r s : Ruling) → HasRuling guard input r → HasRuling guard input s → r ≡ s
+one_ruling guard input r s x y = x.2 ∙ ruled_as guard input x.0 y.0 x.1 y.1 ∙ sym y.2

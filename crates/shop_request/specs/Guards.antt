@@ -1,47 +1,56 @@
--- What a server does with a request by its head alone: which ones a browser sent for a page of another site, and which are for
--- the page, or for a backup where none are made.
-use Rattle.std.specs.Prelude.{◌≡◌, ℕ, ◌&&◌, ◌||◌, not, Bool, true, false, List, ◌++◌, map, Result, Ok, Err, bytes_eq, codes, decimal, if◌then◌else◌}
+-- What a server does with a request by its head alone: which ones a browser sent for a page of another site, which are for another
+-- run of the server, and which are for the page, for its state, or for a backup where none are made.
+use Rattle.std.specs.Prelude.{◌≡◌, ℕ, ◌&&◌, ◌||◌, not, Bool, true, false, List, map, Result, Ok, Err, String, string_bytes, bytes_eq, codes, if◌then◌else◌}
+use Rattle.std.specs.declared.alloc.Global.{Global}
 use Rattle.std.specs.List.{list_any}
 use Rattle.httparse.specs.Grammar.{RequestHead}
 use Rattle.httparse.specs.Spans.{name_and_value}
 use Rattle.shop_request.specs.declared.faults.RequestFault.{RequestFault}
+use Rattle.shop_request.specs.declared.addresses.Address.{Address}
+use Rattle.shop_request.specs.declared.guards.Guard.{Guard}
 use Rattle.shop_request.specs.declared.guards.Mark.{Mark}
-use Rattle.shop_request.specs.declared.guards.Mark.TheVariants.{Site, Origin, Host}
+use Rattle.shop_request.specs.declared.guards.Mark.TheVariants.{Site, Origin, Host, Run}
 use Rattle.shop_request.specs.declared.guards.Ruling.{Ruling}
-use Rattle.shop_request.specs.declared.guards.Ruling.TheVariants.{Routed, Forbidden, Page, OnlyGet, NoBackups}
+use Rattle.shop_request.specs.declared.guards.Ruling.TheVariants.{Routed, Forbidden, OtherRun, Page, Health, OnlyGet, NoBackups}
+use Rattle.shop_request.specs.Addresses.{has_others, own_hosts, own_origins, quoted_run}
 use Rattle.shop_request.specs.Heads.{Pair, HasHead, values_of, has_hosts, is_some_list, said_length}
 use Rattle.shop_request.specs.Routes.{path_of}
 
--- the names of this machine with a port, and the origin of pages that are under a name
-abbrev pub local_number : ℕ → List ℕ
-local_number port = codes "127.0.0.1:" ++ decimal port
+-- the guard of what is reached at an address: whether it has a page, and whether backups are made; the values that fields of its own
+-- have; and whether the host is judged, which it is with a page, and where others have names or origins for it
+pub record IsGuardOf (address : Address) (has_page has_backups : Bool) (run : List ℕ) (guard : Guard) : Type 0 where
+  pub of_page : guard.has_page ≡ has_page
+  pub of_backups : guard.has_backups ≡ has_backups
+  pub of_host : guard.judges_host ≡ (has_page || has_others address)
+  pub its_hosts : map string_bytes guard.hosts.items ≡ own_hosts address
+  pub its_origins : map string_bytes guard.origins.items ≡ own_origins address
+  pub its_run : string_bytes guard.quoted_run ≡ quoted_run run
 
-abbrev pub local_name : ℕ → List ℕ
-local_name port = codes "localhost:" ++ decimal port
-
-abbrev pub origin_of : List ℕ → List ℕ
-origin_of host = codes "http://" ++ host
-
+-- the fields that tell of whom a request is, and which run of the server it is for
 abbrev pub mark_name : Mark → List ℕ
 mark_name Site = codes "sec-fetch-site"
 mark_name Origin = codes "origin"
 mark_name Host = codes "host"
+mark_name Run = codes "if-match"
 
--- a value of such a field that no browser sends for a page of this server
-abbrev pub is_cross_site_as : ℕ → Mark → List ℕ → Bool
-is_cross_site_as port Site value = not (bytes_eq value (codes "same-origin")) && not (bytes_eq value (codes "none"))
-is_cross_site_as port Origin value = not (bytes_eq value (origin_of (local_number port))) && not (bytes_eq value (origin_of (local_name port)))
-is_cross_site_as port Host value =
-    not (bytes_eq value (codes "127.0.0.1")) && not (bytes_eq value (codes "localhost"))
-    && not (bytes_eq value (local_number port)) && not (bytes_eq value (local_name port))
+-- a value is one of a server's own
+abbrev pub is_own : List (String Global) → List ℕ → Bool
+is_own own value = list_any (λ text. bytes_eq value (string_bytes text)) own
+
+-- a value of such a field that no browser sends for a page of this server, or of one that names another run
+abbrev pub is_foreign_as : Guard → Mark → List ℕ → Bool
+is_foreign_as guard Site value = not (bytes_eq value (codes "same-origin")) && not (bytes_eq value (codes "none"))
+is_foreign_as guard Origin value = not (is_own guard.origins.items value)
+is_foreign_as guard Host value = not (is_own guard.hosts.items value)
+is_foreign_as guard Run value = not (bytes_eq value (string_bytes guard.quoted_run))
 
 -- some field of that name has such a value
-abbrev pub has_cross_site : ℕ → Mark → List Pair → Bool
-has_cross_site port mark fields = list_any (is_cross_site_as port mark) (values_of (mark_name mark) fields)
+abbrev pub has_foreign : Guard → Mark → List Pair → Bool
+has_foreign guard mark fields = list_any (is_foreign_as guard mark) (values_of (mark_name mark) fields)
 
--- a request that a browser sent for a page of another site, or where there is a page, under a name that isn't this machine's
-abbrev pub is_cross_site : (port : ℕ) (has_page : Bool) → List Pair → Bool
-is_cross_site port has_page fields = has_cross_site port Site fields || has_cross_site port Origin fields || has_page && has_cross_site port Host fields
+-- a request that a browser sent for a page of another site, or where the host is judged, under a name that isn't the server's
+abbrev pub is_cross_site : Guard → List Pair → Bool
+is_cross_site guard fields = has_foreign guard Site fields || has_foreign guard Origin fields || guard.judges_host && has_foreign guard Host fields
 
 abbrev pub is_good : {X Y : Type 0} → Result X Y → Bool
 is_good (Ok x) = true
@@ -57,28 +66,33 @@ has_good_fields minor fields =
 abbrev pub of_page : List ℕ → Ruling
 of_page method = if bytes_eq method (codes "GET") then Page else OnlyGet
 
+-- so is the state of the server
+abbrev pub of_health : List ℕ → Ruling
+of_health method = if bytes_eq method (codes "GET") then Health else OnlyGet
+
 -- what is done with a request, by the parts of its head
-abbrev pub ruled_parts : (port : ℕ) (has_page has_backups : Bool) (method target : List ℕ) (minor : ℕ) → List Pair → Ruling
-ruled_parts port has_page has_backups method target minor fields =
+abbrev pub ruled_parts : Guard → (method target : List ℕ) (minor : ℕ) → List Pair → Ruling
+ruled_parts guard method target minor fields =
     if not (has_good_fields minor fields) then Routed
-    else if is_cross_site port has_page fields then Forbidden
-    else if has_page && bytes_eq (path_of target) (codes "/") then of_page method
-    else if not has_backups && bytes_eq (path_of target) (codes "/backup") then NoBackups
+    else if is_cross_site guard fields then Forbidden
+    else if has_foreign guard Run fields then OtherRun
+    else if guard.has_page && bytes_eq (path_of target) (codes "/") then of_page method
+    else if bytes_eq (path_of target) (codes "/health") then of_health method
+    else if not guard.has_backups && bytes_eq (path_of target) (codes "/backup") then NoBackups
     else Routed
 
-unfoldable pub ruled_head : (port : ℕ) (has_page has_backups : Bool) → RequestHead → Ruling
-ruled_head port has_page has_backups h = ruled_parts port has_page has_backups h.method h.target h.minor (map name_and_value h.fields)
+unfoldable pub ruled_head : Guard → RequestHead → Ruling
+ruled_head guard h = ruled_parts guard h.method h.target h.minor (map name_and_value h.fields)
 
 -- a bad head goes where its fault is told
-abbrev pub ruled : (port : ℕ) (has_page has_backups : Bool) → Result RequestHead RequestFault → Ruling
-ruled port has_page has_backups (Ok h) = ruled_head port has_page has_backups h
-ruled port has_page has_backups (Err f) = Routed
+abbrev pub ruled : Guard → Result RequestHead RequestFault → Ruling
+ruled guard (Ok h) = ruled_head guard h
+ruled guard (Err f) = Routed
 
 -- what is done with an input
-abbrev pub HasRuling : (port : ℕ) (has_page has_backups : Bool) → List ℕ → Ruling → Type 0
-HasRuling port has_page has_backups input r = (head : Result RequestHead RequestFault) × HasHead input head × (r ≡ ruled port has_page has_backups head)
+abbrev pub HasRuling : Guard → List ℕ → Ruling → Type 0
+HasRuling guard input r = (head : Result RequestHead RequestFault) × HasHead input head × (r ≡ ruled guard head)
 
 -- two rulings of an input are one
 abbrev pub OneRuling : Type 0
-OneRuling =
-    (port : ℕ) (has_page has_backups : Bool) (input : List ℕ) (r s : Ruling) → HasRuling port has_page has_backups input r → HasRuling port has_page has_backups input s → r ≡ s
+OneRuling = (guard : Guard) (input : List ℕ) (r s : Ruling) → HasRuling guard input r → HasRuling guard input s → r ≡ s

@@ -1,12 +1,14 @@
-//! The guard before the routes: by its head alone a request is let through, refused, gets the page, or has no route.
+//! The guard before the routes: by its head alone a request is let through, refused, gets the page or the server's state, or has
+//! no route.
 
-ghost use Rattle.std.specs.Prelude.{◌≡◌, length, map, All, IfOk, string_bytes};
+ghost use Rattle.std.specs.Prelude.{◌≡◌, length, map, All, IfOk};
 ghost use Rattle.std.specs.List.{list_any};
 ghost use Rattle.httparse.specs.Spans.{IsHeaderWithin, IsRequestOf, IsRequestWithin, header_bytes};
-ghost use Rattle.shop_request.specs.Guards.{HasRuling, local_name, local_number, has_good_fields, is_cross_site, is_cross_site_as, mark_name, of_page, origin_of, ruled_parts};
+ghost use Rattle.shop_request.specs.Guards.{HasRuling, IsGuardOf, has_good_fields, is_cross_site, is_foreign_as, is_own, mark_name, of_health, of_page, ruled_parts};
 ghost use Rattle.shop_request.specs.Heads.{prefix, values_of};
 ghost use Rattle.shop_request.specs.Reading.{IsHeadIn};
 
+use crate::addresses::{Address, own_hosts, own_origins, quoted_run};
 use crate::fields::{has_hosts, is_name, is_there, said_length, values_named};
 use crate::heads::{Found, Head, prefix_of};
 use crate::judging::{path_in, target_text};
@@ -20,36 +22,37 @@ pub enum Ruling {
     Routed,
     /// A browser sent it for a page of another site.
     Forbidden,
+    /// It is for another run of the server.
+    OtherRun,
     /// It asks for the page.
     Page,
-    /// It is for the page, which is only read.
+    /// It asks for the state of the server.
+    Health,
+    /// It is for the page or the state, which are only read.
     OnlyGet,
     /// It is for a backup, and none are made.
     NoBackups,
 }
 
-// The fields that tell a cross-site request.
+// The fields that tell a cross-site request, and the one that names a run of the server.
 #[derive(Clone, Copy, Debug, PartialEq, Eq)]
 pub(crate) enum Mark {
     Site,
     Origin,
     Host,
+    Run,
 }
 
-/// What tells a cross-site request: the port that is served, and whether a page is; and whether backups are made.
+/// What a server knows of the requests that are for it: the values that the fields of its own have, whether the host is judged;
+/// whether it has a page, and whether backups are made.
 #[derive(Drop)]
 pub struct Guard {
-    port: u32,
     has_page: bool,
     has_backups: bool,
-    number: String,
-    name: String,
-    number_origin: String,
-    name_origin: String,
-    ghost number_is: { string_bytes number ≡ local_number port },
-    ghost name_is: { string_bytes name ≡ local_name port },
-    ghost number_origin_is: { string_bytes number_origin ≡ origin_of (local_number port) },
-    ghost name_origin_is: { string_bytes name_origin ≡ origin_of (local_name port) },
+    judges_host: bool,
+    hosts: Vec<String>,
+    origins: Vec<String>,
+    quoted_run: String,
 }
 
 fn mark_name(mark: Mark) -> &'static [u8]
@@ -59,78 +62,85 @@ fn mark_name(mark: Mark) -> &'static [u8]
         Mark::Site => b"sec-fetch-site".as_slice(),
         Mark::Origin => b"origin".as_slice(),
         Mark::Host => b"host".as_slice(),
+        Mark::Run => b"if-match".as_slice(),
     }
 }
 
+// Whether a value is one of a server's own.
+fn is_own(own: &[String], value: &[u8]) -> bool
+    ensures { result ≡ is_own own.now value.now }
+{
+    own.iter().any(|text| value == text.as_bytes())
+}
+
 impl Guard {
-    /// A guard of a port, with a page or without one, with backups or without any. The only error is want of memory.
+    /// A guard of what is reached at an address, with a page or without one, with backups or without any, and of a run. The only
+    /// error is want of memory.
     pub fn new(
         alloc: Global,
-        port: u32,
+        address: &Address,
         has_page: bool,
         has_backups: bool,
+        run: &str,
     ) -> Result<Guard, AllocError>
-        ensures { IfOk result (λ guard. (guard.port ≡ port) × (guard.has_page ≡ has_page)
-            × (guard.has_backups ≡ has_backups)) }
+        ensures { IfOk result (IsGuardOf address.now has_page has_backups run.now) }
     {
-        let number = format!(in alloc; "127.0.0.1:{port}")?;
-        let name = format!(in alloc; "localhost:{port}")?;
-        let number_origin = format!(in alloc; "http://127.0.0.1:{port}")?;
-        let name_origin = format!(in alloc; "http://localhost:{port}")?;
+        let hosts = own_hosts(alloc, address)?;
+        let origins = own_origins(alloc, address)?;
+        let quoted_run = quoted_run(alloc, run)?;
         Ok(Guard {
-            port,
             has_page,
             has_backups,
-            number,
-            name,
-            number_origin,
-            name_origin,
+            judges_host: has_page || address.has_others(),
+            hosts,
+            origins,
+            quoted_run,
         })
     }
 
-    // Whether a value of such a field is another than a browser sends for a page of this server.
-    fn is_cross_site(&self, mark: Mark, value: &[u8]) -> bool
-        ensures { result ≡ is_cross_site_as self.now.port mark value.now }
+    /// Whether only requests under the server's own names are let through.
+    pub fn judges_host(&self) -> bool
+        ensures { result ≡ self.now.judges_host }
+    {
+        self.judges_host
+    }
+
+    // Whether a value of such a field is another than a browser sends for a page of this server, or names another run.
+    fn is_foreign(&self, mark: Mark, value: &[u8]) -> bool
+        ensures { result ≡ is_foreign_as self.now mark value.now }
     {
         match mark {
             Mark::Site => value != b"same-origin".as_slice() && value != b"none".as_slice(),
-            Mark::Origin => {
-                value != self.number_origin.as_bytes() && value != self.name_origin.as_bytes()
-            }
-            Mark::Host => {
-                value != b"127.0.0.1".as_slice()
-                    && value != b"localhost".as_slice()
-                    && value != self.number.as_bytes()
-                    && value != self.name.as_bytes()
-            }
+            Mark::Origin => !is_own(&self.origins, value),
+            Mark::Host => !is_own(&self.hosts, value),
+            Mark::Run => value != self.quoted_run.as_bytes(),
         }
     }
 
-    // Whether some field of this name has a value of another site.
-    fn has_cross_site(&self, mark: Mark, buf: &[u8], headers: &[HeaderSpan]) -> bool
+    // Whether some field of this name has a value of another site or run.
+    fn has_foreign(&self, mark: Mark, buf: &[u8], headers: &[HeaderSpan]) -> bool
         requires { All (IsHeaderWithin (length buf.now)) headers.now }
-        ensures { result ≡ list_any (is_cross_site_as self.now.port mark)
+        ensures { result ≡ list_any (is_foreign_as self.now mark)
             (values_of (mark_name mark) (map (header_bytes buf.now) headers.now)) }
     {
         let [first, rest @ ..] = headers else {
             return false;
         };
-        let others = self.has_cross_site(mark, buf, rest);
+        let others = self.has_foreign(mark, buf, rest);
         if !is_name(first.name.of(buf), mark_name(mark)) {
             return others;
         }
-        self.is_cross_site(mark, first.value.of(buf)) || others
+        self.is_foreign(mark, first.value.of(buf)) || others
     }
 
     // Whether fields tell a cross-site request.
     fn shows_cross_site(&self, buf: &[u8], headers: &[HeaderSpan]) -> bool
         requires { All (IsHeaderWithin (length buf.now)) headers.now }
-        ensures { result ≡ is_cross_site self.now.port self.now.has_page
-            (map (header_bytes buf.now) headers.now) }
+        ensures { result ≡ is_cross_site self.now (map (header_bytes buf.now) headers.now) }
     {
-        self.has_cross_site(Mark::Site, buf, headers)
-            || self.has_cross_site(Mark::Origin, buf, headers)
-            || self.has_page && self.has_cross_site(Mark::Host, buf, headers)
+        self.has_foreign(Mark::Site, buf, headers)
+            || self.has_foreign(Mark::Origin, buf, headers)
+            || self.judges_host && self.has_foreign(Mark::Host, buf, headers)
     }
 
     // What is done by the parts of a head.
@@ -143,8 +153,8 @@ impl Guard {
         minor: u8,
     ) -> Ruling
         requires { All (IsHeaderWithin (length buf.now)) headers.now }
-        ensures { result ≡ ruled_parts self.now.port self.now.has_page self.now.has_backups
-            method.now target.now minor (map (header_bytes buf.now) headers.now) }
+        ensures { result ≡ ruled_parts self.now method.now target.now minor
+            (map (header_bytes buf.now) headers.now) }
     {
         if !has_good_fields(minor, buf, headers) {
             return Ruling::Routed;
@@ -152,8 +162,14 @@ impl Guard {
         if self.shows_cross_site(buf, headers) {
             return Ruling::Forbidden;
         }
+        if self.has_foreign(Mark::Run, buf, headers) {
+            return Ruling::OtherRun;
+        }
         if self.has_page && path_in(target) == "/" {
             return of_page(method);
+        }
+        if path_in(target) == "/health" {
+            return of_health(method);
         }
         if !self.has_backups && path_in(target) == "/backup" {
             return Ruling::NoBackups;
@@ -166,7 +182,7 @@ impl Guard {
         requires room { length headers.now ≡ 64 }
         requires within { IsRequestWithin (prefix received.now) headers.now spans.now }
         requires head { IsRequestOf (prefix received.now) headers.now spans.now }
-        ensures { HasRuling self.now.port self.now.has_page self.now.has_backups received.now result }
+        ensures { HasRuling self.now received.now result }
     {
         let prefix = prefix_of(received);
         self.rule_parts(
@@ -181,7 +197,7 @@ impl Guard {
     /// What is done with the request that these bytes begin with, by its head alone.
     pub fn rule(&self, head: &Head, received: &[u8]) -> Ruling
         requires { IsHeadIn received.now head.now }
-        ensures { HasRuling self.now.port self.now.has_page self.now.has_backups received.now result }
+        ensures { HasRuling self.now received.now result }
     {
         match head.found {
             Found::Asks(spans, _) => self.rule_whole(&head.headers, &spans, received),
@@ -198,6 +214,17 @@ fn of_page(method: &[u8]) -> Ruling
 {
     if method == b"GET".as_slice() {
         Ruling::Page
+    } else {
+        Ruling::OnlyGet
+    }
+}
+
+// What is done with a request for the state of the server by a method.
+fn of_health(method: &[u8]) -> Ruling
+    ensures { result ≡ of_health method.now }
+{
+    if method == b"GET".as_slice() {
+        Ruling::Health
     } else {
         Ruling::OnlyGet
     }

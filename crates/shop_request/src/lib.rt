@@ -1,6 +1,7 @@
 //! Requests of HTTP, as a source gives them in whatever pieces: the routes, the heads, the bodies, and what is wrong.
 #![tactic(auto)]
 
+mod addresses;
 mod faults;
 mod fields;
 mod guards;
@@ -12,6 +13,7 @@ mod requests;
 mod routes;
 mod wholes;
 
+pub use addresses::Address;
 pub use faults::{RequestFault, StreamFault};
 pub use guards::{Guard, Ruling};
 pub use heads::Head;

@@ -55,7 +55,7 @@ module _ {C : Type 0} (connection : ConnectionGhosts C) (site : Site) {B : Type 
       let part = first_part (connection.remaining left.stream) left.received.items (read_of (connection.remaining left.stream) left.received.items read) in
       absurd (omega (arith, long, brings.few, ap length part.2, length-append left.received.items part.0))
 
-  not_spoiled : (left : Client C) → IsSpoiled connection site book seen client left → ⊥
+  not_spoiled : (left : Client C) → IsSpoiled connection site book client left → ⊥
   not_spoiled left (inl mute) = not_mute left mute.2
   not_spoiled left (inr (inl over)) = subst (λ o. IsSomeAnd o (λ answer. connection.is_lost left.stream ⊎ (length answer.items < client.sent))) fresh.waits over
   not_spoiled left (inr (inr forsaken)) = absurd (cc (subst IsSome fresh.asks forsaken.0))

@@ -179,21 +179,21 @@ module _ {C : Type 0} (connection : ConnectionGhosts C) (site : Site) {B : Type 
           subst (λ o. IsSomeAnd o (λ answer. length answer.items ≤ new.sent)) (sym e) (omega (arith, whole, kept.2))
 
   -- it is lost, or told to have taken more than its answer, which it isn't when that begins
-  pub spoiled-on : (seen : Times) (old new : Client C) → IsSome old.answer → connection.is_lost new.stream ⊎ IsSomeAnd old.answer (λ answer. length answer.items < old.sent)
-      → IsSpoiled connection site book seen old new
-  spoiled-on seen old new some why = inr (inl (by_answer old.answer some why))
+  pub spoiled-on : (old new : Client C) → IsSome old.answer → connection.is_lost new.stream ⊎ IsSomeAnd old.answer (λ answer. length answer.items < old.sent)
+      → IsSpoiled connection site book old new
+  spoiled-on old new some why = inr (inl (by_answer old.answer some why))
     where
       by_answer : (o : Option (Vec ℕ Global)) → IsSome o → connection.is_lost new.stream ⊎ IsSomeAnd o (λ answer. length answer.items < old.sent)
           → IsSomeAnd o (λ answer. connection.is_lost new.stream ⊎ (length answer.items < old.sent))
       by_answer None some why = absurd (cc some)
       by_answer (Some answer) some why = why
 
-  pub spoiled-first : (seen : Times) (old mid new : Client C) → old.answer ≡ None → old.thought ≡ None → mid.sent ≡ 0
-      → connection.is_lost new.stream ⊎ IsSomeAnd mid.answer (λ answer. length answer.items < mid.sent) → IsSpoiled connection site book seen old new
-  spoiled-first seen old mid new none rests begins (inl lost) = inl (none, rests, inl lost)
-  spoiled-first seen old mid new none rests begins (inr over) = by_answer mid.answer refl over
+  pub spoiled-first : (old mid new : Client C) → old.answer ≡ None → old.thought ≡ None → mid.sent ≡ 0
+      → connection.is_lost new.stream ⊎ IsSomeAnd mid.answer (λ answer. length answer.items < mid.sent) → IsSpoiled connection site book old new
+  spoiled-first old mid new none rests begins (inl lost) = inl (none, rests, inl lost)
+  spoiled-first old mid new none rests begins (inr over) = by_answer mid.answer refl over
     where
-      by_answer : (o : Option _) → mid.answer ≡ o → IsSomeAnd o (λ answer. length answer.items < mid.sent) → IsSpoiled connection site book seen old new
+      by_answer : (o : Option _) → mid.answer ≡ o → IsSomeAnd o (λ answer. length answer.items < mid.sent) → IsSpoiled connection site book old new
       by_answer None e over = absurd over
       by_answer (Some answer) e over = absurd (omega (arith, begins, over))
 

@@ -1,6 +1,6 @@
 -- How many connections are open, turn after turn.
 use Rattle.std.proofs.Common.{◌≡◌, ◌≢◌, ℕ, ◌≤◌, ◌<◌, is_some, List, [], ◌∷◌, count_by, inl, inr, refl, ap, arith}
-use Rattle.std.specs.Prelude.{Option, Some, None}
+use Rattle.std.specs.Prelude.{Bool, Option, Some, None}
 use Rattle.std.specs.declared.time.Instant.{Instant}
 use Rattle.slab.specs.Slab.{Slab, get, slab_len}
 use Rattle.shop_book.specs.declared.books.Book.{Ghosts}
@@ -38,6 +38,17 @@ module _ {C : Type 0} where
   turned-few : {P : Type 0} (port : PortGhosts P C) (old new : Slab (Client C)) → slab_len old ≤ MOST_CLIENTS → IsTurnedAway port old new → slab_len new ≤ MOST_CLIENTS
   turned-few port old new few t = omega (arith, room-made old t.room few t.made, ap (count_by is_some) t.same)
 
+  received-few : {P : Type 0} (port : PortGhosts P C) (stream : C) (old new : Slab (Client C)) (seen seeing : Times) → slab_len old ≤ MOST_CLIENTS
+      → IsReceived port stream old new seen seeing → slab_len new ≤ MOST_CLIENTS
+  received-few port stream old new seen seeing few (now, told, inl away) = turned-few port old new few away
+  received-few port stream old new seen seeing few (now, told, inr here) = opened-few port now stream here.0 old new few here.1
+
+  arrived-few : {P : Type 0} (port : PortGhosts P C) (arrived : List C) (old new : Slab (Client C)) (seen seeing : Times) → slab_len old ≤ MOST_CLIENTS
+      → AreReceived port arrived old new seen seeing → slab_len new ≤ MOST_CLIENTS
+  arrived-few port [] old new seen seeing few run = omega (arith, few, ap (λ (s : Slab (Client C)). slab_len s) run.0)
+  arrived-few port (stream ∷ arrived) old new seen seeing few run =
+      arrived-few port arrived run.0 new run.1 seeing (received-few port stream old run.0 seen run.1 few run.2) run.3
+
 module _ {C : Type 0} (connection : ConnectionGhosts C) (site : Site) {B : Type 0} (book : Ghosts B) {P : Type 0} (port : PortGhosts P C) where
   attended-fewer : (fate : Fate) (key : ℕ) (old new : Slab (Client C)) (before after : B) (seen seeing : Times)
       → IsAttendedAt connection site book fate key old new before after seen seeing → slab_len new ≤ slab_len old
@@ -53,21 +64,9 @@ module _ {C : Type 0} (connection : ConnectionGhosts C) (site : Site) {B : Type 
   each-fewer (key ∷ keys) old new before after seen seeing run =
       omega (arith, attended-fewer run.0 key old run.1 before run.2 seen run.3 run.4, each-fewer keys run.1 new run.2 after run.3 seeing run.5)
 
-  received-few : (stream : C) (old new : Slab (Client C)) (before after : B) (seen seeing : Times) → slab_len old ≤ MOST_CLIENTS
-      → IsReceived connection site book port stream old new before after seen seeing → slab_len new ≤ MOST_CLIENTS
-  received-few stream old new before after seen seeing few (now, between, told, inl away) = turned-few port old new few away.0
-  received-few stream old new before after seen seeing few (now, between, told, inr here) =
-      omega (arith, opened-few port now stream here.key old here.clients few here.opened, attended-fewer here.fate here.key here.clients new before after between seeing here.attended)
-
-  arrived-few : (arrived : List C) (old new : Slab (Client C)) (before after : B) (seen seeing : Times) → slab_len old ≤ MOST_CLIENTS
-      → AreReceived connection site book port arrived old new before after seen seeing → slab_len new ≤ MOST_CLIENTS
-  arrived-few [] old new before after seen seeing few run = omega (arith, few, ap (λ (s : Slab (Client C)). slab_len s) run.0)
-  arrived-few (stream ∷ arrived) old new before after seen seeing few run =
-      arrived-few arrived run.0 new run.1 after run.2 seeing (received-few stream old run.0 before run.1 seen run.2 few run.3) run.4
-
-  thought-fewer : (progress : Progress) (now : Instant) (key : ℕ) (old new : Slab (Client C)) (seen seeing : Times)
-      → IsThoughtAt progress now key old new seen seeing → slab_len new ≤ slab_len old
-  thought-fewer progress now key old new seen seeing t =
+  thought-fewer : (crowded : Bool) (progress : Progress) (now : Instant) (key : ℕ) (old new : Slab (Client C)) (seen seeing : Times)
+      → IsThoughtAt connection crowded progress now key old new seen seeing → slab_len new ≤ slab_len old
+  thought-fewer crowded progress now key old new seen seeing t =
       omega (arith, count-but is_some refl key old.slots new.slots t.others, ap counted t.there, one-most is_some refl (get new key))
 
   thinks-fewer : (now : Instant) (old new : Slab (Client C)) (before after : B) (seen seeing : Times)
@@ -76,7 +75,7 @@ module _ {C : Type 0} (connection : ConnectionGhosts C) (site : Site) {B : Type 
   thinks-fewer now old new before after seen seeing (inr t) = by_progress t.progress refl
     where
       once : slab_len t.clients ≤ slab_len old
-      once = thought-fewer t.progress now t.key old t.clients seen t.between t.thought
+      once = thought-fewer t.crowded t.progress now t.key old t.clients seen t.between t.thought
 
       on : t.progress ≢ Answered → slab_len new ≤ slab_len old
       on other = omega (arith, once, ap (λ (s : Slab (Client C)). slab_len s) (t.goes_on other).0)
@@ -91,14 +90,14 @@ module _ {C : Type 0} (connection : ConnectionGhosts C) (site : Site) {B : Type 
   round-few : (round : Round C) (old new : Slab (Client C)) (before after : B) (seen seeing : Times) → slab_len old ≤ MOST_CLIENTS
       → IsRound connection site book port round old new before after seen seeing → slab_len new ≤ MOST_CLIENTS
   round-few round old new before after seen seeing few r =
-      arrived-few round.arrived r.thought new r.later after r.third seeing
-      (omega (arith, few, thinks-fewer round.now r.kept r.thought r.mid r.later r.second r.third r.thinks, each-fewer round.keys old r.attended before r.mid seen r.first r.each, late-fewer is_some refl round.now r.attended r.kept r.late)) r.received
+      arrived-few port round.arrived r.thought new r.third seeing
+      (omega (arith, few, thinks-fewer round.now r.kept r.thought r.mid after r.second r.third r.thinks, each-fewer round.keys old r.attended before r.mid seen r.first r.each, late-fewer is_some refl round.now r.attended r.kept r.late)) r.received
 
   rounds-few : (rounds : List (Round C)) (old new : Slab (Client C)) (before after : B) (seen seeing : Times) → slab_len old ≤ MOST_CLIENTS
       → AreRounds connection site book port rounds old new before after seen seeing → slab_len new ≤ MOST_CLIENTS
   rounds-few [] old new before after seen seeing few run = omega (arith, few, ap (λ (s : Slab (Client C)). slab_len s) run.0)
   rounds-few (round ∷ rounds) old new before after seen seeing few run =
-      rounds-few rounds run.0 new run.1 after run.2 seeing (round-few round old run.0 before run.1 seen run.2 few run.3) run.4
+      rounds-few rounds run.0 new run.1 after run.2 seeing (round-few round old run.0 before run.1 run.3.0 run.2 few run.3.2) run.4
 
   pub few_are_open : FewAreOpen connection site book port
   few_are_open rounds first last before after seen seeing run none = rounds-few rounds first last before after seen seeing (none-few first none) run

@@ -141,9 +141,9 @@ module _ {C : Type 0} (connection : ConnectionGhosts C) (site : Site) {B : Type 
       each-own keys run.1 new a run.2 c run.3 seeing run.5 (attended-own run.0 key old run.1 a b run.2 seen run.3 run.4 here)
 
   -- a question is thought on
-  thought-own : (progress : Progress) (now : Instant) (key : ℕ) (old new : Slab (Client C)) (a b : B) (seen seeing : Times) → IsThoughtAt progress now key old new seen seeing
+  thought-own : (crowded : Bool) (progress : Progress) (now : Instant) (key : ℕ) (old new : Slab (Client C)) (a b : B) (seen seeing : Times) → IsThoughtAt connection crowded progress now key old new seen seeing
       → Own site book a b old → Own site book a b new
-  thought-own progress now key old new a b seen seeing t own = at-key site book a b b old new key (stays site book b) t.others (λ client is. by_progress client is progress refl) own
+  thought-own crowded progress now key old new a b seen seeing t own = at-key site book a b b old new key (stays site book b) t.others (λ client is. by_progress client is progress refl) own
     where
       was : HasItsOwn site book a b t.client
       was = own key t.client t.there
@@ -167,7 +167,7 @@ module _ {C : Type 0} (connection : ConnectionGhosts C) (site : Site) {B : Type 
   thinks-own now old new a b c seen seeing (inr t) (so_far, own) = by_progress t.progress refl
     where
       once : Own site book a b t.clients
-      once = thought-own t.progress now t.key old t.clients a b seen t.between t.thought own
+      once = thought-own t.crowded t.progress now t.key old t.clients a b seen t.between t.thought own
 
       rests : t.progress ≢ Answered → Open a c new
       rests other =
@@ -198,28 +198,26 @@ module _ {C : Type 0} (connection : ConnectionGhosts C) (site : Site) {B : Type 
       fewer-own site book a b b old new (stays site book b)
       (λ key client is. room-own site book old t.room t.made key client (ap (λ slots. get (record t.room { slots = slots }) key) (sym t.same) ∙ is)) own
 
-  received-own : (stream : C) (old new : Slab (Client C)) (a b c : B) (seen seeing : Times) → IsReceived connection site book port stream old new b c seen seeing → Open a b old → Open a c new
-  received-own stream old new a b c seen seeing (now, between, told, inl away) (so_far, own) =
-      subst (λ (d : B). Open a d new) (sym away.1) (so_far, turned-own old new a b away.0 own)
-  received-own stream old new a b c seen seeing (now, between, told, inr here) (so_far, own) =
-      attended-own here.fate here.key here.clients new a b c between seeing here.attended (so_far, opened-own now stream here.key old here.clients a b here.opened own)
+  received-own : (stream : C) (old new : Slab (Client C)) (a b : B) (seen seeing : Times) → IsReceived port stream old new seen seeing → Open a b old → Open a b new
+  received-own stream old new a b seen seeing (now, told, inl away) (so_far, own) = (so_far, turned-own old new a b away own)
+  received-own stream old new a b seen seeing (now, told, inr here) (so_far, own) = (so_far, opened-own now stream here.0 old new a b here.1 own)
 
-  arrived-own : (arrived : List C) (old new : Slab (Client C)) (a b c : B) (seen seeing : Times) → AreReceived connection site book port arrived old new b c seen seeing → Open a b old → Open a c new
-  arrived-own [] old new a b c seen seeing run here = subst (λ (n : Slab (Client C)). Open a c n) (sym run.0) (subst (λ (d : B). Open a d old) (sym run.1) here)
-  arrived-own (stream ∷ arrived) old new a b c seen seeing run here =
-      arrived-own arrived run.0 new a run.1 c run.2 seeing run.4 (received-own stream old run.0 a b run.1 seen run.2 run.3 here)
+  arrived-own : (arrived : List C) (old new : Slab (Client C)) (a b : B) (seen seeing : Times) → AreReceived port arrived old new seen seeing → Open a b old → Open a b new
+  arrived-own [] old new a b seen seeing run here = subst (λ (n : Slab (Client C)). Open a b n) (sym run.0) here
+  arrived-own (stream ∷ arrived) old new a b seen seeing run here =
+      arrived-own arrived run.0 new a b run.1 seeing run.3 (received-own stream old run.0 a b seen run.1 run.2 here)
 
   round-own : (round : Round C) (old new : Slab (Client C)) (a b c : B) (seen seeing : Times) → IsRound connection site book port round old new b c seen seeing → Open a b old → Open a c new
   round-own round old new a b c seen seeing r here =
       let first = each-own round.keys old r.attended a b r.mid seen r.first r.each here in
       let kept = fewer-own site book a r.mid r.mid r.attended r.kept (stays site book r.mid) (λ key client is. late-own site book round.now (get r.attended key) client (sym (r.late key) ∙ is)) first.1 in
-      arrived-own round.arrived r.thought new a r.later c r.third seeing r.received
-      (thinks-own round.now r.kept r.thought a r.mid r.later r.second r.third r.thinks (first.0, kept))
+      arrived-own round.arrived r.thought new a c r.third seeing r.received
+      (thinks-own round.now r.kept r.thought a r.mid c r.second r.third r.thinks (first.0, kept))
 
   rounds-own : (rounds : List (Round C)) (old new : Slab (Client C)) (a b c : B) (seen seeing : Times) → AreRounds connection site book port rounds old new b c seen seeing → Open a b old → Open a c new
   rounds-own [] old new a b c seen seeing run here = subst (λ (n : Slab (Client C)). Open a c n) (sym run.0) (subst (λ (d : B). Open a d old) (sym run.1) here)
   rounds-own (round ∷ rounds) old new a b c seen seeing run here =
-      rounds-own rounds run.0 new a run.1 c run.2 seeing run.4 (round-own round old run.0 a b run.1 seen run.2 run.3 here)
+      rounds-own rounds run.0 new a run.1 c run.2 seeing run.4 (round-own round old run.0 a b run.1 run.3.0 run.2 run.3.2 here)
 
   pub each_has_its_own : EachHasItsOwn connection site book port
   each_has_its_own rounds first last before after seen seeing run none =

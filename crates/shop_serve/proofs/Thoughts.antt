@@ -5,6 +5,7 @@ use Rattle.std.specs.declared.time.Instant.{Instant}
 use Rattle.slab.specs.Slab.{Slab, get, entries, Updates, with_value}
 use Rattle.slab.proofs.SlabLemmas.{Contains-cons, Contains-cons_cases, Contains-entries, Updates-with_value}
 use Rattle.shop_serve.specs.declared.clients.Client.{Client}
+use Rattle.shop_serve.specs.declared.connections.Connection.{Ghosts as ConnectionGhosts}
 use Rattle.shop_serve.specs.declared.thinking.Progress.TheVariants.{GoesOn, Answered, NoMemory}
 use Rattle.shop_serve.specs.Clients.{AsksAt, NoneAsks, unanswered}
 use Rattle.shop_serve.specs.Thinking.{IsThoughtAt, IsThoughtOnce, IsThoughtOut}
@@ -69,7 +70,7 @@ pub none-asks : {C : Type 0} (clients : Slab (Client C)) (found : Option ℕ) (s
 none-asks clients None some is e none = none refl
 none-asks clients (Some key) some is e none = absurd (cc (is, e))
 
-module _ {C : Type 0} (now : Instant) (key : ℕ) (clients : Slab (Client C)) (client left : Client C) (seen seeing : Times) (is : get clients key ≡ Some client) (asks : IsSome client.thought) where
+module _ {C : Type 0} (connection : ConnectionGhosts C) (crowded : Bool) (now : Instant) (key : ℕ) (clients : Slab (Client C)) (client left : Client C) (seen seeing : Times) (is : get clients key ≡ Some client) (asks : IsSome client.thought) where
   written : Updates clients (with_value clients key left) key (Some left)
   written = Updates-with_value clients key left (subst IsSome (sym is) refl)
 
@@ -77,7 +78,7 @@ module _ {C : Type 0} (now : Instant) (key : ℕ) (clients : Slab (Client C)) (c
   no_one = ap one_of is ∙ answered-of client (has-question client asks)
 
   -- it goes on
-  pub goes-on : IsThoughtOnce now client left → TellsNone seen seeing → IsThoughtAt GoesOn now key clients (with_value clients key left) seen seeing
+  pub goes-on : IsThoughtOnce connection crowded now client left → TellsNone seen seeing → IsThoughtAt connection crowded GoesOn now key clients (with_value clients key left) seen seeing
   goes-on once unread = record {
     client = client;
     there = is;
@@ -88,7 +89,7 @@ module _ {C : Type 0} (now : Instant) (key : ℕ) (clients : Slab (Client C)) (c
     closed = λ e. absurd (cc e);
   }
 
-  pub goes-on-fewer : IsThoughtOnce now client left → unanswered (with_value clients key left) ≤ unanswered clients
+  pub goes-on-fewer : IsThoughtOnce connection crowded now client left → unanswered (with_value clients key left) ≤ unanswered clients
   goes-on-fewer once =
       omega (
         arith,
@@ -98,7 +99,7 @@ module _ {C : Type 0} (now : Instant) (key : ℕ) (clients : Slab (Client C)) (c
       )
 
   -- it is answered
-  pub thought-out : IsThoughtOut client left seen seeing → IsThoughtAt Answered now key clients (with_value clients key left) seen seeing
+  pub thought-out : IsThoughtOut connection client left seen seeing → IsThoughtAt connection crowded Answered now key clients (with_value clients key left) seen seeing
   thought-out out = record {
     client = client;
     there = is;
@@ -109,7 +110,7 @@ module _ {C : Type 0} (now : Instant) (key : ℕ) (clients : Slab (Client C)) (c
     closed = λ e. absurd (cc e);
   }
 
-  pub thought-out-fewer : IsThoughtOut client left seen seeing → unanswered (with_value clients key left) ≤ unanswered clients
+  pub thought-out-fewer : IsThoughtOut connection client left seen seeing → unanswered (with_value clients key left) ≤ unanswered clients
   thought-out-fewer out =
       omega (
         arith,
@@ -119,7 +120,7 @@ module _ {C : Type 0} (now : Instant) (key : ℕ) (clients : Slab (Client C)) (c
       )
 
   -- it is closed
-  pub given-up : (new : Slab (Client C)) → Updates (with_value clients key left) new key None → TellsNone seen seeing → IsThoughtAt NoMemory now key clients new seen seeing
+  pub given-up : (new : Slab (Client C)) → Updates (with_value clients key left) new key None → TellsNone seen seeing → IsThoughtAt connection crowded NoMemory now key clients new seen seeing
   given-up new removed unread = record {
     client = client;
     there = is;

@@ -16,7 +16,7 @@ use Rattle.shop_desk.proofs.Blame.{up_more, failed_first, failed_last}
 use Rattle.shop_records.specs.Content.{Content}
 use Rattle.shop_request.specs.Guards.{HasRuling}
 use Rattle.shop_request.specs.declared.guards.Ruling.{Ruling}
-use Rattle.shop_request.specs.declared.guards.Ruling.TheVariants.{Routed, Forbidden, Page, OnlyGet, NoBackups}
+use Rattle.shop_request.specs.declared.guards.Ruling.TheVariants.{Routed, Forbidden, OtherRun, Page, Health, OnlyGet, NoBackups}
 use Rattle.shop_forms.specs.Forms.{json_texts}
 use Rattle.shop_book.specs.declared.books.Book.{Ghosts}
 use Rattle.shop_planning.specs.declared.posed.Posed.{Posed}
@@ -34,7 +34,9 @@ use Rattle.shop_serve.specs.Serving.{Turn, Handling, HandlingStep, IsServedOnce,
 pub is_route : (r : Ruling) → is_routed r ≡ true → r ≡ Routed
 is_route Routed e = refl
 is_route Forbidden e = absurd (cc e)
+is_route OtherRun e = absurd (cc e)
 is_route Page e = absurd (cc e)
+is_route Health e = absurd (cc e)
 is_route OnlyGet e = absurd (cc e)
 is_route NoBackups e = absurd (cc e)
 
@@ -109,7 +111,7 @@ module _ (site : Site) {B : Type 0} (book : Ghosts B) where
 
   -- by its head an input goes to its route
   abbrev GoesToRoute : List ℕ → Type 0
-  GoesToRoute input = HasRuling site.guard.port site.guard.has_page site.guard.has_backups input Routed
+  GoesToRoute input = HasRuling site.guard input Routed
 
   -- one was served
   served_once : (before after : B) (input : List ℕ) (old new : Option (List ℕ)) (unwritten : List ℕ) → 0 < length input → GoesToRoute input
@@ -202,14 +204,14 @@ module _ (site : Site) {B : Type 0} (book : Ghosts B) where
   answered-then before after seen seeing now received answer (between, inr (outcome, is, same, copies), tells) = inr (outcome, is, same)
 
   -- the site answered one by itself
-  pub one_ruled : (here : B) (input : List ℕ) (r : Ruling) → 0 < length input → HasRuling site.guard.port site.guard.has_page site.guard.has_backups input r → r ≢ Routed → HasServed site book here here 1
+  pub one_ruled : (here : B) (input : List ℕ) (r : Ruling) → 0 < length input → HasRuling site.guard input r → r ≢ Routed → HasServed site book here here 1
   one_ruled here input r some rules other clean_disk m held sound =
-      let turn : Turn = record { input = input; handling = ruled r; answer = own_bytes site r } in
+      let turn : Turn = record { input = input; handling = ruled r; answer = own_bytes site false r } in
       record {
         served = turn ∷ [];
         few = omega arith;
         next = m;
-        run = (here, m, (some, (rules, other, refl)), once_same here m turn.handling refl clean_disk held refl (λ none. none), (refl, refl));
+        run = (here, m, (some, (rules, other, (false, refl))), once_same here m turn.handling refl clean_disk held refl (λ none. none), (refl, refl));
         held = held;
         sound = sound;
         crash = (refl, λ left it. it);

@@ -13,13 +13,13 @@ use Rattle.shop_serve.specs.declared.ports.Port.{Ghosts as PortGhosts}
 use Rattle.shop_serve.specs.declared.clients.Fate.{Fate}
 use Rattle.shop_serve.specs.declared.clients.Fate.TheVariants.{NoMemory}
 use Rattle.shop_serve.specs.declared.clients.Client.{Client}
-use Rattle.shop_serve.specs.declared.clients.TheConstants.{PATIENCE, GRACE, MOST_CLIENTS}
+use Rattle.shop_serve.specs.declared.clients.TheConstants.{PATIENCE, MOST_CLIENTS}
 use Rattle.shop_serve.specs.declared.thinking.Thinking.{Thinking}
 use Rattle.shop_planning.specs.Thoughts.{posed_in}
 use Rattle.shop_serve.specs.Making.{IsAsked}
 use Rattle.shop_serve.specs.declared.sites.Site.{Site}
 use Rattle.shop_serve.specs.Serving.{HasServed, IsAnsweredThen}
-use Rattle.shop_serve.specs.Times.{Times, Tells, TellsNone, ReportedLast}
+use Rattle.shop_serve.specs.Times.{Times, Tells, TellsNone}
 
 -- what came is an unfinished request, and so is all that goes on from it with fewer bytes than are needed
 pub record AwaitsMore (received : List ℕ) (needed : ℕ) : Type 0 where
@@ -136,14 +136,6 @@ IsMute connection old before new after =
     ⊎ (IsReadOn (connection.remaining old) (connection.remaining new) before after
     × ((after ≡ []) × IsAtEnd (connection.remaining new) ⊎ (most_request_reads ≤ length after)))
 
--- A connection whose question was read then isn't there for its answer: it is lost; or its input is at its end, and was so later
--- than right after its request.
-abbrev pub IsForsaken : {C : Type 0} → ConnectionGhosts C → Times → Instant → C → Type 0
-IsForsaken connection seen read stream =
-    connection.is_lost stream
-    ⊎ (IsAtEnd (connection.remaining stream)
-    × ((now : Instant) × ReportedLast seen now × (GRACE * 1000000 < instant_nanos now - instant_nanos read)))
-
 module _ {C : Type 0} (connection : ConnectionGhosts C) (site : Site) {B : Type 0} (book : Ghosts B) where
   -- A connection with an answer: it keeps it, takes more of it, to its end, which it is told, or until it takes no more, and
   -- nothing else is done. Its seconds go on.
@@ -209,18 +201,17 @@ module _ {C : Type 0} (connection : ConnectionGhosts C) (site : Site) {B : Type 
       × (old.answer ≡ None → IsSome old.thought → IsHeeded old new before after seen seeing)
       × (old.answer ≡ None → old.thought ≡ None → IsHeard old new before after seen seeing)
 
-  -- No request can come of it, or it can't take its answer: it is lost, or told to have taken more than that; or it isn't there for
-  -- the answer to its question.
-  abbrev pub IsSpoiled : Times → Client C → Client C → Type 0
-  IsSpoiled seen old new =
+  -- No request can come of it, or it can't take its answer: it is lost, or told to have taken more than that.
+  abbrev pub IsSpoiled : Client C → Client C → Type 0
+  IsSpoiled old new =
       ((old.answer ≡ None) × (old.thought ≡ None) × IsMute connection old.stream old.received.items new.stream new.received.items)
       ⊎ IsSomeAnd old.answer (λ answer. connection.is_lost new.stream ⊎ (length answer.items < old.sent))
-      ⊎ IsSome old.thought × IsForsaken connection seen old.since new.stream
+      ⊎ IsSome old.thought × connection.is_lost new.stream
 
   -- why a connection is closed that is attended to: it took its whole answer, or is spoiled; or memory was wanting
   abbrev pub IsClosedBy : Fate → Client C → B → B → (seen seeing : Times) → Type 0
   IsClosedBy fate client before after seen seeing =
-      (fate ≡ NoMemory) ⊎ ((left : Client C) × (IsAttended client left before after seen seeing × IsSpent left ⊎ IsSpoiled seen client left))
+      (fate ≡ NoMemory) ⊎ ((left : Client C) × (IsAttended client left before after seen seeing × IsSpent left ⊎ IsSpoiled client left))
 
   -- The connection of a key was attended to, if there is one, and is closed or stays; no other was. At most one request was
   -- served, and none where it had an answer or a question.

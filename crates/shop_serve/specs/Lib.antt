@@ -1,7 +1,10 @@
 pub mod Sites
 pub mod Serving
 pub mod Making
+pub mod Runs
 pub mod Times
+pub mod Watches
+pub mod Lines
 pub mod Ports
 pub mod Clients
 pub mod Thinking

@@ -18,6 +18,7 @@ use Rattle.shop_serve.specs.declared.answers.Next.{Next}
 use Rattle.shop_serve.specs.declared.answers.Next.TheVariants as next
 use Rattle.shop_serve.specs.declared.clients.Client.{Client}
 use Rattle.shop_serve.specs.declared.sites.Site.{Site}
+use Rattle.shop_serve.specs.declared.thinking.TheConstants.{FAIR_CALLS}
 use Rattle.shop_serve.specs.Serving.{AsksBackup, IsAnsweredAlone, IsAnsweredMeanwhile}
 use Rattle.shop_serve.specs.Times.{Times, TellsNone}
 use Rattle.shop_wire.specs.AnswerBytes.{answer_bytes, printed, replied, telling_answer}
@@ -26,7 +27,7 @@ use Rattle.shop_wire.specs.Serves.{IsBegun}
 -- By their head some bytes went to their route, and are a question; this is what it asks of the content. Nothing is done.
 abbrev pub IsAsked : Site → {B : Type 0} → Ghosts B → B → B → (received : List ℕ) → Posed → Type 0
 IsAsked site book before after received posed =
-    HasRuling site.guard.port site.guard.has_page site.guard.has_backups received Routed × IsBegun book before after (Some received) posed
+    HasRuling site.guard received Routed × IsBegun book before after (Some received) posed
 
 -- what was made of some bytes
 abbrev pub IsMadeOf : Site → {B : Type 0} → Ghosts B → B → B → (received : List ℕ) → Made → Type 0
@@ -59,7 +60,7 @@ put_answer client answer now = record client { thought = None; answer = Some ans
 
 -- it has this question from now on, which waits
 abbrev pub put_thought : {C : Type 0} → Client C → Thoughts → Instant → Client C
-put_thought client thought now = record client { thought = Some (record { thought = thought; last = None }); answer = None; sent = 0; since = now }
+put_thought client thought now = record client { thought = Some (record { thought = thought; last = None; left = FAIR_CALLS }); answer = None; sent = 0; since = now }
 
 -- what was made is put into its connection
 abbrev pub put_made : {C : Type 0} → Client C → Made → Instant → Client C

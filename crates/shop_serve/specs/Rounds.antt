@@ -1,17 +1,16 @@
 -- The turns of a server: which connections a port reports and gives, and what is done with them.
-use Rattle.std.specs.Prelude.{◌≡◌, ◌≤◌, ◌⊎◌, ℕ, List, [], ◌∷◌, length, Option, None}
+use Rattle.std.specs.Prelude.{◌≡◌, ◌≤◌, ◌⊎◌, ℕ, List, [], ◌∷◌, length, Option, None, true}
 use Rattle.std.specs.List.{flat_map}
 use Rattle.slab.specs.Slab.{Slab, get, slab_len}
 use Rattle.std.specs.declared.time.Instant.{Instant}
 use Rattle.shop_book.specs.declared.books.Book.{Ghosts}
 use Rattle.shop_serve.specs.declared.connections.Connection.{Ghosts as ConnectionGhosts}
 use Rattle.shop_serve.specs.declared.ports.Port.{Ghosts as PortGhosts}
-use Rattle.shop_serve.specs.declared.clients.Fate.{Fate}
 use Rattle.shop_serve.specs.declared.clients.Client.{Client}
 use Rattle.shop_serve.specs.declared.clients.TheConstants.{MOST_CLIENTS}
 use Rattle.shop_serve.specs.declared.sites.Site.{Site}
-use Rattle.shop_serve.specs.Times.{Adds, Times, Tells, TellsNone}
-use Rattle.shop_serve.specs.Clients.{AreAttended, ClosesLate, IsAttendedAt, IsOpened, IsTurnedAway}
+use Rattle.shop_serve.specs.Times.{Adds, Looks, Times, Tells, TellsNone}
+use Rattle.shop_serve.specs.Clients.{AreAttended, ClosesLate, IsOpened, IsTurnedAway}
 use Rattle.shop_serve.specs.Thinking.{Thinks}
 
 -- a turn of a server: the keys that were reported, when those that had their time were closed, and the connections that came
@@ -26,29 +25,21 @@ all_keys = flat_map (λ r. r.keys)
 abbrev pub all_arrived : {C : Type 0} → List (Round C) → List C
 all_arrived = flat_map (λ r. r.arrived)
 
-module _ {C : Type 0} (connection : ConnectionGhosts C) (site : Site) {B : Type 0} (book : Ghosts B) {P : Type 0} (port : PortGhosts P C) where
-  -- it is opened, and attended to at once
-  pub record IsOpenedAttended (now : Instant) (stream : C) (old new : Slab (Client C)) (before after : B) (seen seeing : Times) : Type 0 where
-    pub key : ℕ
-    pub fate : Fate
-    pub clients : Slab (Client C)
-    pub opened : IsOpened port now stream key old clients
-    pub attended : IsAttendedAt connection site book fate key clients new before after seen seeing
-
-  -- A connection that came is opened and attended to, or it is turned away, and nothing is done. The time is read at once.
-  abbrev pub IsReceived : C → Slab (Client C) → Slab (Client C) → B → B → (seen seeing : Times) → Type 0
-  IsReceived stream old new before after seen seeing =
-      (now : Instant) × (between : Times) × Tells seen between now
-      × ((IsTurnedAway port old new × (after ≡ before) × TellsNone between seeing) ⊎ IsOpenedAttended now stream old new before after between seeing)
+module _ {C : Type 0} {P : Type 0} (port : PortGhosts P C) where
+  -- a connection that came is opened, or it is turned away; the time is read
+  abbrev pub IsReceived : C → Slab (Client C) → Slab (Client C) → (seen seeing : Times) → Type 0
+  IsReceived stream old new seen seeing =
+      (now : Instant) × Tells seen seeing now × (IsTurnedAway port old new ⊎ ((key : ℕ) × IsOpened port now stream key old new))
 
   -- these came, one after another
-  abbrev pub AreReceived : List C → Slab (Client C) → Slab (Client C) → B → B → (seen seeing : Times) → Type 0
-  AreReceived [] old new before after seen seeing = (new ≡ old) × (after ≡ before) × TellsNone seen seeing
-  AreReceived (stream ∷ streams) old new before after seen seeing =
-      (clients : Slab (Client C)) × (mid : B) × (between : Times) × IsReceived stream old clients before mid seen between × AreReceived streams clients new mid after between seeing
+  abbrev pub AreReceived : List C → Slab (Client C) → Slab (Client C) → (seen seeing : Times) → Type 0
+  AreReceived [] old new seen seeing = (new ≡ old) × TellsNone seen seeing
+  AreReceived (stream ∷ streams) old new seen seeing =
+      (clients : Slab (Client C)) × (between : Times) × IsReceived stream old clients seen between × AreReceived streams clients new between seeing
 
+module _ {C : Type 0} (connection : ConnectionGhosts C) (site : Site) {B : Type 0} (book : Ghosts B) {P : Type 0} (port : PortGhosts P C) where
   -- Those that are reported are attended to, one after another; the time is read, and those that had theirs are closed; a question
-  -- is thought on, once, where there is any; those that come are received.
+  -- is thought on, once, where there is any; those that come are received, and nothing is done for them before the next turn.
   pub record IsRound (round : Round C) (old new : Slab (Client C)) (before after : B) (seen seeing : Times) : Type 0 where
     pub attended : Slab (Client C)
     pub mid : B
@@ -59,16 +50,16 @@ module _ {C : Type 0} (connection : ConnectionGhosts C) (site : Site) {B : Type 
     pub read : Tells first second round.now
     pub late : ClosesLate round.now attended kept
     pub thought : Slab (Client C)
-    pub later : B
     pub third : Times
-    pub thinks : Thinks connection site book round.now kept thought mid later second third
-    pub received : AreReceived round.arrived thought new later after third seeing
+    pub thinks : Thinks connection site book round.now kept thought mid after second third
+    pub received : AreReceived port round.arrived thought new third seeing
 
-  -- turn after turn
+  -- turn after turn; before each it was looked, and the store's names led to the files that are open
   abbrev pub AreRounds : List (Round C) → Slab (Client C) → Slab (Client C) → B → B → (seen seeing : Times) → Type 0
   AreRounds [] old new before after seen seeing = (new ≡ old) × (after ≡ before) × TellsNone seen seeing
   AreRounds (round ∷ rounds) old new before after seen seeing =
-      (clients : Slab (Client C)) × (mid : B) × (between : Times) × IsRound round old clients before mid seen between × AreRounds rounds clients new mid after between seeing
+      (clients : Slab (Client C)) × (mid : B) × (between : Times) × ((looked : Times) × Looks seen looked true × IsRound round old clients before mid looked between)
+      × AreRounds rounds clients new mid after between seeing
 
   -- where none is open at first, no more are after the turns than may be
   abbrev pub FewAreOpen : Type 0

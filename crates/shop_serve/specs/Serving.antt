@@ -6,7 +6,7 @@ use Rattle.shop_desk.specs.Handled.{HasAccount}
 use Rattle.shop_records.specs.Content.{Content}
 use Rattle.shop_records.specs.Elements.{IsIn}
 use Rattle.shop_records.specs.Soundness.{IsSound}
-use Rattle.shop_records.specs.declared.messages.Message.{Message}
+use Rattle.shop_records.specs.declared.messages.Message.{Message as ShopMessage}
 use Rattle.shop_records.specs.declared.messages.Reply.{Reply}
 use Rattle.shop_records.specs.declared.messages.Reply.TheVariants.{Refused}
 use Rattle.shop_records.specs.declared.refusals.Refusal.{Refusal}
@@ -16,13 +16,13 @@ use Rattle.shop_request.specs.declared.guards.Ruling.{Ruling}
 use Rattle.shop_request.specs.declared.guards.Ruling.TheVariants.{Routed}
 use Rattle.shop_request.specs.Requests.{ParseResult, silent, faulty, asking, ParsesTo}
 use Rattle.shop_request.specs.declared.routes.Route.{Route}
-use Rattle.shop_request.specs.declared.routes.Route.TheVariants.{Plans, Backup}
+use Rattle.shop_request.specs.declared.routes.Route.TheVariants.{Message, Plans, Backup}
 use Rattle.shop_planning.specs.Questions.{IsPosed}
 use Rattle.shop_planning.specs.declared.posed.Posed.{Posed}
 use Rattle.shop_plans.specs.declared.questions.PlansQuery.{PlansQuery}
 use Rattle.shop_forms.specs.Forms.{json_texts}
 use Rattle.shop_serve.specs.declared.faults.ServeFault.{ServeFault}
-use Rattle.shop_serve.specs.declared.faults.ServeFault.TheVariants.{NoMemory, Port}
+use Rattle.shop_serve.specs.declared.faults.ServeFault.TheVariants.{NoMemory, Port, Moved}
 use Rattle.shop_book.specs.declared.books.Book.{Ghosts}
 use Rattle.shop_book.specs.Kept.{OnContent}
 use Rattle.shop_wire.specs.Replays.{ExchangesLead}
@@ -53,6 +53,16 @@ asks_backup silent = false
 asks_backup (faulty f) = false
 asks_backup (asking route text) = is_backup route
 
+-- whether a message came
+abbrev pub is_message : Route → Bool
+is_message Message = true
+is_message _ = false
+
+abbrev pub asks_message : ParseResult → Bool
+asks_message silent = false
+asks_message (faulty f) = false
+asks_message (asking route text) = is_message route
+
 -- What was served: the bytes that came of a connection, what was done, and the bytes that were made of it.
 pub record Turn : Type 0 where
   pub input : List ℕ
@@ -64,13 +74,13 @@ pub record Turn : Type 0 where
 -- and what came of it is told.
 abbrev pub IsHandling : Site → (input answer : List ℕ) → Handling → Type 0
 IsHandling site input answer (routed parsed telling) =
-    HasRuling site.guard.port site.guard.has_page site.guard.has_backups input Routed × ParsesTo input parsed
+    HasRuling site.guard input Routed × ParsesTo input parsed
     × ((unwritten : List ℕ) × (answer ++ unwritten ≡ bytes_of parsed telling))
-IsHandling site input answer (ruled r) = HasRuling site.guard.port site.guard.has_page site.guard.has_backups input r × (r ≢ Routed) × (answer ≡ own_bytes site r)
+IsHandling site input answer (ruled r) = HasRuling site.guard input r × (r ≢ Routed) × ((failed : Bool) × (answer ≡ own_bytes site failed r))
 IsHandling site input answer (begun body query posed) =
-    HasRuling site.guard.port site.guard.has_page site.guard.has_backups input Routed × ParsesTo input (asking Plans body) × (body_plans body ≡ Some query) × (answer ≡ [])
+    HasRuling site.guard input Routed × ParsesTo input (asking Plans body) × (body_plans body ≡ Some query) × (answer ≡ [])
 IsHandling site input answer (copied body outcome) =
-    HasRuling site.guard.port site.guard.has_page site.guard.has_backups input Routed × ParsesTo input (asking Backup body) × (answer ≡ answer_bytes (backup_answer outcome))
+    HasRuling site.guard input Routed × ParsesTo input (asking Backup body) × (answer ≡ answer_bytes (backup_answer outcome))
 
 -- some bytes came, and this is what was done with them
 abbrev pub IsTurn : Site → Turn → Type 0
@@ -85,14 +95,14 @@ HandlingStep old (begun body query posed) new = (new ≡ old) × IsPosed old que
 HandlingStep old (copied body outcome) new = new ≡ old
 
 -- the message that was read, with its reply
-abbrev pub exchange_of : Handling → List (Message × Reply)
+abbrev pub exchange_of : Handling → List (ShopMessage × Reply)
 exchange_of (routed parsed telling) = exchanged parsed telling
 exchange_of (ruled r) = []
 exchange_of (begun body query posed) = []
 exchange_of (copied body outcome) = []
 
 -- the messages among them, each with its reply
-abbrev pub exchanges : List Turn → List (Message × Reply)
+abbrev pub exchanges : List Turn → List (ShopMessage × Reply)
 exchanges = flat_map (λ t. exchange_of t.handling)
 
 -- a failed store is told; a backup that wasn't made tells nothing of the store
@@ -151,25 +161,27 @@ abbrev pub most_served : Option ℕ → ℕ
 most_served (Some limit) = limit
 most_served None = MOST_SERVED
 
--- memory was wanting before the first connection, or at most as many as the limit says were served
+-- memory was wanting before the first connection, or at most as many as the limit says were served until the port failed, or the
+-- store's names led to other files
 abbrev pub IsUnserved : Site → {B : Type 0} → Ghosts B → B → B → ℕ → ServeFault → Type 0
 IsUnserved site book before after limit NoMemory = after ≡ before
 IsUnserved site book before after limit Port = HasServed site book before after limit
+IsUnserved site book before after limit Moved = HasServed site book before after limit
 
 -- a backup is asked for, at its route
 abbrev pub AsksBackup : Site → List ℕ → Type 0
-AsksBackup site received = HasRuling site.guard.port site.guard.has_page site.guard.has_backups received Routed × ((body : List ℕ) × ParsesTo received (asking Backup body))
+AsksBackup site received = HasRuling site.guard received Routed × ((body : List ℕ) × ParsesTo received (asking Backup body))
 
 -- something else is
 abbrev pub AsksElse : List ℕ → Type 0
 AsksElse received = (parsed : ParseResult) × ParsesTo received parsed × (asks_backup parsed ≡ false)
 
 -- The whole answer to some bytes that ask for no backup: by their head they went to their route, and that is the answer to what they
--- stand for; or the site answered by itself, and the book is the same.
+-- stand for; or the site answered by itself, as the store failed or not, and the book is the same.
 abbrev pub IsAnsweredAlone : Site → {B : Type 0} → Ghosts B → B → B → (received answer : List ℕ) → Type 0
 IsAnsweredAlone site book before after received answer =
-    (HasRuling site.guard.port site.guard.has_page site.guard.has_backups received Routed × IsServed book before after (Some received) (Some []) (Some answer) [] × AsksElse received)
-    ⊎ ((r : Ruling) × HasRuling site.guard.port site.guard.has_page site.guard.has_backups received r × (r ≢ Routed) × (answer ≡ own_bytes site r) × (after ≡ before))
+    (HasRuling site.guard received Routed × IsServed book before after (Some received) (Some []) (Some answer) [] × AsksElse received)
+    ⊎ ((r : Ruling) × (failed : Bool) × HasRuling site.guard received r × (r ≢ Routed) × (answer ≡ own_bytes site failed r) × (after ≡ before))
 
 -- the whole answer to some bytes that ask for a backup, of which this came
 abbrev pub IsBackupAnswer : Site → (received answer : List ℕ) → Result ℕ Refusal → Type 0

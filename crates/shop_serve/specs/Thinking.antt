@@ -1,5 +1,5 @@
 -- Thinking beside serving: once a turn, on the question of one connection.
-use Rattle.std.specs.Prelude.{◌≡◌, ◌≢◌, ◌⊎◌, ℕ, Some, None, IsSome, Vec}
+use Rattle.std.specs.Prelude.{◌≡◌, ◌≢◌, ◌⊎◌, ◌<◌, ◌-◌, ℕ, Bool, true, Some, None, IsSome, Vec}
 use Rattle.std.specs.declared.alloc.Global.{Global}
 use Rattle.std.specs.declared.time.Instant.{Instant}
 use Rattle.slab.specs.Slab.{Slab, get}
@@ -17,14 +17,28 @@ use Rattle.shop_serve.specs.Making.{IsPlansAnswer, plans_refused, put_answer}
 use Rattle.shop_serve.specs.Times.{Times, Tells, TellsNone}
 
 module _ {C : Type 0} where
-  -- its question was thought on now: it asks the same, and nothing else of the connection changed
-  pub record IsThoughtOnce (now : Instant) (old new : Client C) : Type 0 where
+  -- It is told that memory was wanting for its question, and took nothing of that.
+  pub record IsRefused (old new : Client C) (seen seeing : Times) : Type 0 where
+    pub answer : Vec ℕ Global
+    pub now : Instant
+    pub read : Tells seen seeing now
+    pub told : answer.items ≡ plans_refused
+    pub kept : new ≡ put_answer old answer now
+
+module _ {C : Type 0} (connection : ConnectionGhosts C) where
+  -- Its question was thought on now: it asks the same, and nothing else of the connection changed. Nothing more came of it, and its
+  -- input didn't end; and where the others are too many it still had a call.
+  pub record IsThoughtOnce (crowded : Bool) (now : Instant) (old new : Client C) : Type 0 where
     pub thinking : ThinkingOf
     pub next : ThinkingOf
     pub asks : old.thought ≡ Some thinking
     pub same : posed_in next.thought ≡ posed_in thinking.thought
     pub last : next.last ≡ Some now
-    pub kept : new ≡ record old { thought = Some next }
+    pub left : next.left ≡ thinking.left - 1
+    pub fair : crowded ≡ true → 0 < thinking.left
+    pub there : connection.is_drained new.stream
+    pub took : connection.contents new.stream ≡ connection.contents old.stream
+    pub kept : new ≡ record old { stream = new.stream; thought = Some next }
 
   -- It has the answer to its own question, and took nothing of it. Its seconds begin anew, at the time that is read then.
   pub record IsThoughtOut (old new : Client C) (seen seeing : Times) : Type 0 where
@@ -34,24 +48,17 @@ module _ {C : Type 0} where
     pub now : Instant
     pub read : Tells seen seeing now
     pub told : IsPlansAnswer (posed_in thinking.thought) answer.items
-    pub kept : new ≡ put_answer old answer now
-
-  -- It is told that memory was wanting for its question, and took nothing of that.
-  pub record IsRefused (old new : Client C) (seen seeing : Times) : Type 0 where
-    pub answer : Vec ℕ Global
-    pub now : Instant
-    pub read : Tells seen seeing now
-    pub told : answer.items ≡ plans_refused
-    pub kept : new ≡ put_answer old answer now
+    pub took : connection.contents new.stream ≡ connection.contents old.stream
+    pub kept : new ≡ put_answer (record old { stream = new.stream }) answer now
 
   -- The connection of this key has a question, and no other connection changed. It goes on, it is answered, or memory was wanting
   -- for that and it is closed.
-  pub record IsThoughtAt (progress : Progress) (now : Instant) (key : ℕ) (old new : Slab (Client C)) (seen seeing : Times) : Type 0 where
+  pub record IsThoughtAt (crowded : Bool) (progress : Progress) (now : Instant) (key : ℕ) (old new : Slab (Client C)) (seen seeing : Times) : Type 0 where
     pub client : Client C
     pub there : get old key ≡ Some client
     pub asks : IsSome client.thought
     pub others : (other : ℕ) → other ≢ key → get new other ≡ get old other
-    pub goes_on : progress ≡ GoesOn → (left : Client C) × (get new key ≡ Some left) × IsThoughtOnce now client left × TellsNone seen seeing
+    pub goes_on : progress ≡ GoesOn → (left : Client C) × (get new key ≡ Some left) × IsThoughtOnce crowded now client left × TellsNone seen seeing
     pub answered : progress ≡ Answered → (left : Client C) × (get new key ≡ Some left) × IsThoughtOut client left seen seeing
     pub closed : progress ≡ NoMemory → (get new key ≡ None) × TellsNone seen seeing
 
@@ -59,10 +66,11 @@ module _ {C : Type 0} (connection : ConnectionGhosts C) (site : Site) {B : Type 
   -- One question was thought on. Where its answer was made its connection is attended to at once.
   pub record IsThoughtOn (now : Instant) (old new : Slab (Client C)) (before after : B) (seen seeing : Times) : Type 0 where
     pub key : ℕ
+    pub crowded : Bool
     pub progress : Progress
     pub clients : Slab (Client C)
     pub between : Times
-    pub thought : IsThoughtAt progress now key old clients seen between
+    pub thought : IsThoughtAt connection crowded progress now key old clients seen between
     pub goes_on : progress ≢ Answered → (new ≡ clients) × (after ≡ before) × TellsNone between seeing
     pub answered : progress ≡ Answered → (fate : Fate) × IsAttendedAt connection site book fate key clients new before after between seeing
 

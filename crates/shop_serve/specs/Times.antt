@@ -1,5 +1,6 @@
--- What a server is told beside its connections: the times that it reads, and the backups that are made.
-use Rattle.std.specs.Prelude.{◌≡◌, ◌⊎◌, ℕ, List, [], ◌∷◌, ◌++◌, Option, Some, None, Result, ⊤}
+-- What a server is told beside its connections: the times that it reads, the backups that are made, and where the store's names
+-- lead.
+use Rattle.std.specs.Prelude.{◌≡◌, ℕ, Bool, List, [], ◌∷◌, ◌++◌, Option, Some, None, Result, ⊤}
 use Rattle.std.specs.declared.time.Instant.{Instant}
 use Rattle.shop_records.specs.declared.refusals.Refusal.{Refusal}
 
@@ -9,12 +10,13 @@ Adds None new more = ⊤
 Adds (Some xs) None more = ⊥
 Adds (Some xs) (Some ys) more = ys ≡ xs ++ more
 
--- a time, or what came of a backup: its number, or why none was made
+-- a time; what came of a backup: its number, or why none was made; or whether the store's names led to the files that are open
 pub data Report : Type 0 where
   time : Instant → Report
   copy : Result ℕ Refusal → Report
+  look : Bool → Report
 
--- the times that were told so far, and what came of backups meanwhile, where they are known
+-- the times that were told so far, and what came of backups and looks meanwhile, where they are known
 abbrev pub Times : Type 0
 Times = Option (List Report)
 
@@ -26,17 +28,10 @@ Tells seen seeing now = Adds seen seeing (time now ∷ [])
 abbrev pub Copies : Times → Times → Result ℕ Refusal → Type 0
 Copies seen seeing outcome = Adds seen seeing (copy outcome ∷ [])
 
--- the times alone
-abbrev pub times_of : List Report → List Instant
-times_of [] = []
-times_of (time now ∷ more) = now ∷ times_of more
-times_of (copy outcome ∷ more) = times_of more
+-- it was looked where the store's names lead, and this was seen
+abbrev pub Looks : Times → Times → Bool → Type 0
+Looks seen seeing leads = Adds seen seeing (look leads ∷ [])
 
--- where the times are known, and one was read, this is the last
-abbrev pub ReportedLast : Times → Instant → Type 0
-ReportedLast None now = ⊤
-ReportedLast (Some told) now = (times_of told ≡ []) ⊎ ((earlier : List Instant) × (times_of told ≡ earlier ++ now ∷ []))
-
--- it wasn't read, and no backup was made
+-- it wasn't read, and no backup was made, and no look
 abbrev pub TellsNone : Times → Times → Type 0
 TellsNone seen seeing = seeing ≡ seen

@@ -10,9 +10,9 @@ ghost use Rattle.shop_wire.specs.AnswerBytes.{answer_bytes, backup_answer};
 ghost use Rattle.shop_request.specs.Reading.{IsHeadIn};
 ghost use Rattle.shop_request.specs.Requests.{parse_of};
 ghost use Rattle.shop_serve.specs.Making.{IsMadeMeanwhile, IsNext};
-ghost use Rattle.shop_serve.specs.Serving.{HasServed, asks_backup};
-ghost use Rattle.shop_serve.specs.Times.{Copies};
-ghost use Rattle.shop_serve.specs.Sites.{is_routed, own_bytes, page_bytes, page_fields, page_start};
+ghost use Rattle.shop_serve.specs.Serving.{HasServed, asks_backup, asks_message};
+ghost use Rattle.shop_serve.specs.Times.{Copies, TellsNone};
+ghost use Rattle.shop_serve.specs.Sites.{health_bytes, health_text, is_routed, json_bytes, own_bytes, page_bytes, page_fields, page_start};
 
 use crate::sites::Site;
 use crate::watches::Watch;
@@ -27,6 +27,9 @@ use std::alloc::{AllocError, Global};
 const FORBIDDEN: &[u8] =
     b"HTTP/1.1 403 Forbidden\r\nContent-Length: 0\r\nConnection: close\r\n\r\n";
 
+const OTHER_RUN: &[u8] =
+    b"HTTP/1.1 412 Precondition Failed\r\nContent-Length: 0\r\nConnection: close\r\n\r\n";
+
 const ONLY_GET: &[u8] =
     b"HTTP/1.1 405 Method Not Allowed\r\nAllow: GET\r\nContent-Length: 0\r\nConnection: close\r\n\r\n";
 
@@ -38,6 +41,10 @@ const PAGE_START: &str =
 
 const PAGE_FIELDS: &str =
     "\r\nContent-Security-Policy: default-src 'none'; script-src 'unsafe-inline'; style-src 'unsafe-inline'; img-src data:; connect-src 'self'; base-uri 'none'; form-action 'none'; frame-ancestors 'none'\r\nX-Content-Type-Options: nosniff\r\nCache-Control: no-cache\r\nConnection: close\r\n\r\n";
+
+const JSON_START: &str = "HTTP/1.1 200 OK\r\nContent-Type: application/json\r\nContent-Length: ";
+
+const JSON_FIELDS: &str = "\r\nConnection: close\r\n\r\n";
 
 /// What is made of a request: its whole answer, or what it asks, which is to be thought about.
 #[derive(Drop)]
@@ -92,6 +99,16 @@ fn asks_backup(inbound: &Inbound) -> bool
     }
 }
 
+// Whether a message came.
+fn asks_message(inbound: &Inbound) -> bool
+    ensures { result ≡ asks_message (parse_of inbound.now) }
+{
+    match inbound {
+        Inbound::Asks(route, _) => matches!(route, Route::Message),
+        _ => false,
+    }
+}
+
 // Serves the bytes that came at their route, and gives the whole answer, or begins their question. A backup that they ask for
 // is still to be made.
 fn routed_answer<B: Book>(
@@ -103,7 +120,7 @@ fn routed_answer<B: Book>(
 ) -> Option<Next>
     requires some { 0 < length received.now }
     requires head { IsHeadIn received.now head.now }
-    requires goes { HasRuling site.now.guard.port site.now.guard.has_page site.now.guard.has_backups received.now ruling.Routed }
+    requires goes { HasRuling site.now.guard received.now ruling.Routed }
     ensures made { IfSome result (IsNext site.now B.Book book.old book.new received.now) }
     ensures step { HasServed site.now B.Book book.old book.new 1 }
     ensures clean_disk { B.has_clean_disk book.new → B.has_clean_disk book.old }
@@ -141,6 +158,42 @@ fn page_answer(alloc: Global, page: &[u8]) -> Result<Vec<u8>, AllocError>
     Ok(bytes)
 }
 
+// The answer that is a text of JSON.
+fn json_answer(alloc: Global, text: &str) -> Result<String, AllocError>
+    ensures { IfOk result (λ answer. string_bytes answer ≡ json_bytes text.now) }
+{
+    let length = text.len();
+    format!(in alloc; "{JSON_START}{length}{JSON_FIELDS}{text}")
+}
+
+// The state of a server whose store is good.
+fn health_text(alloc: Global, run: &str, version: &str) -> Result<String, AllocError>
+    ensures { IfOk result (λ text. string_bytes text ≡ health_text run.now version.now) }
+{
+    format!(in alloc;
+        "{{\"entries\":0,\"ok\":\"health\",\"run\":\"{run}\",\"version\":\"{version}\"}}"
+    )
+}
+
+// The answer that tells the state of a server, whose store failed or not.
+fn health_answer(alloc: Global, site: &Site, failed: bool) -> Result<String, AllocError>
+    ensures { IfOk result (λ answer. string_bytes answer ≡ health_bytes site.now failed) }
+{
+    if failed {
+        return backup_answer(alloc, Err(Refusal::StoreFault));
+    }
+    let text = health_text(alloc, site.run.as_str(), site.version.as_str())?;
+    json_answer(alloc, text.as_str())
+}
+
+// The same, as bytes.
+fn health_of(alloc: Global, site: &Site, failed: bool) -> Result<Vec<u8>, AllocError>
+    ensures { IfOk result (λ answer. answer.items ≡ health_bytes site.now failed) }
+{
+    let answer = health_answer(alloc, site, failed)?;
+    Ok(answer.into_bytes())
+}
+
 // Whether a request goes to its route.
 fn is_routed(ruling: Ruling) -> bool
     ensures { result ≡ is_routed ruling }
@@ -148,16 +201,23 @@ fn is_routed(ruling: Ruling) -> bool
     matches!(ruling, Ruling::Routed)
 }
 
-// What the site answers by itself.
-fn own_answer(alloc: Global, site: &Site, ruling: Ruling) -> Result<Vec<u8>, AllocError>
-    ensures { IfOk result (λ answer. answer.items ≡ own_bytes site.now ruling) }
+// What the site answers by itself, as its store failed or not.
+fn own_answer(
+    alloc: Global,
+    site: &Site,
+    failed: bool,
+    ruling: Ruling,
+) -> Result<Vec<u8>, AllocError>
+    ensures { IfOk result (λ answer. answer.items ≡ own_bytes site.now failed ruling) }
 {
     match ruling {
         Ruling::Routed => Ok(Vec::new(alloc)),
         Ruling::Forbidden => Vec::from_slice(alloc, FORBIDDEN),
+        Ruling::OtherRun => Vec::from_slice(alloc, OTHER_RUN),
         Ruling::OnlyGet => Vec::from_slice(alloc, ONLY_GET),
         Ruling::NoBackups => Vec::from_slice(alloc, NOT_FOUND),
         Ruling::Page => page_answer(alloc, &site.page),
+        Ruling::Health => health_of(alloc, site, failed),
     }
 }
 
@@ -166,6 +226,7 @@ fn own_answer(alloc: Global, site: &Site, ruling: Ruling) -> Result<Vec<u8>, All
 fn answer_of<B: Book>(
     alloc: Global,
     site: &Site,
+    failed: bool,
     head: &Head,
     received: &[u8],
     book: &mut B,
@@ -180,23 +241,27 @@ fn answer_of<B: Book>(
     if is_routed(ruling) {
         return routed_answer(alloc, site, head, received, book);
     }
-    match own_answer(alloc, site, ruling) {
+    match own_answer(alloc, site, failed, ruling) {
         Ok(answer) => Some(Next::Made(Made::Answer(answer))),
         Err(_) => None,
     }
 }
 
-// Tells who runs the server of an answer of 98 or 99.
-fn note_made<K: Watch>(watch: &K, made: &Made) {
+// Notes an answer, to a message or to something else.
+fn note_made<K: Watch>(watch: &mut K, is_message: bool, made: &Made)
+    ensures { TellsNone (K.times watch.old) (K.times watch.new) }
+{
     if let Made::Answer(answer) = made {
-        watch.note(answer);
+        watch.note(is_message, answer);
     }
 }
 
-// Tells who runs the server that memory was wanting for a backup.
-fn note_want<K: Watch>(watch: &K, outcome: Result<u32, Refusal>, answer: &str) {
+// Notes that memory was wanting for a backup.
+fn note_want<K: Watch>(watch: &mut K, outcome: Result<u32, Refusal>, answer: &str)
+    ensures { TellsNone (K.times watch.old) (K.times watch.new) }
+{
     if outcome == Err(Refusal::NoMemory) {
-        watch.note(answer.as_bytes());
+        watch.note(false, answer.as_bytes());
     }
 }
 
@@ -233,9 +298,10 @@ pub(crate) fn made_of<K: Watch, B: Book>(
     ensures step { HasServed site.now B.Book book.old book.new 1 }
     ensures clean_disk { B.has_clean_disk book.new → B.has_clean_disk book.old }
 {
-    match answer_of(alloc, site, head, received, book)? {
+    let is_message = asks_message(&inbound_of(head, received));
+    match answer_of(alloc, site, watch.has_failed(), head, received, book)? {
         Next::Made(made) => {
-            note_made(watch, &made);
+            note_made(watch, is_message, &made);
             Some(made)
         }
         Next::Backup => {

@@ -6,7 +6,7 @@ ghost use Rattle.std.specs.Time.{instant_nanos};
 ghost use Rattle.std.specs.Io.KnownBytes.{IsAtEnd};
 ghost use Rattle.shop_request.specs.Reading.{IsReadOn};
 ghost use Rattle.shop_request.specs.Parses.{IsDetermined};
-ghost use Rattle.shop_serve.specs.Clients.{AwaitsMore, ClosesLate, IsAttended, IsAttendedAt, CanOpenOne, IsClosedBy, IsForsaken, IsMute, IsOldest, IsOpened, IsSpoiled, IsTurnedAway, MakesRoom, MayGo, NoneMayGo, StopsAt, TakesAnswer, is_begun, is_late, is_unanswered, unanswered};
+ghost use Rattle.shop_serve.specs.Clients.{AwaitsMore, ClosesLate, IsAttended, IsAttendedAt, CanOpenOne, IsClosedBy, IsMute, IsOldest, IsOpened, IsSpoiled, IsTurnedAway, MakesRoom, MayGo, NoneMayGo, StopsAt, TakesAnswer, is_begun, is_late, is_unanswered, unanswered};
 ghost use Rattle.shop_serve.specs.Making.{IsAsked, put_answer, put_made, put_thought};
 ghost use Rattle.shop_planning.specs.Thoughts.{posed_in};
 ghost use Rattle.shop_serve.specs.declared.clients.Fate.TheVariants as fate;
@@ -19,7 +19,7 @@ use crate::answers::{Made, made_of};
 use crate::connections::Connection;
 use crate::ports::Port;
 use crate::sites::Site;
-use crate::thinking::Thinking;
+use crate::thinking::{FAIR_CALLS, Thinking};
 use crate::transfers::{Given, Rest, Taken, drop_rest, hand_over, take_bytes};
 use crate::watches::Watch;
 use shop_book::Book;
@@ -31,9 +31,6 @@ use std::time::{Duration, Instant};
 
 /// How many seconds a connection has to send its request, from when it was accepted, and then to take its answer.
 pub const PATIENCE: u64 = 10;
-
-/// How many milliseconds after its request a connection may end what it sends, and still wait for the answer to its question.
-pub const GRACE: u64 = 200;
 
 // How each answer to a request begins that was read to its last byte and done.
 const DONE: &[u8] = b"HTTP/1.1 200 ";
@@ -109,6 +106,7 @@ fn put_thought<C>(client: &mut Client<C>, thought: Thought, now: Instant)
         client.thought.replace(Thinking {
             thought,
             last: None,
+            left: FAIR_CALLS,
         }),
     );
     client.answer = None;
@@ -185,32 +183,18 @@ fn ask<C: Connection, K: Watch, B: Book>(
     Taken::Whole
 }
 
-// Drops what still comes of a connection whose question is thought about. It is lost where its input ends, unless that ends
-// right after its request: then it may still wait for the answer.
-fn heed<C: Connection, K: Watch>(client: &mut Client<C>, watch: &K) -> Given
+// Drops what still comes of a connection whose question is thought about. Where its input ends it waits: its question is told as
+// far as it was thought about.
+fn heed<C: Connection>(client: &mut Client<C>) -> Given
     ensures kept { client.new ≡ record client.old { stream = client.new.stream } }
     ensures contents { C.contents client.new.stream ≡ C.contents client.old.stream }
-    ensures lost { result ≡ given.Lost
-        → IsForsaken C.Connection (K.times watch.now) client.old.since client.new.stream }
+    ensures lost { result ≡ given.Lost → C.is_lost client.new.stream }
     ensures known { (result ≡ given.Waits) ⊎ (result ≡ given.Lost) }
 {
     match drop_rest(&mut client.stream) {
-        Rest::MayCome => Given::Waits,
         Rest::Lost => Given::Lost,
-        Rest::Ended => at_end(client.since, watch.last()),
+        Rest::MayCome | Rest::Comes | Rest::Ended => Given::Waits,
     }
-}
-
-// What an end of the input says, after a question that was read then.
-fn at_end(read: Instant, now: Instant) -> Given
-    ensures lost { result ≡ given.Lost
-        → GRACE * 1000000 < instant_nanos now - instant_nanos read }
-    ensures known { (result ≡ given.Waits) ⊎ (result ≡ given.Lost) }
-{
-    if now.duration_since(read) > Duration::from_millis(GRACE) {
-        return Given::Lost;
-    }
-    Given::Waits
 }
 
 // Takes what has come of a request, has it answered once it is whole, and hands over its answer as far as it is taken. One
@@ -226,7 +210,7 @@ fn attend<C: Connection, K: Watch, B: Book>(
         → IsAttended C.Connection site.now B.Book client.old client.new book.old book.new
         (K.times watch.old) (K.times watch.new) }
     ensures lost { result ≡ given.Lost
-        → IsSpoiled C.Connection site.now B.Book (K.times watch.old) client.old client.new }
+        → IsSpoiled C.Connection site.now B.Book client.old client.new }
     ensures whole { result ≡ given.Whole
         → IsSomeAnd client.new.answer (λ answer. client.new.sent ≡ length answer.items) }
     ensures once { is_unanswered (Some client.old) ≡ false → book.new ≡ book.old }
@@ -237,7 +221,7 @@ fn attend<C: Connection, K: Watch, B: Book>(
         return answer_on(client);
     }
     if client.thought.is_some() {
-        return heed(client, watch);
+        return heed(client);
     }
     match ask(alloc, site, client, watch, book) {
         Taken::NoMemory => return Given::NoMemory,
@@ -258,8 +242,9 @@ fn finish<C: Connection>(client: &mut Client<C>) -> Fate
     ensures contents { C.contents client.new.stream ≡ C.contents client.old.stream }
     ensures ended { C.has_ended client.old.stream → C.has_ended client.new.stream }
 {
-    if drop_rest(&mut client.stream) != Rest::MayCome {
-        return Fate::Over;
+    match drop_rest(&mut client.stream) {
+        Rest::Ended | Rest::Lost => return Fate::Over,
+        Rest::MayCome | Rest::Comes => (),
     }
     match &client.answer {
         Some(answer) if !answer.starts_with(DONE) => Fate::Stays,

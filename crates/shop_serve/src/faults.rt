@@ -9,6 +9,8 @@ pub enum ServeFault {
     NoMemory,
     /// Connections couldn't be accepted or waited for.
     Port,
+    /// The store's names lead to other files than those that are open.
+    Moved,
 }
 
 impl From<AllocError> for ServeFault {

@@ -7,7 +7,9 @@ mod clients;
 mod connections;
 mod faults;
 mod laws;
+mod lines;
 mod ports;
+mod runs;
 mod serving;
 mod sites;
 mod thinking;
@@ -15,6 +17,8 @@ mod transfers;
 mod watches;
 
 pub use faults::ServeFault;
+pub use lines::Lines;
 pub use ports::{Listener, PortCause, listen};
+pub use runs::draw_run;
 pub use serving::serve_on;
 pub use sites::Site;

@@ -39,6 +39,8 @@ pub enum PortCause {
     NotAllowed,
     /// The system refuses it, or connections can't be accepted or waited for.
     Refused,
+    /// The system gives no random bytes for a run.
+    NoRun,
 }
 
 // Why the system refused to listen.

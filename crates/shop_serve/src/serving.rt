@@ -1,23 +1,24 @@
 //! The turns of a server: it waits, attends to connections, closes late ones, thinks once on a question and accepts those that
 //! wait.
 
-ghost use Rattle.std.specs.Prelude.{◌≡◌, ◌≤◌, ◌+◌, ℕ, List, length, IfErr, IfSome, OnOk};
+ghost use Rattle.std.specs.Prelude.{◌≡◌, ◌≤◌, ◌+◌, ◌⊎◌, ℕ, List, length, IfErr, IfSome, OnOk};
 ghost use Rattle.std.specs.Duration.{as_nanos};
 ghost use Rattle.std.specs.declared.time.Instant.{Instant as Moment};
 ghost use Rattle.shop_serve.specs.Clients.{AreAttended, AsksAt, CanOpenOne, unanswered};
 ghost use Rattle.shop_serve.specs.Rounds.{AreReceived, HasServedAll, IsReceived, IsRound};
 ghost use Rattle.shop_serve.specs.Serving.{Advances, HasServed, IsUnserved, most_served};
 ghost use Rattle.shop_serve.specs.Times.{Adds};
-ghost use Rattle.shop_serve.specs.declared.faults.ServeFault.TheVariants.{Port as Fault};
+ghost use Rattle.shop_serve.specs.declared.faults.ServeFault.TheVariants as faults;
 
 use crate::clients::{Client, attend_at, can_open_one, close_late, open_client};
 use crate::connections::Connection;
 use crate::faults::ServeFault;
+use crate::lines::Lines;
 use crate::ports::{Listener, Port, WatchedListener};
 use crate::sites::Site;
 use crate::thinking::{next_wait, think};
 use crate::watches::{Stopwatch, Watch};
-use shop_backup::Backups;
+use shop_backup::{Backups, Names};
 use shop_book::Book;
 use slab::Slab;
 use std::alloc::Global;
@@ -35,53 +36,42 @@ const TURN: u64 = 1;
 /// How many connections are served without a limit.
 pub const MOST_SERVED: u64 = u64::MAX;
 
-// Opens a connection, and attends to it at once.
-fn receive<C: Connection + Drop, P: Port<C>, K: Watch, B: Book>(
+// Opens a connection. The next turn attends to it, behind its own look at the store's names.
+fn receive<C: Drop, P: Port<C>, K: Watch>(
     alloc: Global,
-    site: &Site,
     port: &mut P,
     stream: C,
     watch: &mut K,
     clients: &mut Slab<Client<C>>,
-    book: &mut B,
 )
     requires room { CanOpenOne clients.old }
-    ensures received { IsReceived C.Connection site.now B.Book P.Port stream clients.old clients.new
-        book.old book.new (K.times watch.old) (K.times watch.new) }
+    ensures received { IsReceived P.Port stream clients.old clients.new (K.times watch.old)
+        (K.times watch.new) }
     ensures told { P.told port.new ≡ P.told port.old }
     ensures given { P.given port.new ≡ P.given port.old }
-    ensures run { Advances site.now B.Book book.old book.new (unanswered clients.old + 1)
-        (unanswered clients.new) }
-    ensures clean_disk { B.has_clean_disk book.new → B.has_clean_disk book.old }
+    ensures fewer { unanswered clients.new ≤ unanswered clients.old + 1 }
 {
     let now = watch.now();
-    if let Some(key) = open_client(alloc, port, stream, now, clients) {
-        let _ = attend_at(alloc, site, clients, key, watch, book);
-    }
+    let _ = open_client(alloc, port, stream, now, clients);
 }
 
 // Accepts the connections that wait, up to a limit, and gives how long the next turn may wait. None can be accepted for good
 // where it is `None`.
-fn accept_waiting<C: Connection + Drop, P: Port<C>, K: Watch, B: Book>(
+fn accept_waiting<C: Drop, P: Port<C>, K: Watch>(
     alloc: Global,
-    site: &Site,
     port: &mut P,
     watch: &mut K,
     limit: u64,
     clients: &mut Slab<Client<C>>,
     accepted: &mut u64,
-    book: &mut B,
 ) -> Option<Duration>
     requires bound { accepted.old ≤ limit }
     ensures each { (arrived : List C) × (accepted.new ≡ accepted.old + length arrived)
         × Adds (P.given port.old) (P.given port.new) arrived
-        × AreReceived C.Connection site.now B.Book P.Port arrived clients.old clients.new book.old book.new
-        (K.times watch.old) (K.times watch.new) }
+        × AreReceived P.Port arrived clients.old clients.new (K.times watch.old) (K.times watch.new) }
     ensures told { P.told port.new ≡ P.told port.old }
-    ensures run { Advances site.now B.Book book.old book.new (unanswered clients.old + accepted.new)
-        (unanswered clients.new + accepted.old) }
+    ensures fewer { unanswered clients.new + accepted.old ≤ unanswered clients.old + accepted.new }
     ensures bound { accepted.new ≤ limit }
-    ensures clean_disk { B.has_clean_disk book.new → B.has_clean_disk book.old }
 {
     for _ in 0..MOST_ACCEPTED {
         if *accepted >= limit {
@@ -96,7 +86,7 @@ fn accept_waiting<C: Connection + Drop, P: Port<C>, K: Watch, B: Book>(
             Err(_) => return None,
         };
         *accepted += 1;
-        receive(alloc, site, port, stream, watch, clients, book);
+        receive(alloc, port, stream, watch, clients);
     }
     Some(Duration::ZERO)
 }
@@ -121,8 +111,8 @@ fn attend_reported<C: Connection + Drop, K: Watch, B: Book>(
     }
 }
 
-// One turn: attends to what is reported, closes what had its time, thinks once on a question, and accepts what waits. Gives how
-// long the next one may wait, or `None` where none can be accepted for good.
+// One turn: attends to what is reported, closes what had its time, thinks once on a question, and accepts what waits, to which
+// the next turn attends. Gives how long that one may wait, or `None` where none can be accepted for good.
 fn turn<C: Connection + Drop, P: Port<C>, K: Watch, B: Book>(
     alloc: Global,
     site: &Site,
@@ -151,12 +141,12 @@ fn turn<C: Connection + Drop, P: Port<C>, K: Watch, B: Book>(
     let moment = watch.now();
     close_late(clients, moment);
     think(alloc, site, clients, moment, watch, book);
-    let wait = accept_waiting(alloc, site, port, watch, limit, clients, accepted, book);
+    let wait = accept_waiting(alloc, port, watch, limit, clients, accepted);
     next_wait(clients, wait)
 }
 
 // Serves the connections that a port gives, until as many as the limit says came and are done with, or none can be accepted
-// or waited for.
+// or waited for, or the store's names lead to other files: then nothing is done of what came.
 fn serve_port<C: Connection + Drop, P: Port<C>, K: Watch, B: Book>(
     alloc: Global,
     port: &mut P,
@@ -170,7 +160,7 @@ fn serve_port<C: Connection + Drop, P: Port<C>, K: Watch, B: Book>(
         (P.told port.new) (P.given port.old) (P.given port.new) book.old book.new
         (K.times watch.old) (K.times watch.new)) }
     ensures served { HasServed site.now B.Book book.old book.new limit }
-    ensures fault { IfErr result (λ fault. fault ≡ Fault) }
+    ensures fault { IfErr result (λ fault. (fault ≡ faults.Port) ⊎ (fault ≡ faults.Moved)) }
     ensures clean_disk { B.has_clean_disk book.new → B.has_clean_disk book.old }
 {
     let mut clients = Slab::new(alloc);
@@ -183,6 +173,9 @@ fn serve_port<C: Connection + Drop, P: Port<C>, K: Watch, B: Book>(
         match port.wait(wait) {
             Ok(()) => (),
             Err(_) => return Err(ServeFault::Port),
+        }
+        if !watch.is_in_place() {
+            return Err(ServeFault::Moved);
         }
         match turn(
             alloc,
@@ -218,8 +211,8 @@ fn most_served(limit: Option<u32>) -> u64
 /// has no answer on its way and whose question wasn't thought on makes room for the next; where there is none, the next
 /// waits. A backup that is asked for is made between two requests.
 ///
-/// `NoMemory` before the first connection; `Port` where none can be accepted for good, or waited for, and then the rest isn't
-/// served.
+/// `NoMemory` before the first connection; `Port` where none can be accepted for good, or waited for, and `Moved` where the names
+/// of the store lead to other files than at first, and then the rest isn't served.
 #[tactic(auto, using(crate::proofs::Turns::none_served))]
 pub fn serve_on<R: Net + Clock + Eprint + Files, B: Book>(
     rt: &R,
@@ -227,7 +220,9 @@ pub fn serve_on<R: Net + Clock + Eprint + Files, B: Book>(
     listener: &Listener,
     limit: Option<u32>,
     site: &Site,
+    names: &Names,
     backups: Option<&Backups>,
+    lines: &mut Lines,
     book: &mut B,
 ) -> Result<(), ServeFault>
     ensures ok { OnOk result (HasServed site.now B.Book book.old book.new (most_served limit)) }
@@ -236,6 +231,6 @@ pub fn serve_on<R: Net + Clock + Eprint + Files, B: Book>(
     ensures clean_disk { B.has_clean_disk book.new → B.has_clean_disk book.old }
 {
     let mut port = WatchedListener::new(rt, alloc, listener)?;
-    let mut watch = Stopwatch::new(rt, backups)?;
+    let mut watch = Stopwatch::new(rt, alloc, names, backups, lines)?;
     serve_port(alloc, &mut port, &mut watch, most_served(limit), site, book)
 }

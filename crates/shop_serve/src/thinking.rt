@@ -1,6 +1,6 @@
 //! Questions that are thought about beside serving: one of them, once a turn.
 
-ghost use Rattle.std.specs.Prelude.{◌≡◌, ◌≢◌, ◌≤◌, ℕ, None, false, IfOk, IfSome, IsSome, string_bytes};
+ghost use Rattle.std.specs.Prelude.{◌≡◌, ◌≢◌, ◌≤◌, ℕ, None, true, false, IfOk, IfSome, IsSome, string_bytes};
 ghost use Rattle.std.specs.Duration.{as_nanos};
 ghost use Rattle.shop_planning.specs.Thoughts.{posed_in};
 ghost use Rattle.shop_serve.specs.Clients.{AsksAt, NoneAsks, unanswered};
@@ -13,6 +13,7 @@ ghost use Rattle.shop_serve.specs.declared.thinking.Progress.TheVariants as prog
 use crate::clients::{Client, attend_at, is_begun, put_answer};
 use crate::connections::Connection;
 use crate::sites::Site;
+use crate::transfers::{Rest, drop_rest};
 use crate::watches::Watch;
 use shop_book::Book;
 use shop_planning::Thought;
@@ -24,11 +25,16 @@ use std::time::{Duration, Instant};
 /// How many questions are thought about at once at most.
 pub const MOST_THOUGHTS: usize = 8;
 
-/// A question that is thought about, with what was found so far, and when that was done last. It waits where it wasn't yet.
+/// How many calls of a search a question has, though others wait to be begun.
+pub const FAIR_CALLS: u32 = 200;
+
+/// A question that is thought about, with what was found so far, when that was done last, and how many calls it still has though
+/// others wait. It waits where it wasn't thought on yet.
 #[derive(Drop)]
 pub(crate) struct Thinking {
     pub(crate) thought: Thought,
     pub(crate) last: Option<Instant>,
+    pub(crate) left: u32,
 }
 
 // A place in the row of questions: those that have to wait are after the others, and each is after those that wait longer.
@@ -85,6 +91,21 @@ fn count_begun<C>(clients: &Slab<Client<C>>) -> usize {
     begun
 }
 
+// Whether a question waits to be begun.
+fn has_waiting<C>(clients: &Slab<Client<C>>) -> bool {
+    for (_, client) in clients.iter() {
+        if client.thought.is_some() && !is_begun(client) {
+            return true;
+        }
+    }
+    false
+}
+
+// Whether as many questions were begun as may be, and others wait.
+fn is_crowded<C>(clients: &Slab<Client<C>>) -> bool {
+    count_begun(clients) >= MOST_THOUGHTS && has_waiting(clients)
+}
+
 // The key of the connection whose question is thought on next: of those that were begun, at most eight, and as long as they
 // are fewer of those that wait too, the one that waits longest since it was thought on or read.
 fn next_thought<C>(clients: &Slab<Client<C>>) -> Option<usize>
@@ -108,13 +129,14 @@ fn next_thought<C>(clients: &Slab<Client<C>>) -> Option<usize>
     }
 }
 
-// Thinks once on a question. Gives its answer where that is done.
-fn advance(alloc: Global, thought: &mut Thought) -> Result<Option<String>, AllocError>
+// Thinks once on a question, unless that ends. Gives its answer, by what was found so far, where it ends or is done.
+fn advance(alloc: Global, thought: &mut Thought, ends: bool) -> Result<Option<String>, AllocError>
     ensures asks { posed_in thought.new ≡ posed_in thought.old }
+    ensures goes_on { IfOk result (λ done. done ≡ None → ends ≡ false) }
     ensures told { IfOk result
         (λ done. IfSome done (λ answer. IsPlansAnswer (posed_in thought.old) (string_bytes answer))) }
 {
-    if thought.advance(alloc)? {
+    if !ends && thought.advance(alloc)? {
         return Ok(None);
     }
     let text = thought.tell(alloc)?;
@@ -140,7 +162,7 @@ fn refuse<C, K: Watch>(alloc: Global, client: &mut Client<C>, watch: &mut K) -> 
 {
     match plans_refused(alloc) {
         Ok(answer) => {
-            watch.note(answer.as_str().as_bytes());
+            watch.note(false, answer.as_str().as_bytes());
             put_answer(client, answer.into_bytes(), watch.now());
             Progress::Answered
         }
@@ -148,26 +170,43 @@ fn refuse<C, K: Watch>(alloc: Global, client: &mut Client<C>, watch: &mut K) -> 
     }
 }
 
-// Thinks once on a connection's question, and notes when. Where memory is wanting what was found is let go first.
-fn think_once<C, K: Watch>(
+// Drops what still comes of a connection, and tells whether it waits for more than what was found so far: its input goes on.
+fn is_there<C: Connection>(stream: &mut C) -> bool
+    ensures drained { result ≡ true → C.is_drained stream.new }
+    ensures kept { C.contents stream.new ≡ C.contents stream.old }
+{
+    match drop_rest(stream) {
+        Rest::MayCome => true,
+        Rest::Comes | Rest::Ended | Rest::Lost => false,
+    }
+}
+
+// Thinks once on the question of a connection that is there, and notes when. It is told as far as it was thought about where its
+// input ended, or where it had its calls and others wait. Where memory is wanting what was found is let go first.
+fn think_once<C: Connection, K: Watch>(
     alloc: Global,
     client: &mut Client<C>,
+    is_crowded: bool,
     now: Instant,
     watch: &mut K,
 ) -> Progress
     requires { IsSome client.old.thought }
-    ensures goes_on { result ≡ progress.GoesOn → IsThoughtOnce now client.old client.new
+    ensures goes_on { result ≡ progress.GoesOn
+        → IsThoughtOnce C.Connection is_crowded now client.old client.new
         × TellsNone (K.times watch.old) (K.times watch.new) }
     ensures answered { result ≡ progress.Answered
-        → IsThoughtOut client.old client.new (K.times watch.old) (K.times watch.new) }
+        → IsThoughtOut C.Connection client.old client.new (K.times watch.old) (K.times watch.new) }
     ensures closed { result ≡ progress.NoMemory
         → TellsNone (K.times watch.old) (K.times watch.new) }
 {
     let Some(mut thinking) = client.thought.take() else {
         unreachable!()
     };
+    let had_its_calls = is_crowded && thinking.left == 0;
+    let ends = !is_there(&mut client.stream) || had_its_calls;
     thinking.last = Some(now);
-    match advance(alloc, &mut thinking.thought) {
+    thinking.left = thinking.left.saturating_sub(1);
+    match advance(alloc, &mut thinking.thought, ends) {
         Ok(None) => {
             drop(client.thought.replace(thinking));
             Progress::GoesOn
@@ -185,22 +224,23 @@ fn think_once<C, K: Watch>(
 }
 
 // Thinks once on the question of a key's connection, and closes it where memory is wanting. Tells what came of it.
-fn think_at<C: Drop, K: Watch>(
+fn think_at<C: Connection + Drop, K: Watch>(
     alloc: Global,
     clients: &mut Slab<Client<C>>,
     key: usize,
+    is_crowded: bool,
     now: Instant,
     watch: &mut K,
 ) -> Progress
     requires { AsksAt clients.old key }
-    ensures at { IsThoughtAt result now key clients.old clients.new (K.times watch.old)
-        (K.times watch.new) }
+    ensures at { IsThoughtAt C.Connection is_crowded result now key clients.old clients.new
+        (K.times watch.old) (K.times watch.new) }
     ensures fewer { unanswered clients.new ≤ unanswered clients.old }
 {
     let Some(client) = clients.get_mut(key) else {
         return Progress::GoesOn;
     };
-    match think_once(alloc, client, now, watch) {
+    match think_once(alloc, client, is_crowded, now, watch) {
         Progress::GoesOn => Progress::GoesOn,
         Progress::Answered => Progress::Answered,
         Progress::NoMemory => {
@@ -210,7 +250,7 @@ fn think_at<C: Drop, K: Watch>(
     }
 }
 
-/// Thinks once on one of the questions, where there is any, and hands over its answer where that is done.
+/// Thinks once on one of the questions, where there is any, and hands over its answer where that is done or ends.
 pub(crate) fn think<C: Connection + Drop, K: Watch, B: Book>(
     alloc: Global,
     site: &Site,
@@ -228,7 +268,8 @@ pub(crate) fn think<C: Connection + Drop, K: Watch, B: Book>(
     let Some(key) = next_thought(clients) else {
         return;
     };
-    match think_at(alloc, clients, key, now, watch) {
+    let is_crowded = is_crowded(clients);
+    match think_at(alloc, clients, key, is_crowded, now, watch) {
         Progress::GoesOn => (),
         Progress::NoMemory => (),
         Progress::Answered => {

@@ -160,16 +160,19 @@ pub(crate) fn hand_over<C: Connection>(stream: &mut C, answer: &[u8], sent: &mut
     Given::Whole
 }
 
-/// What is left of a connection's input, after what was dropped of it.
+/// What is left of a connection's input, after what was dropped of it: more may come, and nothing did so far, or it comes without
+/// a pause; or nothing does.
 #[derive(Clone, Copy, PartialEq, Eq)]
 pub(crate) enum Rest {
     MayCome,
+    Comes,
     Ended,
     Lost,
 }
 
 /// Reads what still comes and drops it.
 pub(crate) fn drop_rest<C: Connection>(stream: &mut C) -> Rest
+    ensures drained { result ≡ rest.MayCome → C.is_drained stream.new }
     ensures ended { result ≡ rest.Ended → IsAtEnd (C.remaining stream.new) }
     ensures lost { result ≡ rest.Lost → C.is_lost stream.new }
     ensures kept { C.contents stream.new ≡ C.contents stream.old }
@@ -184,5 +187,5 @@ pub(crate) fn drop_rest<C: Connection>(stream: &mut C) -> Rest
             Err(Stall::Lost) => return Rest::Lost,
         }
     }
-    Rest::MayCome
+    Rest::Comes
 }

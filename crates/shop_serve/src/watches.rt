@@ -1,12 +1,15 @@
-//! What a server is told beside its connections: its time, which stands still while a request is answered, and backups.
+//! What a server is told beside its connections: its time, which stands still while a request is answered, backups, and whether
+//! the store's names still lead to its files.
 
 ghost use Rattle.std.specs.Prelude.{◌≡◌, ◌+◌, ◌-◌, ◌≤◌, None, min, unwrap_or, option_map};
 ghost use Rattle.std.specs.Duration.{as_nanos, max_nanos};
 ghost use Rattle.std.specs.Time.{instant_nanos};
+ghost use Rattle.shop_serve.specs.Watches.{failed_after, is_done, is_store_fault};
 
 use crate::faults::ServeFault;
-use shop_advice::{answer_note, backup_note, no_backup_note};
-use shop_backup::{BackupFault, Backups};
+use crate::lines::Lines;
+use shop_advice::{FailureCause, answer_note, backup_note, no_backup_note, tells_failure};
+use shop_backup::{BackupFault, Backups, Names, stayed_note};
 use shop_rules::Refusal;
 use std::alloc::{AllocError, Global};
 use std::fs::Files;
@@ -16,55 +19,72 @@ use std::time::{Clock, Duration, Instant};
 /// What tells a server's time, and makes its backups.
 pub(crate) trait Watch {
     ghost use Rattle.std.specs.Prelude.{◌≡◌};
-    ghost use Rattle.shop_serve.specs.Times.{Copies, Times, Tells, TellsNone, ReportedLast};
+    ghost use Rattle.shop_serve.specs.Times.{Copies, Looks, Times, Tells, TellsNone};
 
-    /// The times that it told so far, and what came of backups meanwhile, where they are known.
+    /// The times that it told so far, what came of backups meanwhile, and where the store's names led, where they are known.
     ghost times: { Self → Times };
 
     /// Tells the time, and goes on where it stood still.
     fn now(&mut self) -> Instant
         ensures { Tells (times self.old) (times self.new) result };
 
-    /// The time that was told last.
-    fn last(&self) -> Instant
-        ensures { ReportedLast (times self.now) result };
-
     /// Stands still until the time is told next.
     fn stop(&mut self)
         ensures { TellsNone (times self.old) (times self.new) };
+
+    /// Whether the store's names lead to the files that are open.
+    fn is_in_place(&mut self) -> bool
+        ensures { Looks (times self.old) (times self.new) result };
 
     /// Makes a backup of the store, and tells its number: 99 where it can't be made, and 98 for want of memory. Who runs the
     /// server is told of all but the last.
     fn back_up(&mut self, alloc: Global) -> Result<u32, Refusal>
         ensures { Copies (times self.old) (times self.new) result };
 
-    /// Tells who runs the server of an answer of 98 or 99.
-    fn note(&self, answer: &[u8]);
+    /// Whether the store failed at a message, and none was done since.
+    fn has_failed(&self) -> bool;
+
+    /// Notes an answer, to a message or to something else: whether the store failed; and tells who runs the server of one of 98
+    /// or 99.
+    fn note(&mut self, is_message: bool, answer: &[u8])
+        ensures { TellsNone (times self.old) (times self.new) };
 }
 
-/// A clock without the time for which it stood still, and the backups of a store, where any are made.
+/// A clock without the time for which it stood still, the names of a store, its backups, where any are made, and whether it
+/// failed.
 #[derive(Drop)]
 pub(crate) struct Stopwatch<'a, R> {
     clock: &'a R,
+    alloc: Global,
     last: Instant,
     stopped: Option<Instant>,
     still: Duration,
+    names: &'a Names,
     backups: Option<&'a Backups>,
+    lines: &'a mut Lines,
+    failed: bool,
 }
 
 impl<'a, R: Clock> Stopwatch<'a, R> {
     /// The time of this clock, from now on. `Port` where it can't be read.
     pub(crate) fn new(
         clock: &'a R,
+        alloc: Global,
+        names: &'a Names,
         backups: Option<&'a Backups>,
+        lines: &'a mut Lines,
     ) -> Result<Stopwatch<'a, R>, ServeFault> {
         match Instant::now(clock) {
             Ok(last) => Ok(Stopwatch {
                 clock,
+                alloc,
                 last,
                 stopped: None,
                 still: Duration::ZERO,
+                names,
                 backups,
+                lines,
+                failed: false,
             }),
             Err(_) => Err(ServeFault::Port),
         }
@@ -84,23 +104,72 @@ fn still_until(still: Duration, stopped: Option<Instant>, reading: Instant) -> D
     }
 }
 
-// Tells a line. One that can't be made or written is left out.
-fn note<R: Eprint>(rt: &R, line: Result<String, AllocError>) {
+// Whether an answer tells that a message was done.
+fn is_done(answer: &[u8]) -> bool
+    ensures { result ≡ is_done answer.now }
+{
+    answer.starts_with(b"HTTP/1.1 200 ")
+}
+
+// Whether an answer tells that the store failed.
+fn is_store_fault(answer: &[u8]) -> bool
+    ensures { result ≡ is_store_fault answer.now }
+{
+    answer.starts_with(b"HTTP/1.1 503 ") && answer.ends_with(b":99}")
+}
+
+// Whether the store failed, after an answer to a message: as it tells, and where it tells nothing of that, as before.
+fn failed_after(failed: bool, answer: &[u8]) -> bool
+    ensures { result ≡ failed_after failed answer.now }
+{
+    is_store_fault(answer) || failed && !is_done(answer)
+}
+
+// Why the store failed, where an answer tells that it did: its disk has no room, or else it is shut from then on.
+fn failure_of<R: Files>(rt: &R, alloc: Global, names: &Names, answer: &[u8]) -> FailureCause {
+    if tells_failure(answer) && names.is_disk_full(rt, alloc) {
+        FailureCause::Full
+    } else {
+        FailureCause::Shut
+    }
+}
+
+// Tells a line. One that can't be made is left out.
+fn note<R: Eprint + Clock>(rt: &R, lines: &mut Lines, line: Result<String, AllocError>) {
     if let Ok(line) = line {
-        let _ = rt.eprint(line.as_str());
+        lines.write(rt, line.as_str());
+    }
+}
+
+// Tells who runs the server of the backups that couldn't be taken away.
+fn note_stayed<R: Eprint + Clock>(
+    rt: &R,
+    alloc: Global,
+    lines: &mut Lines,
+    folder: &str,
+    stayed: &[u32],
+) {
+    for number in stayed {
+        note(rt, lines, stayed_note(alloc, *number, folder));
     }
 }
 
 // Makes a backup, and tells who runs the server of it.
-fn back_up<R: Files + Eprint>(rt: &R, alloc: Global, backups: &Backups) -> Result<u32, Refusal> {
+fn back_up<R: Files + Eprint + Clock>(
+    rt: &R,
+    alloc: Global,
+    backups: &Backups,
+    lines: &mut Lines,
+) -> Result<u32, Refusal> {
     match backups.make(rt, alloc) {
-        Ok(number) => {
-            note(rt, backup_note(alloc, number, backups.folder()));
-            Ok(number)
+        Ok(made) => {
+            note(rt, lines, backup_note(alloc, made.number, backups.folder()));
+            note_stayed(rt, alloc, lines, backups.folder(), &made.stayed);
+            Ok(made.number)
         }
         Err(BackupFault::NoMemory) => Err(Refusal::NoMemory),
         Err(BackupFault::Failed(cause)) => {
-            note(rt, no_backup_note(alloc, cause, backups.folder()));
+            note(rt, lines, no_backup_note(alloc, cause, backups.folder()));
             Err(Refusal::StoreFault)
         }
     }
@@ -121,25 +190,32 @@ impl<'a, R: Clock + Eprint + Files> Watch for Stopwatch<'a, R> {
         self.last
     }
 
-    fn last(&self) -> Instant {
-        self.last
-    }
-
     fn stop(&mut self) {
         self.stopped = Instant::now(self.clock).ok();
     }
 
+    fn is_in_place(&mut self) -> bool {
+        self.names.lead_there(self.clock)
+    }
+
     fn back_up(&mut self, alloc: Global) -> Result<u32, Refusal> {
         match self.backups {
-            Some(backups) => back_up(self.clock, alloc, backups),
+            Some(backups) => back_up(self.clock, alloc, backups, self.lines),
             None => Err(Refusal::StoreFault),
         }
     }
 
-    // A line that can't be written is left out.
-    fn note(&self, answer: &[u8]) {
-        if let Some(line) = answer_note(answer) {
-            let _ = self.clock.eprint(line);
+    fn has_failed(&self) -> bool {
+        self.failed
+    }
+
+    fn note(&mut self, is_message: bool, answer: &[u8]) {
+        if is_message {
+            self.failed = failed_after(self.failed, answer);
+        }
+        let cause = failure_of(self.clock, self.alloc, self.names, answer);
+        if let Some(line) = answer_note(answer, cause) {
+            self.lines.write(self.clock, line);
         }
     }
 }

@@ -1,16 +1,17 @@
 -- Words that ask for nothing.
-use Rattle.std.proofs.Common.{◌≡◌, ◌∙◌, ◌⊎◌, ℕ, List, Option, Some, None, codes, inl, inr, true, subst, sym, ap, refl}
-use Rattle.std.specs.Prelude.{◌==◌, is_some, option_map, IfSome, MatchOption, slice_index, if◌then◌else◌}
+use Rattle.std.proofs.Common.{◌≡◌, ◌∙◌, ◌⊎◌, ℕ, List, [], Option, Some, None, codes, inl, inr, true, subst, sym, ap, refl}
+use Rattle.std.specs.Prelude.{◌==◌, is_some, option_map, IfSome, MatchOption, slice_index, unwrap_or, if◌then◌else◌}
 use Rattle.clap.specs.Words.{Row, Text, first_of, one_of}
 use Rattle.cut_measure.specs.Codes.{code_of}
 use Rattle.cut_measure.specs.declared.ranges.TheConstants.{MOST_KERF}
+use Rattle.shop_words.specs.declared.words.Serving.{Serving}
 use Rattle.shop_words.specs.declared.words.Request.{Request}
-use Rattle.shop_words.specs.declared.words.Request.TheVariants.{Replay, Plan, PlanOrder, Orders, Serve, Ticket, Yield}
+use Rattle.shop_words.specs.declared.words.Request.TheVariants.{Replay, Plan, PlanOrder, Orders, Serve, Ticket, Yield, Restore}
 use Rattle.shop_words.specs.declared.words.Word.{Word}
 use Rattle.shop_words.specs.declared.words.Word.TheVariants as word
 use Rattle.shop_words.specs.declared.words.ImportAs.{ImportAs}
 use Rattle.shop_words.specs.declared.words.TheConstants.{MOST_CONNECTIONS}
-use Rattle.shop_words.specs.CommandLine.{names_message, AsAsked, HasNumber, IsLimit, IsNumber, IsWhole, IsWholeAsked, IsSingleAsked, IsImportAs, IsOrdersAsked, IsPlanAsked, IsServeAsked, IsTicketAsked, IsYieldAsked, IsCode, IsAsked, AsksFor, AsksNothing, word_text}
+use Rattle.shop_words.specs.CommandLine.{names_message, AsAsked, HasNumber, IsLimit, IsNumber, IsWhole, IsWholeAsked, IsSingleAsked, IsImportAs, IsOrdersAsked, IsPlanAsked, IsRestoreAsked, IsServeAsked, IsServing, IsTicketAsked, IsYieldAsked, IsCode, IsAsked, AsksFor, AsksNothing, word_text}
 
 nothing : {X : Type 0} (found : Option X) (x : X) → found ≡ None → found ≡ Some x → ⊥
 nothing found x none some = subst (λ (o : Option _). IfSome o (λ _. ⊥)) (sym (sym some ∙ none)) tt
@@ -72,6 +73,28 @@ module _ (rows : List Row) (path : Text) (kerf : ℕ) (file : first_of (codes "F
       (λ request is. (path, kerf, file, number, inr (none, is)))
       (λ request asked. of_these (λ t k. IsSingleAsked t k rows request) asked.0 asked.1 asked.2 asked.3 (without_flag none asked.4))
 
+-- nothing is served, and so no such request
+pub no_serving : (rows : List Row) → ((serving : Serving) → IsServing rows serving → ⊥) → (request : Request) → IsServeAsked rows request → ⊥
+no_serving rows none Replay asked = asked
+no_serving rows none (Plan file kerf step) asked = asked
+no_serving rows none (PlanOrder file kerf step calls) asked = asked
+no_serving rows none (Orders file None) asked = asked
+no_serving rows none (Orders file (Some told)) asked = asked
+no_serving rows none (Serve serving) asked = none serving asked
+no_serving rows none (Ticket store job read_only) asked = asked
+no_serving rows none (Yield store material read_only) asked = asked
+no_serving rows none (Restore store from) asked = asked
+
+-- the texts behind an option
+pub texts_found : (found : Option (List Text)) (texts : List Text) → Some texts ≡ found → texts ≡ unwrap_or found []
+texts_found found texts is = ap (λ o. unwrap_or o []) is
+
+pub none_found : (found : Option (List Text)) → None ≡ found → [] ≡ unwrap_or found []
+none_found found is = ap (λ o. unwrap_or o []) is
+
+pub no_value : (name : Text) (rows : List Row) → first_of name rows ≡ None → (text : Text) → first_of name rows ≡ Some text → ⊥
+no_value name rows none text some = nothing (first_of name rows) text none some
+
 pub no_plan_file : (rows : List Row) → first_of (codes "FILE") rows ≡ None → (request : Request) → IsPlanAsked rows request → ⊥
 no_plan_file rows none request asked = nothing (first_of (codes "FILE") rows) asked.0 none asked.2
 
@@ -81,9 +104,10 @@ no_orders_file rows none (Plan file kerf step) asked = asked
 no_orders_file rows none (PlanOrder file kerf step calls) asked = asked
 no_orders_file rows none (Orders file None) asked = nothing (first_of (codes "FILE") rows) file.now none asked.0
 no_orders_file rows none (Orders file (Some told)) asked = nothing (first_of (codes "FILE") rows) file.now none asked.0
-no_orders_file rows none (Serve port store shop limit page backup) asked = asked
-no_orders_file rows none (Ticket store job) asked = asked
-no_orders_file rows none (Yield store material) asked = asked
+no_orders_file rows none (Serve serving) asked = asked
+no_orders_file rows none (Ticket store job read_only) asked = asked
+no_orders_file rows none (Yield store material read_only) asked = asked
+no_orders_file rows none (Restore store from) asked = asked
 
 -- some of the options are there, and no message is made of them
 pub no_orders_message : (rows : List Row) → names_message rows ≡ true → ((told : ImportAs) → IsImportAs rows told → ⊥) → (request : Request) → IsOrdersAsked rows request → ⊥
@@ -92,29 +116,10 @@ no_orders_message rows some none (Plan file kerf step) asked = asked
 no_orders_message rows some none (PlanOrder file kerf step calls) asked = asked
 no_orders_message rows some none (Orders file None) asked = absurd (cc (sym asked.1 ∙ some))
 no_orders_message rows some none (Orders file (Some told)) asked = none told asked.1
-no_orders_message rows some none (Serve port store shop limit page backup) asked = asked
-no_orders_message rows some none (Ticket store job) asked = asked
-no_orders_message rows some none (Yield store material) asked = asked
-
-pub no_serve_store : (rows : List Row) → first_of (codes "store") rows ≡ None → (request : Request) → IsServeAsked rows request → ⊥
-no_serve_store rows none Replay asked = asked
-no_serve_store rows none (Plan file kerf step) asked = asked
-no_serve_store rows none (PlanOrder file kerf step calls) asked = asked
-no_serve_store rows none (Orders file None) asked = asked
-no_serve_store rows none (Orders file (Some told)) asked = asked
-no_serve_store rows none (Serve port store shop limit page backup) asked = nothing (first_of (codes "store") rows) store.now none asked.1
-no_serve_store rows none (Ticket store job) asked = asked
-no_serve_store rows none (Yield store material) asked = asked
-
-pub no_serve_shop : (rows : List Row) → first_of (codes "shop") rows ≡ None → (request : Request) → IsServeAsked rows request → ⊥
-no_serve_shop rows none Replay asked = asked
-no_serve_shop rows none (Plan file kerf step) asked = asked
-no_serve_shop rows none (PlanOrder file kerf step calls) asked = asked
-no_serve_shop rows none (Orders file None) asked = asked
-no_serve_shop rows none (Orders file (Some told)) asked = asked
-no_serve_shop rows none (Serve port store shop limit page backup) asked = nothing (first_of (codes "shop") rows) shop.now none asked.2
-no_serve_shop rows none (Ticket store job) asked = asked
-no_serve_shop rows none (Yield store material) asked = asked
+no_orders_message rows some none (Serve serving) asked = asked
+no_orders_message rows some none (Ticket store job read_only) asked = asked
+no_orders_message rows some none (Yield store material read_only) asked = asked
+no_orders_message rows some none (Restore store from) asked = asked
 
 -- the limit's number is out of range
 pub no_limit : (rows : List Row) → is_some (first_of (codes "limit") rows) ≡ true → ((n : ℕ) → HasNumber (codes "limit") rows 1 MOST_CONNECTIONS n → ⊥) → (limit : Option ℕ) → IsLimit rows limit → ⊥
@@ -128,9 +133,10 @@ no_ticket_store rows none (Plan file kerf step) asked = asked
 no_ticket_store rows none (PlanOrder file kerf step calls) asked = asked
 no_ticket_store rows none (Orders file None) asked = asked
 no_ticket_store rows none (Orders file (Some told)) asked = asked
-no_ticket_store rows none (Serve port store shop limit page backup) asked = asked
-no_ticket_store rows none (Ticket store job) asked = nothing (first_of (codes "store") rows) store.now none asked.0
-no_ticket_store rows none (Yield store material) asked = asked
+no_ticket_store rows none (Serve serving) asked = asked
+no_ticket_store rows none (Ticket store job read_only) asked = nothing (first_of (codes "store") rows) store.now none asked.0
+no_ticket_store rows none (Yield store material read_only) asked = asked
+no_ticket_store rows none (Restore store from) asked = asked
 
 pub no_yield_store : (rows : List Row) → first_of (codes "store") rows ≡ None → (request : Request) → IsYieldAsked rows request → ⊥
 no_yield_store rows none Replay asked = asked
@@ -138,9 +144,10 @@ no_yield_store rows none (Plan file kerf step) asked = asked
 no_yield_store rows none (PlanOrder file kerf step calls) asked = asked
 no_yield_store rows none (Orders file None) asked = asked
 no_yield_store rows none (Orders file (Some told)) asked = asked
-no_yield_store rows none (Serve port store shop limit page backup) asked = asked
-no_yield_store rows none (Ticket store job) asked = asked
-no_yield_store rows none (Yield store material) asked = nothing (first_of (codes "store") rows) store.now none asked.0
+no_yield_store rows none (Serve serving) asked = asked
+no_yield_store rows none (Ticket store job read_only) asked = asked
+no_yield_store rows none (Yield store material read_only) asked = nothing (first_of (codes "store") rows) store.now none asked.0
+no_yield_store rows none (Restore store from) asked = asked
 
 pub no_yield_code : (rows : List Row) → ((code : List ℕ) → IsCode (first_of (codes "MATERIAL") rows) code → ⊥) → (request : Request) → IsYieldAsked rows request → ⊥
 no_yield_code rows none Replay asked = asked
@@ -148,15 +155,40 @@ no_yield_code rows none (Plan file kerf step) asked = asked
 no_yield_code rows none (PlanOrder file kerf step calls) asked = asked
 no_yield_code rows none (Orders file None) asked = asked
 no_yield_code rows none (Orders file (Some told)) asked = asked
-no_yield_code rows none (Serve port store shop limit page backup) asked = asked
-no_yield_code rows none (Ticket store job) asked = asked
-no_yield_code rows none (Yield store material) asked = none material asked.1
+no_yield_code rows none (Serve serving) asked = asked
+no_yield_code rows none (Ticket store job read_only) asked = asked
+no_yield_code rows none (Yield store material read_only) asked = none material asked.1
+no_yield_code rows none (Restore store from) asked = asked
 
--- ---- the words of the commands differ: each begins with another letter
+pub no_restore_store : (rows : List Row) → first_of (codes "store") rows ≡ None → (request : Request) → IsRestoreAsked rows request → ⊥
+no_restore_store rows none Replay asked = asked
+no_restore_store rows none (Plan file kerf step) asked = asked
+no_restore_store rows none (PlanOrder file kerf step calls) asked = asked
+no_restore_store rows none (Orders file None) asked = asked
+no_restore_store rows none (Orders file (Some told)) asked = asked
+no_restore_store rows none (Serve serving) asked = asked
+no_restore_store rows none (Ticket store job read_only) asked = asked
+no_restore_store rows none (Yield store material read_only) asked = asked
+no_restore_store rows none (Restore store from) asked = nothing (first_of (codes "store") rows) store.now none asked.0
+
+pub no_restore_from : (rows : List Row) → first_of (codes "from") rows ≡ None → (request : Request) → IsRestoreAsked rows request → ⊥
+no_restore_from rows none Replay asked = asked
+no_restore_from rows none (Plan file kerf step) asked = asked
+no_restore_from rows none (PlanOrder file kerf step calls) asked = asked
+no_restore_from rows none (Orders file None) asked = asked
+no_restore_from rows none (Orders file (Some told)) asked = asked
+no_restore_from rows none (Serve serving) asked = asked
+no_restore_from rows none (Ticket store job read_only) asked = asked
+no_restore_from rows none (Yield store material read_only) asked = asked
+no_restore_from rows none (Restore store from) asked = nothing (first_of (codes "from") rows) from.now none asked.1
+
+-- ---- the words of the commands differ: each has another third letter
 
 word_at : Text → Word
 word_at text =
-    if slice_index text 0 == 114 then word.Replay else (if slice_index text 0 == 112 then word.Plan else (if slice_index text 0 == 111 then word.Orders else (if slice_index text 0 == 115 then word.Serve else (if slice_index text 0 == 116 then word.Ticket else word.Yield))))
+    let third = slice_index text 2 in
+    if third == 112 then word.Replay else (if third == 97 then word.Plan else (if third == 100 then word.Orders else (if third == 114 then word.Serve
+    else (if third == 99 then word.Ticket else (if third == 101 then word.Yield else word.Restore)))))
 
 word_at-text : (w : Word) → word_at (word_text w) ≡ w
 unfolding word_at
@@ -166,6 +198,7 @@ word_at-text word.Orders = refl
 word_at-text word.Serve = refl
 word_at-text word.Ticket = refl
 word_at-text word.Yield = refl
+word_at-text word.Restore = refl
 
 one_word : (v w : Word) → word_text v ≡ word_text w → v ≡ w
 one_word v w same = sym (word_at-text v) ∙ ap word_at same ∙ word_at-text w

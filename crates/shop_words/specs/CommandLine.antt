@@ -1,20 +1,25 @@
 -- The program's command line, in the words of `clap`: its commands, and what they ask for.
-use Rattle.std.specs.Prelude.{◌≡◌, ◌≤◌, ℕ, List, ◌∷◌, [], Option, Some, None, codes, false, true, pos, ⊤, option_map, is_some, ◌||◌, ◌⊎◌, Bool, MatchOption}
+use Rattle.std.specs.Prelude.{◌≡◌, ◌≤◌, ◌==◌, ℕ, List, ◌∷◌, [], Option, Some, None, codes, false, true, pos, ⊤, option_map, is_some, ◌||◌, ◌&&◌, not, ◌⊎◌, ◌↔◌, IsTrue, Bool, MatchOption, drop, find, length, map, nat_lt, slice_index, take, unwrap_or}
+use Rattle.std.specs.Borrow.{Bor}
+use Rattle.std.specs.Char.{is_ascii_alphanumeric}
+use Rattle.std.specs.List.{list_all}
+use Rattle.std.specs.Str.{bytes_eq}
 use Rattle.std.specs.Str.Parse.{IsNumeral, digits_value, without_leading_plus}
-use Rattle.clap.specs.Words.{App, Row, Rule, Text, app_of, new_app, new_rule, rule_of, with_rule, with_subcommand, first_of, one_of}
+use Rattle.clap.specs.Words.{App, Row, Rule, Text, app_of, new_app, new_rule, rule_of, with_rule, with_subcommand, all_of, first_of, one_of}
 use Rattle.clap.specs.declared.builder.arg.Arg.{Arg}
 use Rattle.clap.specs.declared.builder.command.Command.{Command}
 use Rattle.clap.specs.declared.builder.command.Command.TheViews.{out-Command as fields_of}
 use Rattle.clap.specs.Simple.{on_top}
-use Rattle.clap.specs.declared.builder.action.ArgAction.TheVariants.{Set, SetTrue}
+use Rattle.clap.specs.declared.builder.action.ArgAction.TheVariants.{Append, Set, SetTrue}
 use Rattle.clap.specs.declared.builder.value_parser.ValueParser.{ValueParser}
 use Rattle.clap.specs.declared.builder.value_parser.ValueParser.TheVariants.{Signed}
 use Rattle.cut_measure.specs.Codes.{code_of}
 use Rattle.cut_measure.specs.declared.ranges.TheConstants.{MOST_KERF, MOST_NUMBERS}
-use Rattle.shop_words.specs.declared.words.TheConstants.{LONGEST_STEP, MOST_CALLS, LAST_PORT, MOST_CONNECTIONS, MOST_PAIR}
+use Rattle.shop_words.specs.declared.words.TheConstants.{LONGEST_STEP, MOST_CALLS, LAST_PORT, MOST_CONNECTIONS, MOST_KEPT, MOST_NAMES, MOST_PAIR}
 use Rattle.shop_words.specs.declared.words.ImportAs.{ImportAs}
+use Rattle.shop_words.specs.declared.words.Serving.{Serving}
 use Rattle.shop_words.specs.declared.words.Request.{Request}
-use Rattle.shop_words.specs.declared.words.Request.TheVariants.{Replay, Plan, PlanOrder, Orders, Serve, Ticket, Yield}
+use Rattle.shop_words.specs.declared.words.Request.TheVariants.{Replay, Plan, PlanOrder, Orders, Serve, Ticket, Yield, Restore}
 use Rattle.shop_words.specs.declared.words.Word.{Word}
 use Rattle.shop_words.specs.declared.words.Word.TheVariants as word
 use Rattle.shop_words.specs.declared.words.Argument.{Argument}
@@ -39,6 +44,19 @@ path_rule name = record (option_rule name) { required = true }
 -- a word that is required
 abbrev pub word_rule : Text → Rule
 word_rule name = record (value_rule name) { required = true }
+
+-- an option that may be given several times
+abbrev pub several_rule : Text → Rule
+several_rule name = record (option_rule name) { action = Some Append }
+
+abbrev pub host_rule : Rule
+host_rule = several_rule (codes "host")
+
+abbrev pub origin_rule : Rule
+origin_rule = several_rule (codes "origin")
+
+abbrev pub from_rule : Rule
+from_rule = path_rule (codes "from")
 
 abbrev pub store_rule : Rule
 store_rule = path_rule (codes "store")
@@ -74,11 +92,32 @@ abbrev pub step_rule : Rule
 step_rule = record (option_rule (codes "step")) { parser = Some (Signed (pos 0) (pos 200000)) }
 
 -- a flag
+abbrev pub flag_rule : Text → Rule
+flag_rule name = record (new_rule name) { action = Some SetTrue; long = Some name }
+
 abbrev pub whole_rule : Rule
-whole_rule = record (new_rule (codes "whole")) { action = Some SetTrue; long = Some (codes "whole") }
+whole_rule = flag_rule (codes "whole")
+
+abbrev pub existing_rule : Rule
+existing_rule = flag_rule (codes "existing")
+
+abbrev pub read_only_rule : Rule
+read_only_rule = flag_rule (codes "read-only")
+
+abbrev pub keep_rule : Rule
+keep_rule = record (option_rule (codes "keep")) { parser = Some (Signed (pos 1) (pos 10000)) }
 
 abbrev pub calls_rule : Rule
 calls_rule = record (option_rule (codes "calls")) { parser = Some (Signed (pos 1) (pos 5000)) }
+
+-- a form to which each of these was added in turn
+abbrev pub added_in_turn : {X : Type 0} → (App → X → App) → App → List X → App
+added_in_turn add app [] = app
+added_in_turn add app (x ∷ rest) = added_in_turn add (add app x) rest
+
+-- a command of this name with arguments of these rules
+abbrev pub app_with : Text → List Rule → App
+app_with name rules = added_in_turn with_rule (new_app name) rules
 
 -- `plan FILE --kerf N [--step N] [--whole] [--calls N]`
 abbrev pub plan_app : App
@@ -92,27 +131,27 @@ replay_app = new_app (codes "replay")
 abbrev pub orders_app : App
 orders_app = with_rule (with_rule (with_rule (with_rule (new_app (codes "orders")) (word_rule (codes "FILE"))) order_rule) terminal_rule) message_number_rule
 
--- `serve --port N --store FILE --shop FILE [--limit N] [--page FILE] [--backup FOLDER]`
+-- `serve --port N --store FILE --shop FILE [--limit N] [--page FILE] [--backup FOLDER] [--existing] [--keep N] [--host NAME].. [--origin ORIGIN]..`
 abbrev pub serve_app : App
 serve_app =
-    with_rule (with_rule (with_rule (with_rule (with_rule (with_rule (new_app (codes "serve")) port_rule) store_rule) (path_rule (codes "shop"))) limit_rule) page_rule) backup_rule
+    app_with (codes "serve")
+    (port_rule ∷ store_rule ∷ path_rule (codes "shop") ∷ limit_rule ∷ page_rule ∷ backup_rule ∷ existing_rule ∷ keep_rule ∷ host_rule ∷ origin_rule ∷ [])
 
--- `ticket --store FILE JOB`
+-- `ticket --store FILE JOB [--read-only]`
 abbrev pub ticket_app : App
-ticket_app = with_rule (with_rule (new_app (codes "ticket")) store_rule) job_rule
+ticket_app = app_with (codes "ticket") (store_rule ∷ job_rule ∷ read_only_rule ∷ [])
 
--- `yield --store FILE MATERIAL`
+-- `yield --store FILE MATERIAL [--read-only]`
 abbrev pub yield_app : App
-yield_app = with_rule (with_rule (new_app (codes "yield")) store_rule) (word_rule (codes "MATERIAL"))
+yield_app = app_with (codes "yield") (store_rule ∷ word_rule (codes "MATERIAL") ∷ read_only_rule ∷ [])
+
+-- `restore --store FILE --from FOLDER/N`
+abbrev pub restore_app : App
+restore_app = app_with (codes "restore") (store_rule ∷ from_rule ∷ [])
 
 -- the program without its commands: one is required, and a version is told
 abbrev pub program_app : App
 program_app = on_top (λ s. record s { subcommand_required = true; has_version = true }) (new_app (codes "cutshop"))
-
--- a form to which each of these was added in turn
-abbrev pub added_in_turn : {X : Type 0} → (App → X → App) → App → List X → App
-added_in_turn add app [] = app
-added_in_turn add app (x ∷ rest) = added_in_turn add (add app x) rest
 
 -- the rule of an argument
 abbrev pub argument_rule : Argument → Rule
@@ -131,8 +170,14 @@ argument_rule argument.Shop = path_rule (codes "shop")
 argument_rule argument.Limit = limit_rule
 argument_rule argument.Page = page_rule
 argument_rule argument.Backup = backup_rule
+argument_rule argument.Existing = existing_rule
+argument_rule argument.Keep = keep_rule
+argument_rule argument.Host = host_rule
+argument_rule argument.Origin = origin_rule
 argument_rule argument.Job = job_rule
 argument_rule argument.Material = word_rule (codes "MATERIAL")
+argument_rule argument.ReadOnly = read_only_rule
+argument_rule argument.From = from_rule
 
 -- a command with an argument more
 abbrev pub with_argument : App → Argument → App
@@ -150,14 +195,15 @@ word_app word.Orders = orders_app
 word_app word.Serve = serve_app
 word_app word.Ticket = ticket_app
 word_app word.Yield = yield_app
+word_app word.Restore = restore_app
 
 -- a program with the command of a word more
 abbrev pub with_word : App → Word → App
 with_word app w = with_subcommand app (word_app w).top
 
--- one of the six commands
+-- one of the seven commands
 abbrev pub shop_app : App
-shop_app = added_in_turn with_word program_app (word.Replay ∷ word.Plan ∷ word.Orders ∷ word.Serve ∷ word.Ticket ∷ word.Yield ∷ [])
+shop_app = added_in_turn with_word program_app (word.Replay ∷ word.Plan ∷ word.Orders ∷ word.Serve ∷ word.Ticket ∷ word.Yield ∷ word.Restore ∷ [])
 
 -- an argument of this rule that isn't global
 abbrev pub IsArg : Rule → Arg → Type 0
@@ -190,9 +236,25 @@ abbrev pub MayHaveNumber : Text → List Row → (least most : ℕ) → Option �
 MayHaveNumber name rows least most None = is_some (first_of name rows) ≡ false
 MayHaveNumber name rows least most (Some n) = HasNumber name rows least most n
 
--- the flag is there
+-- the flag of this name is there
+abbrev pub HasFlag : Text → List Row → Type 0
+HasFlag name rows = first_of name rows ≡ Some (codes "true")
+
+-- the texts behind an option, one for each time that it is given
+abbrev pub texts_under : Text → List Row → List Text
+texts_under name rows = unwrap_or (all_of name rows) []
+
+-- how often it is given
+abbrev pub times_given : Text → List Row → ℕ
+times_given name rows = length (texts_under name rows)
+
+-- these are the texts behind an option
+abbrev pub AreTexts : Text → List Row → List (Bor Text) → Type 0
+AreTexts name rows texts = map (λ text. text.now) texts ≡ texts_under name rows
+
+-- the flag of a whole plan is there
 abbrev pub IsWhole : List Row → Type 0
-IsWhole rows = first_of (codes "whole") rows ≡ Some (codes "true")
+IsWhole rows = HasFlag (codes "whole") rows
 
 -- a plan of one rectangle has a step, and says nothing of the search
 abbrev pub IsSingleAsked : Text → (kerf : ℕ) → List Row → Request → Type 0
@@ -236,21 +298,63 @@ IsLimit rows (Some n) =
     HasNumber (codes "limit") rows 1 MOST_CONNECTIONS n
     ⊎ ((is_some (first_of (codes "limit") rows) ≡ false) × (is_some (first_of (codes "page") rows) ≡ false) × (n ≡ MOST_CONNECTIONS))
 
+-- as many backups stay as the option says, where there is a folder for them
+abbrev pub IsKeep : List Row → Option ℕ → Type 0
+IsKeep rows None = is_some (first_of (codes "keep") rows) ≡ false
+IsKeep rows (Some n) = HasNumber (codes "keep") rows 1 MOST_KEPT n × (is_some (first_of (codes "backup") rows) ≡ true)
+
+-- a byte of a host or a port: a letter, a digit, or one of `-._:[]`
+abbrev pub is_host_byte : ℕ → Bool
+is_host_byte b = is_ascii_alphanumeric b || b == 45 || b == 46 || b == 95 || b == 58 || b == 91 || b == 93
+
+-- a host, or one with a port: it begins with no colon
+abbrev pub is_host : Text → Bool
+is_host text = nat_lt 0 (length text) && (not (slice_index text 0 == 58) && list_all is_host_byte text)
+
+-- a text that begins with this, and behind it is a host
+abbrev pub is_host_behind : (scheme text : Text) → Bool
+is_host_behind scheme text = bytes_eq (take (length scheme) text) scheme && is_host (drop (length scheme) text)
+
+-- an origin: `http://` or `https://`, a host and maybe a port, and nothing behind it
+abbrev pub is_origin : Text → Bool
+is_origin text = is_host_behind (codes "http://") text || is_host_behind (codes "https://") text
+
+-- the first of these that is none
+abbrev pub bad_origin : List Text → Option Text
+bad_origin texts = find (λ text. not (is_origin text)) texts
+
+-- a server has at most ten names and ten origins, and each of these is one
+abbrev pub HasGoodNames : List Row → Type 0
+HasGoodNames rows =
+    (times_given (codes "host") rows ≤ MOST_NAMES) × (times_given (codes "origin") rows ≤ MOST_NAMES)
+    × (bad_origin (texts_under (codes "origin") rows) ≡ None)
+
+abbrev pub IsServing : List Row → Serving → Type 0
+IsServing rows s =
+    HasNumber (codes "port") rows 1 LAST_PORT s.port × (first_of (codes "store") rows ≡ Some s.store.now)
+    × (first_of (codes "shop") rows ≡ Some s.shop.now) × IsLimit rows s.limit
+    × (first_of (codes "page") rows ≡ option_map (λ p. p.now) s.page)
+    × (first_of (codes "backup") rows ≡ option_map (λ p. p.now) s.backup)
+    × (IsTrue s.existing ↔ HasFlag (codes "existing") rows) × IsKeep rows s.keep × HasGoodNames rows
+    × AreTexts (codes "host") rows s.hosts.items × AreTexts (codes "origin") rows s.origins.items
+
 abbrev pub IsServeAsked : List Row → Request → Type 0
-IsServeAsked rows (Serve port store shop limit page backup) =
-    HasNumber (codes "port") rows 1 LAST_PORT port × (first_of (codes "store") rows ≡ Some store.now)
-    × (first_of (codes "shop") rows ≡ Some shop.now) × IsLimit rows limit
-    × (first_of (codes "page") rows ≡ option_map (λ p. p.now) page)
-    × (first_of (codes "backup") rows ≡ option_map (λ p. p.now) backup)
+IsServeAsked rows (Serve serving) = IsServing rows serving
 IsServeAsked rows _ = ⊥
 
 abbrev pub IsTicketAsked : List Row → Request → Type 0
-IsTicketAsked rows (Ticket store job) = (first_of (codes "store") rows ≡ Some store.now) × HasNumber (codes "JOB") rows 1 MOST_NUMBERS job
+IsTicketAsked rows (Ticket store job read_only) =
+    (first_of (codes "store") rows ≡ Some store.now) × HasNumber (codes "JOB") rows 1 MOST_NUMBERS job × (IsTrue read_only ↔ HasFlag (codes "read-only") rows)
 IsTicketAsked rows _ = ⊥
 
 abbrev pub IsYieldAsked : List Row → Request → Type 0
-IsYieldAsked rows (Yield store material) = (first_of (codes "store") rows ≡ Some store.now) × IsCode (first_of (codes "MATERIAL") rows) material
+IsYieldAsked rows (Yield store material read_only) =
+    (first_of (codes "store") rows ≡ Some store.now) × IsCode (first_of (codes "MATERIAL") rows) material × (IsTrue read_only ↔ HasFlag (codes "read-only") rows)
 IsYieldAsked rows _ = ⊥
+
+abbrev pub IsRestoreAsked : List Row → Request → Type 0
+IsRestoreAsked rows (Restore store from) = (first_of (codes "store") rows ≡ Some store.now) × (first_of (codes "from") rows ≡ Some from.now)
+IsRestoreAsked rows _ = ⊥
 
 -- the words of the commands
 abbrev pub word_text : Word → Text
@@ -260,6 +364,7 @@ word_text word.Orders = codes "orders"
 word_text word.Serve = codes "serve"
 word_text word.Ticket = codes "ticket"
 word_text word.Yield = codes "yield"
+word_text word.Restore = codes "restore"
 
 -- a command with these values asks for this
 abbrev pub IsAsked : Word → List Row → Request → Type 0
@@ -269,6 +374,7 @@ IsAsked word.Orders rows request = IsOrdersAsked rows request
 IsAsked word.Serve rows request = IsServeAsked rows request
 IsAsked word.Ticket rows request = IsTicketAsked rows request
 IsAsked word.Yield rows request = IsYieldAsked rows request
+IsAsked word.Restore rows request = IsRestoreAsked rows request
 
 -- the kerf of a plan is in range
 abbrev pub HasKerf : Request → Type 0

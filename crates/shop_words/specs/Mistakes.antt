@@ -1,14 +1,15 @@
 -- What is wrong with words that `clap` takes and that ask for nothing, and how it is told.
-use Rattle.std.specs.Prelude.{◌≡◌, ◌⊎◌, ◌++◌, ℕ, List, Option, Some, None, codes, false, true, is_some, ⊤}
+use Rattle.std.specs.Prelude.{◌≡◌, ◌<◌, ◌⊎◌, ◌++◌, ℕ, List, Option, Some, None, codes, false, true, is_some, ⊤}
 use Rattle.clap.specs.Words.{Row, Text, first_of}
 use Rattle.cut_measure.specs.Codes.{code_of}
 use Rattle.shop_words.specs.declared.mistakes.Mistake.{Mistake}
-use Rattle.shop_words.specs.declared.mistakes.Mistake.TheVariants.{Material, Order, NoOrder, NoTerminal, NoNumber, NoStep, LoneCalls, Other}
+use Rattle.shop_words.specs.declared.mistakes.Mistake.TheVariants.{Material, Order, Origin, NoOrder, NoTerminal, NoNumber, NoStep, LoneCalls, LoneKeep, ManyHosts, ManyOrigins, Other}
 use Rattle.shop_words.specs.declared.words.Reading.{Reading}
 use Rattle.shop_words.specs.declared.words.Reading.TheVariants as reading
 use Rattle.shop_words.specs.declared.words.Word.{Word}
 use Rattle.shop_words.specs.declared.words.Word.TheVariants as word
-use Rattle.shop_words.specs.CommandLine.{AsksFor, AsksNothing, IsWhole, word_text}
+use Rattle.shop_words.specs.declared.words.TheConstants.{MOST_NAMES}
+use Rattle.shop_words.specs.CommandLine.{AsksFor, AsksNothing, IsWhole, bad_origin, texts_under, times_given, word_text}
 
 -- this text was found, and is no code
 abbrev pub IsNoCode : Option Text → Text → Type 0
@@ -22,11 +23,15 @@ IsMissing name rows = is_some (first_of name rows) ≡ false
 abbrev pub IsMistake : Word → List Row → Mistake → Type 0
 IsMistake w rows (Material text) = (w ≡ word.Yield) × IsNoCode (first_of (codes "MATERIAL") rows) text.now
 IsMistake w rows (Order text) = (w ≡ word.Orders) × IsNoCode (first_of (codes "order") rows) text.now
+IsMistake w rows (Origin text) = (w ≡ word.Serve) × (bad_origin (texts_under (codes "origin") rows) ≡ Some text.now)
 IsMistake w rows NoOrder = (w ≡ word.Orders) × IsMissing (codes "order") rows
 IsMistake w rows NoTerminal = (w ≡ word.Orders) × IsMissing (codes "terminal") rows
 IsMistake w rows NoNumber = (w ≡ word.Orders) × IsMissing (codes "number") rows
 IsMistake w rows NoStep = (w ≡ word.Plan) × (IsWhole rows → ⊥) × IsMissing (codes "step") rows
 IsMistake w rows LoneCalls = (w ≡ word.Plan) × (IsWhole rows → ⊥) × (is_some (first_of (codes "calls") rows) ≡ true)
+IsMistake w rows LoneKeep = (w ≡ word.Serve) × (is_some (first_of (codes "keep") rows) ≡ true) × IsMissing (codes "backup") rows
+IsMistake w rows ManyHosts = (w ≡ word.Serve) × (MOST_NAMES < times_given (codes "host") rows)
+IsMistake w rows ManyOrigins = (w ≡ word.Serve) × (MOST_NAMES < times_given (codes "origin") rows)
 IsMistake w rows Other = ⊤
 
 -- what is wrong with the command that was read
@@ -39,13 +44,16 @@ abbrev pub IsRead : Option (Text × List Row) → Reading → Type 0
 IsRead found (reading.Request request) = AsksFor found request
 IsRead found (reading.Mistake mistake) = AsksNothing found × IsMistakeOf found mistake
 
--- what is told of a mistake, but for a value that is no code
+-- what is told of a mistake, but for a value that is no code or no origin
 abbrev pub reason : Mistake → List ℕ
 reason NoOrder = codes "'--order <CODE>' is missing: --order, --terminal and --number stand together"
 reason NoTerminal = codes "'--terminal <N>' is missing: --order, --terminal and --number stand together"
 reason NoNumber = codes "'--number <N>' is missing: --order, --terminal and --number stand together"
 reason NoStep = codes "'--step <N>' is missing: it may be left out only with '--whole'"
 reason LoneCalls = codes "'--calls <N>' may be given only with '--whole'"
+reason LoneKeep = codes "'--keep <N>' may be given only with '--backup'"
+reason ManyHosts = codes "'--host <NAME>' may be given at most 10 times"
+reason ManyOrigins = codes "'--origin <ORIGIN>' may be given at most 10 times"
 reason _ = codes "the words ask for nothing"
 
 -- the text of a mistake
@@ -54,4 +62,7 @@ mistake_text (Material text) =
     codes "error: invalid value '" ++ text.now ++ codes "' for '<MATERIAL>': a code is 1 to 16 of A-Z, 0-9 and -\n\nFor more information, try '--help'.\n"
 mistake_text (Order text) =
     codes "error: invalid value '" ++ text.now ++ codes "' for '--order <CODE>': a code is 1 to 16 of A-Z, 0-9 and -\n\nFor more information, try '--help'.\n"
+mistake_text (Origin text) =
+    codes "error: invalid value '" ++ text.now
+    ++ codes "' for '--origin <ORIGIN>': an origin is http:// or https://, a host and maybe a port, as https://shop.example\n\nFor more information, try '--help'.\n"
 mistake_text mistake = codes "error: " ++ reason mistake ++ codes "\n\nFor more information, try '--help'.\n"

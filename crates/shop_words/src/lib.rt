@@ -6,6 +6,6 @@ mod words;
 
 pub use mistakes::{Mistake, mistake_text};
 pub use words::{
-    ImportAs, LAST_PORT, LONGEST_STEP, MOST_CALLS, MOST_CONNECTIONS, MOST_PAIR, Reading, Request,
-    VERSION, request_of,
+    ImportAs, LAST_PORT, LONGEST_STEP, MOST_CALLS, MOST_CONNECTIONS, MOST_KEPT, MOST_NAMES,
+    MOST_PAIR, Reading, Request, Serving, VERSION, request_of,
 };

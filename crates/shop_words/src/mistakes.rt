@@ -5,7 +5,7 @@ ghost use Rattle.clap.specs.Words.{first_of, found_of, rows_of, subcommand_rows_
 ghost use Rattle.shop_words.specs.Mistakes as spec;
 ghost use Rattle.shop_words.specs.declared.words.Word.TheVariants as word;
 
-use crate::words::{Word, has_option, is_whole, word_of};
+use crate::words::{MOST_NAMES, Word, bad_origin, has_option, is_whole, times_given, word_of};
 use clap::ArgMatches;
 use cut_measure::Code;
 use std::alloc::{AllocError, Global};
@@ -17,6 +17,8 @@ pub enum Mistake<'a> {
     Material(&'a str),
     /// What stands for `--order` is no code.
     Order(&'a str),
+    /// What stands for an `--origin` is none.
+    Origin(&'a str),
     /// A message is to be made of an order file, without this option.
     NoOrder,
     NoTerminal,
@@ -25,6 +27,12 @@ pub enum Mistake<'a> {
     NoStep,
     /// `--calls` stands without `--whole`.
     LoneCalls,
+    /// `--keep` stands without `--backup`.
+    LoneKeep,
+    /// There are over 10 names of hosts.
+    ManyHosts,
+    /// There are over 10 origins.
+    ManyOrigins,
     /// None of these.
     Other,
 }
@@ -80,6 +88,33 @@ fn orders_mistake<'a>(orders: &ArgMatches<'a>) -> Mistake<'a>
     }
 }
 
+fn keep_mistake<'a>(serve: &ArgMatches<'a>) -> Mistake<'a>
+    ensures { spec.IsMistake word.Serve (rows_of (found_of serve.now)) result }
+{
+    if !has_option(serve, "keep") {
+        return Mistake::Other;
+    }
+    if has_option(serve, "backup") {
+        return Mistake::Other;
+    }
+    Mistake::LoneKeep
+}
+
+fn serve_mistake<'a>(serve: &ArgMatches<'a>) -> Mistake<'a>
+    ensures { spec.IsMistake word.Serve (rows_of (found_of serve.now)) result }
+{
+    if times_given(serve, "host") > MOST_NAMES {
+        return Mistake::ManyHosts;
+    }
+    if times_given(serve, "origin") > MOST_NAMES {
+        return Mistake::ManyOrigins;
+    }
+    match bad_origin(serve) {
+        Some(text) => Mistake::Origin(text),
+        None => keep_mistake(serve),
+    }
+}
+
 fn yield_mistake<'a>(report: &ArgMatches<'a>) -> Mistake<'a>
     ensures { spec.IsMistake word.Yield (rows_of (found_of report.now)) result }
 {
@@ -96,6 +131,7 @@ fn mistake_in<'a>(word: Word, values: &ArgMatches<'a>) -> Mistake<'a>
     match word {
         Word::Plan => plan_mistake(values),
         Word::Orders => orders_mistake(values),
+        Word::Serve => serve_mistake(values),
         Word::Yield => yield_mistake(values),
         _ => Mistake::Other,
     }
@@ -130,6 +166,9 @@ fn reason(mistake: Mistake<'_>) -> &'static str
         }
         Mistake::NoStep => "'--step <N>' is missing: it may be left out only with '--whole'",
         Mistake::LoneCalls => "'--calls <N>' may be given only with '--whole'",
+        Mistake::LoneKeep => "'--keep <N>' may be given only with '--backup'",
+        Mistake::ManyHosts => "'--host <NAME>' may be given at most 10 times",
+        Mistake::ManyOrigins => "'--origin <ORIGIN>' may be given at most 10 times",
         _ => "the words ask for nothing",
     }
 }
@@ -147,6 +186,11 @@ pub fn mistake_text(alloc: Global, mistake: Mistake<'_>) -> Result<String, Alloc
         Mistake::Order(text) => {
             format!(in alloc;
                 "error: invalid value '{text}' for '--order <CODE>': a code is 1 to 16 of A-Z, 0-9 and -\n\nFor more information, try '--help'.\n"
+            )
+        }
+        Mistake::Origin(text) => {
+            format!(in alloc;
+                "error: invalid value '{text}' for '--origin <ORIGIN>': an origin is http:// or https://, a host and maybe a port, as https://shop.example\n\nFor more information, try '--help'.\n"
             )
         }
         other => {

@@ -1,12 +1,14 @@
 //! The words of the command line: what `clap` is told of them, and what they ask for.
 
-ghost use Rattle.std.specs.Prelude.{◌≡◌, ◌↔◌, [], is_some, IfOk, IfErr, IsTrue, map, string_bytes};
+ghost use Rattle.std.specs.Prelude.{◌≡◌, ◌↔◌, [], codes, is_some, option_map, IfOk, IfErr, IsTrue, map, string_bytes};
+ghost use Rattle.std.specs.List.{list_all};
 ghost use Rattle.clap.specs.Words.{app_of, first_of, rows_of, found_of, subcommand_of, subcommand_rows_of};
 ghost use Rattle.clap.specs.Kinds.{HasKind};
 ghost use Rattle.clap.specs.Faults.{fault_of};
 ghost use Rattle.shop_words.specs.CommandLine as line;
 ghost use Rattle.shop_words.specs.Mistakes.{IsRead};
 ghost use Rattle.shop_words.specs.declared.words.ImportAs.{ImportAs};
+ghost use Rattle.shop_words.specs.declared.words.Serving.{Serving};
 ghost use Rattle.shop_words.specs.declared.words.Request.{Request};
 ghost use Rattle.shop_words.specs.declared.words.Word.{Word};
 
@@ -31,8 +33,14 @@ pub const MOST_CONNECTIONS: u32 = 1_000_000;
 /// The greatest terminal, and the greatest number of a message.
 pub const MOST_PAIR: u32 = 4_294_967_295;
 
-/// The program's version.
-pub const VERSION: &str = "1.0.0";
+/// The most backups of which `--keep` says that they stay.
+pub const MOST_KEPT: u32 = 10_000;
+
+/// The most names, and the most origins, that a server takes for its own.
+pub const MOST_NAMES: usize = 10;
+
+/// The program's version. One that was built without proofs tells another, with ` (unproved)` behind it.
+pub const VERSION: &str = "1.1.0";
 
 /// Which message an order file becomes.
 #[derive(Clone, Copy, Debug)]
@@ -44,8 +52,30 @@ pub struct ImportAs {
     pub number: u32,
 }
 
+/// What a server serves, and how.
+#[derive(Debug, Drop)]
+pub struct Serving<'a> {
+    /// 1 to 65535.
+    pub port: u32,
+    pub store: &'a str,
+    pub shop: &'a str,
+    /// How many connections, 1 to 1000000; where there is none, no number of them ends it.
+    pub limit: Option<u32>,
+    pub page: Option<&'a str>,
+    /// The folder of backups.
+    pub backup: Option<&'a str>,
+    /// Whether a store that isn't there is a fault.
+    pub existing: bool,
+    /// How many backups stay there, 1 to 10000, the newest; where there is none, all.
+    pub keep: Option<u32>,
+    /// The names under which it is reached besides this machine's, at most 10, as they were given.
+    pub hosts: Vec<&'a str>,
+    /// The origins of its pages besides this machine's, at most 10: `http://` or `https://`, a host, and maybe a port.
+    pub origins: Vec<&'a str>,
+}
+
 /// What a command line asks for.
-#[derive(Clone, Copy, Debug)]
+#[derive(Debug, Drop)]
 pub enum Request<'a> {
     /// Answer the lines of the input.
     Replay,
@@ -73,32 +103,32 @@ pub enum Request<'a> {
         told: Option<ImportAs>,
     },
     /// Serve a store on a port.
-    Serve {
-        /// 1 to 65535.
-        port: u32,
-        store: &'a str,
-        shop: &'a str,
-        /// How many connections, 1 to 1000000; where there is none, no number of them ends it.
-        limit: Option<u32>,
-        page: Option<&'a str>,
-        /// The folder of backups.
-        backup: Option<&'a str>,
-    },
+    Serve(Serving<'a>),
     /// Print the ticket of a job of a store.
     Ticket {
         store: &'a str,
         /// 1 to 2147483647.
         job: u32,
+        /// Whether the store's files are only read.
+        read_only: bool,
     },
     /// Print the yield report of a material of a store.
     Yield {
         store: &'a str,
         material: Code,
+        /// Whether the store's files are only read.
+        read_only: bool,
+    },
+    /// Put a backup in the place of a store.
+    Restore {
+        store: &'a str,
+        /// The folder of one backup.
+        from: &'a str,
     },
 }
 
 /// How words that `clap` takes are read: as what they ask for, or as a mistake, as they ask for nothing.
-#[derive(Clone, Copy, Debug)]
+#[derive(Debug, Drop)]
 pub enum Reading<'a> {
     Request(Request<'a>),
     Mistake(Mistake<'a>),
@@ -113,6 +143,7 @@ pub(crate) enum Word {
     Serve,
     Ticket,
     Yield,
+    Restore,
 }
 
 // An argument of a command.
@@ -133,18 +164,25 @@ enum Argument {
     Limit,
     Page,
     Backup,
+    Existing,
+    Keep,
+    Host,
+    Origin,
     Job,
     Material,
+    ReadOnly,
+    From,
 }
 
 // The words, in the order in which help lists their commands.
-const WORDS: [Word; 6] = [
+const WORDS: [Word; 7] = [
     Word::Replay,
     Word::Plan,
     Word::Orders,
     Word::Serve,
     Word::Ticket,
     Word::Yield,
+    Word::Restore,
 ];
 
 // A word or an option with one value.
@@ -159,6 +197,13 @@ fn option_arg<'a>(alloc: Global, name: &'a str, value: &'a str, about: &'a str) 
     ensures { line.IsArg (line.option_rule name.entry.now) result }
 {
     value_arg(alloc, name, about).long(name).value_name(value)
+}
+
+// An option with a value that may be given several times.
+fn several_arg<'a>(alloc: Global, name: &'a str, value: &'a str, about: &'a str) -> Arg<'a>
+    ensures { line.IsArg (line.several_rule name.entry.now) result }
+{
+    option_arg(alloc, name, value, about).action(ArgAction::Append)
 }
 
 // An option that has to be there, with a number.
@@ -217,13 +262,24 @@ fn step_arg<'a>(alloc: Global) -> Arg<'a>
     .value_parser(value_parser!(u32).range(0..=200000))
 }
 
+// A flag.
+fn flag_arg<'a>(alloc: Global, name: &'a str, about: &'a str) -> Arg<'a>
+    ensures { line.IsArg (line.flag_rule name.entry.now) result }
+{
+    Arg::new(alloc, name)
+        .action(ArgAction::SetTrue)
+        .long(name)
+        .help(about)
+}
+
 fn whole_arg<'a>(alloc: Global) -> Arg<'a>
     ensures { line.IsArg line.whole_rule result }
 {
-    Arg::new(alloc, "whole")
-        .action(ArgAction::SetTrue)
-        .long("whole")
-        .help("Plans all pieces, from as many of the rectangles as it takes")
+    flag_arg(
+        alloc,
+        "whole",
+        "Plans all pieces, from as many of the rectangles as it takes",
+    )
 }
 
 fn calls_arg<'a>(alloc: Global) -> Arg<'a>
@@ -281,6 +337,72 @@ fn backup_arg<'a>(alloc: Global) -> Arg<'a>
         "FOLDER",
         "The folder in which a backup of the store is made for each POST to /backup: 1, 2 and so on; it has to be there",
     )
+}
+
+fn existing_arg<'a>(alloc: Global) -> Arg<'a>
+    ensures { line.IsArg line.existing_rule result }
+{
+    flag_arg(
+        alloc,
+        "existing",
+        "Makes no store: one that isn't there is a fault",
+    )
+}
+
+fn keep_arg<'a>(alloc: Global) -> Arg<'a>
+    ensures { line.IsArg line.keep_rule result }
+{
+    option_arg(
+        alloc,
+        "keep",
+        "N",
+        "With --backup, how many backups stay, the newest: 1 to 10000. Without it all do",
+    )
+    .value_parser(value_parser!(u32).range(1..=10000))
+}
+
+fn host_arg<'a>(alloc: Global) -> Arg<'a>
+    ensures { line.IsArg line.host_rule result }
+{
+    several_arg(
+        alloc,
+        "host",
+        "NAME",
+        "A name under which this machine is reached, besides its own; up to 10 times",
+    )
+}
+
+fn origin_arg<'a>(alloc: Global) -> Arg<'a>
+    ensures { line.IsArg line.origin_rule result }
+{
+    several_arg(
+        alloc,
+        "origin",
+        "ORIGIN",
+        "An origin of pages that may send messages, besides the program's own, as https://shop.example; up to 10 times",
+    )
+}
+
+fn read_only_arg<'a>(alloc: Global) -> Arg<'a>
+    ensures { line.IsArg line.read_only_rule result }
+{
+    flag_arg(
+        alloc,
+        "read-only",
+        "Only reads the store's files, and makes none",
+    )
+}
+
+fn from_arg<'a>(alloc: Global) -> Arg<'a>
+    ensures { line.IsArg line.from_rule result }
+{
+    option_arg(
+        alloc,
+        "from",
+        "FOLDER/N",
+        "The backup: its number behind the folder of backups",
+    )
+    .required(true)
 }
 
 fn order_arg<'a>(alloc: Global) -> Arg<'a>
@@ -358,8 +480,14 @@ fn arg_of<'a>(alloc: Global, argument: Argument) -> Arg<'a>
         Argument::Limit => limit_arg(alloc),
         Argument::Page => page_arg(alloc),
         Argument::Backup => backup_arg(alloc),
+        Argument::Existing => existing_arg(alloc),
+        Argument::Keep => keep_arg(alloc),
+        Argument::Host => host_arg(alloc),
+        Argument::Origin => origin_arg(alloc),
         Argument::Job => job_arg(alloc),
         Argument::Material => word_arg(alloc, "MATERIAL", "The material's code"),
+        Argument::ReadOnly => read_only_arg(alloc),
+        Argument::From => from_arg(alloc),
     }
 }
 
@@ -442,6 +570,10 @@ fn serve_command<'a>(alloc: Global) -> Result<Command<'a>, AllocError>
             Argument::Limit,
             Argument::Page,
             Argument::Backup,
+            Argument::Existing,
+            Argument::Keep,
+            Argument::Host,
+            Argument::Origin,
         ],
     )
 }
@@ -454,7 +586,7 @@ fn ticket_command<'a>(alloc: Global) -> Result<Command<'a>, AllocError>
         "ticket",
         "Prints the ticket of a job: what is cut in which order, where, and for whom",
         "Example:\n  cutshop ticket --store shop.db 2",
-        &[Argument::Store, Argument::Job],
+        &[Argument::Store, Argument::Job, Argument::ReadOnly],
     )
 }
 
@@ -466,7 +598,19 @@ fn yield_command<'a>(alloc: Global) -> Result<Command<'a>, AllocError>
         "yield",
         "Prints what became of a material, and which parts of it stand",
         "Example:\n  cutshop yield --store shop.db STEEL",
-        &[Argument::Store, Argument::Material],
+        &[Argument::Store, Argument::Material, Argument::ReadOnly],
+    )
+}
+
+fn restore_command<'a>(alloc: Global) -> Result<Command<'a>, AllocError>
+    ensures { IfOk result (line.IsAppCommand line.restore_app) }
+{
+    new_command(
+        alloc,
+        "restore",
+        "Puts a backup in the place of a store, whose files stay under other names",
+        "Example:\n  cutshop restore --store shop.db --from backups/3",
+        &[Argument::Store, Argument::From],
     )
 }
 
@@ -481,6 +625,7 @@ fn command_for<'a>(alloc: Global, word: Word) -> Result<Command<'a>, AllocError>
         Word::Serve => serve_command(alloc),
         Word::Ticket => ticket_command(alloc),
         Word::Yield => yield_command(alloc),
+        Word::Restore => restore_command(alloc),
     }
 }
 
@@ -508,7 +653,7 @@ fn program<'a>(alloc: Global) -> Command<'a>
     Command::new(alloc, "cutshop")
         .about("The books and the plans of a cutting shop")
         .after_help(
-            "Units: messages, replies, problem files, --kerf and --step count tenths of a millimetre; shop files, order files, tickets and reports say millimetres.\n\nExamples:\n  cutshop replay < lines.txt\n  cutshop plan sheet.txt --kerf 30 --step 10\n  cutshop plan sheet.txt --kerf 30 --whole\n  cutshop orders orders.csv\n  cutshop serve --port 8017 --store shop.db --shop shop.toml\n  cutshop ticket --store shop.db 2\n  cutshop yield --store shop.db STEEL",
+            "Units: messages, replies, problem files, --kerf and --step count tenths of a millimetre; shop files, order files, tickets and reports say millimetres.\n\nExamples:\n  cutshop replay < lines.txt\n  cutshop plan sheet.txt --kerf 30 --step 10\n  cutshop plan sheet.txt --kerf 30 --whole\n  cutshop orders orders.csv\n  cutshop serve --port 8017 --store shop.db --shop shop.toml\n  cutshop ticket --store shop.db 2\n  cutshop yield --store shop.db STEEL\n  cutshop restore --store shop.db --from backups/3",
         )
         .subcommand_required(true)
         .version(VERSION)
@@ -555,14 +700,53 @@ fn number_if_any(matches: &ArgMatches<'_>, name: &str, least: u32, most: u32) ->
     Some(Some(number))
 }
 
+// Whether a flag is there.
+fn has_flag(matches: &ArgMatches<'_>, name: &str) -> bool
+    ensures { IsTrue result ↔ line.HasFlag name.now (rows_of (found_of matches.now)) }
+{
+    match matches.get_str(name) {
+        Some(value) => value == "true",
+        None => false,
+    }
+}
+
+// How often an option is given.
+pub(crate) fn times_given(matches: &ArgMatches<'_>, name: &str) -> usize
+    ensures { result ≡ line.times_given name.now (rows_of (found_of matches.now)) }
+{
+    match matches.get_strs(name) {
+        Some(texts) => texts.len(),
+        None => 0,
+    }
+}
+
+// A list of texts.
+fn listed<'a>(alloc: Global, texts: &[&'a str]) -> Result<Vec<&'a str>, AllocError>
+    ensures { IfOk result (λ list. list.items ≡ texts.now) }
+{
+    texts.to_vec(alloc)
+}
+
+// The texts that stand behind an option, one for each time that it is given.
+fn texts_under<'a>(
+    alloc: Global,
+    matches: &ArgMatches<'a>,
+    name: &str,
+) -> Result<Vec<&'a str>, AllocError>
+    ensures { IfOk result (λ texts.
+        line.AreTexts name.now (rows_of (found_of matches.now)) texts.items) }
+{
+    match matches.get_strs(name) {
+        Some(texts) => listed(alloc, texts),
+        None => Ok(Vec::new(alloc)),
+    }
+}
+
 // Whether all pieces are to be planned.
 pub(crate) fn is_whole(plan: &ArgMatches<'_>) -> bool
     ensures { IsTrue result ↔ line.IsWhole (rows_of (found_of plan.now)) }
 {
-    match plan.get_str("whole") {
-        Some(value) => value == "true",
-        None => false,
-    }
+    has_flag(plan, "whole")
 }
 
 // A plan of all pieces, of which file and kerf were read.
@@ -653,23 +837,148 @@ fn limit_of(serve: &ArgMatches<'_>) -> Option<Option<u32>>
     Some(Some(MOST_CONNECTIONS))
 }
 
-fn serve_request<'a>(serve: &ArgMatches<'a>) -> Option<Request<'a>>
-    ensures { line.AsAsked result (line.IsServeAsked (rows_of (found_of serve.now))) }
+// How many backups stay, where that is said.
+fn keep_of(serve: &ArgMatches<'_>) -> Option<Option<u32>>
+    ensures { line.AsAsked result (line.IsKeep (rows_of (found_of serve.now))) }
+{
+    if !has_option(serve, "keep") {
+        return Some(None);
+    }
+    let keep = number_of(serve, "keep", 1, MOST_KEPT)?;
+    if !has_option(serve, "backup") {
+        return None;
+    }
+    Some(Some(keep))
+}
+
+fn is_host_char(byte: u8) -> bool
+    ensures { result ≡ line.is_host_byte byte }
+{
+    byte.is_ascii_alphanumeric()
+        || byte == b'-'
+        || byte == b'.'
+        || byte == b'_'
+        || byte == b':'
+        || byte == b'['
+        || byte == b']'
+}
+
+// Whether each byte is one of a host and a port.
+fn has_host_bytes(text: &[u8]) -> bool
+    ensures { result ≡ list_all line.is_host_byte text.now }
+{
+    text.iter().all(|byte| is_host_char(*byte))
+}
+
+// Whether a text is a host, or one and a port.
+fn is_host(text: &[u8]) -> bool
+    ensures { result ≡ line.is_host text.now }
+{
+    if text.is_empty() {
+        return false;
+    }
+    text[0] != b':' && has_host_bytes(text)
+}
+
+// Whether a text is this and a host behind it.
+fn is_host_behind(scheme: &[u8], text: &[u8]) -> bool
+    ensures { result ≡ line.is_host_behind scheme.now text.now }
+{
+    match text.strip_prefix(scheme) {
+        Some(host) => is_host(host),
+        None => false,
+    }
+}
+
+// Whether a text is an origin.
+fn is_origin(text: &[u8]) -> bool
+    ensures { result ≡ line.is_origin text.now }
+{
+    is_host_behind(b"http://".as_slice(), text) || is_host_behind(b"https://".as_slice(), text)
+}
+
+// The first of these texts that is no origin.
+fn first_bad<'a>(texts: &[&'a str]) -> Option<&'a str>
+    ensures { option_map (λ text. text.now) result
+        ≡ line.bad_origin (map (λ text. text.now) texts.now) }
+{
+    for text in texts {
+        if !is_origin(text.as_bytes()) {
+            return Some(*text);
+        }
+    }
+    None
+}
+
+// The first text behind `--origin` that is no origin.
+pub(crate) fn bad_origin<'a>(serve: &ArgMatches<'a>) -> Option<&'a str>
+    ensures { option_map (λ text. text.now) result
+        ≡ line.bad_origin (line.texts_under (codes "origin") (rows_of (found_of serve.now))) }
+{
+    match serve.get_strs("origin") {
+        Some(texts) => first_bad(texts),
+        None => None,
+    }
+}
+
+// Whether the names and origins of a server are few enough, and each origin is one.
+fn has_good_names(serve: &ArgMatches<'_>) -> bool
+    ensures { IsTrue result ↔ line.HasGoodNames (rows_of (found_of serve.now)) }
+{
+    if times_given(serve, "host") > MOST_NAMES || times_given(serve, "origin") > MOST_NAMES {
+        return false;
+    }
+    bad_origin(serve).is_none()
+}
+
+// What is served with these names and origins.
+fn serving_of<'a>(
+    serve: &ArgMatches<'a>,
+    hosts: Vec<&'a str>,
+    origins: Vec<&'a str>,
+) -> Option<Serving<'a>>
+    requires hosts { line.AreTexts (codes "host") (rows_of (found_of serve.now)) hosts.items }
+    requires origins { line.AreTexts (codes "origin") (rows_of (found_of serve.now)) origins.items }
+    ensures { line.AsAsked result (line.IsServing (rows_of (found_of serve.now))) }
 {
     let port = number_of(serve, "port", 1, LAST_PORT)?;
     let store = serve.get_str("store")?;
     let shop = serve.get_str("shop")?;
     let limit = limit_of(serve)?;
+    let keep = keep_of(serve)?;
     let page = serve.get_str("page");
     let backup = serve.get_str("backup");
-    Some(Request::Serve {
+    let existing = has_flag(serve, "existing");
+    if !has_good_names(serve) {
+        return None;
+    }
+    Some(Serving {
         port,
         store,
         shop,
         limit,
         page,
         backup,
+        existing,
+        keep,
+        hosts,
+        origins,
     })
+}
+
+fn serve_request<'a>(
+    alloc: Global,
+    serve: &ArgMatches<'a>,
+) -> Result<Option<Request<'a>>, AllocError>
+    ensures { IfOk result
+        (λ found. line.AsAsked found (line.IsServeAsked (rows_of (found_of serve.now)))) }
+{
+    let hosts = texts_under(alloc, serve, "host")?;
+    let origins = texts_under(alloc, serve, "origin")?;
+    match serving_of(serve, hosts, origins) {
+        Some(serving) => Ok(Some(Request::Serve(serving))),
+        None => Ok(None),
+    }
 }
 
 fn ticket_request<'a>(ticket: &ArgMatches<'a>) -> Option<Request<'a>>
@@ -677,7 +986,12 @@ fn ticket_request<'a>(ticket: &ArgMatches<'a>) -> Option<Request<'a>>
 {
     let store = ticket.get_str("store")?;
     let job = number_of(ticket, "JOB", 1, MOST_NUMBERS)?;
-    Some(Request::Ticket { store, job })
+    let read_only = has_flag(ticket, "read-only");
+    Some(Request::Ticket {
+        store,
+        job,
+        read_only,
+    })
 }
 
 fn yield_request<'a>(report: &ArgMatches<'a>) -> Option<Request<'a>>
@@ -685,7 +999,20 @@ fn yield_request<'a>(report: &ArgMatches<'a>) -> Option<Request<'a>>
 {
     let store = report.get_str("store")?;
     let material = Code::read(report.get_str("MATERIAL")?)?;
-    Some(Request::Yield { store, material })
+    let read_only = has_flag(report, "read-only");
+    Some(Request::Yield {
+        store,
+        material,
+        read_only,
+    })
+}
+
+fn restore_request<'a>(restore: &ArgMatches<'a>) -> Option<Request<'a>>
+    ensures { line.AsAsked result (line.IsRestoreAsked (rows_of (found_of restore.now))) }
+{
+    let store = restore.get_str("store")?;
+    let from = restore.get_str("from")?;
+    Some(Request::Restore { store, from })
 }
 
 // The command of this word.
@@ -704,40 +1031,58 @@ pub(crate) fn word_of(name: &str) -> Option<Word>
         Some(Word::Ticket)
     } else if name == "yield" {
         Some(Word::Yield)
+    } else if name == "restore" {
+        Some(Word::Restore)
     } else {
         None
     }
 }
 
 // What a command asks for with its values.
-fn request_in<'a>(word: Word, values: &ArgMatches<'a>) -> Option<Request<'a>>
-    ensures { line.AsAsked result (line.IsAsked word (rows_of (found_of values.now))) }
+fn request_in<'a>(
+    alloc: Global,
+    word: Word,
+    values: &ArgMatches<'a>,
+) -> Result<Option<Request<'a>>, AllocError>
+    ensures { IfOk result
+        (λ found. line.AsAsked found (line.IsAsked word (rows_of (found_of values.now)))) }
 {
     match word {
-        Word::Replay => Some(Request::Replay),
-        Word::Plan => plan_request(values),
-        Word::Orders => orders_request(values),
-        Word::Serve => serve_request(values),
-        Word::Ticket => ticket_request(values),
-        Word::Yield => yield_request(values),
+        Word::Replay => Ok(Some(Request::Replay)),
+        Word::Plan => Ok(plan_request(values)),
+        Word::Orders => Ok(orders_request(values)),
+        Word::Serve => serve_request(alloc, values),
+        Word::Ticket => Ok(ticket_request(values)),
+        Word::Yield => Ok(yield_request(values)),
+        Word::Restore => Ok(restore_request(values)),
     }
 }
 
 // What the command that was read asks for.
-fn request_read<'a>(matches: &ArgMatches<'a>) -> Option<Request<'a>>
-    ensures { line.AsAsked result (line.AsksFor (subcommand_rows_of matches.now)) }
+fn request_read<'a>(
+    alloc: Global,
+    matches: &ArgMatches<'a>,
+) -> Result<Option<Request<'a>>, AllocError>
+    ensures { IfOk result
+        (λ found. line.AsAsked found (line.AsksFor (subcommand_rows_of matches.now))) }
 {
-    let (name, values) = matches.subcommand()?;
-    request_in(word_of(name)?, values)
+    let Some((name, values)) = matches.subcommand() else {
+        return Ok(None);
+    };
+    match word_of(name) {
+        Some(word) => request_in(alloc, word, values),
+        None => Ok(None),
+    }
 }
 
 // What the command that was read asks for, or the mistake by which it asks for nothing.
-fn reading_of<'a>(matches: &ArgMatches<'a>) -> Reading<'a>
-    ensures { IsRead (subcommand_rows_of matches.now) result }
+fn reading_of<'a>(alloc: Global, matches: &ArgMatches<'a>) -> Result<Reading<'a>, AllocError>
+    ensures { IfOk result (IsRead (subcommand_rows_of matches.now)) }
 {
-    match request_read(matches) {
-        Some(request) => Reading::Request(request),
-        None => Reading::Mistake(mistake_of(matches)),
+    match request_read(alloc, matches) {
+        Ok(Some(request)) => Ok(Reading::Request(request)),
+        Ok(None) => Ok(Reading::Mistake(mistake_of(matches))),
+        Err(out) => Err(out),
     }
 }
 
@@ -751,5 +1096,6 @@ pub fn request_of<'a>(alloc: Global, words: &'a [String]) -> Result<Reading<'a>,
 {
     let command = command_of(alloc)?;
     let matches = command.try_get_matches_from(words)?;
-    Ok(reading_of(&matches))
+    let reading = reading_of(alloc, &matches)?;
+    Ok(reading)
 }

@@ -1,4 +1,4 @@
-use Rattle.std.proofs.Common.{ℕ, List, length-drop, ◌≡◌, ◌∙◌, ◌≤◌, ◌<◌, ◌-◌, [], Some, Ok, true, ap, sym, subst, refl, arith, take, drop, length, ◌++◌, append-nil}
+use Rattle.std.proofs.Common.{ℕ, List, length-drop, ◌≡◌, ◌∙◌, ◌≤◌, ◌-◌, [], Some, Ok, true, ap, sym, subst, refl, arith, take, drop, length, ◌++◌, append-nil}
 use Rattle.std.specs.Prelude.{slice_range}
 use Rattle.std.proofs.lemmas.List.{length-take}
 use Rattle.httparse.specs.Spans.{IsRequestAt}

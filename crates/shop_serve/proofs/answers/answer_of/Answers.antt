@@ -1,6 +1,17 @@
-use Rattle.std.proofs.Common.{◌∙◌, sym}
+use Rattle.std.proofs.Common.{◌∙◌, inr, refl, sym}
 use Rattle.shop_serve.proofs.Turns.{no_route, none_served, one_ruled}
 use Rattle.shop_serve.proofs.answers.answer_of.Goals as goal
+
+pub returns-in-Ok-clause-made : goal.returns-in-Ok-clause-made
+returns-in-Ok-clause-made g c =
+    inr (
+      c.rule-ruling.result,
+      c.args.failed,
+      c.rule-ruling.ensures,
+      no_route c.rule-ruling.result (sym c.is_routed.ensures ∙ c.if-is_routed.false),
+      c.in-Ok.ensures,
+      refl,
+    )
 
 pub returns-in-Ok-clause-step : goal.returns-in-Ok-clause-step
 returns-in-Ok-clause-step g c =

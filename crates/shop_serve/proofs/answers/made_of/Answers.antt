@@ -1,9 +1,11 @@
-use Rattle.std.proofs.Common.{subst}
-use Rattle.shop_serve.specs.Making.{IsNext}
+use Rattle.std.proofs.Common.{subst, sym}
+use Rattle.shop_serve.specs.Making.{IsMadeMeanwhile, IsNext}
 use Rattle.shop_serve.proofs.Turns.{made-alone}
 use Rattle.shop_serve.proofs.answers.made_of.Goals as goal
 
 pub returns-in-Made-clause-made : goal.returns-in-Made-clause-made
 returns-in-Made-clause-made g c =
-    made-alone c.args.site.now g.B.Book c.args.book.now c.answer_of.new.book (g.K.Watch.times c.args.watch.now) c.args.received.now c.in-Made.made
-    (subst (IsNext c.args.site.now g.B.Book c.args.book.now c.answer_of.new.book c.args.received.now) c.in-Made.is c.in_ok-made.ensures.made)
+    let seen = g.K.Watch.times c.args.watch.now in
+    let alone = made-alone c.args.site.now g.B.Book c.args.book.now c.answer_of.new.book seen c.args.received.now c.in-Made.made
+    (subst (IsNext c.args.site.now g.B.Book c.args.book.now c.answer_of.new.book c.args.received.now) c.in-Made.is c.in_ok-made.ensures.made) in
+    subst (λ t. IsMadeMeanwhile c.args.site.now g.B.Book c.args.book.now c.answer_of.new.book seen t c.args.received.now c.in-Made.made) (sym c.note_made.ensures) alone

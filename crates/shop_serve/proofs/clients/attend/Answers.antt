@@ -21,11 +21,11 @@ returns-clause-attended g c stays known =
 pub returns-then-is_some-clause-lost : goal.returns-then-is_some-clause-lost
 returns-then-is_some-clause-lost g c lost =
     let some : IsSome c.args.client.now.answer = search rules in
-    spoiled-on g.C.Connection c.args.site.now g.B.Book (g.K.Watch.times c.args.watch.now) c.args.client.now c.answer_on.new.client some (c.answer_on.ensures.lost lost)
+    spoiled-on g.C.Connection c.args.site.now g.B.Book c.args.client.now c.answer_on.new.client some (c.answer_on.ensures.lost lost)
 
 pub returns-clause-lost : goal.returns-clause-lost
 returns-clause-lost g c lost =
     let none : c.args.client.now.answer ≡ None = search rules in
     let rests : c.args.client.now.thought ≡ None = search rules in
-    spoiled-first g.C.Connection c.args.site.now g.B.Book (g.K.Watch.times c.args.watch.now) c.args.client.now c.ask.new.client c.answer_on-2.new.client none rests (c.ask.ensures.begins c.in-Whole.is).1
+    spoiled-first g.C.Connection c.args.site.now g.B.Book c.args.client.now c.ask.new.client c.answer_on-2.new.client none rests (c.ask.ensures.begins c.in-Whole.is).1
     (c.answer_on-2.ensures.lost lost)

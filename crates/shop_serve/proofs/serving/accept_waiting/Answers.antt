@@ -1,46 +1,43 @@
-use Rattle.std.proofs.Common.{◌+◌, ◌∙◌, [], ◌∷◌, refl, subst, sym, arith}
+use Rattle.std.proofs.Common.{◌∙◌, ◌∷◌, [], refl, subst, sym, arith}
 use Rattle.std.specs.Prelude.{Ok}
-use Rattle.shop_serve.specs.Clients.{unanswered}
 use Rattle.shop_serve.specs.declared.faults.ServeFault.{ServeFault}
 use Rattle.shop_serve.specs.Ports.{given_by}
 use Rattle.shop_serve.specs.Times.{Adds}
 use Rattle.shop_serve.proofs.Gathered.{adds-none, arrived-none, arrived-all, arrived-one}
-use Rattle.shop_serve.proofs.Turns.{stays, advances_more}
 use Rattle.shop_serve.proofs.serving.accept_waiting.Goals as goal
 
 pub returns-then-accepted-limit-clause-each : goal.returns-then-accepted-limit-clause-each
 returns-then-accepted-limit-clause-each g c =
-    arrived-all g.C.Connection c.args.site.now g.B.Book _ (g.P.Port.given c.args.port.now) (g.P.Port.given c.loop.port) (g.P.Port.given c.loop.port) c.args.accepted.now c.loop.accepted c.args.clients.now c.loop.clients c.args.book.now c.loop.book (g.K.Watch.times c.args.watch.now) (g.K.Watch.times c.loop.watch)
+    arrived-all _ (g.P.Port.given c.args.port.now) (g.P.Port.given c.loop.port) (g.P.Port.given c.loop.port) c.args.accepted.now c.loop.accepted c.args.clients.now c.loop.clients (g.K.Watch.times c.args.watch.now) (g.K.Watch.times c.loop.watch)
     (adds-none (g.P.Port.given c.loop.port)) c.loop.invariant.each
 
 pub returns-then-not-can_open_one-clause-each : goal.returns-then-not-can_open_one-clause-each
 returns-then-not-can_open_one-clause-each g c =
-    arrived-all g.C.Connection c.args.site.now g.B.Book _ (g.P.Port.given c.args.port.now) (g.P.Port.given c.loop.port) (g.P.Port.given c.loop.port) c.args.accepted.now c.loop.accepted c.args.clients.now c.loop.clients c.args.book.now c.loop.book (g.K.Watch.times c.args.watch.now) (g.K.Watch.times c.loop.watch)
+    arrived-all _ (g.P.Port.given c.args.port.now) (g.P.Port.given c.loop.port) (g.P.Port.given c.loop.port) c.args.accepted.now c.loop.accepted c.args.clients.now c.loop.clients (g.K.Watch.times c.args.watch.now) (g.K.Watch.times c.loop.watch)
     (adds-none (g.P.Port.given c.loop.port)) c.loop.invariant.each
 
 pub returns-clause-each : goal.returns-clause-each
 returns-clause-each g c =
-    arrived-all g.C.Connection c.args.site.now g.B.Book _ (g.P.Port.given c.args.port.now) (g.P.Port.given c.loop.port) (g.P.Port.given c.loop.port) c.args.accepted.now c.loop.accepted c.args.clients.now c.loop.clients c.args.book.now c.loop.book (g.K.Watch.times c.args.watch.now) (g.K.Watch.times c.loop.watch)
+    arrived-all _ (g.P.Port.given c.args.port.now) (g.P.Port.given c.loop.port) (g.P.Port.given c.loop.port) c.args.accepted.now c.loop.accepted c.args.clients.now c.loop.clients (g.K.Watch.times c.args.watch.now) (g.K.Watch.times c.loop.watch)
     (adds-none (g.P.Port.given c.loop.port)) c.loop.invariant.each
 
 pub returns-in-Ok-None-clause-each : goal.returns-in-Ok-None-clause-each
 returns-in-Ok-None-clause-each g c =
-    arrived-all g.C.Connection c.args.site.now g.B.Book _ (g.P.Port.given c.args.port.now) (g.P.Port.given c.loop.port) (g.P.Port.given c.accept.new.self) c.args.accepted.now c.loop.accepted c.args.clients.now c.loop.clients c.args.book.now c.loop.book (g.K.Watch.times c.args.watch.now) (g.K.Watch.times c.loop.watch)
+    arrived-all _ (g.P.Port.given c.args.port.now) (g.P.Port.given c.loop.port) (g.P.Port.given c.accept.new.self) c.args.accepted.now c.loop.accepted c.args.clients.now c.loop.clients (g.K.Watch.times c.args.watch.now) (g.K.Watch.times c.loop.watch)
     (subst (λ o. Adds (g.P.Port.given c.loop.port) (g.P.Port.given c.accept.new.self) (given_by {E = ServeFault} (Ok o))) c.in-Ok-None.field-0-is c.in-Ok-None.ensures.given) c.loop.invariant.each
 
 pub returns-in-Err-clause-each : goal.returns-in-Err-clause-each
 returns-in-Err-clause-each g c =
-    arrived-all g.C.Connection c.args.site.now g.B.Book _ (g.P.Port.given c.args.port.now) (g.P.Port.given c.loop.port) (g.P.Port.given c.accept.new.self) c.args.accepted.now c.loop.accepted c.args.clients.now c.loop.clients c.args.book.now c.loop.book (g.K.Watch.times c.args.watch.now) (g.K.Watch.times c.loop.watch)
+    arrived-all _ (g.P.Port.given c.args.port.now) (g.P.Port.given c.loop.port) (g.P.Port.given c.accept.new.self) c.args.accepted.now c.loop.accepted c.args.clients.now c.loop.clients (g.K.Watch.times c.args.watch.now) (g.K.Watch.times c.loop.watch)
     (c.in-Err.ensures.given) c.loop.invariant.each
 
 pub loop-init : goal.loop-init
 loop-init g c =
     record {
-      each = arrived-none g.C.Connection c.args.site.now g.B.Book _ (g.P.Port.given c.args.port.now) c.args.accepted.now c.args.clients.now c.args.book.now (g.K.Watch.times c.args.watch.now);
+      each = arrived-none _ (g.P.Port.given c.args.port.now) c.args.accepted.now c.args.clients.now (g.K.Watch.times c.args.watch.now);
       told = refl;
-      run = stays c.args.site.now g.B.Book c.args.book.now (unanswered c.args.clients.now + c.args.accepted.now) (unanswered c.args.clients.now + c.args.accepted.now) (omega arith);
+      fewer = omega arith;
       bound = c.requires.bound;
-      clean_disk = λ clean_disk. clean_disk;
     }
 
 pub loop-preserved : goal.loop-preserved
@@ -49,13 +46,10 @@ loop-preserved g c =
     let more = c.receive.ensures in
     let given = subst (λ o. Adds (g.P.Port.given c.loop.port) (g.P.Port.given c.accept.new.self) (given_by {E = ServeFault} (Ok o))) c.in-Ok-Some.field-0-is c.in-Ok-Some.ensures.given in
     record {
-      each = arrived-one g.C.Connection c.args.site.now g.B.Book _ (g.P.Port.given c.args.port.now) (g.P.Port.given c.loop.port) (g.P.Port.given c.receive.new.port)
-          c.args.accepted.now c.loop.accepted c.args.clients.now c.loop.clients c.receive.new.clients c.args.book.now c.loop.book c.receive.new.book (g.K.Watch.times c.args.watch.now) (g.K.Watch.times c.loop.watch) (g.K.Watch.times c.receive.new.watch) c.in-Ok-Some.stream
+      each = arrived-one _ (g.P.Port.given c.args.port.now) (g.P.Port.given c.loop.port) (g.P.Port.given c.receive.new.port)
+          c.args.accepted.now c.loop.accepted c.args.clients.now c.loop.clients c.receive.new.clients (g.K.Watch.times c.args.watch.now) (g.K.Watch.times c.loop.watch) (g.K.Watch.times c.receive.new.watch) c.in-Ok-Some.stream
           (subst (λ o. Adds (g.P.Port.given c.loop.port) o (c.in-Ok-Some.stream ∷ [])) (sym more.given) given) more.received so_far.each;
       told = more.told ∙ c.accept.ensures.told ∙ so_far.told;
-      run = advances_more c.args.site.now g.B.Book c.args.book.now c.loop.book c.receive.new.book (unanswered c.args.clients.now + c.loop.accepted) (unanswered c.loop.clients + c.args.accepted.now)
-          (unanswered c.loop.clients + 1) (unanswered c.receive.new.clients) (unanswered c.args.clients.now + (c.loop.accepted + 1)) (unanswered c.receive.new.clients + c.args.accepted.now)
-          (omega arith) more.clean_disk so_far.run more.run;
+      fewer = omega (arith, so_far.fewer, more.fewer);
       bound = omega (arith, c.if-accepted-limit.false);
-      clean_disk = λ clean_disk. so_far.clean_disk (more.clean_disk clean_disk);
     }

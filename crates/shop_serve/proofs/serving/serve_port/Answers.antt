@@ -1,7 +1,7 @@
 use Rattle.std.proofs.Common.{◌∙◌, ◌+◌, refl, sym, subst, arith}
 use Rattle.std.proofs.lemmas.Bool.{eqb-true}
 use Rattle.shop_serve.specs.Clients.{unanswered}
-use Rattle.shop_serve.specs.Times.{Adds}
+use Rattle.shop_serve.specs.Times.{Adds, Looks}
 use Rattle.shop_serve.proofs.Gathered.{rounds-none, rounds-all, rounds-one}
 use Rattle.shop_serve.proofs.Slots.{none-open, unanswered-empty}
 use Rattle.shop_serve.proofs.Turns.{stays, advances_more, advanced}
@@ -23,10 +23,10 @@ loop-preserved g c =
     record {
       all = rounds-one g.C.Connection c.args.site.now g.B.Book _ (g.P.Port.told c.args.port.now) (g.P.Port.told c.loop.port) (g.P.Port.told c.turn.new.port) (g.P.Port.given c.args.port.now) (g.P.Port.given c.loop.port) (g.P.Port.given c.turn.new.port)
           c.loop.accepted c.turn.new.accepted c.new-clients.result c.loop.clients c.turn.new.clients c.args.book.now c.loop.book c.turn.new.book
-          (g.K.Watch.times c.args.watch.now) (g.K.Watch.times c.loop.watch) (g.K.Watch.times c.turn.new.watch) more.round.3.0 (g.P.Port.reported c.wait.new.self) more.round.0
+          (g.K.Watch.times c.args.watch.now) (g.K.Watch.times c.loop.watch) (g.K.Watch.times c.is_in_place.new.self) (g.K.Watch.times c.turn.new.watch) more.round.3.0 (g.P.Port.reported c.wait.new.self) more.round.0
           (subst (λ t. Adds (g.P.Port.told c.loop.port) t (g.P.Port.reported c.wait.new.self)) (sym more.told) c.in-Ok.ensures.told)
           (subst (λ t. Adds t (g.P.Port.given c.turn.new.port) more.round.0) c.wait.ensures.given more.round.2)
-          more.round.1 more.round.3.1 so_far.all;
+          more.round.1 (subst (Looks (g.K.Watch.times c.loop.watch) (g.K.Watch.times c.is_in_place.new.self)) c.if-not-is_in_place.false c.is_in_place.ensures) more.round.3.1 so_far.all;
       run = advances_more c.args.site.now g.B.Book c.args.book.now c.loop.book c.turn.new.book c.loop.accepted (unanswered c.loop.clients)
           (unanswered c.loop.clients + c.turn.new.accepted) (unanswered c.turn.new.clients + c.loop.accepted) c.turn.new.accepted (unanswered c.turn.new.clients) (omega arith) more.clean_disk so_far.run more.run;
       bound = more.bound;
@@ -70,3 +70,7 @@ returns-in-None-clause-served g c =
 
 pub returns-in-None-clause-clean_disk : goal.returns-in-None-clause-clean_disk
 returns-in-None-clause-clean_disk g c clean_disk = c.loop.invariant.clean_disk (c.turn.ensures.clean_disk clean_disk)
+
+pub returns-then-not-is_in_place-clause-served : goal.returns-then-not-is_in_place-clause-served
+returns-then-not-is_in_place-clause-served g c =
+    advanced c.args.site.now g.B.Book c.args.book.now c.loop.book c.loop.accepted (unanswered c.loop.clients) c.args.limit c.loop.invariant.bound c.loop.invariant.run

@@ -1,6 +1,6 @@
 use Rattle.std.proofs.Common.{◌+◌, subst, arith}
 use Rattle.shop_serve.specs.Clients.{AreAttended, unanswered}
-use Rattle.shop_serve.proofs.Turns.{advances_more}
+use Rattle.shop_serve.proofs.Turns.{advances_more, advances_within}
 use Rattle.shop_serve.proofs.serving.turn.Goals as goal
 
 pub returns-clause-round : goal.returns-clause-round
@@ -21,7 +21,6 @@ returns-clause-round g c =
           read = c.now-moment.ensures;
           late = c.close_late.ensures.late;
           thought = c.think.new.clients;
-          later = c.think.new.book;
           third = g.K.Watch.times c.think.new.watch;
           thinks = c.think.ensures.thinks;
           received = arrived.3;
@@ -31,11 +30,9 @@ returns-clause-round g c =
 
 pub returns-clause-run : goal.returns-clause-run
 returns-clause-run g c =
-    advances_more c.args.site.now g.B.Book c.args.book.now c.think.new.book c.accept_waiting-wait.new.book (unanswered c.args.clients.now) (unanswered c.think.new.clients)
-    (unanswered c.think.new.clients + c.accept_waiting-wait.new.accepted) (unanswered c.accept_waiting-wait.new.clients + c.args.accepted.now)
+    advances_within c.args.site.now g.B.Book c.args.book.now c.think.new.book (unanswered c.args.clients.now) (unanswered c.think.new.clients)
     (unanswered c.args.clients.now + c.accept_waiting-wait.new.accepted) (unanswered c.accept_waiting-wait.new.clients + c.args.accepted.now)
-    (omega arith) c.accept_waiting-wait.ensures.clean_disk
+    (omega (arith, c.accept_waiting-wait.ensures.fewer))
     (advances_more c.args.site.now g.B.Book c.args.book.now c.attend_reported.new.book c.think.new.book (unanswered c.args.clients.now) (unanswered c.attend_reported.new.clients)
     (unanswered c.close_late.new.clients) (unanswered c.think.new.clients) (unanswered c.args.clients.now) (unanswered c.think.new.clients)
     (omega (arith, c.close_late.ensures.fewer)) c.think.ensures.clean_disk c.attend_reported.ensures.run c.think.ensures.run)
-    c.accept_waiting-wait.ensures.run

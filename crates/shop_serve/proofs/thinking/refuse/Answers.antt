@@ -1,6 +1,7 @@
-use Rattle.std.proofs.Common.{◌∙◌, ℕ, ap}
+use Rattle.std.proofs.Common.{◌∙◌, ℕ, ap, subst}
 use Rattle.std.specs.declared.alloc.Global.{Global}
 use Rattle.std.specs.Prelude.{Vec}
+use Rattle.shop_serve.specs.Times.{Tells}
 use Rattle.shop_serve.proofs.thinking.refuse.Goals as goal
 
 pub returns-in-Ok-clause-answered : goal.returns-in-Ok-clause-answered
@@ -8,7 +9,7 @@ returns-in-Ok-clause-answered g c told =
     record {
       answer = c.into_bytes.result;
       now = c.now.result;
-      read = c.now.ensures;
+      read = subst (λ t. Tells t (g.K.Watch.times c.now.new.self) c.now.result) c.note.ensures c.now.ensures;
       told = ap (λ (v : Vec ℕ Global). v.items) c.into_bytes.ensures.value ∙ c.in-Ok.ensures;
       kept = c.put_answer.ensures;
     }

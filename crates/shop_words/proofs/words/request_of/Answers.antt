@@ -34,7 +34,7 @@ returns-clause-ok c =
     let words = map string_bytes c.args.words.now in
     let taken = nothing_wrong command words c.in_ok-command.ensures c.in_ok-matches.ensures.kinds in
     let read = command_read command words c.in_ok-matches.matches c.in_ok-command.ensures c.in_ok-matches.ensures.matches in
-    (taken, subst (λ found. IsRead found c.reading_of.result) read c.reading_of.ensures)
+    (taken, subst (λ found. IsRead found c.in_ok-reading.reading) read c.in_ok-reading.ensures)
 
 pub returns-in_err-matches-clause-err : goal.returns-in_err-matches-clause-err
 returns-in_err-matches-clause-err c =

@@ -10,4 +10,4 @@ returns-in_err-store c =
     rw c.from_residual.ensures (no_ticket_store (rows_of found) (sym (c.in_err-store.ensures ∙ first_value-rows found (codes "store"))))
 
 pub returns : goal.returns
-returns c = (sym (c.in_ok-store.ensures ∙ first_value-rows (found_of c.args.ticket.now) (codes "store")), c.in_ok-job.ensures)
+returns c = (sym (c.in_ok-store.ensures ∙ first_value-rows (found_of c.args.ticket.now) (codes "store")), c.in_ok-job.ensures, c.has_flag-read_only.ensures)

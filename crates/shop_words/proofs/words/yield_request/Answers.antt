@@ -26,4 +26,5 @@ returns c =
     let found = found_of c.args.report.now in (
       sym (c.in_ok-store.ensures ∙ first_value-rows found (codes "store")),
       the_code (first_of (codes "MATERIAL") (rows_of found)) _ c.in_ok-material.material (c.in_ok-get_str.ensures ∙ first_value-rows found (codes "MATERIAL")) c.in_ok-material.ensures,
+      c.has_flag-read_only.ensures,
     )

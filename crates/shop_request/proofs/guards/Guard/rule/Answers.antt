@@ -8,9 +8,9 @@ pub returns-in-Unfinished : goal.returns-in-Unfinished
 returns-in-Unfinished c =
     let guard = c.args.self.now in
     let part = subst (IsFound (prefix c.args.received.now) c.args.head.now.headers) c.in-Unfinished.is c.requires.found in
-    unfinished_ruling guard.port guard.has_page guard.has_backups c.args.received.now part.0 part.1
+    unfinished_ruling guard c.args.received.now part.0 part.1
 
 pub returns-in-Refused : goal.returns-in-Refused
 returns-in-Refused c =
     let guard = c.args.self.now in
-    refused_ruling guard.port guard.has_page guard.has_backups c.args.received.now c.in-Refused.field-0 (subst (IsFound (prefix c.args.received.now) c.args.head.now.headers) c.in-Refused.is c.requires.found)
+    refused_ruling guard c.args.received.now c.in-Refused.field-0 (subst (IsFound (prefix c.args.received.now) c.args.head.now.headers) c.in-Refused.is c.requires.found)

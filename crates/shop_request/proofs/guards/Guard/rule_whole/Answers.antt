@@ -6,16 +6,14 @@ use Rattle.shop_request.proofs.guards.Guard.rule_whole.Goals as goal
 
 pub returns : goal.returns
 returns c =
-    let port = c.args.self.now.port in
-    let has_page = c.args.self.now.has_page in
-    let has_backups = c.args.self.now.has_backups in
+    let guard = c.args.self.now in
     let headers = c.args.headers.now in
     let spans = c.args.spans.now in
     let of = c.requires.head in
-    subst (HasRuling port has_page has_backups c.args.received.now) (sym c.rule_parts.ensures)
+    subst (HasRuling guard c.args.received.now) (sym c.rule_parts.ensures)
     (subst
-    (λ b. HasRuling port has_page has_backups c.args.received.now (ruled_parts port has_page has_backups c.of.result.now c.target_text.result.now spans.version (map (header_bytes b) (take spans.headers headers))))
+    (λ b. HasRuling guard c.args.received.now (ruled_parts guard c.of.result.now c.target_text.result.now spans.version (map (header_bytes b) (take spans.headers headers))))
     (sym c.prefix_of-prefix.ensures)
-    (whole_ruling port has_page has_backups c.args.received.now headers spans of.0 c.requires.room of.1 c.of.result.now c.target_text.result.now
+    (whole_ruling guard c.args.received.now headers spans of.0 c.requires.room of.1 c.of.result.now c.target_text.result.now
     (c.of.ensures ∙ ap (λ b. span_bytes b spans.method) c.prefix_of-prefix.ensures)
     (c.target_text.ensures ∙ c.of-2.ensures ∙ ap (λ b. span_bytes b spans.path) c.prefix_of-prefix.ensures)))

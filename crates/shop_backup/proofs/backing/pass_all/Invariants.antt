@@ -1,0 +1,6 @@
+use Rattle.std.proofs.Common.{List, take}
+use Rattle.shop_backup.specs.Steps.{Adds, ArePassed, BackupStep}
+use Rattle.shop_backup.proofs.backing.pass_all.Given as goal
+
+abbrev pub invariant-loop-number : goal.invariant-loop-number
+invariant-loop-number g l = (steps : List BackupStep) × ArePassed (take l.number-index l.old) steps × Adds (g.T.Shelf.done l.fn.shelf) (g.T.Shelf.done l.shelf) steps

@@ -1,0 +1,410 @@
+//! A store's place among files, in which a backup is put.
+
+ghost use Rattle.std.specs.Prelude.{None};
+
+use crate::backing::{CopyFault, copy_all};
+use crate::folders::{Target, sync_folder};
+use crate::held::{HeldFile, HeldFolder, HoldFault};
+use crate::restoring::{Place, RestoreFault, RestoreStep, restore};
+use crate::shelves::Half;
+use shop_advice::{StoreCause, kind_cause};
+use shop_streams::Counted;
+use std::alloc::{AllocError, Global};
+use std::fs::{self, File, Files, Metadata, OpenFile, OpenOptions, Permissions};
+use std::io::{self, ErrorKind};
+use std::os::unix::fs::{MetadataExt, OpenOptionsExt, PermissionsExt};
+
+/// What judges whether files hold a book.
+pub trait Judges {
+    /// Whether a store's file and its log, which are only read, hold a book.
+    fn holds_book(&mut self, alloc: Global, store: &str) -> Result<bool, AllocError>;
+}
+
+// The names that a store's files have, get and had.
+#[derive(Drop)]
+struct Paths {
+    store: String,
+    log: String,
+    new_store: String,
+    new_log: String,
+    old_store: String,
+    old_log: String,
+    folder: String,
+}
+
+fn failed(error: &io::Error) -> RestoreFault {
+    match error.kind() {
+        ErrorKind::OutOfMemory => RestoreFault::NoMemory,
+        kind => RestoreFault::Store(kind_cause(kind)),
+    }
+}
+
+// Whether something has this name, be it a link to nothing.
+fn is_named<R: Files>(rt: &R, path: &str) -> Result<bool, RestoreFault> {
+    match fs::symlink_metadata(rt, path) {
+        Ok(_) => Ok(true),
+        Err(error) if error.kind() == ErrorKind::NotFound => Ok(false),
+        Err(error) => Err(failed(&error)),
+    }
+}
+
+// The folder in which a path is.
+fn folder_of(path: &str) -> &str {
+    match path.rsplit_once('/') {
+        Some(("", _)) => "/",
+        Some((folder, _)) => folder,
+        None => ".",
+    }
+}
+
+// Where the links of a store's path lead, or the path itself where nothing is there.
+fn resolved<R: Files>(rt: &R, alloc: Global, path: &str) -> Result<String, RestoreFault> {
+    if !is_named(rt, path)? {
+        return Ok(format!(in alloc; "{path}")?);
+    }
+    match rt.canonicalize(alloc, path) {
+        Ok(path) => Ok(path.into_string()),
+        Err(error) if error.kind() == ErrorKind::NotFound => {
+            Err(RestoreFault::Store(StoreCause::DanglingLink))
+        }
+        Err(error) => Err(failed(&error)),
+    }
+}
+
+impl Paths {
+    fn new<R: Files>(rt: &R, alloc: Global, path: &str) -> Result<Paths, RestoreFault> {
+        let store = resolved(rt, alloc, path)?;
+        let path = store.as_str();
+        let folder = folder_of(path);
+        Ok(Paths {
+            log: format!(in alloc; "{path}-wal")?,
+            new_store: format!(in alloc; "{path}.new")?,
+            new_log: format!(in alloc; "{path}.new-wal")?,
+            old_store: format!(in alloc; "{path}.before")?,
+            old_log: format!(in alloc; "{path}.before-wal")?,
+            folder: format!(in alloc; "{folder}")?,
+            store,
+        })
+    }
+
+    fn name(&self, half: Half) -> &str {
+        match half {
+            Half::Store => self.store.as_str(),
+            Half::Log => self.log.as_str(),
+        }
+    }
+
+    fn new_name(&self, half: Half) -> &str {
+        match half {
+            Half::Store => self.new_store.as_str(),
+            Half::Log => self.new_log.as_str(),
+        }
+    }
+}
+
+// A file of a store, locked as it is by a program that has it open, if it is there.
+fn lock<R: Files>(rt: &R, path: &str) -> Result<Option<HeldFile>, RestoreFault> {
+    match fs::symlink_metadata(rt, path) {
+        Ok(found) if found.is_dir() => return Err(RestoreFault::Store(StoreCause::Folder)),
+        Ok(found) if !found.is_file() => return Err(RestoreFault::Store(StoreCause::NotPlain)),
+        Ok(_) => (),
+        Err(error) if error.kind() == ErrorKind::NotFound => return Ok(None),
+        Err(error) => return Err(failed(&error)),
+    }
+    match HeldFile::lock(path) {
+        Ok(held) => Ok(Some(held)),
+        Err(HoldFault::InUse) => Err(RestoreFault::Store(StoreCause::InUse)),
+        Err(HoldFault::Failed(error)) => Err(failed(&error)),
+    }
+}
+
+// Whether two names are of one file.
+fn are_one<R: Files>(rt: &R, first: &str, second: &str) -> bool {
+    match (
+        fs::symlink_metadata(rt, first),
+        fs::symlink_metadata(rt, second),
+    ) {
+        (Ok(first), Ok(second)) => first.dev() == second.dev() && first.ino() == second.ino(),
+        _ => false,
+    }
+}
+
+// Whether a file in a folder has a byte, and its log is there, too.
+fn is_store<R: Files>(rt: &R, alloc: Global, folder: &str, name: &str) -> Result<bool, AllocError> {
+    let store = format!(in alloc; "{folder}/{name}")?;
+    let log = format!(in alloc; "{folder}/{name}-wal")?;
+    Ok(is_plain(rt, store.as_str(), 1) && is_plain(rt, log.as_str(), 0))
+}
+
+// Whether a file has this path, and so many bytes at least.
+fn is_plain<R: Files>(rt: &R, path: &str, least: u64) -> bool {
+    match fs::symlink_metadata(rt, path) {
+        Ok(found) => found.is_file() && found.len() >= least,
+        Err(_) => false,
+    }
+}
+
+// The path of the only store in a folder that has its log beside it.
+fn store_in<R: Files>(rt: &R, alloc: Global, folder: &str) -> Result<String, RestoreFault> {
+    let names = match fs::read_dir(&(rt, alloc), folder) {
+        Ok(names) => names,
+        Err(error) if error.kind() == ErrorKind::OutOfMemory => return Err(RestoreFault::NoMemory),
+        Err(_) => return Err(RestoreFault::NoBackup),
+    };
+    let mut found = None;
+    for name in names {
+        let Ok(name) = name else {
+            return Err(RestoreFault::NoBackup);
+        };
+        let name = name.file_name();
+        if is_store(rt, alloc, folder, name)? {
+            if found.is_some() {
+                return Err(RestoreFault::NoBackup);
+            }
+            found = Some(format!(in alloc; "{folder}/{name}")?);
+        }
+    }
+    match found {
+        Some(path) => Ok(path),
+        None => Err(RestoreFault::NoBackup),
+    }
+}
+
+// Whether a folder has the name of a backup that isn't whole.
+fn is_part(folder: &str) -> bool {
+    folder.trim_end_matches('/').ends_with(".part")
+}
+
+// Takes away what an earlier try left under a name.
+fn free_name<R: Files>(rt: &R, path: &str) -> Result<(), RestoreFault> {
+    match fs::remove_file(rt, path) {
+        Ok(()) => Ok(()),
+        Err(error) if error.kind() == ErrorKind::NotFound => Ok(()),
+        Err(error) => Err(failed(&error)),
+    }
+}
+
+// Gives a file the owner and the permissions of another, as far as this account may.
+fn copy_access<R: Files>(rt: &R, path: &str, from: &Metadata) {
+    let _ = rt.chown(path, None, Some(from.gid()));
+    let _ = rt.chown(path, Some(from.uid()), None);
+    let _ = rt.set_permissions(path, Permissions::from_mode(from.mode() & 0o666));
+}
+
+// Makes a file of this access, where nothing has its name.
+fn make_file<R: Files>(rt: &R, path: &str, access: Option<&Metadata>) -> io::Result<R::File> {
+    let mut options = OpenOptions::new();
+    options.write(true).create_new(true).mode(0o600);
+    let file = options.open(rt, path)?;
+    if let Some(access) = access {
+        copy_access(rt, path, access);
+    }
+    Ok(file)
+}
+
+// Copies a file, and has the copy on the disk.
+fn copy_file<R: Files>(
+    rt: &R,
+    from: &str,
+    to: &str,
+    access: Option<&Metadata>,
+) -> Result<(), RestoreFault> {
+    let Ok(source) = File::open(rt, from) else {
+        return Err(RestoreFault::NoBackup);
+    };
+    let file = match make_file(rt, to, access) {
+        Ok(file) => file,
+        Err(error) => return Err(failed(&error)),
+    };
+    let mut source = Counted::new(source);
+    let mut sink = Target::new(file);
+    match copy_all(&mut source, &mut sink) {
+        Ok(()) => (),
+        Err(CopyFault::Read) => return Err(RestoreFault::NoBackup),
+        Err(CopyFault::Write) => return Err(RestoreFault::Store(kind_cause(sink.kind()))),
+    }
+    match sink.into_file().sync_all() {
+        Ok(()) => Ok(()),
+        Err(error) => Err(failed(&error)),
+    }
+}
+
+// The place of a store among files; the backup's store, once it was judged; the files that were there, held so that no program
+// opens them; and whether the store's own file has the log's name, since no log was there.
+#[derive(Drop)]
+struct Replacing<'a, R, J> {
+    rt: &'a R,
+    alloc: Global,
+    judge: J,
+    from: &'a str,
+    paths: Paths,
+    copy: Option<String>,
+    held: [Option<HeldFile>; 2],
+    is_shielded: bool,
+}
+
+impl<'a, R: Files, J: Judges> Replacing<'a, R, J> {
+    // An earlier try may have been stopped with the store under the log's name, too.
+    fn close(&mut self) -> Result<(), RestoreFault> {
+        let (store, log) = (self.paths.store.as_str(), self.paths.log.as_str());
+        self.is_shielded = are_one(self.rt, store, log);
+        let held = lock(self.rt, store)?;
+        self.held = if self.is_shielded {
+            [held, None]
+        } else {
+            [held, lock(self.rt, log)?]
+        };
+        Ok(())
+    }
+
+    fn judge(&mut self) -> Result<(), RestoreFault> {
+        if is_part(self.from) {
+            return Err(RestoreFault::NoBackup);
+        }
+        let copy = store_in(self.rt, self.alloc, self.from)?;
+        if !self.judge.holds_book(self.alloc, copy.as_str())? {
+            return Err(RestoreFault::NoBackup);
+        }
+        self.copy = Some(copy);
+        Ok(())
+    }
+
+    fn look(&self) -> Result<(), RestoreFault> {
+        if is_named(self.rt, self.paths.old_store.as_str())?
+            || is_named(self.rt, self.paths.old_log.as_str())?
+        {
+            Err(RestoreFault::Before)
+        } else {
+            Ok(())
+        }
+    }
+
+    // The owner and the permissions that the new files get: those of the old ones, or of the backup.
+    fn access(&self, copy: &str) -> Option<Metadata> {
+        for path in [
+            self.paths.name(Half::Store),
+            self.paths.name(Half::Log),
+            copy,
+        ] {
+            if let Ok(found) = fs::symlink_metadata(self.rt, path) {
+                return Some(found);
+            }
+        }
+        None
+    }
+
+    fn copy(&self, half: Half) -> Result<(), RestoreFault> {
+        let Some(store) = &self.copy else {
+            return Err(RestoreFault::NoBackup);
+        };
+        let store = store.as_str();
+        let log = format!(in self.alloc; "{store}-wal")?;
+        let from = match half {
+            Half::Store => store,
+            Half::Log => log.as_str(),
+        };
+        let to = self.paths.new_name(half);
+        free_name(self.rt, to)?;
+        copy_file(self.rt, from, to, self.access(store).as_ref())
+    }
+
+    // Renames a file, and has that on the disk.
+    fn rename(&self, from: &str, to: &str) -> Result<(), RestoreFault> {
+        self.named(fs::rename(self.rt, from, to))
+    }
+
+    // Gives a file one name more, and has that on the disk.
+    fn link(&self, from: &str, to: &str) -> Result<(), RestoreFault> {
+        self.named(self.rt.hard_link(from, to))
+    }
+
+    fn named(&self, done: io::Result<()>) -> Result<(), RestoreFault> {
+        if let Err(error) = done {
+            return Err(failed(&error));
+        }
+        match sync_folder(self.rt, self.paths.folder.as_str()) {
+            Ok(()) => Ok(()),
+            Err(error) => Err(failed(&error)),
+        }
+    }
+
+    // Where no log is there, or one without a byte, the store gets the log's name, too, and this tells so: no start takes a store for
+    // its own log, nor a log without its store, so that what a stop leaves now isn't taken for a new shop.
+    fn shield(&self) -> Result<bool, RestoreFault> {
+        let log = self.paths.log.as_str();
+        match fs::symlink_metadata(self.rt, log) {
+            Ok(found) if found.len() > 0 => return Ok(false),
+            Ok(_) => self.rename(log, self.paths.old_log.as_str())?,
+            Err(error) if error.kind() == ErrorKind::NotFound => (),
+            Err(error) => return Err(failed(&error)),
+        }
+        self.link(self.paths.store.as_str(), log)?;
+        Ok(true)
+    }
+
+    fn put_store_aside(&mut self) -> Result<(), RestoreFault> {
+        if !is_named(self.rt, self.paths.store.as_str())? {
+            return Ok(());
+        }
+        if !self.is_shielded {
+            self.is_shielded = self.shield()?;
+        }
+        self.rename(self.paths.store.as_str(), self.paths.old_store.as_str())
+    }
+
+    fn put_log_aside(&self) -> Result<(), RestoreFault> {
+        if self.is_shielded || !is_named(self.rt, self.paths.log.as_str())? {
+            return Ok(());
+        }
+        self.link(self.paths.log.as_str(), self.paths.old_log.as_str())
+    }
+
+    fn put_in(&self, half: Half) -> Result<(), RestoreFault> {
+        self.rename(self.paths.new_name(half), self.paths.name(half))
+    }
+}
+
+impl<'a, R: Files, J: Judges> Place for Replacing<'a, R, J> {
+    ghost done = { λ _. None };
+
+    fn take(&mut self, step: RestoreStep) -> Result<(), RestoreFault> {
+        match step {
+            RestoreStep::Close => self.close(),
+            RestoreStep::Judge => self.judge(),
+            RestoreStep::Look => self.look(),
+            RestoreStep::Copy(half) => self.copy(half),
+            RestoreStep::PutAside(Half::Store) => self.put_store_aside(),
+            RestoreStep::PutAside(Half::Log) => self.put_log_aside(),
+            RestoreStep::PutIn(half) => self.put_in(half),
+        }
+    }
+}
+
+/// Puts a backup in the place of a store: the files that were there are `FILE.before` and `FILE.before-wal` then, where they were
+/// there. `FILE.new` and `FILE.new-wal` are copies of the backup's files before they get their names; of an earlier try they are
+/// taken away.
+///
+/// `Store(InUse)` where a program has the store open; `NoBackup` where the folder has no store with its log, or they hold no book;
+/// `Before` where `FILE.before` or `FILE.before-wal` is there. At these nothing was changed. `NoMemory`, and `Store` with another
+/// cause, for want of memory and for what the system refuses; then what was done stays, and the next start finds the old files, the new
+/// ones, or some that it refuses.
+pub fn put_back<R: Files, J: Judges + Drop>(
+    rt: &R,
+    alloc: Global,
+    judge: J,
+    store: &str,
+    from: &str,
+) -> Result<(), RestoreFault> {
+    let paths = Paths::new(rt, alloc, store)?;
+    let mut place = Replacing {
+        rt,
+        alloc,
+        judge,
+        from,
+        paths,
+        copy: None,
+        held: [None, None],
+        is_shielded: false,
+    };
+    restore(&mut place)
+}

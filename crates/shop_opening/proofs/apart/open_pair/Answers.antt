@@ -1,0 +1,10 @@
+use Rattle.std.proofs.Common.{◌≡◌, List, ℕ, ap₂, sym, subst}
+use Rattle.std.specs.Prelude.{IfOk}
+use Rattle.sqlite_wal.specs.Recovery.{Image}
+use Rattle.shop_opening.specs.Openings.{IsOpenedOn, pair_image}
+use Rattle.shop_opening.proofs.apart.open_pair.Goals as goal
+
+pub returns-in-Some : goal.returns-in-Some
+returns-in-Some c =
+    subst (λ (image : Image). IfOk c.open_over.result (λ book. IsOpenedOn image book.conn book.work book.failures))
+    (ap₂ pair_image c.in-Some.ensures.logged c.in-Some.ensures.stored) c.open_over.ensures

@@ -1,0 +1,283 @@
+//! The book of a store that is read into memory and opened there, so that neither file changes by a byte.
+
+ghost use Rattle.std.specs.Prelude.{◌≡◌, IfOk, IfSome, IsTrue};
+ghost use Rattle.sqlite.specs.Files.{image_of};
+ghost use Rattle.sqlite_disk.specs.Memory.{memory_bytes, memory_is_usable};
+ghost use Rattle.shop_opening.specs.Openings.{IsBookApart, IsOpenedOn, pair_image};
+
+use crate::before::{
+    Head, LookFault, head_of, is_bound_in, is_hot, kind_fault, lock_alone, look_at_log,
+    look_before_apart, look_without_log, open_alone, refused,
+};
+use crate::made::Made;
+use crate::stores::{OpenAs, OpenFault, Opens, adopt_fault, look_fault};
+use os::RangeLock;
+use shop_advice::{StoreCause, VersionCause};
+use shop_store::SqlBook;
+use sqlite::{Connection, Error, ErrorCode, FileStore, Files, Options};
+use sqlite_disk::{Disk, Memory};
+use std::alloc::Global;
+use std::fs::{self, File};
+use std::io::ErrorKind;
+
+/// A book over copies of a store's files in memory.
+pub type ApartBook = SqlBook<FileStore<Memory>>;
+
+/// What both files of a store hold, as they were read.
+#[derive(Drop)]
+pub struct Pair {
+    pub store: Vec<u8>,
+    pub log: Vec<u8>,
+}
+
+// What a file holds.
+fn content_of(rt: &HostRuntime, path: &str) -> Result<Vec<u8>, LookFault> {
+    match fs::read(rt, path) {
+        Ok(bytes) => Ok(bytes),
+        Err(error) => Err(kind_fault(error.kind())),
+    }
+}
+
+// What the log of a store with this head holds: nothing, where there is none, and the store has no byte.
+fn log_of(rt: &HostRuntime, alloc: Global, path: &str, head: &Head) -> Result<Vec<u8>, LookFault> {
+    let name = format!(in alloc; "{path}-wal")?;
+    match fs::symlink_metadata(rt, name.as_str()) {
+        Ok(found) if found.is_file() => {
+            let log = content_of(rt, name.as_str())?;
+            look_at_log(head, &log)?;
+            Ok(log)
+        }
+        Ok(_) => refused(StoreCause::NotPlain),
+        Err(error) if error.kind() == ErrorKind::NotFound => {
+            look_without_log(head)?;
+            Ok(Vec::new(alloc))
+        }
+        Err(error) => Err(kind_fault(error.kind())),
+    }
+}
+
+// Reads both files of a store that is open, and locked.
+fn read_locked(
+    rt: &HostRuntime,
+    alloc: Global,
+    path: &str,
+    file: &mut File,
+    length: u64,
+) -> Result<Pair, LookFault> {
+    let Some(head) = head_of(file, length) else {
+        return refused(StoreCause::Failed);
+    };
+    if head.is_other() {
+        return refused(StoreCause::OtherForm);
+    }
+    let log = log_of(rt, alloc, path, &head)?;
+    let store = content_of(rt, path)?;
+    if is_bound_in(alloc, &log, &store) {
+        return refused(StoreCause::Bound);
+    }
+    Ok(Pair { store, log })
+}
+
+// Opens a store's file that no other program has open: where this account may write it, not even one that reads; nothing is written.
+fn open_quietly(rt: &HostRuntime, path: &str) -> Result<File, LookFault> {
+    if let Some(file) = open_alone(rt, path)? {
+        return Ok(file);
+    }
+    let file = match File::open(rt, path) {
+        Ok(file) => file,
+        Err(error) => return Err(kind_fault(error.kind())),
+    };
+    match lock_alone(file, RangeLock::Shared)? {
+        Some(file) => Ok(file),
+        None => refused(StoreCause::Failed),
+    }
+}
+
+// Opens a store's file for reading, and reads both files.
+fn read_plain(rt: &HostRuntime, alloc: Global, path: &str, length: u64) -> Result<Pair, LookFault> {
+    let journal = format!(in alloc; "{path}-journal")?;
+    if is_hot(rt, journal.as_str()) {
+        return refused(StoreCause::Journal);
+    }
+    let mut file = open_quietly(rt, path)?;
+    read_locked(rt, alloc, path, &mut file, length)
+}
+
+// Reads both files of a store under the name to which no link leads any more.
+fn read_at(rt: &HostRuntime, alloc: Global, path: &str) -> Result<Pair, LookFault> {
+    match fs::metadata(rt, path) {
+        Ok(found) if found.is_file() => read_plain(rt, alloc, path, found.len()),
+        Ok(found) if found.is_dir() => refused(StoreCause::Folder),
+        Ok(_) => refused(StoreCause::NotPlain),
+        Err(error) => Err(kind_fault(error.kind())),
+    }
+}
+
+fn read_named(rt: &HostRuntime, alloc: Global, path: &str) -> Result<Pair, LookFault> {
+    let real = look_before_apart(rt, alloc, path)?;
+    read_at(rt, alloc, real.as_str())
+}
+
+/// Reads both files of a store, and changes neither. A store without a byte may have no log.
+///
+/// `NoMemory` for want of memory; `Store` where it isn't there, another program has it open, it can't be read, or its files aren't
+/// what a stop leaves.
+pub fn read_pair(rt: &HostRuntime, alloc: Global, path: &str) -> Result<Pair, OpenFault> {
+    match read_named(rt, alloc, path) {
+        Ok(pair) => Ok(pair),
+        Err(fault) => Err(look_fault(fault)),
+    }
+}
+
+// What a refusal of the port is. A file in memory fails for want of memory alone.
+fn apart_fault(error: Error, is_database: bool) -> OpenFault {
+    match error {
+        Error::SqliteFailure(ErrorCode::OutOfMemory | ErrorCode::SystemIoFailure) => {
+            OpenFault::NoMemory
+        }
+        Error::SqliteFailure(ErrorCode::NotADatabase | ErrorCode::DatabaseCorrupt) => {
+            if is_database {
+                OpenFault::Store(StoreCause::Damaged)
+            } else {
+                OpenFault::Store(StoreCause::NoDatabase)
+            }
+        }
+        _ => OpenFault::Store(StoreCause::Failed),
+    }
+}
+
+// Opens files, and takes their tables over.
+fn open_over<D: Disk + Drop>(
+    alloc: Global,
+    files: Files<D>,
+    is_database: bool,
+) -> Result<SqlBook<FileStore<D>>, OpenFault>
+    requires log { IsTrue (D.Disk.is_usable files.log) }
+    requires db { IsTrue (D.Disk.is_usable files.db) }
+    ensures { IfOk result (λ book. IsOpenedOn (image_of D.Disk files) book.conn book.work
+        book.failures) }
+{
+    let conn = match Connection::open_files(alloc, files, Options::new(1)) {
+        Ok(conn) => conn,
+        Err((error, _left)) => return Err(apart_fault(error, is_database)),
+    };
+    match SqlBook::adopt(alloc, conn) {
+        Ok(book) => Ok(book),
+        Err((fault, last)) => Err(adopt_fault(fault, last)),
+    }
+}
+
+// A file in memory that holds these bytes. None for want of memory.
+fn memory_of(alloc: Global, bytes: &[u8]) -> Option<Memory>
+    ensures usable { IfSome result (λ file. IsTrue (memory_is_usable file)) }
+    ensures bytes { IfSome result (λ file. memory_bytes file ≡ bytes.now) }
+{
+    let mut file = Memory::new(alloc);
+    file.write_at(0, bytes).ok()?;
+    Some(file)
+}
+
+// Files in memory that hold a pair. None for want of memory.
+fn files_of(alloc: Global, pair: &Pair) -> Option<Files<Memory>>
+    ensures log { IfSome result (λ files. IsTrue (memory_is_usable files.log)) }
+    ensures db { IfSome result (λ files. IsTrue (memory_is_usable files.db)) }
+    ensures logged { IfSome result (λ files. memory_bytes files.log ≡ pair.now.log.items) }
+    ensures stored { IfSome result (λ files. memory_bytes files.db ≡ pair.now.store.items) }
+{
+    let log = memory_of(alloc, &pair.log)?;
+    let db = memory_of(alloc, &pair.store)?;
+    Some(Files { log, db })
+}
+
+/// Opens the book of a pair of files that were read, in memory, where tables of version 1 become tables of version 2.
+///
+/// `NoMemory` for want of memory; `Store` where it is no database; `Version` where it has other tables under a book's names, or
+/// those of another version.
+pub fn open_pair(alloc: Global, pair: &Pair) -> Result<ApartBook, OpenFault>
+    ensures { IfOk result (λ book. IsOpenedOn (pair_image pair.now.log.items pair.now.store.items)
+        book.conn book.work book.failures) }
+{
+    let is_database = pair.store.starts_with(b"SQLite format 3\0");
+    match files_of(alloc, pair) {
+        Some(files) => open_over(alloc, files, is_database),
+        None => Err(OpenFault::NoMemory),
+    }
+}
+
+// Whether a database in memory has none of a shop's tables. Of one that can't be opened the open tells why.
+fn is_foreign(alloc: Global, pair: &Pair) -> bool {
+    let Some(files) = files_of(alloc, pair) else {
+        return false;
+    };
+    let Ok(mut conn) = Connection::open_files(alloc, files, Options::new(1)) else {
+        return false;
+    };
+    match conn.query_all("SELECT name FROM sqlite_master WHERE name = 'meta'", &[]) {
+        Ok(rows) => rows.is_empty(),
+        Err(_) => false,
+    }
+}
+
+// Reads both files of a store, which has a shop's tables where it has to.
+fn read_shop(
+    rt: &HostRuntime,
+    alloc: Global,
+    path: &str,
+    existing: bool,
+) -> Result<Pair, OpenFault> {
+    let pair = read_pair(rt, alloc, path)?;
+    if existing && is_foreign(alloc, &pair) {
+        return Err(OpenFault::Version(VersionCause::Foreign));
+    }
+    Ok(pair)
+}
+
+/// Opens the book of a store in memory, and changes neither of its files: `read_pair`, and `open_pair`. With `existing` a database
+/// that has no table of a shop is `Version`.
+pub fn read_apart(
+    rt: &HostRuntime,
+    alloc: Global,
+    path: &str,
+    existing: bool,
+) -> Result<ApartBook, OpenFault>
+    ensures { IfOk result (λ book. IsBookApart book.conn book.work book.failures) }
+{
+    match read_shop(rt, alloc, path, existing) {
+        Ok(pair) => open_pair(alloc, &pair),
+        Err(fault) => Err(fault),
+    }
+}
+
+/// What opens the book of one store in memory, whose files it only reads. It has to be there, with the tables of a shop where it has
+/// to exist, and is never merged.
+#[derive(Drop)]
+pub struct ApartOpener<'a> {
+    rt: &'a HostRuntime,
+}
+
+impl<'a> ApartOpener<'a> {
+    /// It reads at the path that it is given then.
+    pub fn new(rt: &'a HostRuntime) -> ApartOpener<'a> {
+        ApartOpener { rt }
+    }
+}
+
+impl<'a> Opens<ApartBook> for ApartOpener<'a> {
+    ghost use Rattle.std.specs.Prelude.{IfOk};
+    ghost use Rattle.shop_opening.specs.Openings.{IsBookApart};
+
+    ghost gives = { λ _ _ result. IfOk result (λ book. IsBookApart book.conn book.work book.failures) };
+
+    fn open(
+        self,
+        alloc: Global,
+        path: &str,
+        how: OpenAs,
+        _made: &mut Made,
+    ) -> Result<ApartBook, OpenFault> {
+        let ApartOpener { rt } = self;
+        read_apart(rt, alloc, path, how.existing)
+    }
+
+    fn close(_book: ApartBook) {}
+}

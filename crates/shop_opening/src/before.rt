@@ -1,0 +1,442 @@
+//! What is looked at before a store is opened. Its files are only read.
+
+use crate::logs::{LogState, log_state};
+use os::RangeLock;
+use shop_advice::{StoreCause, kind_cause};
+use sqlite::{Connection, Files, Options};
+use sqlite_disk::{Disk, Memory};
+use sqlite_schema::names::same_name;
+use std::alloc::{AllocError, Global};
+use std::fs::{self, File, OpenOptions};
+use std::io::{self, ErrorKind, Read};
+use std::os::fd::AsRawFd;
+use std::path::PathBuf;
+
+// The first bytes of a database of SQLite, and the length of its head.
+const MAGIC: [u8; 16] = *b"SQLite format 3\0";
+
+const HEAD: usize = 100;
+
+// The tables of a shop, of each version.
+const TABLES: [&str; 10] = [
+    "meta",
+    "materials",
+    "parts",
+    "jobs",
+    "orders",
+    "demands",
+    "kept",
+    "imports",
+    "totals",
+    "totals2",
+];
+
+/// Why a store isn't to be opened.
+#[derive(Clone, Copy, Debug)]
+pub(crate) enum LookFault {
+    /// Memory was wanting.
+    NoMemory,
+    Store(StoreCause),
+}
+
+/// What has the name of a store.
+#[derive(Clone, Copy, Debug, PartialEq, Eq)]
+pub(crate) enum Found {
+    /// Nothing, so that the store is to be made.
+    Nothing,
+    /// A file, or something that the open refuses. No commit is to be taken of a log.
+    Files,
+    /// A file, and its log has commits.
+    Commits,
+}
+
+impl From<AllocError> for LookFault {
+    fn from(_error: AllocError) -> LookFault {
+        LookFault::NoMemory
+    }
+}
+
+// The head of a store, or what there is of it, and its length.
+#[derive(Clone, Copy)]
+pub(crate) struct Head {
+    bytes: [u8; HEAD],
+    length: u64,
+}
+
+impl Head {
+    fn is_database(&self) -> bool {
+        self.length >= HEAD as u64 && self.bytes.starts_with(&MAGIC)
+    }
+
+    // Whether the store has no first byte yet, as one that is being made.
+    fn is_begun(&self) -> bool {
+        self.length == 1 || (self.length > 1 && self.bytes[0] == 0)
+    }
+
+    // Whether it is a database with reserved bytes, with auto_vacuum, or in UTF-16. Three bytes of a head are always the same.
+    pub(crate) fn is_other(&self) -> bool {
+        self.is_database()
+            && self.bytes[21..24] == [64, 32, 32]
+            && (self.bytes[20] != 0
+                || self.bytes[52..56] != [0, 0, 0, 0]
+                || self.bytes[56..60] == [0, 0, 0, 2]
+                || self.bytes[56..60] == [0, 0, 0, 3])
+    }
+}
+
+/// What the system's error says of a store.
+pub(crate) fn kind_fault(kind: ErrorKind) -> LookFault {
+    match kind {
+        ErrorKind::OutOfMemory => LookFault::NoMemory,
+        kind => LookFault::Store(kind_cause(kind)),
+    }
+}
+
+pub(crate) fn refused<T>(cause: StoreCause) -> Result<T, LookFault> {
+    Err(LookFault::Store(cause))
+}
+
+/// Opens a store's file alone, as an open by the port does. None where that can't be, which the port tells then.
+pub(crate) fn open_alone(rt: &HostRuntime, path: &str) -> Result<Option<File>, LookFault> {
+    let Ok(file) = OpenOptions::new().read(true).write(true).open(rt, path) else {
+        return Ok(None);
+    };
+    lock_alone(file, RangeLock::Exclusive)
+}
+
+// Locks a store's file as long as it is open, as SQLite and the port do. Another program that looks at it has it open, too: what it
+// refuses isn't to be opened behind its back.
+pub(crate) fn lock_alone(file: File, lock: RangeLock) -> Result<Option<File>, LookFault> {
+    if os::try_lock_range(file.as_raw_fd(), lock, 1 << 30, 512) == 0 {
+        return Ok(Some(file));
+    }
+    match io::Error::from_raw_os_error(os::errno()).kind() {
+        ErrorKind::WouldBlock => refused(StoreCause::InUse),
+        _ => Ok(None),
+    }
+}
+
+// The head of a file of this length.
+pub(crate) fn head_of(file: &mut File, length: u64) -> Option<Head> {
+    let mut bytes = [0u8; HEAD];
+    let _count = file.read(&mut bytes).ok()?;
+    Some(Head { bytes, length })
+}
+
+// What a file holds. None where it can't be read, which the port tells then.
+fn bytes_of(rt: &HostRuntime, path: &str) -> Result<Option<Vec<u8>>, LookFault> {
+    match fs::read(rt, path) {
+        Ok(bytes) => Ok(Some(bytes)),
+        Err(error) if error.kind() == ErrorKind::OutOfMemory => Err(LookFault::NoMemory),
+        Err(_) => Ok(None),
+    }
+}
+
+// How many letters of a word were found, once this byte was read behind so many of them. No letter of it is its first again.
+fn found_with(word: &[u8], found: usize, byte: u8) -> usize {
+    if word.get(found) == Some(&byte) {
+        found.saturating_add(1)
+    } else if word.first() == Some(&byte) {
+        1
+    } else {
+        0
+    }
+}
+
+// The same behind all of these bytes; a word that was found stays found.
+fn found_in(word: &[u8], found: usize, bytes: &[u8]) -> usize {
+    let mut found = found;
+    for byte in bytes {
+        if found >= word.len() {
+            return found;
+        }
+        found = found_with(word, found, *byte);
+    }
+    found
+}
+
+// Whether bytes have the type of a trigger's or of a view's row.
+fn may_bind(bytes: &[u8]) -> bool {
+    found_in(b"trigger", 0, bytes) == 7 || found_in(b"view", 0, bytes) == 4
+}
+
+// The same of what is left of a file.
+fn rest_may_bind(file: &mut File) -> io::Result<bool> {
+    let mut buffer = [0u8; 4096];
+    let (mut triggers, mut views) = (0, 0);
+    for _ in 0..u64::MAX {
+        let count = file.read(&mut buffer)?;
+        let bytes = buffer.get(..count).unwrap_or(&[]);
+        triggers = found_in(b"trigger", triggers, bytes);
+        views = found_in(b"view", views, bytes);
+        if triggers == 7 || views == 4 {
+            return Ok(true);
+        }
+        if count == 0 {
+            return Ok(false);
+        }
+    }
+    Ok(false)
+}
+
+fn is_table(name: &[u8]) -> bool {
+    for table in TABLES {
+        if same_name(name, table.as_bytes()) {
+            return true;
+        }
+    }
+    false
+}
+
+fn is_in_word(byte: &u8) -> bool {
+    byte.is_ascii_alphanumeric() || *byte == b'_'
+}
+
+// Whether the text of a view has the name of a shop's table, but for its own.
+fn names_table(text: &[u8], own: &str) -> bool {
+    for word in text.split(|byte| !is_in_word(byte)) {
+        if is_table(word) && !same_name(word, own.as_bytes()) {
+            return true;
+        }
+    }
+    false
+}
+
+// Whether an object of this type is on a shop's tables, and changes or shows what is there. Of a view `table` is its own name.
+fn binds(kind: &str, table: &str, text: &str) -> bool {
+    (kind == "trigger" && is_table(table.as_bytes()))
+        || (kind == "view" && names_table(text.as_bytes(), table))
+}
+
+// Whether the database of a log and a store has a trigger or a view on a shop's tables. It is opened in memory, where the port can
+// do that.
+fn is_bound_open(alloc: Global, log: &[u8], store: &[u8]) -> Option<bool> {
+    let mut files = Files {
+        log: Memory::new(alloc),
+        db: Memory::new(alloc),
+    };
+    files.log.write_at(0, log).ok()?;
+    files.db.write_at(0, store).ok()?;
+    if !files.may_be_used() {
+        return None;
+    }
+    let mut conn = Connection::open_files(alloc, files, Options::new(1)).ok()?;
+    let rows = conn
+        .query_all("SELECT type, tbl_name, sql FROM sqlite_master", &[])
+        .ok()?;
+    for row in &rows {
+        let kind: String = row.get(0).ok()?;
+        let table: String = row.get(1).ok()?;
+        let text: Option<String> = row.get(2).ok()?;
+        if binds(kind.as_str(), table.as_str(), text.as_deref().unwrap_or("")) {
+            return Some(true);
+        }
+    }
+    Some(false)
+}
+
+// The text that begins with these bytes, up to the first that no line of a statement has.
+fn text_at(bytes: &[u8]) -> &[u8] {
+    match bytes.iter().position(|byte| *byte < b'\t') {
+        Some(end) => bytes.get(..end).unwrap_or(bytes),
+        None => bytes,
+    }
+}
+
+// Whether the bytes of a file have the text of a view that names a shop's table.
+fn has_bound_view(bytes: &[u8]) -> bool {
+    let words = b"CREATE VIEW ";
+    let mut found = 0;
+    for (at, byte) in bytes.iter().enumerate() {
+        found = found_with(words, found, *byte);
+        if found == words.len() && names_table(text_at(bytes.get(at..).unwrap_or(&[])), "") {
+            return true;
+        }
+    }
+    false
+}
+
+// Whether the database of a log and a store has a trigger or a view on a shop's tables. There are views that SQLite reads and the
+// port doesn't; for these the bytes are searched.
+fn is_bound(alloc: Global, log: &[u8], store: &[u8]) -> bool {
+    match is_bound_open(alloc, log, store) {
+        Some(bound) => bound,
+        None => has_bound_view(log) || has_bound_view(store),
+    }
+}
+
+/// Whether the database of a log and a store, where it is one, has a trigger or a view on a shop's tables.
+pub(crate) fn is_bound_in(alloc: Global, log: &[u8], store: &[u8]) -> bool {
+    (may_bind(log) || may_bind(store)) && is_bound(alloc, log, store)
+}
+
+// Looks for triggers and views on a shop's tables, where the bytes may have some.
+fn look_for_bonds(
+    rt: &HostRuntime,
+    alloc: Global,
+    path: &str,
+    file: &mut File,
+    log: &[u8],
+) -> Result<(), LookFault> {
+    if !may_bind(log) && !rest_may_bind(file).unwrap_or(false) {
+        return Ok(());
+    }
+    let Some(store) = bytes_of(rt, path)? else {
+        return Ok(());
+    };
+    if is_bound(alloc, log, &store) {
+        refused(StoreCause::Bound)
+    } else {
+        Ok(())
+    }
+}
+
+// Looks at a log whose store has this head.
+pub(crate) fn look_at_log(head: &Head, log: &[u8]) -> Result<Found, LookFault> {
+    match log_state(log, head.is_begun()) {
+        LogState::Damaged => refused(StoreCause::DamagedLog),
+        LogState::Commits if head.length == 0 => refused(StoreCause::DamagedLog),
+        LogState::Commits => Ok(Found::Commits),
+        LogState::Empty => Ok(Found::Files),
+    }
+}
+
+// Looks at a store beside which no log lies. One without a byte is still to be made.
+pub(crate) fn look_without_log(head: &Head) -> Result<Found, LookFault> {
+    if head.length == 0 {
+        Ok(Found::Files)
+    } else if head.is_database() {
+        refused(StoreCause::NoLog)
+    } else {
+        refused(StoreCause::NoDatabase)
+    }
+}
+
+// Looks at both files of a store that is opened alone, and has this head.
+fn look_inside(
+    rt: &HostRuntime,
+    alloc: Global,
+    path: &str,
+    file: &mut File,
+    head: &Head,
+) -> Result<Found, LookFault> {
+    if head.is_other() {
+        return refused(StoreCause::OtherForm);
+    }
+    let log = format!(in alloc; "{path}-wal")?;
+    match fs::symlink_metadata(rt, log.as_str()) {
+        Ok(found) if found.is_file() => (),
+        Err(error) if error.kind() == ErrorKind::NotFound => return look_without_log(head),
+        _ => return Ok(Found::Files),
+    }
+    let Some(log) = bytes_of(rt, log.as_str())? else {
+        return Ok(Found::Files);
+    };
+    let found = look_at_log(head, &log)?;
+    if head.is_database() {
+        look_for_bonds(rt, alloc, path, file, &log)?;
+    }
+    Ok(found)
+}
+
+// Whether a journal has something to play back. One that can't be read may have.
+fn has_entries(rt: &HostRuntime, journal: &str) -> bool {
+    let mut first = [0u8];
+    let Ok(mut file) = File::open(rt, journal) else {
+        return true;
+    };
+    match file.read(&mut first) {
+        Ok(count) => count == 1 && first[0] != 0,
+        Err(_) => true,
+    }
+}
+
+// Whether something has the name of a rollback journal that the port doesn't pass over.
+pub(crate) fn is_hot(rt: &HostRuntime, journal: &str) -> bool {
+    match fs::symlink_metadata(rt, journal) {
+        Ok(found) => !found.is_file() || has_entries(rt, journal),
+        Err(_) => false,
+    }
+}
+
+// Looks at a store under the name to which no link leads any more.
+fn look_at_files(rt: &HostRuntime, alloc: Global, path: &str) -> Result<Found, LookFault> {
+    let length = match fs::metadata(rt, path) {
+        Ok(found) if found.is_file() => found.len(),
+        _ => return Ok(Found::Files),
+    };
+    let journal = format!(in alloc; "{path}-journal")?;
+    if is_hot(rt, journal.as_str()) {
+        return Ok(Found::Files);
+    }
+    let Some(mut file) = open_alone(rt, path)? else {
+        return Ok(Found::Files);
+    };
+    match head_of(&mut file, length) {
+        Some(head) => look_inside(rt, alloc, path, &mut file, &head),
+        None => Ok(Found::Files),
+    }
+}
+
+// Looks at what has a store's name.
+fn look_at_name(rt: &HostRuntime, alloc: Global, path: &str) -> Result<Found, LookFault> {
+    match fs::canonicalize(rt, path) {
+        Ok(real) => look_at_files(rt, alloc, real.as_str()),
+        Err(error) if error.kind() == ErrorKind::NotFound => refused(StoreCause::DanglingLink),
+        Err(error) if error.kind() == ErrorKind::OutOfMemory => Err(LookFault::NoMemory),
+        Err(_) => Ok(Found::Files),
+    }
+}
+
+// Looks for the log of a store that isn't there, which is a fault itself where it has to exist.
+fn look_beside(
+    rt: &HostRuntime,
+    alloc: Global,
+    path: &str,
+    existing: bool,
+) -> Result<Found, LookFault> {
+    let log = format!(in alloc; "{path}-wal")?;
+    match fs::symlink_metadata(rt, log.as_str()) {
+        Ok(found) if found.len() > 0 => refused(StoreCause::LoneLog),
+        _ if existing => refused(StoreCause::Missing),
+        _ => Ok(Found::Nothing),
+    }
+}
+
+/// Looks at the files of a store before they are opened, and tells what is there. `existing`: it has to be there. What is wrong
+/// with them otherwise the open tells.
+pub(crate) fn look_before(
+    rt: &HostRuntime,
+    alloc: Global,
+    path: &str,
+    existing: bool,
+) -> Result<Found, LookFault> {
+    match fs::symlink_metadata(rt, path) {
+        Ok(_) => look_at_name(rt, alloc, path),
+        Err(error) if error.kind() == ErrorKind::NotFound => {
+            look_beside(rt, alloc, path, existing)
+        }
+        Err(_) => Ok(Found::Files),
+    }
+}
+
+/// Looks for a store that is only read, and tells the name to which no link leads any more.
+pub(crate) fn look_before_apart(
+    rt: &HostRuntime,
+    alloc: Global,
+    path: &str,
+) -> Result<PathBuf, LookFault> {
+    match fs::symlink_metadata(rt, path) {
+        Ok(_) => (),
+        Err(error) if error.kind() == ErrorKind::NotFound => {
+            look_beside(rt, alloc, path, true)?;
+            return refused(StoreCause::Missing);
+        }
+        Err(error) => return Err(kind_fault(error.kind())),
+    }
+    match fs::canonicalize(rt, path) {
+        Ok(real) => Ok(real),
+        Err(error) if error.kind() == ErrorKind::NotFound => refused(StoreCause::DanglingLink),
+        Err(error) => Err(kind_fault(error.kind())),
+    }
+}
