@@ -372,6 +372,18 @@ plan a.txt --kerf 1x --step 1 = '1x' for '--kerf <N>'
 plan a.txt --kerf 1 --step 200001 = '200001' for '--step <N>'
 plan a.txt --kerf 1 --kerf 2 --step 1 = '--kerf <N>'
 plan a.txt --kerf 1 --step 1 --port 1 = '--port'
+plan a.txt --whole = '--kerf <N>' is missing
+plan a.csv --shop a.toml --material GLASS --size 1.0x1.0 = '--whole' is missing
+plan a.csv --whole --material GLASS --size 1.0x1.0 = '--shop <FILE>' is missing
+plan a.csv --whole --shop a.toml --size 1.0x1.0 = '--material <CODE>' is missing
+plan a.csv --whole --shop a.toml --material GLASS = '--size <WxH>' is missing
+plan a.csv --whole --size 1.0x1.0 = '--shop <FILE>' is missing
+plan a.csv --whole --shop a.toml --material GLASS --size 1.0x1.0 --kerf 1 = '--kerf <N>' may not be given with '--shop'
+plan a.csv --whole --shop a.toml --material GLASS --size 1.0x1.0 --step 1 = '--step <N>' may not be given with '--shop'
+plan a.csv --whole --shop a.toml --material GLASS --size 1.0x1.0 --calls 0 = '0' for '--calls <N>'
+plan a.csv --whole --shop a.toml --shop b.toml --material GLASS --size 1.0x1.0 = '--shop <FILE>'
+orders a.csv --shop a.toml --shop b.toml = '--shop <FILE>'
+orders a.csv --shop a.toml --material GLASS = '--material'
 restore --store a.db = --from <FOLDER/N>
 restore --from b/1 = --store <FILE>
 restore --store a.db --from b/1 c = 'c'
@@ -432,6 +444,7 @@ def mistakes(trial):
     eleven = (
         (("serve", "--port", "1", "--store", "a.db", "--shop", "a.toml"), "--host", "shop", "'--host <NAME>' may be given at most 10 times"),
         (("serve", "--port", "1", "--store", "a.db", "--shop", "a.toml"), "--origin", "http://a", "'--origin <ORIGIN>' may be given at most 10 times"),
+        (("plan", "a.csv", "--whole", "--shop", "a.toml", "--material", "A"), "--size", "1.0", "'--size <WxH>' may be given at most 10 times"),
     )
     for words, option, value, named in eleven:
         mistaken(trial, (*words, *[option, value] * 11), named)
@@ -481,8 +494,8 @@ def before_store(trial):
 # What help says of each command, and the words and options that it has.
 COMMANDS = {
     "replay": ("lines of standard input", []),
-    "plan": ("problem file", ["FILE", "--kerf", "--step", "--whole", "--calls"]),
-    "orders": ("order file", ["FILE", "--order", "--terminal", "--number"]),
+    "plan": ("problem file", ["FILE", "--kerf", "--step", "--whole", "--calls", "--shop", "--material", "--size"]),
+    "orders": ("order file", ["FILE", "--shop", "--order", "--terminal", "--number"]),
     "serve": ("HTTP", ["--port", "--store", "--shop", "--limit", "--page", "--backup", "--existing", "--keep", "--host", "--origin"]),
     "ticket": ("ticket of a job", ["--store", "JOB", "--read-only"]),
     "yield": ("became of a material", ["--store", "MATERIAL", "--read-only"]),

@@ -16,6 +16,12 @@ HEADER = "line,material,length,width,turn,count,worth\n"
 
 ROW = "1,STEEL,3.0,0.1,no,3,30\n"
 
+
+def rows(count):
+    """So many rows, whose lines rise from 1."""
+    return "".join(ROW.replace("1", str(it), 1) for it in range(1, count + 1))
+
+
 MESSAGE = ("--order", "A-1", "--terminal", "4", "--number", "7")
 
 # The sentences of the formats.
@@ -33,26 +39,38 @@ OF_FIELD = [
     "the count is the number of pieces, a whole number of 1 to 10 digits; write it as 3",
     "the worth is that of one piece, a whole number of 1 to 10 digits; write it as 30",
 ]
+NO_ROW = "there is no row below the first line; write one for each line"
+JUDGED = [
+    "the line isn't greater than that of the row above, or is 0; write rising numbers from 1 on",
+    "the shop file has no such material; write the code of one that it has",
+    "the length is out of its range; write 0.1 to 20000.0",
+    "the width is out of its range; write 0.1 to 6000.0, and 0.1 for a bar",
+    "a bar's piece isn't turned; write no",
+    "the count is out of its range; write 1 to 1000000",
+    "the worth is out of its range; write 1 to 1000000000",
+]
 
 
-def refused(trial, text, row, field, sentence):
+def refused(trial, text, row, field, sentence, *words):
     """An order file's fault, with the three options and without them."""
     path = trial.write("orders.csv", text)
     for options in ((), MESSAGE):
-        ran = trial.run("orders", path, *options)
+        ran = trial.run("orders", path, *words, *options)
         trial.ended(ran, 1, err=f"fault order row {row} field {field}: {sentence}\n", sent=text)
 
 
-@case("lines of order files", "The number of an order file's lines is told, of none and of 200 too, with a byte order mark and quotes.")
+@case(
+    "lines of order files",
+    "The number of an order file's lines is told, of 200 too, with a byte order mark and quotes, and of one at all its limits.",
+)
 def lines(trial):
     for text, count in (
-        (HEADER, 0),
         (HEADER + ROW, 1),
-        (HEADER.strip(), 0),
         ("\ufeff" + HEADER.replace("\n", "\r\n") + '\r\n"1","STEEL","3.0","0.1","no","3","30"\r\n', 1),
-        (HEADER + ROW * 200, 200),
+        (HEADER + rows(200), 200),
         ((HEADER + ROW).ljust(65536, "\n"), 1),
-        (HEADER + "4294967295,A,999999.9,000000.0,yes,4294967295,0\n", 1),
+        (HEADER + "4294967295,A,020000.0,6000,yes,1000000,1000000000\n", 1),
+        (HEADER + "1,A,0.1,0.1,yes,1,1\n4294967295,B,0.1,0.1,no,1,1\n", 2),
     ):
         trial.ended(trial.run("orders", trial.write("orders.csv", text)), 0, f"{count} lines\n", sent=text)
 
@@ -128,12 +146,137 @@ def shapes(trial):
     refused(trial, (HEADER + ROW).replace(",", ";").ljust(65537, "\n"), 0, 7, LONG)
 
 
+@case(
+    "judgements of order files",
+    "Without a store and a shop file an order file is judged: it has a line; its line numbers rise and none is 0; lengths, widths, "
+    "counts and worths are in their ranges. Of any material a width may be a sheet's, and a piece may turn.",
+)
+def judged(trial):
+    for text in (HEADER, HEADER.strip(), HEADER + "\n\r\n"):
+        refused(trial, text, 1, 7, NO_ROW)
+    for field, values in (
+        (0, ("0", "0000000000")),
+        (2, ("0", "0.0", "000000", "20000.1", "999999.9")),
+        (3, ("0", "0.0", "6000.1", "999999")),
+        (5, ("0", "1000001", "4294967295")),
+        (6, ("0", "1000000001", "4294967295")),
+    ):
+        for value in values:
+            bad = ROW.strip().split(",")
+            bad[field] = value
+            refused(trial, f"{HEADER}{','.join(bad)}\n", 1, field, JUDGED[field])
+            if field:
+                bad[0] = "7"
+                refused(trial, f"{HEADER}{ROW}\n{','.join(bad)}\n", 2, field, JUDGED[field])
+    for numbers, row in (("11", 2), ("21", 2), ("10", 2), ("122", 3), ("131", 3), ("0", 1)):
+        text = "".join(ROW.replace("1", it, 1) for it in numbers)
+        refused(trial, HEADER + text, row, 0, JUDGED[0])
+    for text in ("1,A,0.1,6000.0,no,1,1\n", "1,A,20000.0,0.1,yes,1,1\n"):
+        trial.ended(trial.run("orders", trial.write("orders.csv", HEADER + text)), 0, "1 lines\n", sent=text)
+
+
+@case(
+    "the first bad field of an order file",
+    "Of several bad fields the first of the first bad row is told; what can't be read stands before what is judged, in whichever row.",
+)
+def first_bad(trial):
+    refused(trial, HEADER + "0,A,0,0,no,0,0\n", 1, 0, JUDGED[0])
+    refused(trial, HEADER + "1,A,0,0,no,0,0\n", 1, 2, JUDGED[2])
+    refused(trial, HEADER + "1,A,1,0,no,0,0\n", 1, 3, JUDGED[3])
+    refused(trial, HEADER + "1,A,1,1,no,0,0\n", 1, 5, JUDGED[5])
+    refused(trial, HEADER + "1,A,1,1,no,1,0\n1,A,1,1,no,1,1\n", 1, 6, JUDGED[6])
+    refused(trial, HEADER + "1,A,1,1,no,0,0\n2,A,1,1,no,1,1\n2,a,1,1,no,1,1\n", 3, 1, OF_FIELD[1])
+    refused(trial, HEADER + "0,A,1,1,no,0,0\n" + ROW * 200, 201, 7, MANY)
+
+
+SHOP = """
+[[material]]
+code = "STEEL"
+kind = "bar"
+kerf = "0.3"
+min_long = "2.0"
+min_short = "0.1"
+[[material]]
+code = "GLASS"
+kind = "sheet"
+kerf = "0.1"
+min_long = "0.5"
+min_short = "0.4"
+"""
+
+
+@case(
+    "judgements of order files by a shop file",
+    "With a shop file a line's material is one of it, and a bar's pieces are 0.1 wide and don't turn; what is judged without it is "
+    "judged too, line by line.",
+)
+def judged_by_shop(trial):
+    by = ("--shop", trial.write("shop.toml", SHOP))
+
+    def good(text, count):
+        path = trial.write("orders.csv", HEADER + text)
+        trial.ended(trial.run("orders", path, *by), 0, f"{count} lines\n", sent=text)
+
+    def bad(text, row, field):
+        refused(trial, HEADER + text, row, field, JUDGED[field], *by)
+
+    good("1,STEEL,20000.0,0.1,no,1,1\n2,GLASS,20000.0,6000.0,yes,1,1\n3,GLASS,0.1,0.1,no,1,1\n", 3)
+    refused(trial, HEADER, 1, 7, NO_ROW, *by)
+    bad("1,IRON,1.0,0.1,no,1,1\n", 1, 1)
+    bad("1,STEEL,1.0,0.1,no,1,1\n2,STEE,1.0,0.1,no,1,1\n", 2, 1)
+    for width in ("0.0", "0.2", "1.0", "6000.0", "6000.1"):
+        bad(f"1,STEEL,1.0,{width},no,1,1\n", 1, 3)
+    bad("1,STEEL,1.0,0.1,yes,1,1\n", 1, 4)
+    bad("1,GLASS,1.0,6000.1,yes,1,1\n", 1, 3)
+    bad("1,STEEL,0.0,0.2,yes,0,0\n", 1, 2)
+    bad("1,STEEL,1.0,0.2,yes,0,0\n", 1, 3)
+    bad("1,STEEL,1.0,0.1,yes,0,0\n", 1, 4)
+    bad("1,STEEL,1.0,0.1,no,0,0\n", 1, 5)
+    bad("1,STEEL,1.0,0.1,no,1,0\n", 1, 6)
+    bad("0,IRON,0.0,0.2,yes,0,0\n", 1, 0)
+    bad("1,IRON,0.0,0.2,yes,0,0\n", 1, 1)
+    # without the shop file the second row's length is the first bad field, with it the first row's material
+    text = "1,IRON,1.0,0.1,no,1,1\n2,STEEL,0.0,0.1,no,1,1\n"
+    refused(trial, HEADER + text, 2, 2, JUDGED[2])
+    bad(text, 1, 1)
+    ran = trial.run("orders", trial.write("orders.csv", HEADER + ROW), *by, *MESSAGE)
+    trial.equal((ran.status, json.loads(ran.out)["text"]), (0, HEADER + ROW))
+    trial.write("shop.toml", "")
+    bad(ROW, 1, 1)
+
+
+@case(
+    "faults of a shop file beside an order file",
+    "A shop file that can't be read, is no TOML or has a bad entry is told behind a field that can't be read and before one that is "
+    "judged; the second line names it.",
+)
+def shop_faults(trial):
+    trial.write("shop.toml", SHOP)
+    trial.write("bad.toml", SHOP.replace('"bar"', '"rod"'))
+    trial.write("none.toml", "x = 1\n")
+    good, judged, unread = HEADER + ROW, HEADER + ROW.replace(",3,", ",0,"), HEADER + "x" + ROW
+    for shop, line, why in (
+        ("no.toml", "fault file", "no.toml: there is no such file"),
+        (".", "fault file", ".: it is a folder; name a file"),
+        ("none.toml", "fault shop text", "none.toml, line 1: write [[material]] above each material, and no key named x"),
+        ("bad.toml", "fault shop entry 1", 'bad.toml, line 4: the kind is "bar" or "sheet"'),
+    ):
+        for text in (good, judged):
+            trial.write("orders.csv", text)
+            for options in ((), MESSAGE):
+                ran = trial.run("orders", "orders.csv", "--shop", shop, *options)
+                trial.ended(ran, 1, err=f"{line}\n", why=why, sent=f"{shop} {text}")
+        refused(trial, unread, 1, 0, OF_FIELD[0], "--shop", shop)
+        ran = trial.run("orders", "no.csv", "--shop", shop)
+        trial.ended(ran, 1, err="fault file\n", why="no.csv: there is no such file", sent=shop)
+
+
 @case("order files that can't be read", "A file that isn't there and a folder are `fault file`, and a full output is `fault write`.")
 def unread(trial):
     for name in ("no.csv", "."):
         for options in ((), MESSAGE):
             trial.ended(trial.run("orders", name, *options), 1, err="fault file\n", sent=name)
-    path = trial.write("orders.csv", HEADER)
+    path = trial.write("orders.csv", HEADER + ROW)
     for options in ((), MESSAGE):
         with open("/dev/full", "wb") as full:
             ran = subprocess.run([trial.program, "orders", path, *options], stdout=full, stderr=subprocess.PIPE, timeout=SECONDS)
@@ -146,7 +289,7 @@ def unread(trial):
     "4294967295; all else ends with status 2 and a text that names it.",
 )
 def words(trial):
-    path = trial.write("orders.csv", HEADER)
+    path = trial.write("orders.csv", HEADER + ROW)
     order, terminal, number = MESSAGE[:2], MESSAGE[2:4], MESSAGE[4:]
     lacking = [(order, "--terminal <N>"), (terminal, "--order <CODE>"), (number, "--order <CODE>")]
     lacking += [(order + terminal, "--number <N>"), (order + number, "--terminal <N>"), (terminal + number, "--order <CODE>")]
@@ -191,8 +334,16 @@ UNITS = {
 
 # Of each command's help what the line of each option says that no other one of its lines does.
 MEANT = {
-    "plan": {"--whole": "all pieces", "--calls": "in tables", "--kerf": "saw", "--step": "rounded"},
-    "orders": {"--order": "order's code", "--terminal": "terminal that sends", "--number": "message's number"},
+    "plan": {
+        "--whole": "all pieces",
+        "--calls": "in tables",
+        "--kerf": "saw",
+        "--step": "rounded",
+        "--shop": "shop file of an order file's materials",
+        "--material": "material whose lines",
+        "--size": "size of the units",
+    },
+    "orders": {"--shop": "by whose materials", "--order": "order's code", "--terminal": "terminal that sends", "--number": "message's number"},
     "serve": {
         "--port": "port of this machine",
         "--store": "keeps the shop's book",

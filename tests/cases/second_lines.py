@@ -79,7 +79,7 @@ def problems(trial):
         ("2 10 8 4 3", "0", "1", "fault text 10 Short", "p.txt, byte 10: the text ends before its last number"),
         ("0 10 8", "0", "1", "fault text 0 Number", "p.txt, byte 0: this number is out of its range"),
         ("1 2 2 4 3 1 12", "0", "1", "refused 90 NothingFits", "p.txt: no piece fits the rectangle"),
-        ("1 9 9 4 3 1 12", "0", "0", "refused 92 BadStep", "p.txt: the step is 0, or over some piece's side and a kerf; give another"),
+        ("1 9 9 4 3 1 12", "0", "0", "refused 92 BadStep", "p.txt: a step is 1 to 3"),
     ]
     for text, kerf, step, line, why in wanted:
         trial.write("p.txt", text)

@@ -386,7 +386,7 @@ LAWLESS = {
     "shop_opening logs NO_FRAME": ("41", "log_state", "the bytes of a log that an end leaves"),
     "shop_planning asking ALL_ROWS": ("MOST_NUMBERS as usize", "left_demands planned_parts", "all rows of a list, of which none has a greater number"),
     "shop_planning asking FIRST_ROWS": ("2000", "left_demands planned_parts", "so many rows are read first; where these don't suffice all are"),
-    "shop_problems wholes USUAL_CALLS": ("500", "plan_order", "tables of a search where the words say no number, as the formats have it"),
+    "shop_problems wholes USUAL_CALLS": ("500", "plan_from plan_order", "tables of a search where the words say no number, as the formats have it"),
     "shop_request fields LONGEST_BODY": ("131072", "short_number", "the definition `most_body` has the number"),
     "shop_request heads LONGEST_HEAD": ("8192", "least_bytes part_fault prefix_of", "the definition `most_head` has the number"),
     "shop_request heads MOST_FIELDS": ("64", "new read", "the definition `most_fields` has the number"),

@@ -1,5 +1,5 @@
 -- The lines that tell a plan of a whole order.
-use Rattle.std.specs.Prelude.{◌≡◌, ℕ, ◌+◌, List, [], ◌∷◌, ◌++◌, codes, if◌then◌else◌, Bool, map, sum_by, string_bytes}
+use Rattle.std.specs.Prelude.{◌≡◌, ℕ, suc, ◌==◌, List, [], ◌∷◌, ◌++◌, codes, if◌then◌else◌, Bool, filter, map, sum_by, string_bytes}
 use Rattle.std.specs.List.{list_any}
 use Rattle.std.specs.List.Sorted.{IsPermutation, IsSorted}
 use Rattle.std.specs.Fmt.{decimal}
@@ -63,3 +63,36 @@ pub record AreOrderLines (summary : OrderSummary) (units : List PlannedUnit) (te
   pub each : IsPermutation (plan_lines units) (map told lines)
   pub ordered : IsSorted in_order lines
   pub says : text ≡ summary_text summary ++ lines_text (map told lines)
+
+-- ---- units of several sizes
+
+-- the units of the size at a place
+abbrev pub units_of : (place : ℕ) → List PlannedUnit → List PlannedUnit
+units_of place units = filter (λ u. u.place == place) units
+
+-- each line with the name of its size before it
+abbrev pub sized_text : (name : List ℕ) → List PlanLine → List ℕ
+sized_text name [] = []
+sized_text name (l ∷ ls) = name ++ codes " " ++ line_text l ++ sized_text name ls
+
+-- of units of one size each different plan once, in order, with the name of the size before it
+pub record AreSizedLines (name : List ℕ) (units : List PlannedUnit) (text : List ℕ) : Type 0 where
+  pub lines : List Line
+  pub each : IsPermutation (plan_lines units) (map told lines)
+  pub ordered : IsSorted in_order lines
+  pub says : text ≡ sized_text name (map told lines)
+
+-- of the sizes from a place on, which have these names, the lines of each, size by size
+abbrev pub AreBlocks : List PlannedUnit → (place : ℕ) → (names : List (List ℕ)) → List ℕ → Type 0
+AreBlocks units place [] text = text ≡ []
+AreBlocks units place (name ∷ names) text =
+    (own later : List ℕ) × AreSizedLines name (units_of place units) own × AreBlocks units (suc place) names later × (text ≡ own ++ later)
+
+-- such a text was appended
+abbrev pub Appends : (List ℕ → Type 0) → (old new : List ℕ) → Type 0
+Appends is old new = (text : List ℕ) × is text × (new ≡ old ++ text)
+
+-- the summary, the cost, and the lines of each size
+abbrev pub AreSizesLines : OrderSummary → (cost : ℕ) → (names : List (List ℕ)) → List PlannedUnit → List ℕ → Type 0
+AreSizesLines summary cost names units text =
+    Appends (AreBlocks units 0 names) (summary_text summary ++ codes "cost " ++ decimal cost ++ codes "\n") text

@@ -3,4 +3,4 @@
 
 mod lines;
 
-pub use lines::{OrderSummary, order_lines};
+pub use lines::{OrderSummary, order_lines, sized_lines};

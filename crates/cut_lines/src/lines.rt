@@ -1,6 +1,6 @@
 //! The lines that tell a plan of a whole order: how many units it takes, what bounds them, and each different plan.
 
-ghost use Rattle.std.specs.Prelude.{◌≡◌, ◌+◌, ◌++◌, ◌<◌, OnOk, IfOk, drop, get_or, length, map, string_bytes};
+ghost use Rattle.std.specs.Prelude.{◌≡◌, ◌+◌, ◌++◌, ◌<◌, ◌^◌, OnOk, IfOk, drop, get_or, length, map, string_bytes};
 ghost use Rattle.cut_bound.specs.declared.planned.PlannedUnit.{PlannedUnit};
 ghost use Rattle.std.specs.List.{list_any};
 ghost use Rattle.cut_tree.specs.SamePatterns.{same_pattern};
@@ -94,6 +94,17 @@ fn write_lines(list: &[Line], out: &mut String) -> Result<(), AllocError>
     Ok(())
 }
 
+// Appends the lines, each with the name of its size before it.
+fn write_sized_lines(name: &str, list: &[Line], out: &mut String) -> Result<(), AllocError>
+    ensures { OnOk result (string_bytes out.new
+        ≡ string_bytes out.old ++ lines.sized_text name.now (map lines.told list.now)) }
+{
+    for line in list {
+        write!(out, "{name} {} {}\n", line.times.0, line.text)?;
+    }
+    Ok(())
+}
+
 fn proved_word(proved: bool) -> &'static str
     ensures { result.now ≡ lines.proved_word proved }
 {
@@ -127,5 +138,83 @@ pub fn order_lines(
     list.sort()?;
     let mut text = summary_text(alloc, summary)?;
     write_lines(&list, &mut text)?;
+    Ok(text)
+}
+
+// Appends the lines of the units of one size.
+fn write_block(
+    alloc: Global,
+    name: &str,
+    units: &[PlannedUnit],
+    out: &mut String,
+) -> Result<(), AllocError>
+    ensures { OnOk result (lines.Appends (lines.AreSizedLines name.now units.now)
+        (string_bytes out.old) (string_bytes out.new)) }
+{
+    let mut list = lines_of(alloc, units)?;
+    list.sort()?;
+    write_sized_lines(name, &list, out)
+}
+
+// Copies of the units of the size at a place.
+fn units_of(
+    alloc: Global,
+    units: &[PlannedUnit],
+    place: usize,
+) -> Result<Vec<PlannedUnit>, AllocError>
+    ensures { IfOk result (λ list. list.items ≡ lines.units_of place units.now) }
+{
+    let mut list = Vec::new(alloc);
+    for unit in units {
+        if unit.place == place {
+            let plan = unit.plan.copy(alloc)?;
+            list.push(PlannedUnit {
+                place: unit.place,
+                times: unit.times,
+                plan,
+            })?;
+        }
+    }
+    Ok(list)
+}
+
+// Appends the lines of the units of the sizes from a place on, size by size.
+fn write_blocks(
+    alloc: Global,
+    names: &[String],
+    place: usize,
+    units: &[PlannedUnit],
+    out: &mut String,
+) -> Result<(), AllocError>
+    requires { place + length names.now < 2 ^ 32 }
+    ensures { OnOk result (lines.Appends
+        (lines.AreBlocks units.now place (map string_bytes names.now))
+        (string_bytes out.old) (string_bytes out.new)) }
+{
+    let [name, more @ ..] = names else {
+        return Ok(());
+    };
+    let own = units_of(alloc, units, place)?;
+    write_block(alloc, name.as_str(), &own, out)?;
+    write_blocks(alloc, more, place + 1, units, out)?;
+    Ok(())
+}
+
+/// The lines of a plan of a whole order from units of several sizes: what sums it up, the cost, and size by size, by its name,
+/// for each different plan how many units have it and its text, by falling number and then by the text.
+pub fn sized_lines(
+    alloc: Global,
+    summary: OrderSummary,
+    cost: u64,
+    names: &[String],
+    units: &[PlannedUnit],
+) -> Result<String, AllocError>
+    requires { length names.now < 2 ^ 32 }
+    ensures { IfOk result (λ text. lines.AreSizesLines summary cost (map string_bytes names.now)
+        units.now (string_bytes text)) }
+{
+    let mut text = summary_text(alloc, summary)?;
+    write!(text, "cost {cost}\n")?;
+    write_blocks(alloc, names, 0, units, &mut text)?;
     Ok(text)
 }

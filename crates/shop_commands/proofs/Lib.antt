@@ -5,3 +5,7 @@ pub mod Replayed
 pub mod Restored
 pub mod Unwritten
 pub mod Plain
+pub mod OrderLines
+pub mod StepAdvice
+pub mod JudgedFiles
+pub mod PlannedFiles

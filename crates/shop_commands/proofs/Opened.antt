@@ -1,6 +1,6 @@
 -- What the faults of the commands on a store come to.
 use Rattle.std.proofs.Common.{◌≡◌, ℕ, suc, List, [], ◌∷◌, length, Option, Ok, Err, inl, inr, refl, ap, subst}
-use Rattle.std.specs.Prelude.{◌⊎◌, Result, OnOk, IfErr}
+use Rattle.std.specs.Prelude.{Result, OnOk, IfErr}
 use Rattle.shop_records.specs.Content.{Content}
 use Rattle.shop_records.specs.declared.refusals.Refusal.{Refusal}
 use Rattle.shop_opening.specs.Shops.{ShopFailed}

@@ -1,5 +1,5 @@
 -- What is said of an order file.
-use Rattle.std.proofs.Common.{◌≡◌, ◌≢◌, ◌∙◌, ℕ, suc, ◌+◌, ◌<◌, Bool, true, false, not, List, [], ◌∷◌, length, drop, take, get_or, Option, Result, Ok, Err, inr, sym, ap, arith}
+use Rattle.std.proofs.Common.{◌≡◌, ◌≢◌, ◌∙◌, ℕ, suc, ◌+◌, ◌<◌, Bool, true, false, not, List, ◌∷◌, length, drop, take, get_or, Option, Result, Ok, Err, inr, sym, ap, arith}
 use Rattle.std.specs.Prelude.{◌||◌, ◌==◌, IfErr, if◌then◌else◌}
 use Rattle.std.specs.List.{list_any, prefix_len}
 use Rattle.std.proofs.Math.Seq.{drop-cons}
@@ -56,7 +56,7 @@ module _ (wanted : ℕ) (text : List ℕ) (i d : ℕ) (within : i < length text)
 
 -- ---- a line that isn't written to its end
 
-pub unwritten : {X : Type 0} (told : Option ImportAs) (bytes line : List ℕ) (out : SinkChange) → IsOrdersLine told bytes line → AddsPrefix out line
-    → (result : Result X Fault) → IfErr result (λ fault. (fault ≡ Write) × SinkFailed out) → IfErr result (λ fault. IsOrdersStopped told fault out)
-unwritten told bytes line out made prefix (Ok x) is = tt
-unwritten told bytes line out made prefix (Err fault) is = inr (inr (bytes, line, made, is.0, prefix, is.1))
+pub unwritten : {X : Type 0} (given : Bool) (told : Option ImportAs) (bytes line : List ℕ) (out : SinkChange) → IsOrdersLine given told bytes line → AddsPrefix out line
+    → (result : Result X Fault) → IfErr result (λ fault. (fault ≡ Write) × SinkFailed out) → IfErr result (λ fault. IsOrdersStopped given told fault out)
+unwritten given told bytes line out made prefix (Ok x) is = tt
+unwritten given told bytes line out made prefix (Err fault) is = inr (inr (bytes, line, made, is.0, prefix, is.1))

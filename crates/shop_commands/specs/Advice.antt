@@ -12,7 +12,7 @@ use Rattle.shop_commands.specs.declared.advice.Advice.{Advice}
 use Rattle.shop_commands.specs.declared.advice.Cause.{Cause}
 use Rattle.shop_commands.specs.declared.advice.Cause.TheVariants as cause
 use Rattle.shop_commands.specs.declared.faults.Fault.{Fault}
-use Rattle.shop_commands.specs.declared.faults.Fault.TheVariants.{File, Text, Order, ShopText, ShopEntry, Entry, Refused, Read, Write, NoMemory, Store, Version, Port, Backup}
+use Rattle.shop_commands.specs.declared.faults.Fault.TheVariants.{File, Text, Order, ShopText, ShopEntry, Entry, Refused, Read, Write, Store, Version, Port, Backup}
 use Rattle.shop_commands.specs.Faults.{fault_text}
 
 -- ---- what is told of each cause
@@ -33,8 +33,6 @@ refused_text refusal.MaterialExists = codes "the store has this material with an
 refused_text refusal.BadMaterial = codes "the kerf or a limit is out of its range for this kind"
 refused_text refusal.NoJob = codes "it has no such job"
 refused_text refusal.NothingFits = codes "no piece fits the rectangle"
-refused_text refusal.TableTooLarge = codes "the rectangle is too large for the planner; give a greater step, or a smaller one"
-refused_text refusal.BadStep = codes "the step is 0, or over some piece's side and a kerf; give another"
 refused_text refusal.BadWant = codes "it has too many kinds of pieces; write at most 40, and 100 with --whole"
 refused_text refusal.NoMemory = codes "memory ran out"
 refused_text refusal.StoreFault = codes "the store failed, or its rows contradict each other; look at its disk"
@@ -51,6 +49,12 @@ cause_text (cause.File c) = file_text c
 cause_text (cause.Problem c) = problem_text c
 cause_text (cause.Shop c) = shop_text c
 cause_text (cause.Refused r) = refused_text r
+cause_text cause.Whole = codes "plan it with --whole, and without --step"
+cause_text cause.LongBar = codes "a bar is at most 15000.0 mm long"
+cause_text cause.Steps = codes "a step is "
+cause_text cause.Size = codes "a size is 0.1x0.1 to 20000.0x6000.0 in millimetres, and of a bar 0.1 to 20000.0"
+cause_text cause.NoFit = codes "no piece fits a unit of these sizes"
+cause_text cause.Lines = codes "it has no line of the material, or over 100; or a bar's that isn't 0.1 wide or may be turned; or a size stands twice"
 cause_text cause.Made = codes "there was no store, and an empty one was made"
 cause_text (cause.Store c) = store_text c
 cause_text (cause.Version c) = version_text c
@@ -59,7 +63,20 @@ cause_text (cause.Backup c) = backup_text c
 cause_text cause.Input = codes "it can't be read to its end"
 cause_text cause.Output = codes "it can't be written; is its disk full, or its reader gone?"
 
+-- why the lines of an order file aren't planned
+abbrev pub lines_cause : Refusal → Cause
+lines_cause refusal.BadSize = cause.Size
+lines_cause refusal.NothingFits = cause.NoFit
+lines_cause refusal.BadWant = cause.Lines
+lines_cause r = cause.Refused r
+
 -- ---- which cause stands after which line
+
+-- what helps after these refusals alone
+abbrev pub IsOfStep : Refusal → Type 0
+IsOfStep refusal.TableTooLarge = ⊤
+IsOfStep refusal.BadStep = ⊤
+IsOfStep r = ⊥
 
 -- This cause may be told after the line of this fault: `fault store` speaks of stores, and of the cause that the fault has.
 abbrev pub FitsFault : Fault → Cause → Type 0
@@ -69,6 +86,12 @@ FitsFault ShopText (cause.Shop c) = ⊤
 FitsFault (ShopEntry entry) (cause.Shop c) = ⊤
 FitsFault (Entry e) (cause.Refused r) = r ≡ e.refusal
 FitsFault (Refused r) (cause.Refused s) = s ≡ r
+FitsFault (Refused r) cause.Whole = IsOfStep r
+FitsFault (Refused r) cause.LongBar = IsOfStep r
+FitsFault (Refused r) cause.Steps = IsOfStep r
+FitsFault (Refused r) cause.Size = r ≡ refusal.BadSize
+FitsFault (Refused r) cause.NoFit = r ≡ refusal.NothingFits
+FitsFault (Refused r) cause.Lines = r ≡ refusal.BadWant
 FitsFault (Refused r) cause.Made = ⊤
 FitsFault Read cause.Input = ⊤
 FitsFault Write cause.Output = ⊤
@@ -88,6 +111,19 @@ IsPlain words = has_line_feed words ≡ false
 -- an advice of this cause, which is one line
 pub record IsOf (c : Cause) (a : Advice) : Type 0 where
   pub cause : a.cause ≡ c
+  pub about : IsPlain (string_bytes a.about)
+  pub word : IsPlain (string_bytes a.word)
+
+-- a cause that helps where a step is refused
+abbrev pub HelpsStep : Cause → Type 0
+HelpsStep cause.Whole = ⊤
+HelpsStep cause.LongBar = ⊤
+HelpsStep cause.Steps = ⊤
+HelpsStep c = ⊥
+
+-- an advice that helps there, which is one line
+pub record IsStepHelp (a : Advice) : Type 0 where
+  pub helps : HelpsStep a.cause
   pub about : IsPlain (string_bytes a.about)
   pub word : IsPlain (string_bytes a.word)
 

@@ -8,6 +8,12 @@ use Rattle.shop_files.specs.declared.problems.TextCause.TheVariants as text
 use Rattle.shop_files.specs.declared.problems.TextFault.{TextFault}
 use Rattle.shop_files.specs.declared.shops.ShopFault.{ShopFault}
 use Rattle.shop_files.specs.declared.shops.ShopFault.TheVariants as shop
+use Rattle.shop_problems.specs.declared.orders.LinesFault.{LinesFault}
+use Rattle.shop_problems.specs.declared.orders.LinesFault.TheVariants as lines
+use Rattle.shop_problems.specs.declared.stock.BadEntry.{BadEntry}
+use Rattle.shop_problems.specs.declared.stock.EntryFault.{EntryFault}
+use Rattle.shop_problems.specs.declared.stock.EntryFault.TheVariants as entry
+use Rattle.shop_records.specs.declared.refusals.Refusal.{Refusal}
 use Rattle.shop_records.specs.declared.refusals.Refusal.TheVariants as refusal
 use Rattle.shop_records.specs.Refusals.{refusal_number, refusal_name}
 use Rattle.shop_backup.specs.declared.faults.BackupFault.{BackupFault}
@@ -40,6 +46,17 @@ cause_word text.Number = codes "Number"
 cause_word text.Short = codes "Short"
 cause_word text.NoMemory = codes "NoMemory"
 
+-- what is wrong in a field that can be read, and what to write
+abbrev pub judged_sentence : OrderCause → List ℕ
+judged_sentence cause.Rising = codes "the line isn't greater than that of the row above, or is 0; write rising numbers from 1 on"
+judged_sentence cause.Unknown = codes "the shop file has no such material; write the code of one that it has"
+judged_sentence cause.FarLength = codes "the length is out of its range; write 0.1 to 20000.0"
+judged_sentence cause.FarWidth = codes "the width is out of its range; write 0.1 to 6000.0, and 0.1 for a bar"
+judged_sentence cause.Turned = codes "a bar's piece isn't turned; write no"
+judged_sentence cause.FarCount = codes "the count is out of its range; write 1 to 1000000"
+judged_sentence cause.FarWorth = codes "the worth is out of its range; write 1 to 1000000000"
+judged_sentence c = codes "the field is another"
+
 -- what is wrong in an order file, and what to write
 abbrev pub order_sentence : OrderCause → List ℕ
 order_sentence cause.Long = codes "the text is too long; write at most 65536 bytes"
@@ -54,6 +71,8 @@ order_sentence cause.Width = codes "the width is in millimetres; write 1 to 6 di
 order_sentence cause.Turn = codes "the turn says whether the piece may be turned; write yes or no"
 order_sentence cause.Count = codes "the count is the number of pieces, a whole number of 1 to 10 digits; write it as 3"
 order_sentence cause.Worth = codes "the worth is that of one piece, a whole number of 1 to 10 digits; write it as 30"
+order_sentence cause.None = codes "there is no row below the first line; write one for each line"
+order_sentence c = judged_sentence c
 
 -- what the line says
 abbrev pub fault_text : Fault → List ℕ
@@ -80,6 +99,20 @@ planner_fault planner.TableTooLarge = Refused refusal.TableTooLarge
 planner_fault planner.BadStep = Refused refusal.BadStep
 planner_fault planner.BadWant = Refused refusal.BadWant
 planner_fault planner.NoMemory = NoMemory
+
+-- lines that can't be planned are refused by the number of their fault
+abbrev pub lines_fault : LinesFault → Fault
+lines_fault lines.NoMaterial = Refused refusal.NoMaterial
+lines_fault lines.BadSize = Refused refusal.BadSize
+lines_fault (lines.Plan fault) = planner_fault fault
+
+abbrev pub entry_refusal : EntryFault → Refusal
+entry_refusal entry.Bad = refusal.BadMaterial
+entry_refusal entry.Exists = refusal.MaterialExists
+
+-- an entry that is bad, as a shop refuses it
+abbrev pub entry_fault : BadEntry → Fault
+entry_fault bad = Entry (record { entry = bad.entry; refusal = entry_refusal bad.fault })
 
 abbrev pub fault_by : TextCause → TextFault → Fault
 fault_by text.NoMemory fault = NoMemory

@@ -18,7 +18,8 @@ use Rattle.shop_wire.specs.Streams.{most_reads}
 use Rattle.shop_serve.specs.declared.clients.TheConstants as connections
 use Rattle.shop_serve.specs.declared.thinking.TheConstants as questions
 use Rattle.shop_serve.specs.declared.serving.TheConstants.{MOST_SERVED}
-use Rattle.shop_words.specs.declared.words.TheConstants.{LONGEST_STEP, MOST_CALLS, LAST_PORT, MOST_CONNECTIONS, MOST_KEPT, MOST_NAMES, MOST_PAIR, VERSION}
+use Rattle.shop_words.specs.declared.words.TheConstants.{LONGEST_STEP, MOST_CALLS, LAST_PORT, MOST_CONNECTIONS, MOST_KEPT, MOST_NAMES, MOST_PAIR, MOST_SIZES, VERSION}
+use Rattle.shop_problems.specs.declared.steps.TheConstants.{LONGEST_GIVEN}
 use Rattle.shop_commands.specs.declared.files.TheConstants.{LONGEST_PAGE}
 
 -- sides of a unit or a piece, a kerf, in tenths of a millimetre, and a code's characters
@@ -72,14 +73,17 @@ pub record AreConnections : Type 0 where
   pub fair : questions.FAIR_CALLS ≡ 200
   pub served : MOST_SERVED ≡ 18446744073709551615
 
--- of the command line: a step, steps of a search, a port, connections, backups that stay, names of a server, the terminal and the number of a
+-- of the command line: a step, and the longest that is told, steps of a search, a port, connections, backups that stay, names of a server, sizes
+-- of a plan, the terminal and the number of a
 -- message, and the version
 pub record AreWords : Type 0 where
   pub step : LONGEST_STEP ≡ 200000
+  pub told_step : LONGEST_GIVEN ≡ 200000
   pub calls : MOST_CALLS ≡ 5000
   pub port : LAST_PORT ≡ 65535
   pub connections : MOST_CONNECTIONS ≡ 1000000
   pub kept : MOST_KEPT ≡ 10000
   pub names : MOST_NAMES ≡ 10
+  pub sizes : MOST_SIZES ≡ 10
   pub pair : MOST_PAIR ≡ 4294967295
   pub version : VERSION.now ≡ codes "1.1.0"

@@ -1,11 +1,14 @@
 -- Order files that are read by the program.
-use Rattle.std.specs.Prelude.{◌≡◌, ◌⊎◌, ℕ, ◌==◌, ◌&&◌, not, Bool, List, [], ◌∷◌, ◌++◌, length, nat_lt, Option, Some, None, codes, if◌then◌else◌}
+use Rattle.std.specs.Prelude.{◌≡◌, ◌⊎◌, ℕ, ◌==◌, ◌&&◌, not, Bool, false, true, List, [], ◌∷◌, ◌++◌, length, nat_lt, Option, Some, None, codes, if◌then◌else◌}
 use Rattle.std.specs.Fmt.{decimal}
 use Rattle.std.specs.List.{before_first, list_any}
 use Rattle.std.specs.Str.{IsUtf8}
 use Rattle.shop_files.specs.Orders.{IsOrders, HasOrdersFault}
 use Rattle.shop_files.specs.declared.limits.TheConstants.{LONGEST_TEXT, MOST_LINES}
 use Rattle.shop_files.specs.declared.orders.OrderLine.{OrderLine}
+use Rattle.shop_files.specs.declared.shops.MaterialEntry.{MaterialEntry}
+use Rattle.shop_problems.specs.declared.judging.BadField.{BadField}
+use Rattle.shop_problems.specs.Judged.{first_bad_field}
 use Rattle.shop_files.specs.declared.orders.OrdersFault.{OrdersFault}
 use Rattle.shop_files.specs.declared.orders.OrdersFault.TheVariants as orders
 use Rattle.shop_records.specs.declared.imports.Form.TheVariants.{Csv}
@@ -16,6 +19,7 @@ use Rattle.shop_commands.specs.declared.faults.Fault.{Fault}
 use Rattle.shop_commands.specs.declared.faults.Fault.TheVariants.{File, Order, NoMemory, Write}
 use Rattle.shop_commands.specs.declared.faults.OrderCause.{OrderCause}
 use Rattle.shop_commands.specs.declared.faults.OrderCause.TheVariants as cause
+use Rattle.shop_commands.specs.Stored.{IsShopRead, IsShopUnread}
 use Rattle.shop_commands.specs.Sinks.{SinkChange, Adds, AddsPrefix, AddsNone, SinkFailed}
 
 -- ---- what is wrong at the first fault
@@ -53,11 +57,36 @@ abbrev pub fault_in : List ℕ → OrdersFault → Fault
 fault_in text (orders.At row field) = Order (record { row = row; field = field; cause = cause_of text row field })
 fault_in text orders.NoMemory = NoMemory
 
--- ---- what is told
+-- what is wrong in a field that can be read
+abbrev pub judged_cause : ℕ → OrderCause
+judged_cause field =
+    if field == 0 then cause.Rising else if field == 1 then cause.Unknown else if field == 2 then cause.FarLength
+    else if field == 3 then cause.FarWidth else if field == 4 then cause.Turned else if field == 5 then cause.FarCount
+    else if field == 6 then cause.FarWorth else cause.None
 
--- a text spells so many lines
-abbrev pub SpellsLines : List ℕ → ℕ → Type 0
-SpellsLines text count = (lines : List OrderLine) × IsOrders text lines × (count ≡ length lines)
+abbrev pub bad_fault : BadField → Fault
+bad_fault bad = Order (record { row = bad.row; field = bad.field; cause = judged_cause bad.field })
+
+-- this is the fault of the first bad field of lines, by these materials
+abbrev pub IsBadBy : Option (List MaterialEntry) → List OrderLine → Fault → Type 0
+IsBadBy shop lines fault = (bad : BadField) × (first_bad_field shop lines ≡ Some bad) × (fault ≡ bad_fault bad)
+
+-- the materials of a shop file, where one is given
+abbrev pub IsKnownShop : (given : Bool) → Option (List MaterialEntry) → Type 0
+IsKnownShop false shop = shop ≡ None
+IsKnownShop true None = ⊥
+IsKnownShop true (Some entries) = IsShopRead entries
+
+-- no field of the lines is bad
+abbrev pub IsJudgedGood : (given : Bool) → List OrderLine → Type 0
+IsJudgedGood given lines = (shop : Option (List MaterialEntry)) × IsKnownShop given shop × (first_bad_field shop lines ≡ None)
+
+-- the shop file has this fault, or this is the one of the first bad field of the lines
+abbrev pub IsJudgedBad : (given : Bool) → List OrderLine → Fault → Type 0
+IsJudgedBad given lines fault =
+    ((given ≡ true) × IsShopUnread fault) ⊎ ((shop : Option (List MaterialEntry)) × IsKnownShop given shop × IsBadBy shop lines fault)
+
+-- ---- what is told
 
 -- a text has this first fault, or memory ran out
 abbrev pub IsUnordered : List ℕ → Fault → Type 0
@@ -75,25 +104,28 @@ abbrev pub orders_line : Option ImportAs → List ℕ → (count : ℕ) → List
 orders_line None text count = count_line count
 orders_line (Some told) text count = import_line told text
 
--- the line that is told of an order file's bytes
-abbrev pub IsOrdersLine : Option ImportAs → List ℕ → List ℕ → Type 0
-IsOrdersLine told text line = (count : ℕ) × SpellsLines text count × (line ≡ orders_line told text count)
+-- the line that is told of an order file's bytes, which spell good lines
+abbrev pub IsOrdersLine : (given : Bool) → Option ImportAs → List ℕ → List ℕ → Type 0
+IsOrdersLine given told text line =
+    (lines : List OrderLine) × IsOrders text lines × IsJudgedGood given lines × (line ≡ orders_line told text (length lines))
 
 -- the line of good bytes can't be made: memory ran out, or they are no text
 abbrev pub IsUnsaid : List ℕ → Fault → Type 0
 IsUnsaid text fault = (fault ≡ NoMemory) ⊎ ((fault ≡ File) × (IsUtf8 text → ⊥))
 
--- the bytes have this first fault; or they have lines, and memory ran out or they are no text
-abbrev pub IsOrderFileFault : List ℕ → Fault → Type 0
-IsOrderFileFault text fault = IsUnordered text fault ⊎ (((count : ℕ) × SpellsLines text count) × IsUnsaid text fault)
+-- the bytes have this first fault; or they spell lines that are judged to be bad; or good ones, and memory ran out or they are no text
+abbrev pub IsOrderFileFault : (given : Bool) → List ℕ → Fault → Type 0
+IsOrderFileFault given text fault =
+    IsUnordered text fault
+    ⊎ ((lines : List OrderLine) × IsOrders text lines × (IsJudgedBad given lines fault ⊎ (IsJudgedGood given lines × IsUnsaid text fault)))
 
 -- the line of a file's bytes was written
-abbrev pub IsOrdersDone : Option ImportAs → (out : SinkChange) → Type 0
-IsOrdersDone told out = (bytes line : List ℕ) × IsOrdersLine told bytes line × Adds out line
+abbrev pub IsOrdersDone : (given : Bool) → Option ImportAs → (out : SinkChange) → Type 0
+IsOrdersDone given told out = (bytes line : List ℕ) × IsOrdersLine given told bytes line × Adds out line
 
 -- the file can't be read, or its bytes have a fault, and nothing was written; or a write failed, and a first part was
-abbrev pub IsOrdersStopped : Option ImportAs → Fault → (out : SinkChange) → Type 0
-IsOrdersStopped told fault out =
+abbrev pub IsOrdersStopped : (given : Bool) → Option ImportAs → Fault → (out : SinkChange) → Type 0
+IsOrdersStopped given told fault out =
     (((fault ≡ NoMemory) ⊎ (fault ≡ File)) × AddsNone out)
-    ⊎ ((((bytes : List ℕ) × IsOrderFileFault bytes fault) × AddsNone out)
-    ⊎ ((bytes line : List ℕ) × IsOrdersLine told bytes line × (fault ≡ Write) × AddsPrefix out line × SinkFailed out))
+    ⊎ ((((bytes : List ℕ) × IsOrderFileFault given bytes fault) × AddsNone out)
+    ⊎ ((bytes line : List ℕ) × IsOrdersLine given told bytes line × (fault ≡ Write) × AddsPrefix out line × SinkFailed out))

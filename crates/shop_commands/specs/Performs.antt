@@ -1,5 +1,5 @@
 -- What the program did: what was written, and with which status it ended.
-use Rattle.std.specs.Prelude.{◌≡◌, ◌≢◌, ◌⊎◌, ℕ, true, false, List, [], ◌∷◌, ◌++◌, Result, Ok, Err, codes, option_map}
+use Rattle.std.specs.Prelude.{◌≡◌, ◌≢◌, ◌⊎◌, ℕ, true, false, List, [], ◌++◌, Result, Ok, Err, codes, is_some, option_map}
 use Rattle.clap.specs.Kinds.{IsAmong}
 use Rattle.clap.specs.Faults as clap
 use Rattle.clap.specs.Words.{Text, subcommand_of}
@@ -14,14 +14,14 @@ use Rattle.shop_wire.specs.Replays.{IsReplayedFresh}
 use Rattle.shop_commands.specs.declared.faults.Fault.{Fault}
 use Rattle.shop_commands.specs.declared.faults.Fault.TheVariants.{File, Read, Write, NoMemory}
 use Rattle.shop_words.specs.declared.words.Request.{Request}
-use Rattle.shop_words.specs.declared.words.Request.TheVariants.{Replay, Plan, PlanOrder, Orders, Serve, Ticket, Yield, Restore}
+use Rattle.shop_words.specs.declared.words.Request.TheVariants.{Replay, Plan, PlanOrder, PlanLines, Orders, Serve, Ticket, Yield, Restore}
 use Rattle.shop_words.specs.declared.words.TheConstants.{VERSION}
 use Rattle.shop_words.specs.CommandLine.{AsksFor, AsksNothing, shop_app}
 use Rattle.shop_words.specs.Mistakes.{IsMistakeOf, mistake_text}
 use Rattle.shop_words.specs.declared.mistakes.Mistake.{Mistake}
 use Rattle.shop_commands.specs.Advice.{IsFaultTold, fault_line, no_memory_line}
 use Rattle.shop_commands.specs.Orders.{IsOrdersDone, IsOrdersStopped}
-use Rattle.shop_commands.specs.Plans.{IsFilePlan, IsFileFault, IsFileWhole, IsFileWholeFault}
+use Rattle.shop_commands.specs.Plans.{IsFileLines, IsFileLinesFault, IsFilePlan, IsFileFault, IsFileWhole, IsFileWholeFault}
 use Rattle.shop_request.specs.declared.addresses.Address.{Address}
 use Rattle.shop_commands.specs.Stored.{IsAddressOf, IsTextDone, IsTextStopped, IsServeDone, IsServeStopped}
 use Rattle.shop_commands.specs.Restoring.{IsRestoreStopped, restored_lines}
@@ -51,6 +51,13 @@ IsPlanStopped made stops File out = AddsNone out
 IsPlanStopped made stops Write out = (bytes plan : List ℕ) × made bytes plan × AddsPrefix out plan × SinkFailed out
 IsPlanStopped made stops fault out = ((bytes : List ℕ) × stops bytes fault) × AddsNone out
 
+-- the same of what is made of two files: either can't be read, or nothing can be made of their bytes, and nothing was written; or a write failed
+abbrev pub IsMadeStopped : (List ℕ → List ℕ → Type 0) → (List ℕ → Fault → Type 0) → Fault → (out : SinkChange) → Type 0
+IsMadeStopped made stops fault out =
+    (((fault ≡ NoMemory) ⊎ (fault ≡ File)) × AddsNone out)
+    ⊎ ((((bytes : List ℕ) × stops bytes fault) × AddsNone out)
+    ⊎ ((bytes plan : List ℕ) × made bytes plan × (fault ≡ Write) × AddsPrefix out plan × SinkFailed out))
+
 -- the line of the version
 abbrev pub version_line : List ℕ
 version_line = codes "cutshop " ++ VERSION.now ++ codes "\n"
@@ -75,7 +82,8 @@ module _ {B A : Type 0} (book : Ghosts B) (apart : Ghosts A) (gives : List ℕ �
   IsDone (PlanOrder file kerf step calls) input out = IsPlanDone (λ bytes. IsFileWhole bytes kerf step) out
   IsDone (Serve s) input out =
       (address : Address) × IsAddressOf s address × IsServeDone book (gives s.store.now) address s.limit (option_map (λ p. p.now) s.page) (option_map (λ p. p.now) s.backup) out
-  IsDone (Orders file told) input out = IsOrdersDone told out
+  IsDone (PlanLines asked) input out = IsPlanDone (λ bytes. IsFileLines bytes asked) out
+  IsDone (Orders file shop told) input out = IsOrdersDone (is_some shop) told out
   IsDone (Ticket store job false) input out = IsTextDone book (gives store.now) (λ m. ticket_of m job) out
   IsDone (Ticket store job true) input out = IsTextDone apart (reads store.now) (λ m. ticket_of m job) out
   IsDone (Yield store material false) input out = IsTextDone book (gives store.now) (λ m. yield_of m material) out
@@ -89,7 +97,8 @@ module _ {B A : Type 0} (book : Ghosts B) (apart : Ghosts A) (gives : List ℕ �
       IsPlanStopped (λ bytes. IsFileWhole bytes kerf step) (λ bytes. IsFileWholeFault bytes kerf step) fault out
   IsStopped (Serve s) fault input out =
       (address : Address) × IsAddressOf s address × IsServeStopped book (gives s.store.now) address s.limit (option_map (λ p. p.now) s.page) (option_map (λ p. p.now) s.backup) fault out
-  IsStopped (Orders file told) fault input out = IsOrdersStopped told fault out
+  IsStopped (PlanLines asked) fault input out = IsMadeStopped (λ bytes. IsFileLines bytes asked) (λ bytes. IsFileLinesFault bytes asked) fault out
+  IsStopped (Orders file shop told) fault input out = IsOrdersStopped (is_some shop) told fault out
   IsStopped (Ticket store job false) fault input out = IsTextStopped book (gives store.now) (λ m. ticket_of m job) fault out
   IsStopped (Ticket store job true) fault input out = IsTextStopped apart (reads store.now) (λ m. ticket_of m job) fault out
   IsStopped (Yield store material false) fault input out = IsTextStopped book (gives store.now) (λ m. yield_of m material) fault out

@@ -1,5 +1,5 @@
--- Plans of problem files.
-use Rattle.std.specs.Prelude.{◌≡◌, ℕ, List, ◌++◌, ◌⊎◌, codes, None, Option, Some}
+-- Plans of problem files, and of the lines of order files.
+use Rattle.std.specs.Prelude.{◌≡◌, ℕ, List, ◌++◌, ◌⊎◌, codes, map, None, Option, Some}
 use Rattle.std.specs.Fmt.{decimal}
 use Rattle.cut_measure.specs.Measures.{Extent}
 use Rattle.cut_measure.specs.declared.sizes.Kind.TheVariants.{Sheet}
@@ -9,13 +9,24 @@ use Rattle.cut_plan.specs.declared.faults.PlanFault.TheVariants.{TableTooLarge}
 use Rattle.cut_plan.specs.declared.sheets.SheetProposal.{SheetProposal}
 use Rattle.cut_plan.specs.Faults.{plan_fault}
 use Rattle.cut_plan.specs.Sheets.{IsSheetProposal, HasManyKept}
+use Rattle.shop_files.specs.declared.orders.OrderLine.{OrderLine}
 use Rattle.shop_files.specs.declared.problems.Piece.{Piece}
+use Rattle.shop_files.specs.declared.shops.MaterialEntry.{MaterialEntry}
+use Rattle.shop_files.specs.Orders.{IsOrders}
 use Rattle.shop_files.specs.Problems.{IsProblem, IsProblemFault}
+use Rattle.shop_problems.specs.declared.orders.LinesFault.{LinesFault}
+use Rattle.shop_problems.specs.declared.stock.BadEntry.{BadEntry}
+use Rattle.shop_problems.specs.Judged.{first_bad_field}
+use Rattle.shop_problems.specs.Orders.{IsLinesText, IsLinesFault}
+use Rattle.shop_problems.specs.Stock.{first_bad_entry}
 use Rattle.shop_problems.specs.Wants.{wants_of}
 use Rattle.shop_problems.specs.Wholes.{IsWholeText, IsWholeFault}
 use Rattle.shop_commands.specs.declared.faults.Fault.{Fault}
 use Rattle.shop_commands.specs.declared.faults.Fault.TheVariants.{Text, NoMemory}
-use Rattle.shop_commands.specs.Faults.{planner_fault}
+use Rattle.shop_words.specs.declared.words.OrderPlan.{OrderPlan}
+use Rattle.shop_commands.specs.Faults.{entry_fault, lines_fault, planner_fault}
+use Rattle.shop_commands.specs.Orders.{IsBadBy, IsUnordered}
+use Rattle.shop_commands.specs.Stored.{IsShopRead, IsShopUnread}
 
 -- the four lines of a plan
 abbrev pub plan_lines : SheetProposal → List ℕ
@@ -62,3 +73,43 @@ abbrev pub IsFileWholeFault : List ℕ → (kerf : ℕ) → (step : Option ℕ) 
 IsFileWholeFault bytes kerf step (Text fault) = IsProblemFault bytes fault.offset fault.cause
 IsFileWholeFault bytes kerf step fault =
     (fault ≡ NoMemory) ⊎ ((size : Extent) × (pieces : List Piece) × IsProblem bytes size pieces × IsWholeless size pieces kerf step fault)
+
+-- ---- order files
+
+-- the fault of the first entry that a shop refuses
+abbrev pub IsBadEntry : List MaterialEntry → Fault → Type 0
+IsBadEntry entries fault = (bad : BadEntry) × (first_bad_entry entries ≡ Some bad) × (fault ≡ entry_fault bad)
+
+abbrev pub sizes_asked : OrderPlan → List (List ℕ)
+sizes_asked asked = map (λ t. t.now) asked.sizes.items
+
+-- a shop file has entries that a shop takes, and these are the lines of the plans of a material's lines
+pub record IsShopLines (lines : List OrderLine) (asked : OrderPlan) (text : List ℕ) : Type 0 where
+  pub entries : List MaterialEntry
+  pub read : IsShopRead entries
+  pub taken : first_bad_entry entries ≡ None
+  pub told : IsLinesText lines entries asked.material.now (sizes_asked asked) text
+
+-- bytes spell good lines, and these are the lines of their plans
+pub record IsFileLines (bytes : List ℕ) (asked : OrderPlan) (text : List ℕ) : Type 0 where
+  pub lines : List OrderLine
+  pub spelt : IsOrders bytes lines
+  pub good : first_bad_field None lines ≡ None
+  pub planned : IsShopLines lines asked text
+
+-- of these entries: the fault of one that a shop refuses, or why the lines aren't planned
+abbrev pub IsPlanFaultBy : List OrderLine → List MaterialEntry → OrderPlan → Fault → Type 0
+IsPlanFaultBy lines entries asked fault =
+    IsBadEntry entries fault
+    ⊎ ((first_bad_entry entries ≡ None) × ((f : LinesFault) × IsLinesFault lines entries asked.material.now (sizes_asked asked) f × (fault ≡ lines_fault f)))
+
+-- the shop file has a fault, or it has entries from which the lines can't be planned
+abbrev pub IsShopLinesFault : List OrderLine → OrderPlan → Fault → Type 0
+IsShopLinesFault lines asked fault = IsShopUnread fault ⊎ ((entries : List MaterialEntry) × IsShopRead entries × IsPlanFaultBy lines entries asked fault)
+
+-- the bytes have a first fault; or they spell lines of which a field is bad; or good ones, which can't be planned from the shop file
+abbrev pub IsFileLinesFault : List ℕ → OrderPlan → Fault → Type 0
+IsFileLinesFault bytes asked fault =
+    IsUnordered bytes fault
+    ⊎ ((lines : List OrderLine) × IsOrders bytes lines
+    × (IsBadBy None lines fault ⊎ ((first_bad_field None lines ≡ None) × IsShopLinesFault lines asked fault)))

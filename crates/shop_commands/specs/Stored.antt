@@ -1,6 +1,6 @@
 -- What the commands on a store do: tickets, yield reports, and serving. A real file tells no bytes, so that a file was read or
 -- a store was opened is said of some bytes and of what the store's opener may give: some book, or some fault.
-use Rattle.std.specs.Prelude.{◌≡◌, ◌<◌, ◌≤◌, ◌⊎◌, ⊤, None, Some, length, ℕ, List, ◌++◌, codes, string_bytes, is_some, Option, Result, Ok, Err, All}
+use Rattle.std.specs.Prelude.{◌≡◌, ◌≤◌, ◌⊎◌, None, Some, length, ℕ, List, ◌++◌, codes, string_bytes, is_some, Option, Result, Ok, Err, All}
 use Rattle.std.specs.Fmt.{decimal}
 use Rattle.shop_files.specs.Shops.{IsShopFile, IsShopFault}
 use Rattle.shop_files.specs.declared.shops.MaterialEntry.{MaterialEntry}

@@ -10,6 +10,7 @@ ghost use Rattle.shop_commands.specs.declared.faults.Fault.TheVariants as fault;
 
 use crate::faults::Fault;
 use crate::files::read_file;
+use crate::helping::{lines_cause, step_advice};
 use shop_advice::{
     BackupCause, FileCause, ShopCause, StoreCause, VersionCause, is_there, look_at_file,
     look_at_shop,
@@ -39,6 +40,18 @@ pub enum Cause {
     Shop(ShopCause),
     /// This is refused.
     Refused(Refusal),
+    /// A step is refused, or a rectangle too large, and a plan of all pieces without a step helps.
+    Whole,
+    /// A bar is too long.
+    LongBar,
+    /// A step is refused, or a rectangle too large, and other steps serve.
+    Steps,
+    /// A text is no size of the material.
+    Size,
+    /// No piece fits one of the sizes.
+    NoFit,
+    /// There are no lines of the material, or others than can be planned.
+    Lines,
     /// The store wasn't there, and was made.
     Made,
     /// A store can't be opened.
@@ -91,10 +104,6 @@ fn refused_text(refusal: Refusal) -> &'static str
         Refusal::BadMaterial => "the kerf or a limit is out of its range for this kind",
         Refusal::NoJob => "it has no such job",
         Refusal::NothingFits => "no piece fits the rectangle",
-        Refusal::TableTooLarge => {
-            "the rectangle is too large for the planner; give a greater step, or a smaller one"
-        }
-        Refusal::BadStep => "the step is 0, or over some piece's side and a kerf; give another",
         Refusal::BadWant => {
             "it has too many kinds of pieces; write at most 40, and 100 with --whole"
         }
@@ -128,6 +137,16 @@ fn cause_text(cause: Cause) -> &'static str
         Cause::Problem(cause) => problem_text(cause),
         Cause::Shop(cause) => cause.text(),
         Cause::Refused(refusal) => refused_text(refusal),
+        Cause::Whole => "plan it with --whole, and without --step",
+        Cause::LongBar => "a bar is at most 15000.0 mm long",
+        Cause::Steps => "a step is ",
+        Cause::Size => {
+            "a size is 0.1x0.1 to 20000.0x6000.0 in millimetres, and of a bar 0.1 to 20000.0"
+        }
+        Cause::NoFit => "no piece fits a unit of these sizes",
+        Cause::Lines => {
+            "it has no line of the material, or over 100; or a bar's that isn't 0.1 wide or may be turned; or a size stands twice"
+        }
         Cause::Made => "there was no store, and an empty one was made",
         Cause::Store(cause) => cause.text(),
         Cause::Version(cause) => cause.text(),
@@ -163,8 +182,8 @@ fn plain(alloc: Global, text: &str) -> Option<String>
     format!(in alloc; "{text}").ok()
 }
 
-// An advice of a cause.
-fn advice_of(alloc: Global, about: &str, cause: Cause, word: &str) -> Option<Advice>
+/// An advice of a cause. None for want of memory.
+pub(crate) fn advice_of(alloc: Global, about: &str, cause: Cause, word: &str) -> Option<Advice>
     ensures { IfSome result (IsOf cause) }
 {
     let about = plain(alloc, about)?;
@@ -186,6 +205,7 @@ fn first_name<'a>(request: &Request<'a>) -> &'a str {
         Request::Replay => "",
         Request::Plan { file, .. } => file,
         Request::PlanOrder { file, .. } => file,
+        Request::PlanLines(asked) => asked.file,
         Request::Orders { file, .. } => file,
         Request::Serve(serving) => serving.shop,
         Request::Ticket { store, .. } => store,
@@ -224,22 +244,41 @@ fn can_be_read<R: Files>(rt: &R, alloc: Global, path: &str) -> bool {
     }
 }
 
-// The file that can't be read: the page where the shop file can be.
+// The shop file of a request.
+fn shop_name<'a>(request: &Request<'a>) -> &'a str {
+    match request {
+        Request::Orders {
+            shop: Some(shop),
+            ..
+        } => shop,
+        Request::PlanLines(asked) => asked.shop,
+        _ => first_name(request),
+    }
+}
+
+// The page of a server, where its shop file can be read.
+fn unread_of_serving<'a, R: Files>(rt: &R, alloc: Global, serving: &Serving<'a>) -> &'a str {
+    match serving.page {
+        Some(page) if can_be_read(rt, alloc, serving.shop) => page,
+        _ => serving.shop,
+    }
+}
+
+// The shop file beside an order file, where it can't be read and the order file can be.
+fn unread_of_order<'a, R: Files>(rt: &R, alloc: Global, file: &'a str, shop: &'a str) -> &'a str {
+    if can_be_read(rt, alloc, file) && !can_be_read(rt, alloc, shop) {
+        shop
+    } else {
+        file
+    }
+}
+
+// The file that can't be read.
 fn unread_name<'a, R: Files>(rt: &R, alloc: Global, request: &Request<'a>) -> &'a str {
     match request {
-        Request::Serve(
-            Serving {
-                shop,
-                page: Some(page),
-                ..
-            },
-        ) => {
-            if can_be_read(rt, alloc, shop) {
-                page
-            } else {
-                shop
-            }
-        }
+        Request::Serve(serving) => unread_of_serving(rt, alloc, serving),
+        Request::Orders { file, .. } => unread_of_order(rt, alloc, file, shop_name(request)),
+        Request::PlanLines(asked) => unread_of_order(rt, alloc, asked.file, asked.shop),
         _ => first_name(request),
     }
 }
@@ -247,7 +286,7 @@ fn unread_name<'a, R: Files>(rt: &R, alloc: Global, request: &Request<'a>) -> &'
 // Why a file can't be used that can be read: it is too long for a page, or no text of an order.
 fn unused_cause(request: &Request<'_>) -> FileCause {
     match request {
-        Request::Serve(Serving { page: Some(_), .. }) => FileCause::Long,
+        Request::Serve(serving) if serving.page.is_some() => FileCause::Long,
         Request::Orders { .. } => FileCause::NoText,
         _ => FileCause::Unreadable,
     }
@@ -305,8 +344,40 @@ fn shop_advice<R: Files>(rt: &R, alloc: Global, path: &str, entry: Option<usize>
     )
 }
 
+// Which file a refusal of an order file's plan is about: the one that lacks the material, and else the order file.
+fn lines_name<'a>(request: &Request<'a>, refusal: Refusal) -> &'a str {
+    match refusal {
+        Refusal::NoMaterial => shop_name(request),
+        _ => first_name(request),
+    }
+}
+
 // Why a ticket, a report or a plan is refused.
-fn refused_advice(
+#[tactic(auto, using(crate::proofs::StepAdvice::fitting))]
+fn plain_advice(
+    alloc: Global,
+    request: &Request<'_>,
+    is_new: bool,
+    refusal: Refusal,
+) -> Option<Advice>
+    ensures { IfSome result (IsAdviceOf (fault.Refused refusal)) }
+{
+    if is_new {
+        return advice_of(alloc, first_name(request), Cause::Made, "");
+    }
+    match request {
+        Request::PlanLines(_) => {
+            let name = lines_name(request, refusal);
+            advice_of(alloc, name, lines_cause(refusal), "")
+        }
+        _ => advice_of(alloc, first_name(request), Cause::Refused(refusal), ""),
+    }
+}
+
+// The same, and what helps where a step is refused, or what is planned is too large.
+#[tactic(auto, using(crate::proofs::StepAdvice::large_help, crate::proofs::StepAdvice::bad_help))]
+fn refused_advice<R: Files>(
+    rt: &R,
     alloc: Global,
     request: &Request<'_>,
     is_new: bool,
@@ -315,10 +386,10 @@ fn refused_advice(
     ensures { IfSome result (IsAdviceOf (fault.Refused refusal)) }
 {
     let name = first_name(request);
-    if is_new {
-        advice_of(alloc, name, Cause::Made, "")
-    } else {
-        advice_of(alloc, name, Cause::Refused(refusal), "")
+    match refusal {
+        Refusal::TableTooLarge => step_advice(rt, alloc, request, name),
+        Refusal::BadStep => step_advice(rt, alloc, request, name),
+        other => plain_advice(alloc, request, is_new, other),
     }
 }
 
@@ -384,16 +455,16 @@ pub(crate) fn advise<R: Files>(
             text.offset,
             Cause::Problem(text.cause),
         ),
-        Fault::ShopText => shop_advice(rt, alloc, name, None),
-        Fault::ShopEntry(entry) => shop_advice(rt, alloc, name, Some(entry)),
+        Fault::ShopText => shop_advice(rt, alloc, shop_name(request), None),
+        Fault::ShopEntry(entry) => shop_advice(rt, alloc, shop_name(request), Some(entry)),
         Fault::Entry(refused) => advice_at(
             alloc,
-            name,
+            shop_name(request),
             "material",
             refused.entry,
             Cause::Refused(refused.refusal),
         ),
-        Fault::Refused(refusal) => refused_advice(alloc, request, is_new, refusal),
+        Fault::Refused(refusal) => refused_advice(rt, alloc, request, is_new, refusal),
         _ => system_advice(alloc, request, fault),
     }
 }

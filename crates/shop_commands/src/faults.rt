@@ -8,6 +8,7 @@ use shop_advice::{BackupCause, StoreCause, VersionCause};
 use shop_backup::{BackupFault, RestoreFault};
 use shop_files::{ShopFault, TextCause, TextFault};
 use shop_opening::{AddFault, EntryRefused, OpenFault};
+use shop_problems::{BadEntry, EntryFault, LinesFault};
 use shop_records::Refusal;
 use shop_serve::{PortCause, ServeFault};
 use shop_text::PrintFault;
@@ -29,6 +30,8 @@ pub enum OrderCause {
     Fields,
     /// There are over 200 rows.
     Many,
+    /// There is no row below the header.
+    None,
     /// A field of this name.
     Line,
     Material,
@@ -37,6 +40,17 @@ pub enum OrderCause {
     Turn,
     Count,
     Worth,
+    /// A line's number isn't above the one before it, or is 0.
+    Rising,
+    /// The shop file has no such material.
+    Unknown,
+    /// A number that is out of its range.
+    FarLength,
+    FarWidth,
+    FarCount,
+    FarWorth,
+    /// A bar's piece may be turned.
+    Turned,
 }
 
 /// The first fault of an order file: the first bad record, the header being number 0, in it the first bad field from 0, and
@@ -106,6 +120,39 @@ impl From<PlanFault> for Fault {
             PlanFault::BadWant => Fault::Refused(Refusal::BadWant),
             PlanFault::NoMemory => Fault::NoMemory,
         }
+    }
+}
+
+impl From<LinesFault> for Fault {
+    ghost use Rattle.std.specs.Prelude.{◌≡◌};
+    ghost use Rattle.shop_commands.specs.Faults.{lines_fault};
+
+    ghost from_gives = { λ fault result. result ≡ lines_fault fault };
+
+    fn from(fault: LinesFault) -> Fault {
+        match fault {
+            LinesFault::NoMaterial => Fault::Refused(Refusal::NoMaterial),
+            LinesFault::BadSize => Fault::Refused(Refusal::BadSize),
+            LinesFault::Plan(fault) => Fault::from(fault),
+        }
+    }
+}
+
+impl From<BadEntry> for Fault {
+    ghost use Rattle.std.specs.Prelude.{◌≡◌};
+    ghost use Rattle.shop_commands.specs.Faults.{entry_fault};
+
+    ghost from_gives = { λ bad result. result ≡ entry_fault bad };
+
+    fn from(bad: BadEntry) -> Fault {
+        let refusal = match bad.fault {
+            EntryFault::Bad => Refusal::BadMaterial,
+            EntryFault::Exists => Refusal::MaterialExists,
+        };
+        Fault::Entry(EntryRefused {
+            entry: bad.entry,
+            refusal,
+        })
     }
 }
 
@@ -253,6 +300,26 @@ fn cause_word(cause: TextCause) -> &'static str
     }
 }
 
+// What is wrong in a field that can be read, and what to write.
+fn judged_sentence(cause: OrderCause) -> &'static str
+    ensures { result.now ≡ spec.judged_sentence cause }
+{
+    match cause {
+        OrderCause::Rising => {
+            "the line isn't greater than that of the row above, or is 0; write rising numbers from 1 on"
+        }
+        OrderCause::Unknown =>
+            "the shop file has no such material; write the code of one that it has",
+        OrderCause::FarLength => "the length is out of its range; write 0.1 to 20000.0",
+        OrderCause::FarWidth =>
+            "the width is out of its range; write 0.1 to 6000.0, and 0.1 for a bar",
+        OrderCause::Turned => "a bar's piece isn't turned; write no",
+        OrderCause::FarCount => "the count is out of its range; write 1 to 1000000",
+        OrderCause::FarWorth => "the worth is out of its range; write 1 to 1000000000",
+        _ => "the field is another",
+    }
+}
+
 // What is wrong in an order file, and what to write.
 fn order_sentence(cause: OrderCause) -> &'static str
     ensures { result.now ≡ spec.order_sentence cause }
@@ -269,6 +336,7 @@ fn order_sentence(cause: OrderCause) -> &'static str
             "the row has not seven fields; write seven with a comma between each two, and a point before a tenth"
         }
         OrderCause::Many => "the row is one too many; write at most 200 below the first line",
+        OrderCause::None => "there is no row below the first line; write one for each line",
         OrderCause::Line => {
             "the line is a whole number of 1 to 10 digits, greater than that of the row above; write it as 12"
         }
@@ -288,6 +356,7 @@ fn order_sentence(cause: OrderCause) -> &'static str
         OrderCause::Worth => {
             "the worth is that of one piece, a whole number of 1 to 10 digits; write it as 30"
         }
+        other => judged_sentence(other),
     }
 }
 

@@ -4,6 +4,7 @@
 mod advice;
 mod faults;
 mod files;
+mod helping;
 mod limits;
 mod log;
 mod orders;

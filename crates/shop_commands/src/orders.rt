@@ -1,12 +1,18 @@
-//! `cutshop orders`: an order file is checked, or becomes a message.
+//! `cutshop orders`: an order file is judged, or becomes a message.
 
-ghost use Rattle.std.specs.Prelude.{◌≡◌, IfOk, IfErr, OnOk, string_bytes};
+ghost use Rattle.std.specs.Prelude.{◌≡◌, None, true, is_some, option_map, IfOk, IfErr, OnOk, string_bytes};
+ghost use Rattle.shop_files.specs.Orders.{IsOrders};
+ghost use Rattle.shop_problems.specs.Judged.{AreSized, first_bad_field};
 ghost use Rattle.shop_commands.specs.Orders as spec;
 ghost use Rattle.shop_commands.specs.Sinks.{change_of};
 
 use crate::faults::{Fault, OrderCause, OrderFault};
 use crate::files::{read_file, write_text};
-use shop_files::{LONGEST_TEXT, MOST_LINES, OrdersFault, read_orders};
+use crate::stored::shop_entries;
+use shop_files::{
+    LONGEST_TEXT, MOST_LINES, MaterialEntry, OrderLine, OrdersFault, RowList, read_orders,
+};
+use shop_problems::{BadField, first_bad_field};
 use shop_records::{Command, Form, Message, Text};
 use shop_rules::message_text;
 use shop_text::Sink;
@@ -93,14 +99,87 @@ fn fault_in(text: &[u8], fault: OrdersFault) -> Fault
     }
 }
 
-// How many lines a text has.
-fn line_count(alloc: Global, text: &[u8]) -> Result<usize, Fault>
-    ensures ok { IfOk result (λ count. spec.SpellsLines text.now count) }
+// The lines of a text.
+pub(crate) fn lines_in(alloc: Global, text: &[u8]) -> Result<RowList<OrderLine>, Fault>
+    ensures ok { IfOk result (IsOrders text.now) }
     ensures err { IfErr result (spec.IsUnordered text.now) }
 {
     match read_orders(alloc, text) {
-        Ok(lines) => Ok(lines.as_slice().len()),
+        Ok(lines) => Ok(lines),
         Err(fault) => Err(fault_in(text, fault)),
+    }
+}
+
+// What is wrong in a field that can be read.
+fn judged_cause(field: usize) -> OrderCause
+    ensures { result ≡ spec.judged_cause field }
+{
+    match field {
+        0 => OrderCause::Rising,
+        1 => OrderCause::Unknown,
+        2 => OrderCause::FarLength,
+        3 => OrderCause::FarWidth,
+        4 => OrderCause::Turned,
+        5 => OrderCause::FarCount,
+        6 => OrderCause::FarWorth,
+        _ => OrderCause::None,
+    }
+}
+
+// What stops the work at a bad field.
+fn bad_fault(bad: BadField) -> Fault
+    ensures { result ≡ spec.bad_fault bad }
+{
+    Fault::Order(OrderFault {
+        row: bad.row,
+        field: bad.field,
+        cause: judged_cause(bad.field),
+    })
+}
+
+/// Judges lines by all that needs no store, and where there is a shop file, by its materials.
+pub(crate) fn judge(shop: Option<&[MaterialEntry]>, lines: &[OrderLine]) -> Result<(), Fault>
+    ensures ok { OnOk result
+        (first_bad_field (option_map (λ entries. entries.now) shop.entry) lines.now ≡ None) }
+    ensures sized { OnOk result (AreSized lines.now) }
+    ensures err { IfErr result
+        (spec.IsBadBy (option_map (λ entries. entries.now) shop.entry) lines.now) }
+{
+    match first_bad_field(shop, lines) {
+        None => Ok(()),
+        Some(bad) => Err(bad_fault(bad)),
+    }
+}
+
+// Judges lines by the materials of a shop file, too.
+#[tactic(auto, using(crate::proofs::JudgedFiles::good_by_shop, crate::proofs::JudgedFiles::bad_by_shop))]
+fn judge_by_shop<R: Files>(
+    rt: &R,
+    alloc: Global,
+    path: &str,
+    lines: &[OrderLine],
+) -> Result<(), Fault>
+    ensures ok { OnOk result (spec.IsJudgedGood true lines.now) }
+    ensures err { IfErr result (spec.IsJudgedBad true lines.now) }
+{
+    let entries = shop_entries(rt, alloc, path)?;
+    judge(Some(entries.as_slice()), lines)
+}
+
+// Judges lines by all that needs no store, and where a shop file is given, by its materials.
+#[tactic(auto, using(crate::proofs::JudgedFiles::alone_ok, crate::proofs::JudgedFiles::alone_err, crate::proofs::JudgedFiles::known_ok, crate::proofs::JudgedFiles::known_err))]
+fn judge_by<R: Files>(
+    rt: &R,
+    alloc: Global,
+    shop: Option<&str>,
+    lines: &[OrderLine],
+) -> Result<(), Fault>
+    ensures ok { OnOk result (spec.IsJudgedGood (is_some shop.entry) lines.now) }
+    ensures err { IfErr result (spec.IsJudgedBad (is_some shop.entry) lines.now) }
+{
+    match shop {
+        None => judge(None, lines),
+        Some(path) => judge_by_shop(rt, alloc, path, lines),
     }
 }
 
@@ -151,13 +230,24 @@ fn line_of(
 }
 
 /// The line that is told of an order file's bytes: how many lines they have, or the message that makes an order of them. Their
-/// first fault, or want of memory; `File` for a text that is no UTF-8 and has no fault.
-pub fn orders_line(alloc: Global, told: Option<ImportAs>, text: &[u8]) -> Result<String, Fault>
-    ensures ok { IfOk result (λ line. spec.IsOrdersLine told text.now (string_bytes line)) }
-    ensures err { IfErr result (spec.IsOrderFileFault text.now) }
+/// first fault, the shop file's, the first bad field of the lines, or want of memory; `File` for a text that is no UTF-8 and has
+/// no fault.
+#[tactic(auto, using(crate::proofs::JudgedFiles::line_ok, crate::proofs::JudgedFiles::line_err, crate::proofs::JudgedFiles::bad_file))]
+pub fn orders_line<R: Files>(
+    rt: &R,
+    alloc: Global,
+    shop: Option<&str>,
+    told: Option<ImportAs>,
+    text: &[u8],
+) -> Result<String, Fault>
+    ensures ok { IfOk result
+        (λ line. spec.IsOrdersLine (is_some shop.entry) told text.now (string_bytes line)) }
+    ensures err { IfErr result (spec.IsOrderFileFault (is_some shop.entry) text.now) }
 {
-    let count = line_count(alloc, text)?;
-    line_of(alloc, told, text, count)
+    let lines = lines_in(alloc, text)?;
+    let rows = lines.as_slice();
+    judge_by(rt, alloc, shop, rows)?;
+    line_of(alloc, told, text, rows.len())
 }
 
 /// Writes the line that is told of an order file.
@@ -165,14 +255,16 @@ pub fn check_orders<R: Files, W: Sink>(
     rt: &R,
     alloc: Global,
     file: &str,
+    shop: Option<&str>,
     told: Option<ImportAs>,
     sink: &mut W,
 ) -> Result<(), Fault>
-    ensures ok { OnOk result (spec.IsOrdersDone told (change_of W.Sink sink.old sink.new)) }
+    ensures ok { OnOk result
+        (spec.IsOrdersDone (is_some shop.entry) told (change_of W.Sink sink.old sink.new)) }
     ensures err { IfErr result
-        (λ f. spec.IsOrdersStopped told f (change_of W.Sink sink.old sink.new)) }
+        (λ f. spec.IsOrdersStopped (is_some shop.entry) told f (change_of W.Sink sink.old sink.new)) }
 {
     let bytes = read_file(rt, alloc, file)?;
-    let line = orders_line(alloc, told, &bytes)?;
+    let line = orders_line(rt, alloc, shop, told, &bytes)?;
     write_text(sink, line.as_str())
 }

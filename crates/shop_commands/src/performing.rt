@@ -8,8 +8,8 @@ ghost use Rattle.shop_wire.specs.Streams.{most_reads};
 ghost use Rattle.shop_words.specs.CommandLine.{HasKerf};
 ghost use Rattle.shop_commands.specs.Advice.{IsAdviceOf};
 ghost use Rattle.shop_commands.specs.Performs as spec;
-ghost use Rattle.shop_commands.specs.Performs.{Concludes, IsDone, IsHelped, IsMistakeTold, IsPerformed, IsPlanDone, IsPlanStopped, IsStopped, IsTold, TellsFault};
-ghost use Rattle.shop_commands.specs.Plans.{IsFileFault, IsFilePlan, IsFileWhole, IsFileWholeFault};
+ghost use Rattle.shop_commands.specs.Performs.{Concludes, IsDone, IsHelped, IsMadeStopped, IsMistakeTold, IsPerformed, IsPlanDone, IsPlanStopped, IsStopped, IsTold, TellsFault};
+ghost use Rattle.shop_commands.specs.Plans.{IsFileFault, IsFileLines, IsFileLinesFault, IsFilePlan, IsFileWhole, IsFileWholeFault};
 ghost use Rattle.shop_commands.specs.Sinks.{change_of};
 ghost use Rattle.shop_commands.specs.Stored.{IsAddressOf};
 ghost use Rattle.shop_commands.specs.Sources.{source_change};
@@ -18,7 +18,7 @@ use crate::advice::{Advice, NO_MEMORY_TOLD, advise, fault_lines, makes_store, st
 use crate::faults::Fault;
 use crate::files::{read_file, write_text};
 use crate::orders::check_orders;
-use crate::plans::{plan_file, plan_whole_file};
+use crate::plans::{plan_file, plan_order_file, plan_whole_file};
 use crate::replays::replay_fresh;
 use crate::restoring::restore;
 use crate::stored::{StoreText, print_stored, serve};
@@ -29,7 +29,9 @@ use shop_problems::{USUAL_CALLS, WholePlan};
 use shop_request::Address;
 use shop_store::Book;
 use shop_text::{Sink, Source};
-use shop_words::{Mistake, Reading, Request, Serving, VERSION, mistake_text, request_of};
+use shop_words::{
+    Mistake, OrderPlan, Reading, Request, Serving, VERSION, mistake_text, request_of,
+};
 use std::alloc::{AllocError, Global};
 use std::fs::Files;
 use std::io::Eprint;
@@ -112,6 +114,23 @@ fn address_of<'a>(serving: &'a Serving<'a>) -> Address<'a>
     }
 }
 
+// Writes the plans of the lines of an order file.
+fn plan_lines<R: Files, W: Sink>(
+    rt: &R,
+    alloc: Global,
+    asked: &OrderPlan<'_>,
+    sink: &mut W,
+) -> Result<(), Fault>
+    ensures ok { OnOk result (IsPlanDone (λ bytes. IsFileLines bytes asked.now)
+        (change_of W.Sink sink.old sink.new)) }
+    ensures err { IfErr result (λ f. IsMadeStopped (λ bytes. IsFileLines bytes asked.now)
+        (λ bytes. IsFileLinesFault bytes asked.now) f (change_of W.Sink sink.old sink.new)) }
+{
+    let bytes = read_file(rt, alloc, asked.file)?;
+    let lines = plan_order_file(rt, alloc, &bytes, asked)?;
+    write_text(sink, lines.as_str())
+}
+
 // Does what is asked, or stops.
 fn do_request<
     R: Files + Net + Clock + Eprint + RandomSource,
@@ -148,7 +167,8 @@ fn do_request<
             step,
             calls,
         } => plan_order(rt, alloc, file, *kerf, *step, *calls, sink),
-        Request::Orders { file, told } => check_orders(rt, alloc, file, *told, sink),
+        Request::PlanLines(asked) => plan_lines(rt, alloc, asked, sink),
+        Request::Orders { file, shop, told } => check_orders(rt, alloc, file, *shop, *told, sink),
         Request::Serve(serving) => serve(
             rt,
             stores,

@@ -1,16 +1,27 @@
-//! `cutshop plan`: the plan of a problem file.
+//! `cutshop plan`: the plan of a problem file, or of the lines of an order file.
 
-ghost use Rattle.std.specs.Prelude.{◌≡◌, ◌≤◌, IfOk, IfErr, string_bytes};
+ghost use Rattle.std.specs.Prelude.{◌≡◌, ◌≤◌, None, IfOk, IfErr, OnOk, length, string_bytes};
 ghost use Rattle.cut_measure.specs.declared.ranges.TheConstants.{MOST_KERF};
 ghost use Rattle.shop_files.specs.Problems.{ArePieces};
+ghost use Rattle.shop_files.specs.declared.limits.TheConstants.{MOST_LINES};
+ghost use Rattle.shop_problems.specs.Judged.{AreSized};
+ghost use Rattle.shop_problems.specs.Orders.{IsLinesText};
+ghost use Rattle.shop_problems.specs.Stock.{first_bad_entry};
 ghost use Rattle.shop_problems.specs.Wholes.{IsWholeText};
 ghost use Rattle.shop_commands.specs.Plans as spec;
 
 use crate::faults::Fault;
+use crate::orders::{judge, lines_in};
+use crate::stored::shop_entries;
 use cut_plan::{SheetProposal, plan_sheet};
-use shop_files::{Problem, read_cgcut};
-use shop_problems::{WholePlan, plan_whole, wants_of};
+use shop_files::{MaterialEntry, OrderLine, Problem, read_cgcut};
+use shop_problems::{
+    LinesAsked, USUAL_CALLS, WholePlan, first_bad_entry, plan_lines as lines_planned, plan_whole,
+    wants_of,
+};
+use shop_words::OrderPlan;
 use std::alloc::{AllocError, Global};
+use std::fs::Files;
 
 // The four lines of a plan.
 fn plan_lines(alloc: Global, proposal: &SheetProposal) -> Result<String, AllocError>
@@ -79,4 +90,80 @@ pub fn plan_whole_file(alloc: Global, bytes: &[u8], how: WholePlan) -> Result<St
 {
     let problem = read_cgcut(alloc, bytes)?;
     plan_whole_problem(alloc, &problem, how)
+}
+
+// Whether a shop takes each of the entries.
+fn judge_entries(entries: &[MaterialEntry]) -> Result<(), Fault>
+    ensures ok { OnOk result (first_bad_entry entries.now ≡ None) }
+    ensures err { IfErr result (spec.IsBadEntry entries.now) }
+{
+    match first_bad_entry(entries) {
+        None => Ok(()),
+        Some(bad) => Err(Fault::from(bad)),
+    }
+}
+
+// The plans of lines from the entries of a shop file.
+#[tactic(auto, using(crate::proofs::PlannedFiles::taken_ok))]
+fn plan_from(
+    alloc: Global,
+    lines: &[OrderLine],
+    entries: &[MaterialEntry],
+    asked: &OrderPlan<'_>,
+) -> Result<String, Fault>
+    requires few { length lines.now ≤ MOST_LINES }
+    requires sized { AreSized lines.now }
+    ensures ok { IfOk result (λ text. (first_bad_entry entries.now ≡ None)
+        × IsLinesText lines.now entries.now asked.now.material.now (spec.sizes_asked asked.now)
+        (string_bytes text)) }
+    ensures err { IfErr result (spec.IsPlanFaultBy lines.now entries.now asked.now) }
+{
+    judge_entries(entries)?;
+    let stock = LinesAsked {
+        entries,
+        material: asked.material,
+        sizes: asked.sizes.as_slice(),
+        calls: asked.calls.unwrap_or(USUAL_CALLS),
+    };
+    match lines_planned(alloc, lines, stock) {
+        Ok(text) => Ok(text),
+        Err(fault) => Err(Fault::from(fault)),
+    }
+}
+
+// The plans of lines from a shop file.
+#[tactic(auto, using(crate::proofs::PlannedFiles::from_shop, crate::proofs::PlannedFiles::from_shop_fault))]
+fn plan_good_lines<R: Files>(
+    rt: &R,
+    alloc: Global,
+    lines: &[OrderLine],
+    asked: &OrderPlan<'_>,
+) -> Result<String, Fault>
+    requires few { length lines.now ≤ MOST_LINES }
+    requires sized { AreSized lines.now }
+    ensures ok { IfOk result (λ text. spec.IsShopLines lines.now asked.now (string_bytes text)) }
+    ensures err { IfErr result (spec.IsShopLinesFault lines.now asked.now) }
+{
+    let entries = shop_entries(rt, alloc, asked.shop)?;
+    plan_from(alloc, lines, entries.as_slice(), asked)
+}
+
+/// The lines of the plans of what an order file's bytes have of a material of a shop file, from as many units of some sizes as
+/// it takes.
+///
+/// The faults of the order file, then those of the shop file, then those of the plan. Want of memory may come at any point.
+#[tactic(auto, using(crate::proofs::OrderLines::few_lines, crate::proofs::PlannedFiles::from_file, crate::proofs::PlannedFiles::from_file_fault, crate::proofs::PlannedFiles::bad_rows))]
+pub fn plan_order_file<R: Files>(
+    rt: &R,
+    alloc: Global,
+    bytes: &[u8],
+    asked: &OrderPlan<'_>,
+) -> Result<String, Fault>
+    ensures ok { IfOk result (λ text. spec.IsFileLines bytes.now asked.now (string_bytes text)) }
+    ensures err { IfErr result (spec.IsFileLinesFault bytes.now asked.now) }
+{
+    let lines = lines_in(alloc, bytes)?;
+    let rows = lines.as_slice();
+    judge(None, rows)?;
+    plan_good_lines(rt, alloc, rows, asked)
 }

@@ -115,8 +115,8 @@ fn entries_in(alloc: Global, bytes: &[u8]) -> Result<RowList<MaterialEntry>, Fau
     }
 }
 
-// The entries of a shop file.
-fn shop_entries<R: Files>(
+/// The entries of a shop file.
+pub(crate) fn shop_entries<R: Files>(
     rt: &R,
     alloc: Global,
     path: &str,

@@ -1,6 +1,6 @@
 //! The plans of all pieces of a problem, from as many of its rectangles as it takes.
 
-ghost use Rattle.std.specs.Prelude.{◌≡◌, ◌≤◌, ◌==◌, ◌⊎◌, IfErr, IfOk, Some, string_bytes};
+ghost use Rattle.std.specs.Prelude.{◌≡◌, ◌≤◌, ◌==◌, ◌⊎◌, IfErr, IfOk, None, Some, string_bytes};
 ghost use Rattle.std.specs.List.{list_all};
 ghost use Rattle.cut_measure.specs.declared.sizes.Kind.TheVariants.{Bar};
 ghost use Rattle.cut_plan.specs.Proposals.{AreDemands};
@@ -41,7 +41,7 @@ fn are_flat(pieces: &[Piece]) -> bool
 }
 
 // A bar where the rectangle and all pieces have height 1.
-fn kind_of(size: Size, pieces: &[Piece]) -> Kind
+pub(crate) fn kind_of(size: Size, pieces: &[Piece]) -> Kind
     ensures kind { result ≡ spec.kind_of size pieces.now }
     ensures flat { result ≡ Bar → size.h ≡ 1 }
 {
@@ -52,6 +52,14 @@ fn kind_of(size: Size, pieces: &[Piece]) -> Kind
     }
 }
 
+// The least step by which no side has over 500 steps.
+pub(crate) fn least_for(size: Size, kerf: u32) -> u32
+    requires { kerf ≤ MOST_KERF }
+    ensures { result ≡ spec.step_for size kerf None }
+{
+    (size.w().max(size.h()) + kerf) / (MOST_STEPS + 1) + 1
+}
+
 // The step that is given, or the least one by which no side has over 500 steps.
 fn step_for(size: Size, how: WholePlan) -> u32
     requires { how.kerf ≤ MOST_KERF }
@@ -59,7 +67,7 @@ fn step_for(size: Size, how: WholePlan) -> u32
 {
     match how.step {
         Some(step) => step,
-        None => (size.w().max(size.h()) + how.kerf) / (MOST_STEPS + 1) + 1,
+        None => least_for(size, how.kerf),
     }
 }
 
@@ -113,7 +121,7 @@ fn planned(
 }
 
 // How many pieces are missing.
-fn missing_of(plan: &OrderPlan) -> u128
+pub(crate) fn missing_of(plan: &OrderPlan) -> u128
     ensures { result ≡ spec.missing_of plan.now }
 {
     let mut missing = 0u128;

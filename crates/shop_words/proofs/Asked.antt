@@ -1,17 +1,18 @@
 -- Words that ask for nothing.
-use Rattle.std.proofs.Common.{◌≡◌, ◌∙◌, ◌⊎◌, ℕ, List, [], Option, Some, None, codes, inl, inr, true, subst, sym, ap, refl}
-use Rattle.std.specs.Prelude.{◌==◌, is_some, option_map, IfSome, MatchOption, slice_index, unwrap_or, if◌then◌else◌}
+use Rattle.std.proofs.Common.{◌≡◌, ◌∙◌, ◌⊎◌, ℕ, List, [], Option, Some, None, codes, inl, inr, false, true, subst, sym, ap, refl}
+use Rattle.std.specs.Prelude.{◌==◌, Bool, is_some, option_map, IfSome, MatchOption, slice_index, unwrap_or, if◌then◌else◌}
 use Rattle.clap.specs.Words.{Row, Text, first_of, one_of}
 use Rattle.cut_measure.specs.Codes.{code_of}
 use Rattle.cut_measure.specs.declared.ranges.TheConstants.{MOST_KERF}
+use Rattle.shop_words.specs.declared.words.OrderPlan.{OrderPlan}
 use Rattle.shop_words.specs.declared.words.Serving.{Serving}
 use Rattle.shop_words.specs.declared.words.Request.{Request}
-use Rattle.shop_words.specs.declared.words.Request.TheVariants.{Replay, Plan, PlanOrder, Orders, Serve, Ticket, Yield, Restore}
+use Rattle.shop_words.specs.declared.words.Request.TheVariants.{Replay, Plan, PlanOrder, PlanLines, Orders, Serve, Ticket, Yield, Restore}
 use Rattle.shop_words.specs.declared.words.Word.{Word}
 use Rattle.shop_words.specs.declared.words.Word.TheVariants as word
 use Rattle.shop_words.specs.declared.words.ImportAs.{ImportAs}
 use Rattle.shop_words.specs.declared.words.TheConstants.{MOST_CONNECTIONS}
-use Rattle.shop_words.specs.CommandLine.{names_message, AsAsked, HasNumber, IsLimit, IsNumber, IsWhole, IsWholeAsked, IsSingleAsked, IsImportAs, IsOrdersAsked, IsPlanAsked, IsRestoreAsked, IsServeAsked, IsServing, IsTicketAsked, IsYieldAsked, IsCode, IsAsked, AsksFor, AsksNothing, word_text}
+use Rattle.shop_words.specs.CommandLine.{names_message, names_stock, AsAsked, HasNumber, IsLimit, IsNumber, IsWhole, IsWholeAsked, IsSingleAsked, IsImportAs, IsLinesAsked, IsOrderPlan, IsOrdersAsked, IsPlanAsked, IsProblemAsked, IsRestoreAsked, IsServeAsked, IsServing, IsTicketAsked, IsYieldAsked, IsCode, IsAsked, AsksFor, AsksNothing, word_text}
 
 nothing : {X : Type 0} (found : Option X) (x : X) → found ≡ None → found ≡ Some x → ⊥
 nothing found x none some = subst (λ (o : Option _). IfSome o (λ _. ⊥)) (sym (sym some ∙ none)) tt
@@ -63,23 +64,52 @@ module _ (rows : List Row) (path : Text) (kerf : ℕ) (file : first_of (codes "F
       let same_kerf = one_number (one_of (codes "kerf") rows) k kerf number_too.0 number.0 in
       subst (λ n. P path n) same_kerf (subst (λ u. P u k) same_path is)
 
-  pub whole_asked : IsWhole rows → (found : Option Request) → AsAsked found (IsWholeAsked path kerf rows) → AsAsked found (IsPlanAsked rows)
+  pub whole_asked : IsWhole rows → (found : Option Request) → AsAsked found (IsWholeAsked path kerf rows) → AsAsked found (IsProblemAsked rows)
   whole_asked whole found = as_asked found _ _
       (λ request is. (path, kerf, file, number, inl (whole, is)))
       (λ request asked. of_these (λ t k. IsWholeAsked t k rows request) asked.0 asked.1 asked.2 asked.3 (with_flag whole asked.4))
 
-  pub single_asked : (IsWhole rows → ⊥) → (found : Option Request) → AsAsked found (IsSingleAsked path kerf rows) → AsAsked found (IsPlanAsked rows)
+  pub single_asked : (IsWhole rows → ⊥) → (found : Option Request) → AsAsked found (IsSingleAsked path kerf rows) → AsAsked found (IsProblemAsked rows)
   single_asked none found = as_asked found _ _
       (λ request is. (path, kerf, file, number, inr (none, is)))
       (λ request asked. of_these (λ t k. IsSingleAsked t k rows request) asked.0 asked.1 asked.2 asked.3 (without_flag none asked.4))
+
+-- a plan of an order file, or one of a problem file
+with_stock : {A B : Type 0} (b : Bool) → b ≡ true → ((b ≡ true) × A) ⊎ ((b ≡ false) × B) → A
+with_stock b is (inl p) = p.1
+with_stock b is (inr p) = absurd (cc (sym p.0 ∙ is))
+
+without_stock : {A B : Type 0} (b : Bool) → b ≡ false → ((b ≡ true) × A) ⊎ ((b ≡ false) × B) → B
+without_stock b is (inl p) = absurd (cc (sym p.0 ∙ is))
+without_stock b is (inr p) = p.1
+
+pub lines_asked : (rows : List Row) → names_stock rows ≡ true → (found : Option Request) → AsAsked found (IsLinesAsked rows) → AsAsked found (IsPlanAsked rows)
+lines_asked rows named found = as_asked found _ _ (λ request is. inl (named, is)) (λ request asked. with_stock (names_stock rows) named asked)
+
+pub problem_asked : (rows : List Row) → names_stock rows ≡ false → (found : Option Request) → AsAsked found (IsProblemAsked rows) → AsAsked found (IsPlanAsked rows)
+problem_asked rows named found = as_asked found _ _ (λ request is. inr (named, is)) (λ request asked. without_stock (names_stock rows) named asked)
+
+-- no plan of an order file is asked for, and so no such request
+pub no_lines : (rows : List Row) → ((plan : OrderPlan) → IsOrderPlan rows plan → ⊥) → (request : Request) → IsLinesAsked rows request → ⊥
+no_lines rows none Replay asked = asked
+no_lines rows none (Plan file kerf step) asked = asked
+no_lines rows none (PlanOrder file kerf step calls) asked = asked
+no_lines rows none (PlanLines plan) asked = none plan asked
+no_lines rows none (Orders file shop None) asked = asked
+no_lines rows none (Orders file shop (Some told)) asked = asked
+no_lines rows none (Serve serving) asked = asked
+no_lines rows none (Ticket store job read_only) asked = asked
+no_lines rows none (Yield store material read_only) asked = asked
+no_lines rows none (Restore store from) asked = asked
 
 -- nothing is served, and so no such request
 pub no_serving : (rows : List Row) → ((serving : Serving) → IsServing rows serving → ⊥) → (request : Request) → IsServeAsked rows request → ⊥
 no_serving rows none Replay asked = asked
 no_serving rows none (Plan file kerf step) asked = asked
 no_serving rows none (PlanOrder file kerf step calls) asked = asked
-no_serving rows none (Orders file None) asked = asked
-no_serving rows none (Orders file (Some told)) asked = asked
+no_serving rows none (PlanLines plan) asked = asked
+no_serving rows none (Orders file shop None) asked = asked
+no_serving rows none (Orders file shop (Some told)) asked = asked
 no_serving rows none (Serve serving) asked = none serving asked
 no_serving rows none (Ticket store job read_only) asked = asked
 no_serving rows none (Yield store material read_only) asked = asked
@@ -95,15 +125,16 @@ none_found found is = ap (λ o. unwrap_or o []) is
 pub no_value : (name : Text) (rows : List Row) → first_of name rows ≡ None → (text : Text) → first_of name rows ≡ Some text → ⊥
 no_value name rows none text some = nothing (first_of name rows) text none some
 
-pub no_plan_file : (rows : List Row) → first_of (codes "FILE") rows ≡ None → (request : Request) → IsPlanAsked rows request → ⊥
+pub no_plan_file : (rows : List Row) → first_of (codes "FILE") rows ≡ None → (request : Request) → IsProblemAsked rows request → ⊥
 no_plan_file rows none request asked = nothing (first_of (codes "FILE") rows) asked.0 none asked.2
 
 pub no_orders_file : (rows : List Row) → first_of (codes "FILE") rows ≡ None → (request : Request) → IsOrdersAsked rows request → ⊥
 no_orders_file rows none Replay asked = asked
 no_orders_file rows none (Plan file kerf step) asked = asked
 no_orders_file rows none (PlanOrder file kerf step calls) asked = asked
-no_orders_file rows none (Orders file None) asked = nothing (first_of (codes "FILE") rows) file.now none asked.0
-no_orders_file rows none (Orders file (Some told)) asked = nothing (first_of (codes "FILE") rows) file.now none asked.0
+no_orders_file rows none (PlanLines plan) asked = asked
+no_orders_file rows none (Orders file shop None) asked = nothing (first_of (codes "FILE") rows) file.now none asked.0
+no_orders_file rows none (Orders file shop (Some told)) asked = nothing (first_of (codes "FILE") rows) file.now none asked.0
 no_orders_file rows none (Serve serving) asked = asked
 no_orders_file rows none (Ticket store job read_only) asked = asked
 no_orders_file rows none (Yield store material read_only) asked = asked
@@ -114,8 +145,9 @@ pub no_orders_message : (rows : List Row) → names_message rows ≡ true → ((
 no_orders_message rows some none Replay asked = asked
 no_orders_message rows some none (Plan file kerf step) asked = asked
 no_orders_message rows some none (PlanOrder file kerf step calls) asked = asked
-no_orders_message rows some none (Orders file None) asked = absurd (cc (sym asked.1 ∙ some))
-no_orders_message rows some none (Orders file (Some told)) asked = none told asked.1
+no_orders_message rows some none (PlanLines plan) asked = asked
+no_orders_message rows some none (Orders file shop None) asked = absurd (cc (sym asked.2 ∙ some))
+no_orders_message rows some none (Orders file shop (Some told)) asked = none told asked.2
 no_orders_message rows some none (Serve serving) asked = asked
 no_orders_message rows some none (Ticket store job read_only) asked = asked
 no_orders_message rows some none (Yield store material read_only) asked = asked
@@ -131,8 +163,9 @@ pub no_ticket_store : (rows : List Row) → first_of (codes "store") rows ≡ No
 no_ticket_store rows none Replay asked = asked
 no_ticket_store rows none (Plan file kerf step) asked = asked
 no_ticket_store rows none (PlanOrder file kerf step calls) asked = asked
-no_ticket_store rows none (Orders file None) asked = asked
-no_ticket_store rows none (Orders file (Some told)) asked = asked
+no_ticket_store rows none (PlanLines plan) asked = asked
+no_ticket_store rows none (Orders file shop None) asked = asked
+no_ticket_store rows none (Orders file shop (Some told)) asked = asked
 no_ticket_store rows none (Serve serving) asked = asked
 no_ticket_store rows none (Ticket store job read_only) asked = nothing (first_of (codes "store") rows) store.now none asked.0
 no_ticket_store rows none (Yield store material read_only) asked = asked
@@ -142,8 +175,9 @@ pub no_yield_store : (rows : List Row) → first_of (codes "store") rows ≡ Non
 no_yield_store rows none Replay asked = asked
 no_yield_store rows none (Plan file kerf step) asked = asked
 no_yield_store rows none (PlanOrder file kerf step calls) asked = asked
-no_yield_store rows none (Orders file None) asked = asked
-no_yield_store rows none (Orders file (Some told)) asked = asked
+no_yield_store rows none (PlanLines plan) asked = asked
+no_yield_store rows none (Orders file shop None) asked = asked
+no_yield_store rows none (Orders file shop (Some told)) asked = asked
 no_yield_store rows none (Serve serving) asked = asked
 no_yield_store rows none (Ticket store job read_only) asked = asked
 no_yield_store rows none (Yield store material read_only) asked = nothing (first_of (codes "store") rows) store.now none asked.0
@@ -153,8 +187,9 @@ pub no_yield_code : (rows : List Row) → ((code : List ℕ) → IsCode (first_o
 no_yield_code rows none Replay asked = asked
 no_yield_code rows none (Plan file kerf step) asked = asked
 no_yield_code rows none (PlanOrder file kerf step calls) asked = asked
-no_yield_code rows none (Orders file None) asked = asked
-no_yield_code rows none (Orders file (Some told)) asked = asked
+no_yield_code rows none (PlanLines plan) asked = asked
+no_yield_code rows none (Orders file shop None) asked = asked
+no_yield_code rows none (Orders file shop (Some told)) asked = asked
 no_yield_code rows none (Serve serving) asked = asked
 no_yield_code rows none (Ticket store job read_only) asked = asked
 no_yield_code rows none (Yield store material read_only) asked = none material asked.1
@@ -164,8 +199,9 @@ pub no_restore_store : (rows : List Row) → first_of (codes "store") rows ≡ N
 no_restore_store rows none Replay asked = asked
 no_restore_store rows none (Plan file kerf step) asked = asked
 no_restore_store rows none (PlanOrder file kerf step calls) asked = asked
-no_restore_store rows none (Orders file None) asked = asked
-no_restore_store rows none (Orders file (Some told)) asked = asked
+no_restore_store rows none (PlanLines plan) asked = asked
+no_restore_store rows none (Orders file shop None) asked = asked
+no_restore_store rows none (Orders file shop (Some told)) asked = asked
 no_restore_store rows none (Serve serving) asked = asked
 no_restore_store rows none (Ticket store job read_only) asked = asked
 no_restore_store rows none (Yield store material read_only) asked = asked
@@ -175,8 +211,9 @@ pub no_restore_from : (rows : List Row) → first_of (codes "from") rows ≡ Non
 no_restore_from rows none Replay asked = asked
 no_restore_from rows none (Plan file kerf step) asked = asked
 no_restore_from rows none (PlanOrder file kerf step calls) asked = asked
-no_restore_from rows none (Orders file None) asked = asked
-no_restore_from rows none (Orders file (Some told)) asked = asked
+no_restore_from rows none (PlanLines plan) asked = asked
+no_restore_from rows none (Orders file shop None) asked = asked
+no_restore_from rows none (Orders file shop (Some told)) asked = asked
 no_restore_from rows none (Serve serving) asked = asked
 no_restore_from rows none (Ticket store job read_only) asked = asked
 no_restore_from rows none (Yield store material read_only) asked = asked

@@ -15,11 +15,12 @@ use Rattle.clap.specs.declared.builder.value_parser.ValueParser.{ValueParser}
 use Rattle.clap.specs.declared.builder.value_parser.ValueParser.TheVariants.{Signed}
 use Rattle.cut_measure.specs.Codes.{code_of}
 use Rattle.cut_measure.specs.declared.ranges.TheConstants.{MOST_KERF, MOST_NUMBERS}
-use Rattle.shop_words.specs.declared.words.TheConstants.{LONGEST_STEP, MOST_CALLS, LAST_PORT, MOST_CONNECTIONS, MOST_KEPT, MOST_NAMES, MOST_PAIR}
+use Rattle.shop_words.specs.declared.words.TheConstants.{LONGEST_STEP, MOST_CALLS, LAST_PORT, MOST_CONNECTIONS, MOST_KEPT, MOST_NAMES, MOST_PAIR, MOST_SIZES}
 use Rattle.shop_words.specs.declared.words.ImportAs.{ImportAs}
+use Rattle.shop_words.specs.declared.words.OrderPlan.{OrderPlan}
 use Rattle.shop_words.specs.declared.words.Serving.{Serving}
 use Rattle.shop_words.specs.declared.words.Request.{Request}
-use Rattle.shop_words.specs.declared.words.Request.TheVariants.{Replay, Plan, PlanOrder, Orders, Serve, Ticket, Yield, Restore}
+use Rattle.shop_words.specs.declared.words.Request.TheVariants.{Replay, Plan, PlanOrder, PlanLines, Orders, Serve, Ticket, Yield, Restore}
 use Rattle.shop_words.specs.declared.words.Word.{Word}
 use Rattle.shop_words.specs.declared.words.Word.TheVariants as word
 use Rattle.shop_words.specs.declared.words.Argument.{Argument}
@@ -49,11 +50,28 @@ word_rule name = record (value_rule name) { required = true }
 abbrev pub several_rule : Text → Rule
 several_rule name = record (option_rule name) { action = Some Append }
 
+-- the file that a command reads
+abbrev pub file_rule : Rule
+file_rule = word_rule (codes "FILE")
+
+-- the shop file of a command that may do without one
+abbrev pub known_shop_rule : Rule
+known_shop_rule = option_rule (codes "shop")
+
+abbrev pub plan_material_rule : Rule
+plan_material_rule = option_rule (codes "material")
+
+abbrev pub size_rule : Rule
+size_rule = several_rule (codes "size")
+
 abbrev pub host_rule : Rule
 host_rule = several_rule (codes "host")
 
 abbrev pub origin_rule : Rule
 origin_rule = several_rule (codes "origin")
+
+abbrev pub shop_rule : Rule
+shop_rule = path_rule (codes "shop")
 
 abbrev pub from_rule : Rule
 from_rule = path_rule (codes "from")
@@ -86,7 +104,7 @@ abbrev pub job_rule : Rule
 job_rule = record (word_rule (codes "JOB")) { parser = Some (Signed (pos 1) (pos 2147483647)) }
 
 abbrev pub kerf_rule : Rule
-kerf_rule = number_rule (codes "kerf") (Signed (pos 0) (pos 200))
+kerf_rule = record (option_rule (codes "kerf")) { parser = Some (Signed (pos 0) (pos 200)) }
 
 abbrev pub step_rule : Rule
 step_rule = record (option_rule (codes "step")) { parser = Some (Signed (pos 0) (pos 200000)) }
@@ -119,23 +137,24 @@ added_in_turn add app (x ∷ rest) = added_in_turn add (add app x) rest
 abbrev pub app_with : Text → List Rule → App
 app_with name rules = added_in_turn with_rule (new_app name) rules
 
--- `plan FILE --kerf N [--step N] [--whole] [--calls N]`
+-- `plan FILE [--kerf N] [--step N] [--whole] [--calls N] [--shop FILE] [--material CODE] [--size WxH]..`
 abbrev pub plan_app : App
 plan_app =
-    with_rule (with_rule (with_rule (with_rule (with_rule (new_app (codes "plan")) (word_rule (codes "FILE"))) kerf_rule) step_rule) whole_rule) calls_rule
+    app_with (codes "plan")
+    (file_rule ∷ kerf_rule ∷ step_rule ∷ whole_rule ∷ calls_rule ∷ known_shop_rule ∷ plan_material_rule ∷ size_rule ∷ [])
 
 abbrev pub replay_app : App
 replay_app = new_app (codes "replay")
 
--- `orders FILE [--order CODE] [--terminal N] [--number N]`
+-- `orders FILE [--shop FILE] [--order CODE] [--terminal N] [--number N]`
 abbrev pub orders_app : App
-orders_app = with_rule (with_rule (with_rule (with_rule (new_app (codes "orders")) (word_rule (codes "FILE"))) order_rule) terminal_rule) message_number_rule
+orders_app = app_with (codes "orders") (file_rule ∷ known_shop_rule ∷ order_rule ∷ terminal_rule ∷ message_number_rule ∷ [])
 
 -- `serve --port N --store FILE --shop FILE [--limit N] [--page FILE] [--backup FOLDER] [--existing] [--keep N] [--host NAME].. [--origin ORIGIN]..`
 abbrev pub serve_app : App
 serve_app =
     app_with (codes "serve")
-    (port_rule ∷ store_rule ∷ path_rule (codes "shop") ∷ limit_rule ∷ page_rule ∷ backup_rule ∷ existing_rule ∷ keep_rule ∷ host_rule ∷ origin_rule ∷ [])
+    (port_rule ∷ store_rule ∷ shop_rule ∷ limit_rule ∷ page_rule ∷ backup_rule ∷ existing_rule ∷ keep_rule ∷ host_rule ∷ origin_rule ∷ [])
 
 -- `ticket --store FILE JOB [--read-only]`
 abbrev pub ticket_app : App
@@ -155,18 +174,22 @@ program_app = on_top (λ s. record s { subcommand_required = true; has_version =
 
 -- the rule of an argument
 abbrev pub argument_rule : Argument → Rule
-argument_rule argument.File = word_rule (codes "FILE")
+argument_rule argument.File = file_rule
 argument_rule argument.Kerf = kerf_rule
 argument_rule argument.Step = step_rule
 argument_rule argument.Whole = whole_rule
 argument_rule argument.Calls = calls_rule
-argument_rule argument.OrderFile = word_rule (codes "FILE")
+argument_rule argument.PlanShop = known_shop_rule
+argument_rule argument.PlanMaterial = plan_material_rule
+argument_rule argument.Size = size_rule
+argument_rule argument.OrderFile = file_rule
+argument_rule argument.OrdersShop = known_shop_rule
 argument_rule argument.Order = order_rule
 argument_rule argument.Terminal = terminal_rule
 argument_rule argument.Number = message_number_rule
 argument_rule argument.Port = port_rule
 argument_rule argument.Store = store_rule
-argument_rule argument.Shop = path_rule (codes "shop")
+argument_rule argument.Shop = shop_rule
 argument_rule argument.Limit = limit_rule
 argument_rule argument.Page = page_rule
 argument_rule argument.Backup = backup_rule
@@ -268,11 +291,37 @@ IsWholeAsked path k rows (PlanOrder file kerf step calls) =
     (file.now ≡ path) × (kerf ≡ k) × MayHaveNumber (codes "step") rows 0 LONGEST_STEP step × MayHaveNumber (codes "calls") rows 1 MOST_CALLS calls
 IsWholeAsked path k rows _ = ⊥
 
--- the values of a plan's words: the file and the kerf, and what else is asked for with the flag, or without
-abbrev pub IsPlanAsked : List Row → Request → Type 0
-IsPlanAsked rows request =
+-- the values of the words that plan a problem file: the file and the kerf, and what else is asked for with the flag, or without
+abbrev pub IsProblemAsked : List Row → Request → Type 0
+IsProblemAsked rows request =
     (path : Text) × (kerf : ℕ) × (first_of (codes "FILE") rows ≡ Some path) × HasNumber (codes "kerf") rows 0 MOST_KERF kerf
     × ((IsWhole rows × IsWholeAsked path kerf rows request) ⊎ ((IsWhole rows → ⊥) × IsSingleAsked path kerf rows request))
+
+-- one of the options is there that only the plan of an order file has
+abbrev pub names_stock : List Row → Bool
+names_stock rows =
+    is_some (first_of (codes "shop") rows) || is_some (first_of (codes "material") rows) || is_some (first_of (codes "size") rows)
+
+-- kerf or step is there, which the plan of an order file hasn't
+abbrev pub has_measures : List Row → Bool
+has_measures rows = is_some (first_of (codes "kerf") rows) || is_some (first_of (codes "step") rows)
+
+-- the values of the words that plan an order file: all that only such a plan has, with the flag, from 1 to 10 sizes
+abbrev pub IsOrderPlan : List Row → OrderPlan → Type 0
+IsOrderPlan rows plan =
+    (first_of (codes "FILE") rows ≡ Some plan.file.now) × (first_of (codes "shop") rows ≡ Some plan.shop.now)
+    × (first_of (codes "material") rows ≡ Some plan.material.now) × MayHaveNumber (codes "calls") rows 1 MOST_CALLS plan.calls
+    × IsWhole rows × (has_measures rows ≡ false) × (is_some (first_of (codes "size") rows) ≡ true)
+    × (times_given (codes "size") rows ≤ MOST_SIZES) × AreTexts (codes "size") rows plan.sizes.items
+
+abbrev pub IsLinesAsked : List Row → Request → Type 0
+IsLinesAsked rows (PlanLines plan) = IsOrderPlan rows plan
+IsLinesAsked rows _ = ⊥
+
+-- a plan is one of an order file where its options are there, and else one of a problem file
+abbrev pub IsPlanAsked : List Row → Request → Type 0
+IsPlanAsked rows request =
+    ((names_stock rows ≡ true) × IsLinesAsked rows request) ⊎ ((names_stock rows ≡ false) × IsProblemAsked rows request)
 
 -- the values of the options that make a message of an order file
 abbrev pub IsImportAs : List Row → ImportAs → Type 0
@@ -285,10 +334,12 @@ abbrev pub names_message : List Row → Bool
 names_message rows =
     is_some (first_of (codes "order") rows) || is_some (first_of (codes "terminal") rows) || is_some (first_of (codes "number") rows)
 
--- the options come together, or not at all
+-- the options come together, or not at all; a shop file may be there with either
 abbrev pub IsOrdersAsked : List Row → Request → Type 0
-IsOrdersAsked rows (Orders file None) = (first_of (codes "FILE") rows ≡ Some file.now) × (names_message rows ≡ false)
-IsOrdersAsked rows (Orders file (Some told)) = (first_of (codes "FILE") rows ≡ Some file.now) × IsImportAs rows told
+IsOrdersAsked rows (Orders file shop None) =
+    (first_of (codes "FILE") rows ≡ Some file.now) × (first_of (codes "shop") rows ≡ option_map (λ p. p.now) shop) × (names_message rows ≡ false)
+IsOrdersAsked rows (Orders file shop (Some told)) =
+    (first_of (codes "FILE") rows ≡ Some file.now) × (first_of (codes "shop") rows ≡ option_map (λ p. p.now) shop) × IsImportAs rows told
 IsOrdersAsked rows _ = ⊥
 
 -- as many connections as the option says; without it no number of them ends a page's serving, and else 1000000 are served

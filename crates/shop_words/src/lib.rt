@@ -7,5 +7,5 @@ mod words;
 pub use mistakes::{Mistake, mistake_text};
 pub use words::{
     ImportAs, LAST_PORT, LONGEST_STEP, MOST_CALLS, MOST_CONNECTIONS, MOST_KEPT, MOST_NAMES,
-    MOST_PAIR, Reading, Request, Serving, VERSION, request_of,
+    MOST_PAIR, MOST_SIZES, OrderPlan, Reading, Request, Serving, VERSION, request_of,
 };

@@ -1,11 +1,15 @@
 //! What is wrong with words that `clap` takes and that ask for nothing.
 
-ghost use Rattle.std.specs.Prelude.{◌≡◌, IfOk, IfSome, string_bytes};
+ghost use Rattle.std.specs.Prelude.{◌≡◌, true, IfOk, IfSome, string_bytes};
 ghost use Rattle.clap.specs.Words.{first_of, found_of, rows_of, subcommand_rows_of};
+ghost use Rattle.shop_words.specs.CommandLine.{names_stock};
 ghost use Rattle.shop_words.specs.Mistakes as spec;
 ghost use Rattle.shop_words.specs.declared.words.Word.TheVariants as word;
 
-use crate::words::{MOST_NAMES, Word, bad_origin, has_option, is_whole, times_given, word_of};
+use crate::words::{
+    MOST_NAMES, MOST_SIZES, Word, bad_origin, has_option, is_whole, names_stock, times_given,
+    word_of,
+};
 use clap::ArgMatches;
 use cut_measure::Code;
 use std::alloc::{AllocError, Global};
@@ -23,10 +27,22 @@ pub enum Mistake<'a> {
     NoOrder,
     NoTerminal,
     NoNumber,
+    /// A plan of a problem file has no kerf.
+    NoKerf,
     /// A plan of one rectangle has no step.
     NoStep,
     /// `--calls` stands without `--whole`.
     LoneCalls,
+    /// A plan of an order file lacks this option.
+    NoWhole,
+    NoShop,
+    NoMaterial,
+    NoSize,
+    /// A plan of an order file has this option.
+    WithKerf,
+    WithStep,
+    /// There are over 10 sizes.
+    ManySizes,
     /// `--keep` stands without `--backup`.
     LoneKeep,
     /// There are over 10 names of hosts.
@@ -49,9 +65,39 @@ fn no_code<'a>(values: &ArgMatches<'a>, name: &str) -> Option<&'a str>
     }
 }
 
+// What is wrong with the options of an order file's plan.
+fn lines_mistake<'a>(plan: &ArgMatches<'a>) -> Mistake<'a>
+    requires { names_stock (rows_of (found_of plan.now)) ≡ true }
+    ensures { spec.IsMistake word.Plan (rows_of (found_of plan.now)) result }
+{
+    if !is_whole(plan) {
+        Mistake::NoWhole
+    } else if has_option(plan, "kerf") {
+        Mistake::WithKerf
+    } else if has_option(plan, "step") {
+        Mistake::WithStep
+    } else if !has_option(plan, "shop") {
+        Mistake::NoShop
+    } else if !has_option(plan, "material") {
+        Mistake::NoMaterial
+    } else if !has_option(plan, "size") {
+        Mistake::NoSize
+    } else if times_given(plan, "size") > MOST_SIZES {
+        Mistake::ManySizes
+    } else {
+        Mistake::Other
+    }
+}
+
 fn plan_mistake<'a>(plan: &ArgMatches<'a>) -> Mistake<'a>
     ensures { spec.IsMistake word.Plan (rows_of (found_of plan.now)) result }
 {
+    if names_stock(plan) {
+        return lines_mistake(plan);
+    }
+    if !has_option(plan, "kerf") {
+        return Mistake::NoKerf;
+    }
     if is_whole(plan) {
         return Mistake::Other;
     }
@@ -164,11 +210,36 @@ fn reason(mistake: Mistake<'_>) -> &'static str
         Mistake::NoNumber => {
             "'--number <N>' is missing: --order, --terminal and --number stand together"
         }
+        Mistake::NoKerf => "'--kerf <N>' is missing: it may be left out only with '--shop'",
         Mistake::NoStep => "'--step <N>' is missing: it may be left out only with '--whole'",
         Mistake::LoneCalls => "'--calls <N>' may be given only with '--whole'",
         Mistake::LoneKeep => "'--keep <N>' may be given only with '--backup'",
         Mistake::ManyHosts => "'--host <NAME>' may be given at most 10 times",
         Mistake::ManyOrigins => "'--origin <ORIGIN>' may be given at most 10 times",
+        other => lines_reason(other),
+    }
+}
+
+// Why words ask for no plan of an order file, or for nothing else.
+fn lines_reason(mistake: Mistake<'_>) -> &'static str
+    ensures { result.now ≡ spec.lines_reason mistake.entry }
+{
+    match mistake {
+        Mistake::NoWhole => {
+            "'--whole' is missing: --whole, --shop, --material and --size stand together"
+        }
+        Mistake::NoShop => {
+            "'--shop <FILE>' is missing: --whole, --shop, --material and --size stand together"
+        }
+        Mistake::NoMaterial => {
+            "'--material <CODE>' is missing: --whole, --shop, --material and --size stand together"
+        }
+        Mistake::NoSize => {
+            "'--size <WxH>' is missing: --whole, --shop, --material and --size stand together"
+        }
+        Mistake::WithKerf => "'--kerf <N>' may not be given with '--shop', which says the kerf",
+        Mistake::WithStep => "'--step <N>' may not be given with '--shop'",
+        Mistake::ManySizes => "'--size <WxH>' may be given at most 10 times",
         _ => "the words ask for nothing",
     }
 }

@@ -8,6 +8,7 @@ ghost use Rattle.clap.specs.Faults.{fault_of};
 ghost use Rattle.shop_words.specs.CommandLine as line;
 ghost use Rattle.shop_words.specs.Mistakes.{IsRead};
 ghost use Rattle.shop_words.specs.declared.words.ImportAs.{ImportAs};
+ghost use Rattle.shop_words.specs.declared.words.OrderPlan.{OrderPlan};
 ghost use Rattle.shop_words.specs.declared.words.Serving.{Serving};
 ghost use Rattle.shop_words.specs.declared.words.Request.{Request};
 ghost use Rattle.shop_words.specs.declared.words.Word.{Word};
@@ -38,6 +39,9 @@ pub const MOST_KEPT: u32 = 10_000;
 
 /// The most names, and the most origins, that a server takes for its own.
 pub const MOST_NAMES: usize = 10;
+
+/// The most sizes of units from which an order file is planned.
+pub const MOST_SIZES: usize = 10;
 
 /// The program's version. One that was built without proofs tells another, with ` (unproved)` behind it.
 pub const VERSION: &str = "1.1.0";
@@ -74,6 +78,19 @@ pub struct Serving<'a> {
     pub origins: Vec<&'a str>,
 }
 
+/// From what the lines of an order file are planned, and for how long.
+#[derive(Debug, Drop)]
+pub struct OrderPlan<'a> {
+    pub file: &'a str,
+    pub shop: &'a str,
+    /// The material whose lines are planned, as it was given.
+    pub material: &'a str,
+    /// The sizes of its units, 1 to 10, as they were given.
+    pub sizes: Vec<&'a str>,
+    /// The most steps of the search: 1 to 5000. None: the usual number.
+    pub calls: Option<u32>,
+}
+
 /// What a command line asks for.
 #[derive(Debug, Drop)]
 pub enum Request<'a> {
@@ -97,9 +114,13 @@ pub enum Request<'a> {
         /// The most steps of the search: 1 to 5000. None: the usual number.
         calls: Option<u32>,
     },
+    /// Plan all lines of a material of an order file from as many units of some sizes as it takes.
+    PlanLines(OrderPlan<'a>),
     /// Read an order file, and tell how many lines it has, or the message that it becomes.
     Orders {
         file: &'a str,
+        /// The shop file by whose materials its lines are judged, too.
+        shop: Option<&'a str>,
         told: Option<ImportAs>,
     },
     /// Serve a store on a port.
@@ -154,7 +175,11 @@ enum Argument {
     Step,
     Whole,
     Calls,
+    PlanShop,
+    PlanMaterial,
+    Size,
     OrderFile,
+    OrdersShop,
     Order,
     Terminal,
     Number,
@@ -242,12 +267,13 @@ fn store_arg<'a>(alloc: Global) -> Arg<'a>
 fn kerf_arg<'a>(alloc: Global) -> Arg<'a>
     ensures { line.IsArg line.kerf_rule result }
 {
-    number_arg(
+    option_arg(
         alloc,
         "kerf",
-        value_parser!(u32).range(0..=200),
-        "What the saw takes, in tenths of a millimetre: 0 to 200",
+        "N",
+        "What the saw takes, in tenths of a millimetre: 0 to 200; with --shop it isn't given",
     )
+    .value_parser(value_parser!(u32).range(0..=200))
 }
 
 fn step_arg<'a>(alloc: Global) -> Arg<'a>
@@ -257,7 +283,7 @@ fn step_arg<'a>(alloc: Global) -> Arg<'a>
         alloc,
         "step",
         "N",
-        "The step to which sides are rounded, in tenths of a millimetre: 0 to 200000; with --whole it may be left out",
+        "The step to which sides are rounded, in tenths of a millimetre: 0 to 200000; with --whole it may be left out, and with --shop it isn't given",
     )
     .value_parser(value_parser!(u32).range(0..=200000))
 }
@@ -278,7 +304,7 @@ fn whole_arg<'a>(alloc: Global) -> Arg<'a>
     flag_arg(
         alloc,
         "whole",
-        "Plans all pieces, from as many of the rectangles as it takes",
+        "Plans all pieces, from as many of the rectangles or units as it takes",
     )
 }
 
@@ -292,6 +318,17 @@ fn calls_arg<'a>(alloc: Global) -> Arg<'a>
         "With --whole, how long plans are searched for, in tables: 1 to 5000, else 500",
     )
     .value_parser(value_parser!(u32).range(1..=5000))
+}
+
+fn size_arg<'a>(alloc: Global) -> Arg<'a>
+    ensures { line.IsArg line.size_rule result }
+{
+    several_arg(
+        alloc,
+        "size",
+        "WxH",
+        "A size of the units from which an order file is planned, in millimetres, as 2400.0x1300.0, of a bar its length, as 6000.0; up to 10 times",
+    )
 }
 
 fn port_arg<'a>(alloc: Global) -> Arg<'a>
@@ -448,35 +485,90 @@ fn job_arg<'a>(alloc: Global) -> Arg<'a>
     ).range(1..=2147483647))
 }
 
+fn file_arg<'a>(alloc: Global) -> Arg<'a>
+    ensures { line.IsArg line.file_rule result }
+{
+    word_arg(
+        alloc,
+        "FILE",
+        "The problem file, its sides in tenths of a millimetre, or with --shop an order file",
+    )
+}
+
+fn order_file_arg<'a>(alloc: Global) -> Arg<'a>
+    ensures { line.IsArg line.file_rule result }
+{
+    word_arg(
+        alloc,
+        "FILE",
+        "The order file: CSV, lengths and widths in millimetres",
+    )
+}
+
+fn plan_shop_arg<'a>(alloc: Global) -> Arg<'a>
+    ensures { line.IsArg line.known_shop_rule result }
+{
+    option_arg(
+        alloc,
+        "shop",
+        "FILE",
+        "The shop file of an order file's materials; it stands with --whole, --material and --size",
+    )
+}
+
+fn plan_material_arg<'a>(alloc: Global) -> Arg<'a>
+    ensures { line.IsArg line.plan_material_rule result }
+{
+    option_arg(
+        alloc,
+        "material",
+        "CODE",
+        "The material whose lines of an order file are planned",
+    )
+}
+
+fn orders_shop_arg<'a>(alloc: Global) -> Arg<'a>
+    ensures { line.IsArg line.known_shop_rule result }
+{
+    option_arg(
+        alloc,
+        "shop",
+        "FILE",
+        "A shop file, by whose materials the lines are judged too",
+    )
+}
+
+fn shop_arg<'a>(alloc: Global) -> Arg<'a>
+    ensures { line.IsArg line.shop_rule result }
+{
+    path_arg(
+        alloc,
+        "shop",
+        "The shop file: its materials, lengths in millimetres",
+    )
+}
+
 // An argument, as the command line knows it.
 fn arg_of<'a>(alloc: Global, argument: Argument) -> Arg<'a>
     ensures { line.IsArg (line.argument_rule argument) result }
 {
     match argument {
-        Argument::File => word_arg(
-            alloc,
-            "FILE",
-            "The problem file, its sides in tenths of a millimetre",
-        ),
+        Argument::File => file_arg(alloc),
         Argument::Kerf => kerf_arg(alloc),
         Argument::Step => step_arg(alloc),
         Argument::Whole => whole_arg(alloc),
         Argument::Calls => calls_arg(alloc),
-        Argument::OrderFile => word_arg(
-            alloc,
-            "FILE",
-            "The order file: CSV, lengths and widths in millimetres",
-        ),
+        Argument::PlanShop => plan_shop_arg(alloc),
+        Argument::PlanMaterial => plan_material_arg(alloc),
+        Argument::Size => size_arg(alloc),
+        Argument::OrderFile => order_file_arg(alloc),
+        Argument::OrdersShop => orders_shop_arg(alloc),
         Argument::Order => order_arg(alloc),
         Argument::Terminal => terminal_arg(alloc),
         Argument::Number => message_number_arg(alloc),
         Argument::Port => port_arg(alloc),
         Argument::Store => store_arg(alloc),
-        Argument::Shop => path_arg(
-            alloc,
-            "shop",
-            "The shop file: its materials, lengths in millimetres",
-        ),
+        Argument::Shop => shop_arg(alloc),
         Argument::Limit => limit_arg(alloc),
         Argument::Page => page_arg(alloc),
         Argument::Backup => backup_arg(alloc),
@@ -526,14 +618,17 @@ fn plan_command<'a>(alloc: Global) -> Result<Command<'a>, AllocError>
     new_command(
         alloc,
         "plan",
-        "Plans the rectangle of a problem file, or all its pieces from as many as it takes",
-        "Examples:\n  cutshop plan sheet.txt --kerf 30 --step 10\n  cutshop plan sheet.txt --kerf 30 --whole",
+        "Plans the rectangle of a problem file, or all its pieces from as many as it takes, or the lines of an order file",
+        "Examples:\n  cutshop plan sheet.txt --kerf 30 --step 10\n  cutshop plan sheet.txt --kerf 30 --whole\n  cutshop plan orders.csv --whole --shop shop.toml --material GLASS --size 3210.0x2250.0",
         &[
             Argument::File,
             Argument::Kerf,
             Argument::Step,
             Argument::Whole,
             Argument::Calls,
+            Argument::PlanShop,
+            Argument::PlanMaterial,
+            Argument::Size,
         ],
     )
 }
@@ -544,10 +639,11 @@ fn orders_command<'a>(alloc: Global) -> Result<Command<'a>, AllocError>
     new_command(
         alloc,
         "orders",
-        "Reads an order file: tells how many lines it has, or with three options the message that makes the order, to be posted as it is",
-        "Examples:\n  cutshop orders orders.csv\n  cutshop orders orders.csv --order A-1 --terminal 1 --number 7",
+        "Judges an order file: tells how many lines it has, or with three options the message that makes the order, to be posted as it is",
+        "Examples:\n  cutshop orders orders.csv\n  cutshop orders orders.csv --shop shop.toml\n  cutshop orders orders.csv --order A-1 --terminal 1 --number 7",
         &[
             Argument::OrderFile,
+            Argument::OrdersShop,
             Argument::Order,
             Argument::Terminal,
             Argument::Number,
@@ -776,8 +872,9 @@ fn single_request<'a>(plan: &ArgMatches<'a>, file: &'a str, kerf: u32) -> Option
     Some(Request::Plan { file, kerf, step })
 }
 
-fn plan_request<'a>(plan: &ArgMatches<'a>) -> Option<Request<'a>>
-    ensures { line.AsAsked result (line.IsPlanAsked (rows_of (found_of plan.now))) }
+// A plan of a problem file.
+fn problem_request<'a>(plan: &ArgMatches<'a>) -> Option<Request<'a>>
+    ensures { line.AsAsked result (line.IsProblemAsked (rows_of (found_of plan.now))) }
 {
     let file = plan.get_str("FILE")?;
     let kerf = number_of(plan, "kerf", 0, MOST_KERF)?;
@@ -785,6 +882,76 @@ fn plan_request<'a>(plan: &ArgMatches<'a>) -> Option<Request<'a>>
         whole_request(plan, file, kerf)
     } else {
         single_request(plan, file, kerf)
+    }
+}
+
+// Whether one of the options is there that only the plan of an order file has.
+pub(crate) fn names_stock(plan: &ArgMatches<'_>) -> bool
+    ensures { result ≡ line.names_stock (rows_of (found_of plan.now)) }
+{
+    has_option(plan, "shop") || has_option(plan, "material") || has_option(plan, "size")
+}
+
+// Whether kerf or step is there, which the plan of an order file hasn't.
+fn has_measures(plan: &ArgMatches<'_>) -> bool
+    ensures { result ≡ line.has_measures (rows_of (found_of plan.now)) }
+{
+    has_option(plan, "kerf") || has_option(plan, "step")
+}
+
+// A plan of an order file from units of these sizes.
+fn order_plan<'a>(plan: &ArgMatches<'a>, sizes: Vec<&'a str>) -> Option<OrderPlan<'a>>
+    requires { line.AreTexts (codes "size") (rows_of (found_of plan.now)) sizes.items }
+    ensures { line.AsAsked result (line.IsOrderPlan (rows_of (found_of plan.now))) }
+{
+    let file = plan.get_str("FILE")?;
+    let shop = plan.get_str("shop")?;
+    let material = plan.get_str("material")?;
+    let calls = number_if_any(plan, "calls", 1, MOST_CALLS)?;
+    if !is_whole(plan) {
+        return None;
+    }
+    if has_measures(plan) {
+        return None;
+    }
+    if !has_option(plan, "size") {
+        return None;
+    }
+    if times_given(plan, "size") > MOST_SIZES {
+        return None;
+    }
+    Some(OrderPlan {
+        file,
+        shop,
+        material,
+        sizes,
+        calls,
+    })
+}
+
+// A plan of an order file.
+fn lines_request<'a>(
+    alloc: Global,
+    plan: &ArgMatches<'a>,
+) -> Result<Option<Request<'a>>, AllocError>
+    ensures { IfOk result
+        (λ found. line.AsAsked found (line.IsLinesAsked (rows_of (found_of plan.now)))) }
+{
+    let sizes = texts_under(alloc, plan, "size")?;
+    match order_plan(plan, sizes) {
+        Some(asked) => Ok(Some(Request::PlanLines(asked))),
+        None => Ok(None),
+    }
+}
+
+fn plan_request<'a>(alloc: Global, plan: &ArgMatches<'a>) -> Result<Option<Request<'a>>, AllocError>
+    ensures { IfOk result
+        (λ found. line.AsAsked found (line.IsPlanAsked (rows_of (found_of plan.now)))) }
+{
+    if names_stock(plan) {
+        lines_request(alloc, plan)
+    } else {
+        Ok(problem_request(plan))
     }
 }
 
@@ -813,12 +980,18 @@ fn orders_request<'a>(orders: &ArgMatches<'a>) -> Option<Request<'a>>
     ensures { line.AsAsked result (line.IsOrdersAsked (rows_of (found_of orders.now))) }
 {
     let file = orders.get_str("FILE")?;
+    let shop = orders.get_str("shop");
     if !names_message(orders) {
-        return Some(Request::Orders { file, told: None });
+        return Some(Request::Orders {
+            file,
+            shop,
+            told: None,
+        });
     }
     let told = import_as(orders)?;
     Some(Request::Orders {
         file,
+        shop,
         told: Some(told),
     })
 }
@@ -1049,7 +1222,7 @@ fn request_in<'a>(
 {
     match word {
         Word::Replay => Ok(Some(Request::Replay)),
-        Word::Plan => Ok(plan_request(values)),
+        Word::Plan => plan_request(alloc, values),
         Word::Orders => Ok(orders_request(values)),
         Word::Serve => serve_request(alloc, values),
         Word::Ticket => Ok(ticket_request(values)),

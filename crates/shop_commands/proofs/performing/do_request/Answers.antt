@@ -10,6 +10,12 @@ returns-in-PlanOrder-clause-ok g c = rw c.in-PlanOrder.is c.plan_order.ensures.o
 pub returns-in-PlanOrder-clause-err : goal.returns-in-PlanOrder-clause-err
 returns-in-PlanOrder-clause-err g c = rw c.in-PlanOrder.is c.plan_order.ensures.err
 
+pub returns-in-PlanLines-clause-ok : goal.returns-in-PlanLines-clause-ok
+returns-in-PlanLines-clause-ok g c = rw c.in-PlanLines.is c.plan_lines.ensures.ok
+
+pub returns-in-PlanLines-clause-err : goal.returns-in-PlanLines-clause-err
+returns-in-PlanLines-clause-err g c = rw c.in-PlanLines.is c.plan_lines.ensures.err
+
 pub returns-in-Orders-clause-err : goal.returns-in-Orders-clause-err
 returns-in-Orders-clause-err g c = rw c.in-Orders.is c.check_orders.ensures.err
 

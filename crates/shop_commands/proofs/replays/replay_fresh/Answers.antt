@@ -1,4 +1,4 @@
-use Rattle.std.proofs.Common.{◌≡◌, ◌<◌, ◌++◌, [], Err, inl, inr, ap, ◌∙◌, arith}
+use Rattle.std.proofs.Common.{[], Err, inl, inr, ap, ◌∙◌, arith}
 use Rattle.shop_desk.specs.Faults.{StoreFailed}
 use Rattle.shop_commands.specs.contracts.storeless.StorelessBookBook.TheImpl as mem
 use Rattle.shop_wire.proofs.Fresh.{from_fresh}

@@ -1,5 +1,5 @@
-use Rattle.std.proofs.Common.{◌∙◌, subst}
-use Rattle.shop_commands.specs.Sinks.{AddsPrefix, change_of}
+use Rattle.std.proofs.Common.{◌∙◌}
+use Rattle.shop_commands.specs.Sinks.{change_of}
 use Rattle.shop_commands.proofs.Restored.{unprinted}
 use Rattle.shop_commands.proofs.restoring.restore.Goals as goal
 

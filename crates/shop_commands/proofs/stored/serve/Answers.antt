@@ -1,4 +1,4 @@
-use Rattle.std.proofs.Common.{◌≡◌, refl, sym, subst, inl, inr}
+use Rattle.std.proofs.Common.{refl, sym, subst, inl, inr}
 use Rattle.std.proofs.lemmas.Result.{err_from_is_err_and}
 use Rattle.shop_commands.specs.Stored.{IsShopRead, IsBookServed, IsBookUnserved}
 use Rattle.shop_commands.specs.Sinks.{change_of}

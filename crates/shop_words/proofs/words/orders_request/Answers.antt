@@ -12,6 +12,7 @@ returns-in_err-file c =
 pub returns-then-not-names_message : goal.returns-then-not-names_message
 returns-then-not-names_message c = (
   sym (c.in_ok-file.ensures ∙ first_value-rows (found_of c.args.orders.now) (codes "FILE")),
+  sym (c.get_str-shop.ensures ∙ first_value-rows (found_of c.args.orders.now) (codes "shop")),
   sym c.names_message.ensures ∙ c.if-not-names_message.true,
 )
 
@@ -21,4 +22,8 @@ returns-in_err-told c =
     rw c.from_residual-in_err-told.ensures (no_orders_message (rows_of found) (sym c.names_message.ensures ∙ c.if-not-names_message.false) c.in_err-told.ensures)
 
 pub returns : goal.returns
-returns c = (sym (c.in_ok-file.ensures ∙ first_value-rows (found_of c.args.orders.now) (codes "FILE")), c.in_ok-told.ensures)
+returns c = (
+  sym (c.in_ok-file.ensures ∙ first_value-rows (found_of c.args.orders.now) (codes "FILE")),
+  sym (c.get_str-shop.ensures ∙ first_value-rows (found_of c.args.orders.now) (codes "shop")),
+  c.in_ok-told.ensures,
+)

@@ -1,0 +1,48 @@
+-- Lines that are judged, and what is told of a file that has them.
+use Rattle.std.proofs.Common.{◌≡◌, List, ℕ, Bool, true, Option, Some, None, Result, Ok, Err, inl, inr, length, refl, subst, sym}
+use Rattle.std.specs.Prelude.{IfErr, IfOk, OnOk, is_some}
+use Rattle.std.proofs.lemmas.Result.{IfErr-weaker, on_ok_weaker}
+use Rattle.shop_files.specs.Orders.{IsOrders}
+use Rattle.shop_files.specs.declared.orders.OrderLine.{OrderLine}
+use Rattle.shop_files.specs.declared.shops.MaterialEntry.{MaterialEntry}
+use Rattle.shop_problems.specs.Judged.{first_bad_field}
+use Rattle.shop_words.specs.declared.words.ImportAs.{ImportAs}
+use Rattle.shop_commands.specs.declared.faults.Fault.{Fault}
+use Rattle.shop_commands.specs.Orders.{IsBadBy, IsJudgedBad, IsJudgedGood, IsOrderFileFault, IsOrdersLine, IsUnsaid, orders_line}
+use Rattle.shop_commands.specs.Stored.{IsShopRead}
+
+module _ {A : Type 0} (entries slice : List MaterialEntry) (lines : List OrderLine) (result : Result A Fault) (read : IsShopRead entries) (is : slice ≡ entries) where
+  pub good_by_shop : OnOk result (first_bad_field (Some slice) lines ≡ None) → OnOk result (IsJudgedGood true lines)
+  good_by_shop good = on_ok_weaker result (λ none. (Some slice, subst IsShopRead (sym is) read, none)) good
+
+  pub bad_by_shop : IfErr result (IsBadBy (Some slice) lines) → IfErr result (IsJudgedBad true lines)
+  bad_by_shop bad = IfErr-weaker result _ _ (λ f by. inr (Some slice, subst IsShopRead (sym is) read, by)) bad
+
+module _ {A X : Type 0} (shop : Option X) (lines : List OrderLine) (result : Result A Fault) where
+  pub alone_ok : shop ≡ None → OnOk result (first_bad_field None lines ≡ None) → OnOk result (IsJudgedGood (is_some shop) lines)
+  alone_ok is good = subst (λ s. OnOk result (IsJudgedGood (is_some s) lines)) (sym is) (on_ok_weaker result (λ none. (None, refl, none)) good)
+
+  pub alone_err : shop ≡ None → IfErr result (IsBadBy None lines) → IfErr result (IsJudgedBad (is_some shop) lines)
+  alone_err is bad =
+      subst (λ s. IfErr result (IsJudgedBad (is_some s) lines)) (sym is) (IfErr-weaker result _ _ (λ f by. inr (None, refl, by)) bad)
+
+  pub known_ok : (path : X) → shop ≡ Some path → OnOk result (IsJudgedGood true lines) → OnOk result (IsJudgedGood (is_some shop) lines)
+  known_ok path is good = subst (λ s. OnOk result (IsJudgedGood (is_some s) lines)) (sym is) good
+
+  pub known_err : (path : X) → shop ≡ Some path → IfErr result (IsJudgedBad true lines) → IfErr result (IsJudgedBad (is_some shop) lines)
+  known_err path is bad = subst (λ s. IfErr result (IsJudgedBad (is_some s) lines)) (sym is) bad
+
+module _ (given : Bool) (text : List ℕ) (lines slice : List OrderLine) (spelt : IsOrders text lines) (is : slice ≡ lines) where
+  pub bad_file : (fault : Fault) → IsJudgedBad given slice fault → IsOrderFileFault given text fault
+  bad_file fault bad = inr (slice, subst (IsOrders text) (sym is) spelt, inl bad)
+
+  module _ {X : Type 0} (bytes : X → List ℕ) (told : Option ImportAs) (result : Result X Fault) (good : IsJudgedGood given slice) where
+    pub line_ok : IfOk result (λ line. bytes line ≡ orders_line told text (length slice)) → IfOk result (λ line. IsOrdersLine given told text (bytes line))
+    line_ok = made result
+      where
+        made : (r : Result X Fault) → IfOk r (λ line. bytes line ≡ orders_line told text (length slice)) → IfOk r (λ line. IsOrdersLine given told text (bytes line))
+        made (Ok line) says = (slice, subst (IsOrders text) (sym is) spelt, good, says)
+        made (Err fault) says = tt
+
+    pub line_err : IfErr result (IsUnsaid text) → IfErr result (IsOrderFileFault given text)
+    line_err unsaid = IfErr-weaker result _ _ (λ f by. inr (slice, subst (IsOrders text) (sym is) spelt, inr (good, by))) unsaid

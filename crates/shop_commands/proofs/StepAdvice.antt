@@ -1,0 +1,52 @@
+-- Advice that fits a refusal.
+use Rattle.std.proofs.Common.{◌≡◌, subst, sym, Option, Some, None}
+use Rattle.std.specs.Prelude.{IfSome}
+use Rattle.shop_records.specs.declared.refusals.Refusal.{Refusal}
+use Rattle.shop_records.specs.declared.refusals.Refusal.TheVariants as refusal
+use Rattle.shop_commands.specs.declared.advice.Advice.{Advice}
+use Rattle.shop_commands.specs.declared.advice.Cause.{Cause}
+use Rattle.shop_commands.specs.declared.advice.Cause.TheVariants as cause
+use Rattle.shop_commands.specs.declared.faults.Fault.{Fault}
+use Rattle.shop_commands.specs.declared.faults.Fault.TheVariants.{Refused}
+use Rattle.shop_commands.specs.Advice.{FitsFault, HelpsStep, IsAdviceOf, IsOf, IsOfStep, IsStepHelp}
+
+-- what helps where a step is refused fits such a refusal
+helps : (r : Refusal) (c : Cause) → IsOfStep r → HelpsStep c → FitsFault (Refused r) c
+helps r (cause.File c) of no_help = absurd no_help
+helps r (cause.Problem c) of no_help = absurd no_help
+helps r (cause.Shop c) of no_help = absurd no_help
+helps r (cause.Refused s) of no_help = absurd no_help
+helps r cause.Whole of help = of
+helps r cause.LongBar of help = of
+helps r cause.Steps of help = of
+helps r cause.Size of no_help = absurd no_help
+helps r cause.NoFit of no_help = absurd no_help
+helps r cause.Lines of no_help = absurd no_help
+helps r cause.Made of no_help = absurd no_help
+helps r (cause.Store c) of no_help = absurd no_help
+helps r (cause.Version c) of no_help = absurd no_help
+helps r (cause.Port c) of no_help = absurd no_help
+helps r (cause.Backup c) of no_help = absurd no_help
+helps r cause.Input of no_help = absurd no_help
+helps r cause.Output of no_help = absurd no_help
+
+step_help : (r : Refusal) (found : Option Advice) → IsOfStep r → IfSome found IsStepHelp → IfSome found (IsAdviceOf (Refused r))
+step_help r None of is = tt
+step_help r (Some a) of is = record { fits = helps r a.cause of is.helps; about = is.about; word = is.word }
+
+pub large_help : (r : Refusal) (found : Option Advice) → r ≡ refusal.TableTooLarge → IfSome found IsStepHelp
+    → IfSome found (IsAdviceOf (Refused r))
+large_help r found is = step_help r found (subst IsOfStep (sym is) tt)
+
+pub bad_help : (r : Refusal) (found : Option Advice) → r ≡ refusal.BadStep → IfSome found IsStepHelp → IfSome found (IsAdviceOf (Refused r))
+bad_help r found is = step_help r found (subst IsOfStep (sym is) tt)
+
+-- an advice of a cause that fits
+pub fitting : (fault : Fault) (c : Cause) (found : Option Advice) → FitsFault fault c → IfSome found (IsOf c) → IfSome found (IsAdviceOf fault)
+fitting fault c None fits of = tt
+fitting fault c (Some a) fits of = record { fits = subst (FitsFault fault) (sym of.cause) fits; about = of.about; word = of.word }
+
+-- an advice of a cause that helps
+pub of_step : (c : Cause) (found : Option Advice) → HelpsStep c → IfSome found (IsOf c) → IfSome found IsStepHelp
+of_step c None is of = tt
+of_step c (Some a) is of = record { helps = subst HelpsStep (sym of.cause) is; about = of.about; word = of.word }
