@@ -11,6 +11,7 @@ const backups = {
 };
 
 class NoFolder extends Error {}
+class OtherRun extends Error {}
 
 const LAST_BACKUP = "cutshop.backup";
 
@@ -65,7 +66,8 @@ async function makeBackup() {
 async function askForBackup() {
   const {status, reply} = await request("/backup", {body: "", patience: 600000});
   if (reply?.ok) return reply;
-  throw reply ? new Refused(reply) : status === 404 ? new NoFolder() : new NoAnswer(strangeWords(status));
+  if (reply) throw new Refused(reply);
+  throw status === 404 ? new NoFolder() : status === 412 ? new OtherRun() : new NoAnswer(strangeWords(status));
 }
 
 // The later one of what this tab was told and what is kept for all tabs.
@@ -85,6 +87,7 @@ function noteBackup(last) {
 async function noBackupWords(error) {
   if (error instanceof NoAnswer) return tr`No answer came, so whether a backup was made isn't known. Make another one.`;
   const words = error instanceof NoFolder ? tr`the program has no folder for backups any more`
+    : error instanceof OtherRun           ? tr`the program was started anew`
     : isRefused(error, 99)                ? tr`look at its folder and that folder's disk, the program's log says what it was (99 StoreFault)`
                                           : await faultWords(error);
   return tr`No backup was made: ${words}. The shop goes on.`;

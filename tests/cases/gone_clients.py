@@ -65,13 +65,13 @@ def gone_at_once(trial):
 )
 def silent_ones(trial):
     yard, asked = small()
-    shop = crowds.large_yard(6).serve(trial)
+    shop = crowds.large_yard().serve(trial)
     yard.fill(trial, shop)
     # (a program that is built without proofs is slow, and makes small tables)
-    step = 65 if time_of(shop, 65) < 0.5 else 233
+    step = 32 if time_of(shop, 65) < 0.5 else 233
     large, alone = crowds.large_question(5000, step), PLACES * 200 / FEW * time_of(shop, step)
     with crowds.thinking(shop, PLACES, large) as held:
-        time.sleep(2 * alone)
+        time.sleep(1.5 * alone)
         trial.holds(not is_idle(shop, 1), "nothing is thought about, though no question waits")
         asked_behind(trial, shop, asked, BEHIND, "behind eight that had their calls")
         came = select.select(held, [], [], BEHIND)[0]

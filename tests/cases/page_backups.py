@@ -99,7 +99,7 @@ def without(trial):
         trial.equal(shop.process.stdout.readline(), f"listening on 127.0.0.1:{shop.port}\n".encode())
         if it.value(f"Boolean({by_id('makeBackup')})"):
             it.value("makeBackup()")
-            it.says("No backup was made: the program has no folder for backups any more. The shop goes on.")
+            it.says("No backup was made: the program was started anew. The shop goes on.")
         it.until(f"{WORDS} === {json.dumps(HOW)} && !{by_id('makeBackup')}")
         trial.equal(names(trial), [])
         it.at_widths("no-backups")

@@ -140,10 +140,13 @@ def ninth(trial):
     with crowds.thinking(shop, 8, large) as held:
         # (so long that each was thought about once, and not so often that one is answered for the ninth)
         time.sleep(1)
-        with crowds.thinking(shop, 1, large) as (last,), crowds.silent(shop, 260) as others:
-            trial.equal(read_all(last), b"", "the ninth")
-            trial.equal([it for it in held if not is_silent(it, 0)], [], "those of the eight that are closed")
-            trial.equal(is_silent(others[-1], 0), True, "the last connection")
+        with crowds.thinking(shop, 1, large) as (last,):
+            # (so long that its question was read)
+            time.sleep(0.5)
+            with crowds.silent(shop, 260) as others:
+                trial.equal(read_all(last), b"", "the ninth")
+                trial.equal([it for it in held if not is_silent(it, 0)], [], "those of the eight that are closed")
+                trial.equal(is_silent(others[-1], 0), True, "the last connection")
 
 
 @case(
