@@ -33,6 +33,7 @@ LISTED = {
     "shop_rows/src/part_rows.rt reserve": "a number of origins of 32 bits: acts end at 2147483647, and each begins one at most",
     "shop_serve/src/answers.rt note_want": "what the watch told of a backup is asked for, to be noted",
     "shop_serve/src/clients.rt ask": "there is no answer where memory is wanting for it",
+    "shop_store/src/loading_parts.rt stopped": "the loader of parts says whether it stopped for want of memory",
     "shop_store/src/named_parts.rt searched_parts": "the taker of parts stops where its list has no room",
     "shop_text/src/yields.rt report_text": "the taker of a report's lines stops where its text has no room",
     "shop_wire/src/serving.rt write_made": "the text is handed over as it was made, or the want of memory",
@@ -242,6 +243,8 @@ FAULTED = {
     "shop_statements/src/jobs.rt read_plan Store": (1, "a text that spells no tree of the part"),
     "shop_statements/src/jobs.rt stock_of Store": (2, "a job without its part, or a part without its material"),
     "shop_statements/src/numbers.rt number_of Store": (1, "a last number that isn't there"),
+    "shop_store/src/loading.rt load_orders Store": (1, "more orders than a shop has"),
+    "shop_store/src/numbered.rt load_numbered Store": (1, "more rows than a table of numbers has"),
     "shop_store/src/sql.rt checked WrongVersion": (1, "totals that aren't the sums, by its contract"),
     "shop_store/src/sql.rt count_fault Store": (1, "hands on and counts a fault of the tables, by its contract"),
     "shop_store/src/sql.rt fault_of_adopt Store": (1, "hands on a fault of the tables, by its contract"),
@@ -257,6 +260,7 @@ FAULTED = {
     "shop_tables/src/lending.rt lend Store": (1, "more rows than a table has"),
     "shop_tables/src/lending.rt lend_parts Store": (1, "a row that is no part's"),
     "shop_tables/src/listed_rows.rt at_most Store": (1, "so many rows that a statement can't say it"),
+    "shop_tables/src/valid_rows.rt plan_of_row Store": (1, "bytes that are no UTF-8"),
     "shop_text/src/tickets.rt push_what StoreFault": (1, "a piece without its demand, by its contract"),
     "shop_text/src/tickets.rt ticket_text StoreFault": (2, "a job without its part, or a part without its material, by its contract"),
 }
@@ -405,7 +409,11 @@ LAWLESS = {
     "shop_serve transfers MOST_BYTES": ("150000", "take_bytes", "more bytes than come of any request that is read"),
     "shop_serve transfers MOST_DROPS": ("1024", "drop_rest", "reads at once of what is dropped: more than a socket keeps"),
     "shop_serve transfers BUFFER_SIZE": ("8192", "drop_rest take_piece", "how much a read of a connection brings at most"),
+    "shop_store loading MOST_ORDERS": ("4294967295", "load_orders", "more orders than a shop has, as acts have 32 bits"),
+    "shop_store loading_parts PARTS_AT_ONCE": ("4096", "flush_many", "how many parts that were read wait before they are put into a ledger"),
     "shop_store names ROWS_A_LOOK": ("32", "few_of", "where more than one part in so many stands all rows are gone through"),
+    "shop_store numbered MOST_CHUNKS": ("4294967296", "load_numbered", "more times than a table has rows of different numbers of 32 bits"),
+    "shop_store numbered ROWS_AT_ONCE": ("1000", "load_numbered", "how many rows of jobs or demands are in memory at once while a ledger is loaded"),
     "shop_streams counted MOST_TRIES": ("1000", "read write", "how often an interrupted call is made again"),
 }
 

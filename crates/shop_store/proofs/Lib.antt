@@ -17,3 +17,7 @@ pub mod Hinted
 -- jobs and demands that are listed
 pub mod PassingRows
 pub mod Work
+-- a ledger that is loaded
+pub mod Chunks
+pub mod Loads
+pub mod LoadedParts

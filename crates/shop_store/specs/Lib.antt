@@ -5,3 +5,4 @@ pub mod Checking
 pub mod Crashes
 pub mod NamedParts
 pub mod OpenWork
+pub mod Loading

@@ -38,7 +38,7 @@ fn in_range(totals: Totals)
 }
 
 // Sums of nothing for each of these materials.
-fn adder_for(alloc: Global, totals: &[MaterialTotals]) -> Result<PartAdder, AllocError>
+pub(crate) fn adder_for(alloc: Global, totals: &[MaterialTotals]) -> Result<PartAdder, AllocError>
     ensures none { IfOk result
         (λ adder. (column : ColumnOf) (code : List ℕ) → sum_at column code adder.sums.items ≡ 0) }
     ensures there { IfOk result
@@ -60,7 +60,7 @@ fn adder_for(alloc: Global, totals: &[MaterialTotals]) -> Result<PartAdder, Allo
 }
 
 // Whether these totals are the sums.
-fn are_sums(sums: &[Sums], totals: &[MaterialTotals]) -> bool
+pub(crate) fn are_sums(sums: &[Sums], totals: &[MaterialTotals]) -> bool
     requires rising { IsTrue (rise sums_key code_cmp sums.now) }
     requires small { (column : ColumnOf) (code : List ℕ) → sum_at column code sums.now < 2 ^ 64 }
     ensures { Decides result (AreSumsIn sums.now totals.now) }

@@ -31,7 +31,7 @@ use Rattle.shop_statements.proofs.Texts.{shop, shop_is}
 
 -- ---- a name after another one
 
-abbrev at_least : Value → Value → Bool
+abbrev pub at_least : Value → Value → Bool
 at_least a b = is_true (binary (Compare Ge Binary) a b)
 
 -- greater, or the next one is
@@ -44,7 +44,7 @@ is_at_least m n = grind (arith, nat_tests)
 is_greater : (m n : ℕ) → is_gt (nat_cmp m n) ≡ nat_lt n m
 is_greater m n = grind (arith, nat_tests)
 
-at_least-Int : (m n : ℕ) → at_least (Int (pos m)) (Int (pos n)) ≡ nat_le n m
+pub at_least-Int : (m n : ℕ) → at_least (Int (pos m)) (Int (pos n)) ≡ nat_le n m
 unfolding binary
 at_least-Int m n = told _ ∙ ap is_ge (ranked m n) ∙ is_at_least m n
 

@@ -106,7 +106,7 @@ module _ (old new : State) (b : Books) (has : Shows old b) where
   -- the rows of the first open demands, by any further test
   module _ (tests : List Term) (params : Row) (most : ℕ) (limits : as_count (eval (col 0 1) (params ∷ [])) ≡ Some most) (t : ℕ × Demand → Bool) (p : Demand → Bool)
       (passes : (e : ℕ × Demand) → list_all (holds (params ∷ demand_row e ∷ [])) tests ≡ t e) (same_test : (d : Demand) → t (d.number, d) ≡ p d) where
-    demands_first : (rows : List Row) → IsProgramAnswer [] (first_of (col 0 1) (from_table 9 tests open_demands_terms by_rowid)) old.now.trees params rows → rows ≡ map listed_demand (take most (filter p (values b.content.demands)))
+    pub demands_first : (rows : List Row) → IsProgramAnswer [] (first_of (col 0 1) (from_table 9 tests open_demands_terms by_rowid)) old.now.trees params rows → rows ≡ map listed_demand (take most (filter p (values b.content.demands)))
     demands_first rows a =
         let whole = first_answer 9 tests open_demands_terms by_rowid (col 0 1) old.now.trees params rows a in
         let all : whole.0 ≡ map listed_demand (filter p (values b.content.demands)) =

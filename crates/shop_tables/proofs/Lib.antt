@@ -25,6 +25,7 @@ pub mod ListTexts
 pub mod Firsts
 pub mod Falling
 pub mod FirstRows
+pub mod FromNumber
 pub mod LastNumbers
 pub mod FirstParts
 pub mod RowsAsShown

@@ -75,6 +75,13 @@ open_demands_terms = col 1 2 ∷ col 1 3 ∷ col 1 4 ∷ col 1 5 ∷ col 1 6 ∷
 abbrev pub open_demands_tests : List Term
 open_demands_tests = above (col 1 0) (col 0 0) ∷ below (col 1 11) (col 1 9) ∷ []
 
+abbrev pub demands_from_text : List ℕ
+demands_from_text = codes "SELECT ord, line, material, w, h, turn, worth, wanted, reserved, made, number FROM demands WHERE number >= ?1 ORDER BY number LIMIT ?2"
+
+-- the rowid is at least a number
+abbrev pub from_tests : List Term
+from_tests = op2 (Compare Ge Binary) (col 1 0) (col 0 0) ∷ []
+
 abbrev pub open_demands_of_text : List ℕ
 open_demands_of_text = codes "SELECT ord, line, material, w, h, turn, worth, wanted, reserved, made, number FROM demands WHERE number > ?1 AND material = ?3 AND made < wanted ORDER BY number LIMIT ?2"
 
@@ -118,6 +125,15 @@ waiting_jobs_terms = col 1 0 ∷ []
 
 abbrev pub waiting_jobs_tests : List Term
 waiting_jobs_tests = above (col 1 0) (col 0 0) ∷ same (col 1 5) (lit (Int (pos 0))) ∷ []
+
+abbrev pub jobs_from_text : List ℕ
+jobs_from_text = codes "SELECT part_act, part_node, tree, state, job FROM jobs WHERE job >= ?1 ORDER BY job LIMIT ?2"
+
+abbrev pub jobs_from_terms : List Term
+jobs_from_terms = col 1 2 ∷ col 1 3 ∷ col 1 4 ∷ col 1 5 ∷ col 1 0 ∷ []
+
+abbrev pub part_at_text : List ℕ
+part_at_text = codes "SELECT act, node FROM parts ORDER BY act, node LIMIT 1 OFFSET ?1"
 
 abbrev pub last_number_text : List ℕ
 last_number_text = codes "SELECT number FROM kept WHERE terminal = ?1 ORDER BY number DESC LIMIT 1"
@@ -163,6 +179,10 @@ module _ (schema : Schema) (h : HasShopTables schema) where
   unfolding understood everything
   open_demands_is = record { command = refl; listing = refl; plain = (refl, refl) }
 
+  pub demands_from_is : Reads (shop schema h) demands_from_text (first_of (col 0 1) (from_table 9 from_tests open_demands_terms by_rowid)) (codes "ord" ∷ codes "line" ∷ codes "material" ∷ codes "w" ∷ codes "h" ∷ codes "turn" ∷ codes "worth" ∷ codes "wanted" ∷ codes "reserved" ∷ codes "made" ∷ codes "number" ∷ [])
+  unfolding understood everything
+  demands_from_is = record { command = refl; listing = refl; plain = (refl, refl) }
+
   pub open_demands_of_is : Reads (shop schema h) open_demands_of_text (first_of (col 0 1) (from_table 9 open_demands_of_tests open_demands_terms by_rowid)) (codes "ord" ∷ codes "line" ∷ codes "material" ∷ codes "w" ∷ codes "h" ∷ codes "turn" ∷ codes "worth" ∷ codes "wanted" ∷ codes "reserved" ∷ codes "made" ∷ codes "number" ∷ [])
   unfolding understood everything
   open_demands_of_is = record { command = refl; listing = refl; plain = (refl, refl) }
@@ -190,6 +210,10 @@ module _ (schema : Schema) (h : HasShopTables schema) where
   pub waiting_jobs_is : Reads (shop schema h) waiting_jobs_text (first_of (col 0 1) (from_table 6 waiting_jobs_tests waiting_jobs_terms by_rowid)) (codes "job" ∷ [])
   unfolding understood everything
   waiting_jobs_is = record { command = refl; listing = refl; plain = (refl, refl) }
+
+  pub jobs_from_is : Reads (shop schema h) jobs_from_text (first_of (col 0 1) (from_table 6 from_tests jobs_from_terms by_rowid)) (codes "part_act" ∷ codes "part_node" ∷ codes "tree" ∷ codes "state" ∷ codes "job" ∷ [])
+  unfolding understood everything
+  jobs_from_is = record { command = refl; listing = refl; plain = (refl, refl) }
 
   pub last_number_is : Reads (shop schema h) last_number_text (first_of (lit (Int (pos 1))) (from_table 11 last_number_tests last_number_terms (falling 2))) (codes "number" ∷ [])
   unfolding understood everything
@@ -258,3 +282,15 @@ waiting_jobs_selects = refl
 pub last_number_selects : is_select last_number_text ≡ true
 unfolding everything
 last_number_selects = refl
+
+pub demands_from_selects : is_select demands_from_text ≡ true
+unfolding everything
+demands_from_selects = refl
+
+pub jobs_from_selects : is_select jobs_from_text ≡ true
+unfolding everything
+jobs_from_selects = refl
+
+pub part_at_selects : is_select part_at_text ≡ true
+unfolding everything
+part_at_selects = refl

@@ -9,3 +9,4 @@ pub mod ListedRows
 pub mod RowsShown
 pub mod Laying
 pub mod Renewing
+pub mod RowsFrom

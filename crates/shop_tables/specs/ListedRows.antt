@@ -3,12 +3,13 @@ use Rattle.std.specs.Prelude.{◌≡◌, ℕ, pos, List, [], ◌∷◌, ◌++◌
 use Rattle.sqlite_value.specs.declared.value.Value.TheVariants.{Int}
 use Rattle.sqlite_value.specs.Order.{Row}
 use Rattle.shop_records.specs.declared.records.Demand.{Demand}
+use Rattle.shop_records.specs.declared.records.Job.{Job}
 use Rattle.shop_records.specs.declared.records.Material.{Material}
 use Rattle.shop_records.specs.declared.records.Part.{Part}
 use Rattle.shop_records.specs.Content.{Content}
 use Rattle.shop_records.specs.Lists.{AreLines, IsLastNumber}
 use Rattle.shop_tables.specs.Listing.{code_row}
-use Rattle.shop_statements.specs.Rows.{demand_columns, material_columns, part_row}
+use Rattle.shop_statements.specs.Rows.{demand_columns, job_columns, material_columns, part_row}
 
 abbrev pub number_row : ℕ → Row
 number_row number = Int (pos number) ∷ []
@@ -24,6 +25,10 @@ listed_part part = part_row (part.name, part)
 -- a demand's row, its number after it
 abbrev pub listed_demand : Demand → Row
 listed_demand demand = demand_columns demand ++ number_row demand.number
+
+-- a job's row, its number after it
+abbrev pub listed_job : Job → Row
+listed_job job = job_columns job ++ number_row job.act
 
 -- the rows are those of an order's lines
 abbrev pub AreRowsOfLines : Content → List ℕ → List Row → Type 0

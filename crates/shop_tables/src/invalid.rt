@@ -1,17 +1,23 @@
-//! Rows that stand for no part and for no totals.
+//! Rows that stand for no part, no totals, no material, no job and no demand.
 
-ghost use Rattle.std.specs.Prelude.{◌≡◌, ◌<◌, ◌≤◌, ◌+◌, ◌^◌, ℕ, ℤ, List, pos, Some, IfSome, IsTrue, ◌↔◌};
+ghost use Rattle.std.specs.Prelude.{◌≡◌, ◌<◌, ◌≤◌, ◌+◌, ◌^◌, ℕ, ℤ, Bool, List, pos, Some, IfSome, IsTrue, ◌↔◌};
 ghost use Rattle.sqlite_value.specs.declared.value.Value.TheVariants.{Int, Text as Word};
 ghost use Rattle.cut_measure.specs.Codes.{is_code};
 ghost use Rattle.cut_measure.specs.Measures.{is_size};
 ghost use Rattle.cut_measure.specs.Names.{Name, IsName};
+ghost use Rattle.cut_measure.specs.declared.sizes.Kind.{Kind as KindOf};
 ghost use Rattle.cut_measure.specs.declared.sizes.Kind.TheVariants.{Sheet};
 ghost use Rattle.shop_records.specs.Columns.{state_of};
+ghost use Rattle.shop_records.specs.declared.records.Demand.{Demand as DemandRecord};
+ghost use Rattle.shop_records.specs.declared.records.Job.{Job as JobRecord};
+ghost use Rattle.shop_records.specs.declared.records.JobState.{JobState as JobStateOf};
+ghost use Rattle.shop_records.specs.declared.records.Material.{Material as MaterialRecord};
 ghost use Rattle.shop_records.specs.declared.records.Part.{Part as PartRecord};
 ghost use Rattle.shop_records.specs.declared.records.State.{State as PartState};
 ghost use Rattle.shop_records.specs.declared.records.Totals.{Totals as TotalsRecord};
 ghost use Rattle.shop_tables.specs.Listing.{listed_row};
-ghost use Rattle.shop_statements.specs.Rows.{part_row, state_number};
+ghost use Rattle.shop_tables.specs.ListedRows.{listed_demand, listed_job, listed_material};
+ghost use Rattle.shop_statements.specs.Rows.{job_state_number, kind_number, part_row, state_number, turn_number};
 ghost use Rattle.shop_tables.specs.Invalid.{HasCounts, HasValue};
 ghost use Rattle.shop_statements.specs.Values.{IsPartValue};
 
@@ -19,7 +25,7 @@ use cut_measure::{Code, MOST_HEIGHT, MOST_NUMBERS, MOST_WIDTH};
 use sqlite::Row;
 use sqlite::types::ValueRef;
 
-fn int_in(row: &Row, at: usize) -> Option<i64>
+pub(crate) fn int_in(row: &Row, at: usize) -> Option<i64>
     ensures known { (n : ℤ) → HasValue row.now at (Int n) → result ≡ Some n }
     ensures shown { IfSome result (λ n. HasValue row.now at (Int n)) }
 {
@@ -167,4 +173,51 @@ pub(crate) fn may_be_totals(row: &Row) -> bool
         → IsTrue result }
 {
     has_counts(row, 0, 7) && has_code(row, 7)
+}
+
+fn has_turn(row: &Row, at: usize) -> bool
+    ensures { (turn : Bool) → HasValue row.now at (Int (pos (turn_number turn))) → IsTrue result }
+{
+    has_number(row, at, 0, 1)
+}
+
+fn has_kind(row: &Row, at: usize) -> bool
+    ensures { (kind : KindOf) → HasValue row.now at (Int (pos (kind_number kind)))
+        → IsTrue result }
+{
+    has_number(row, at, 0, 1)
+}
+
+fn has_job_state(row: &Row, at: usize) -> bool
+    ensures { (state : JobStateOf) → HasValue row.now at (Int (pos (job_state_number state)))
+        → IsTrue result }
+{
+    has_number(row, at, 0, 3)
+}
+
+/// Whether a row may be a material's, its code after it. The ranges of its limits aren't tested.
+pub(crate) fn may_be_material(row: &Row) -> bool
+    ensures { (material : MaterialRecord) → row.now ≡ listed_material material → IsTrue result }
+{
+    has_kind(row, 0) && (has_count(row, 1) && (has_count(row, 2) && has_count(row, 3)))
+}
+
+/// Whether a row may be a job's, its number after it. Its plan isn't read.
+pub(crate) fn may_be_job(row: &Row) -> bool
+    ensures { (job : JobRecord) → row.now ≡ listed_job job → IsTrue result }
+{
+    has_count(row, 0) && (has_count(row, 1) && (has_job_state(row, 3) && has_count(row, 4)))
+}
+
+/// Whether a row may be a demand's, its number after it. The ranges of its numbers aren't tested.
+pub(crate) fn may_be_demand(row: &Row) -> bool
+    ensures { (demand : DemandRecord) → row.now ≡ listed_demand demand → IsTrue result }
+{
+    has_count(row, 1)
+        && (has_count(row, 3)
+            && (has_count(row, 4)
+                && (has_turn(row, 5)
+                    && (has_count(row, 6)
+                        && (has_count(row, 7)
+                            && (has_count(row, 8) && (has_count(row, 9) && has_count(row, 10))))))))
 }

@@ -15,7 +15,8 @@ use shop_statements::{TableFault, all_rows};
 use sqlite::{Alter, Connection, Error, Row};
 use std::alloc::Global;
 
-fn material_rows<S: Alter>(conn: &mut Connection<S>) -> Result<Vec<Row>, Error>
+/// The rows of all materials, by rising code.
+pub fn material_rows<S: Alter>(conn: &mut Connection<S>) -> Result<Vec<Row>, Error>
     ensures gives { GivesRows (state S.Store conn.old) (state S.Store conn.new) result
         (λ books rows. rows ≡ map listed_material (materials_of books.content))
         (λ db. AreMaterialRows (db 2)) }

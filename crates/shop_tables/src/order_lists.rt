@@ -50,7 +50,8 @@ fn rows_after<S: Alter>(
     Ok(rows)
 }
 
-fn order_rows<S: Alter>(
+/// The rows of the first orders after a code, or from the first on, by rising code: at most so many.
+pub fn order_rows<S: Alter>(
     conn: &mut Connection<S>,
     after: Option<Code>,
     most: usize,

@@ -1,0 +1,19 @@
+-- Demands and jobs from a number on, and what a job's row tells without its plan.
+use Rattle.std.specs.Prelude.{ℕ, List, filter, nat_le}
+use Rattle.std.specs.FinMap.{values}
+use Rattle.shop_records.specs.Content.{Content}
+use Rattle.shop_records.specs.declared.records.Demand.{Demand}
+use Rattle.shop_records.specs.declared.records.Job.{Job}
+use Rattle.shop_tables.specs.declared.valid_rows.StoredJob.{StoredJob}
+
+-- the demands from a number on, rising
+abbrev pub demands_from : Content → ℕ → List Demand
+demands_from m from = filter (λ (demand : Demand). nat_le from demand.number) (values m.demands)
+
+-- the jobs from a number on, rising
+abbrev pub jobs_from : Content → ℕ → List Job
+jobs_from m from = filter (λ (job : Job). nat_le from job.act) (values m.jobs)
+
+-- a job without its plan
+abbrev pub stored_job : Job → StoredJob
+stored_job job = record { number = job.act; part = job.part; state = job.state }
