@@ -10,5 +10,4 @@ pub mod Lasts
 pub mod LinesTold
 -- rows in a ledger, and what lasts beside it
 pub mod KnownRows
-pub mod LedgerBooks
 pub mod Loaded

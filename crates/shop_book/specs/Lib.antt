@@ -13,6 +13,5 @@ pub mod MemBooks
 pub mod KeptUp
 pub mod Ledgers
 pub mod Storages
-pub mod LedgerBooks
 pub mod MemStorages
 pub mod Loading

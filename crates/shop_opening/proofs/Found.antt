@@ -109,6 +109,14 @@ module _ {D : Type 0} {g : Ghosts D} (conn after : Held (FileStore D g)) (image 
         | inr other ↦ elim other [ inl was ↦ renewed m was | inr none ↦ subst (HoldsContent (file_state after)) (sym none.0) (made none.2) ]
       ])
 
+  -- so is what was loaded beside the tables
+  pub loaded_found : (Loaded : Content → Type 0) → ((n : Content) → IsSettledAt (file_state conn) n → Loaded n) → ((n : Content) → IsSettledEarlierAt (file_state conn) n → Loaded n)
+      → (conn.schema ≡ no_schema → Loaded fresh) → HasCleanDisk (file_state after) → Loaded m
+  loaded_found Loaded held renewed made clean = elim (found_after clean) [
+    | inl was ↦ held m was
+    | inr other ↦ elim other [ inl was ↦ renewed m was | inr none ↦ subst Loaded (sym none.0) (made none.2) ]
+  ]
+
   pub leaves_found : ((n : Content) → IsSettledAt (file_state conn) n → IsTrue (file_state conn).is_open → LeavesOnly (file_state after) n) → ((n : Content) → IsSettledEarlierAt (file_state conn) n → LeavesOnly (file_state after) n)
       → (conn.schema ≡ no_schema → LeavesOnly (file_state after) fresh) → LeavesOnly (file_state after) m
   leaves_found held renewed made clean db left = elim (found_after clean) [

@@ -22,9 +22,10 @@ use Rattle.shop_records.specs.declared.records.Totals.{Totals}
 use Rattle.shop_statements.specs.Earlier.{StandsInEarlier}
 use Rattle.shop_tables.specs.Changing.{HasSums}
 use Rattle.shop_tables.specs.Held.{books, LeavesOnly, StandsFor}
-use Rattle.shop_store.specs.OpenWork.{HoldsListed}
-use Rattle.shop_store.specs.declared.listed_work.OpenWork.{OpenWork}
-use Rattle.shop_store.specs.declared.sql.SqlBook.{SqlBook}
+use Rattle.shop_book.specs.declared.ledger.Ledger.{Ledger}
+use Rattle.shop_store.specs.SqlBooks.{HoldsLedger}
+use Rattle.shop_store.specs.declared.posted.LedgerBook.{LedgerBook}
+use Rattle.shop_store.specs.declared.sql_storage.SqlStorage.{SqlStorage}
 use Rattle.shop_book.specs.declared.books.BookFault.{BookFault}
 use Rattle.shop_book.specs.declared.books.BookFault.TheVariants as book
 use Rattle.shop_advice.specs.declared.causes.StoreCause.{StoreCause}
@@ -52,10 +53,10 @@ ShowsContent image m = ((db : Trees) × HoldsDatabase image db × ShowsIn db m) 
 
 -- ---- what an opening gives
 
--- Files with this image were opened as a book over this connection, with this beside it. It holds each content that they showed,
+-- Files with this image were opened as a book over this connection, with this ledger. It holds each content that they showed,
 -- what a crash leaves of it stands for that alone, and no failure is counted yet.
-pub record IsOpenedOn {D : Type 0} {g : DiskGhosts D} (image : Image) (conn : Held (FileStore D g)) (work : OpenWork) (failures : ℕ) : Type 0 where
-  pub holds : (m : Content) → ShowsContent image m → HoldsListed (file_state conn) work m
+pub record IsOpenedOn {D : Type 0} {g : DiskGhosts D} (image : Image) (conn : Held (FileStore D g)) (ledger : Ledger) (failures : ℕ) : Type 0 where
+  pub holds : (m : Content) → ShowsContent image m → HoldsLedger (file_state conn) ledger m
   pub leaves : (m : Content) → ShowsContent image m → LeavesOnly (file_state conn) m
   pub uncounted : failures ≡ 0
 
@@ -65,8 +66,8 @@ pair_image log store = record { log = log; db = store }
 
 -- Files in memory were opened as a book over this connection, as files with some bytes are. Of a real file no bytes are told, so
 -- that it is not said with which.
-abbrev pub IsBookApart : {D : Type 0} {g : DiskGhosts D} → Held (FileStore D g) → OpenWork → ℕ → Type 0
-IsBookApart conn work failures = (log store : List ℕ) × IsOpenedOn (pair_image log store) conn work failures
+abbrev pub IsBookApart : {D : Type 0} {g : DiskGhosts D} → Held (FileStore D g) → Ledger → ℕ → Type 0
+IsBookApart conn ledger failures = (log store : List ℕ) × IsOpenedOn (pair_image log store) conn ledger failures
 
 -- ---- why there is none
 
@@ -118,6 +119,6 @@ AreRefused {D = D} g image fault =
     ⊎ ((why : BookFault) × (last : Held (FileStore D g)) × AreTablesLeft image why last × IsAdoptFault why fault)
 
 -- What an opening of files with this image comes to: a book that is open on them, or the fault for which there is none.
-abbrev pub IsOpening : {D : Type 0} {g : DiskGhosts D} {s : StoreGhosts (FileStore D g)} → Image → Result (SqlBook (FileStore D g) s) OpenFault → Type 0
-IsOpening image (Ok book) = IsOpenedOn image book.conn book.work book.failures
+abbrev pub IsOpening : {D : Type 0} {g : DiskGhosts D} {s : StoreGhosts (FileStore D g)} → Image → Result (LedgerBook (SqlStorage (FileStore D g) s)) OpenFault → Type 0
+IsOpening image (Ok book) = IsOpenedOn image book.storage.conn book.ledger book.failures
 IsOpening {g = g} image (Err fault) = AreRefused g image fault

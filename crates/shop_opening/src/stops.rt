@@ -12,8 +12,8 @@ ghost use Rattle.shop_records.specs.declared.messages.Reply.{Reply as ReplyOf};
 ghost use Rattle.shop_tables.specs.Held.{HoldsContent, LeavesOnly, StandsFor};
 ghost use Rattle.shop_desk.specs.Handled.{Leads};
 ghost use Rattle.shop_forms.specs.Forms.{json_texts};
-ghost use Rattle.shop_store.specs.OpenWork.{HoldsListed};
-ghost use Rattle.shop_store.specs.declared.listed_work.OpenWork.{OpenWork as OpenWorkOf};
+ghost use Rattle.shop_book.specs.declared.ledger.Ledger.{Ledger as LedgerOf};
+ghost use Rattle.shop_store.specs.SqlBooks.{HoldsLedger};
 ghost use Rattle.shop_opening.specs.Openings.{IsOpenedOn, LeavesShown, ShowsContent};
 ghost use Rattle.shop_opening.specs.Stops.{IsAfter, IsLeftOf, WasRefused};
 
@@ -48,6 +48,6 @@ pub fn stopped_stores_are_found<D: Disk>()
         → ∥ ((found : Content) × IsAfter (WasRefused messages answers) next found
         × ShowsContent image found) ∥₁ }
     ensures again { (image : Image) (m : Content) → ∥ ShowsContent image m ∥₁
-        → (next : Held (StoreOf D D.Disk)) (work : OpenWorkOf) (failures : ℕ)
-        → IsOpenedOn image next work failures → ∥ HoldsListed (file_state next) work m ∥₁ }
+        → (next : Held (StoreOf D D.Disk)) (ledger : LedgerOf) (failures : ℕ)
+        → IsOpenedOn image next ledger failures → ∥ HoldsLedger (file_state next) ledger m ∥₁ }
 {}

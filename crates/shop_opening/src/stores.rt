@@ -157,7 +157,7 @@ fn open_book<S: Start>(
     start: S,
 ) -> Result<StoreBook<S>, Unopened<S>>
     ensures opened { IfOk result
-        (λ book. IsOpenedOn (image_at S.Start) book.conn book.work book.failures) }
+        (λ book. IsOpenedOn (image_at S.Start) book.storage.conn book.ledger book.failures) }
     ensures tables { IfErr result (λ why. IfOk why
         (λ back. AreTablesLeft (image_at S.Start) back.0 back.1)) }
     ensures port { IfErr result (λ why. IfErr why

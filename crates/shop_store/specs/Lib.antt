@@ -1,8 +1,8 @@
+-- a ledger beside a storage, and a storage in tables
+pub mod LedgerBooks
+pub mod Storing
 pub mod SqlBooks
 pub mod EarlierBooks
-pub mod Takers
 pub mod Checking
 pub mod Crashes
-pub mod NamedParts
-pub mod OpenWork
 pub mod Loading

@@ -1,11 +1,20 @@
 -- What a book in SQL tables holds, and what it makes of the tables' answers.
-use Rattle.std.specs.Prelude.{Result, Ok, Err}
+use Rattle.std.specs.Prelude.{◌≡◌, Result, Ok, Err}
 use Rattle.shop_tables.specs.declared.adopting.AdoptFault.{AdoptFault}
 use Rattle.shop_tables.specs.declared.adopting.AdoptFault.TheVariants as adopt
 use Rattle.shop_statements.specs.declared.faults.TableFault.{TableFault}
 use Rattle.shop_statements.specs.declared.faults.TableFault.TheVariants as table
 use Rattle.shop_book.specs.declared.books.BookFault.{BookFault}
 use Rattle.shop_book.specs.declared.books.BookFault.TheVariants.{NoMemory, Store, WrongVersion}
+use Rattle.shop_book.specs.Ledgers.{bare, content_in}
+use Rattle.shop_book.specs.declared.ledger.Ledger.{Ledger}
+use Rattle.sqlite.specs.State.{State, HasCleanDisk}
+use Rattle.shop_records.specs.Content.{Content}
+use Rattle.shop_tables.specs.Held.{HoldsContent}
+
+-- the connection holds the content and, unless the disk failed, the ledger holds all of it except the long texts
+abbrev pub HoldsLedger : State → Ledger → Content → Type 0
+HoldsLedger s ledger m = HoldsContent s m × (HasCleanDisk s → content_in ledger ≡ bare m)
 
 -- the tables' fault as the book's
 abbrev pub book_fault : TableFault → BookFault
@@ -22,8 +31,3 @@ adopt_fault adopt.WrongVersion = WrongVersion
 abbrev pub EitherWay : {B C : Type 0} → (B → C) → (C → Type 0) → Result B (BookFault × C) → Type 0
 EitherWay conn_of what (Ok book) = what (conn_of book)
 EitherWay conn_of what (Err back) = what back.1
-
--- the tables' answer as the book's
-abbrev pub told : {T : Type 0} → Result T TableFault → Result T BookFault
-told (Ok x) = Ok x
-told (Err fault) = Err (book_fault fault)

@@ -3,27 +3,24 @@
 
 mod adders;
 mod checking;
-mod found_jobs;
-mod laws;
-mod listed_work;
+mod ledger_book;
 mod loadable;
 mod loaded;
 mod loading;
 mod loading_parts;
-mod named_parts;
-mod names;
 mod numbered;
-mod open_work;
 mod part_loader;
-mod passing;
+mod posted;
 mod reopening;
 mod sql;
-mod takers;
+mod sql_storage;
+mod sql_storing;
 
-pub use laws::work_limits;
 pub use loaded::Loaded;
 pub use loading::load_ledger;
+pub use posted::LedgerBook;
 pub use reopening::{left_commits_are_found, left_renewals_are_found, reopen_book};
 pub use shop_book::{Book, BookFault, FoundJob, JobHead, MOST_FAILURES, MemBook};
 pub use shop_records::PartVisitor;
 pub use sql::SqlBook;
+pub use sql_storage::SqlStorage;

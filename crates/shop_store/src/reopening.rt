@@ -14,7 +14,7 @@ ghost use Rattle.sqlite_wal.specs.Recovery.{Image};
 ghost use Rattle.shop_records.specs.Content.{Content};
 ghost use Rattle.shop_store.specs.Crashes.{IsFoundAfter};
 ghost use Rattle.shop_store.specs.EarlierBooks.{IsSettledEarlierAt, IsSettledEitherAt};
-ghost use Rattle.shop_store.specs.OpenWork.{HoldsListed};
+ghost use Rattle.shop_store.specs.SqlBooks.{HoldsLedger};
 ghost use Rattle.shop_tables.specs.Held.{HoldsContent, IsSettledAt, LeavesOnly, StandsFor};
 
 use crate::SqlBook;
@@ -44,8 +44,8 @@ pub fn reopen_book<D: Disk + Drop>(
     book: SqlBook<FileStore<D>>,
     options: Options,
 ) -> Option<SqlBook<FileStore<D>>>
-    ensures { IfSome result (λ again. (m : Content) → HoldsContent (file_state book.conn) m
-        → HoldsListed (file_state again.conn) again.work m) }
+    ensures { IfSome result (λ again. (m : Content) → HoldsContent (file_state book.storage.conn) m
+        → HoldsLedger (file_state again.storage.conn) again.ledger m) }
 {
     let files = close(book.into_connection())?;
     let Ok(conn) = Connection::open_files(alloc, files, options) else {

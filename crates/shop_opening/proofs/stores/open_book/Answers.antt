@@ -1,8 +1,10 @@
-use Rattle.std.proofs.Common.{◌∙◌, ℕ, Bool, cond, List, inl, sym, ap₂, refl}
+use Rattle.std.proofs.Common.{◌≡◌, ℕ, Bool, cond, true, List, inl, sym, subst, ap₂, refl}
 use Rattle.sqlite_disk.specs.Events.{Event, replay}
 use Rattle.sqlite_wal.specs.Files.{image_at}
 use Rattle.sqlite_wal.specs.Recovery.{Image}
-use Rattle.shop_opening.proofs.Found.{holds_found, leaves_found, leaves_shown, never_found, some_then}
+use Rattle.shop_book.specs.Ledgers.{bare, content_in}
+use Rattle.shop_tables.specs.Adopting.{names_are_free}
+use Rattle.shop_opening.proofs.Found.{holds_found, leaves_found, loaded_found, leaves_shown, never_found, some_then}
 use Rattle.shop_opening.proofs.stores.open_book.Goals as goal
 
 pub returns-in-Ok-adopt-clause-opened : goal.returns-in-Ok-adopt-clause-opened
@@ -13,10 +15,11 @@ returns-in-Ok-adopt-clause-opened g c =
     let made = c.in-Ok-adopt.ensures in
     record {
       holds = λ m shown. (
-        holds_found conn book.conn image c.in-Ok.ensures.opened c.in-Ok.ensures.found made.earlier m shown made.held made.renewed made.fresh,
-        λ clean listed. absurd (let e = sym made.unlisted ∙ listed in cc),
+        holds_found conn book.storage.conn image c.in-Ok.ensures.opened c.in-Ok.ensures.found made.earlier m shown made.held made.renewed made.fresh,
+        λ clean. loaded_found conn book.storage.conn image c.in-Ok.ensures.opened c.in-Ok.ensures.found made.earlier m shown (λ n. content_in book.ledger ≡ bare n)
+            (λ n was. made.loaded n was clean) (λ n was. made.renewed_loaded n was clean) (λ none. made.fresh_loaded (subst (λ schema. names_are_free schema ≡ true) (sym none) refl)) clean,
       );
-      leaves = λ m shown. leaves_found conn book.conn image c.in-Ok.ensures.opened c.in-Ok.ensures.found made.earlier m shown made.held_after made.renewed_after made.after;
+      leaves = λ m shown. leaves_found conn book.storage.conn image c.in-Ok.ensures.opened c.in-Ok.ensures.found made.earlier m shown made.held_after made.renewed_after made.after;
       uncounted = made.failures;
     }
 

@@ -8,66 +8,66 @@ use Rattle.shop_store.proofs.sql.renew.Goals as goal
 
 -- ---- the totals weren't the sums, or it wasn't known
 
-pub returns-in-Ok-false-clause-as_before : goal.returns-in-Ok-false-clause-as_before
-returns-in-Ok-false-clause-as_before g c m was = stays_earlier_content (state g.S.Store c.args.conn.now) (state g.S.Store c.have_earlier_sums.new.conn) m c.have_earlier_sums.ensures.leaves was
+pub returns-in-Ok-None-clause-as_before : goal.returns-in-Ok-None-clause-as_before
+returns-in-Ok-None-clause-as_before g c m was = stays_earlier_content (state g.S.Store c.args.conn.now) (state g.S.Store c.load_earlier_ledger.new.conn) m c.load_earlier_ledger.ensures.leaves was
 
-pub returns-in-Ok-false-clause-neither : goal.returns-in-Ok-false-clause-neither
-returns-in-Ok-false-clause-neither g c is clean m was = true≢false (sym ((c.in-Ok-false.ensures.sums clean (books m was.totals) was.holds).1 was.sums) ∙ c.in-Ok-false.field-0-test)
+pub returns-in-Ok-None-clause-neither : goal.returns-in-Ok-None-clause-neither
+returns-in-Ok-None-clause-neither g c is clean m was = true≢false (sym ((c.in-Ok-None.ensures.sums clean (books m was.totals) was.holds).1 was.sums) ∙ ap is_some (sym c.in-Ok-None.field-0-is))
 
 pub returns-in-Err-clause-as_before : goal.returns-in-Err-clause-as_before
-returns-in-Err-clause-as_before g c m was = stays_earlier_content (state g.S.Store c.args.conn.now) (state g.S.Store c.have_earlier_sums.new.conn) m c.have_earlier_sums.ensures.leaves was
+returns-in-Err-clause-as_before g c m was = stays_earlier_content (state g.S.Store c.args.conn.now) (state g.S.Store c.load_earlier_ledger.new.conn) m c.load_earlier_ledger.ensures.leaves was
 
 -- ---- the transaction ended
 
 pub returns-in-Ok-clause-renewed : goal.returns-in-Ok-clause-renewed
 returns-in-Ok-clause-renewed g c m was =
-    let w = stays_earlier_content (state g.S.Store c.args.conn.now) (state g.S.Store c.have_earlier_sums.new.conn) m c.have_earlier_sums.ensures.leaves was in
+    let w = stays_earlier_content (state g.S.Store c.args.conn.now) (state g.S.Store c.load_earlier_ledger.new.conn) m c.load_earlier_ledger.ensures.leaves was in
     record { lines = w.lines; totals = w.totals; sums = w.sums; holds = c.in-Ok.ensures.renewed (books m w.totals) w.holds }
 
 pub returns-in-Ok-clause-crash : goal.returns-in-Ok-clause-crash
-returns-in-Ok-clause-crash g c m was = renewed_survives (state g.S.Store c.args.conn.now) (state g.S.Store c.have_earlier_sums.new.conn) (state g.S.Store c.renew_shop.new.conn) c.have_earlier_sums.ensures.leaves m was c.in-Ok.ensures.crash
+returns-in-Ok-clause-crash g c m was = renewed_survives (state g.S.Store c.args.conn.now) (state g.S.Store c.load_earlier_ledger.new.conn) (state g.S.Store c.renew_shop.new.conn) c.load_earlier_ledger.ensures.leaves m was c.in-Ok.ensures.crash
 
 pub returns-in-Ok-clause-after : goal.returns-in-Ok-clause-after
 returns-in-Ok-clause-after g c m was =
-    let w = stays_earlier_content (state g.S.Store c.args.conn.now) (state g.S.Store c.have_earlier_sums.new.conn) m c.have_earlier_sums.ensures.leaves was in
+    let w = stays_earlier_content (state g.S.Store c.args.conn.now) (state g.S.Store c.load_earlier_ledger.new.conn) m c.load_earlier_ledger.ensures.leaves was in
     λ clean db left. record { lines = w.lines; totals = w.totals; sums = w.sums; stands = c.in-Ok.ensures.after (books m w.totals) w.holds clean db left }
 
 pub returns-in-Ok-clause-schema : goal.returns-in-Ok-clause-schema
 returns-in-Ok-clause-schema g c m was =
-    let w = stays_earlier_content (state g.S.Store c.args.conn.now) (state g.S.Store c.have_earlier_sums.new.conn) m c.have_earlier_sums.ensures.leaves was in
+    let w = stays_earlier_content (state g.S.Store c.args.conn.now) (state g.S.Store c.load_earlier_ledger.new.conn) m c.load_earlier_ledger.ensures.leaves was in
     c.in-Ok.ensures.schema (books m w.totals) w.holds
 
 pub returns-in-Err-renew_shop-clause-as_before : goal.returns-in-Err-renew_shop-clause-as_before
 returns-in-Err-renew_shop-clause-as_before g c m was =
-    let w = stays_earlier_content (state g.S.Store c.args.conn.now) (state g.S.Store c.have_earlier_sums.new.conn) m c.have_earlier_sums.ensures.leaves was in
+    let w = stays_earlier_content (state g.S.Store c.args.conn.now) (state g.S.Store c.load_earlier_ledger.new.conn) m c.load_earlier_ledger.ensures.leaves was in
     record { lines = w.lines; totals = w.totals; sums = w.sums; holds = c.in-Err-renew_shop.ensures.as_before (books m w.totals) w.holds }
 
 pub returns-in-Err-renew_shop-clause-crash : goal.returns-in-Err-renew_shop-clause-crash
 returns-in-Err-renew_shop-clause-crash g c m was =
-    renewed_survives (state g.S.Store c.args.conn.now) (state g.S.Store c.have_earlier_sums.new.conn) (state g.S.Store c.renew_shop.new.conn) c.have_earlier_sums.ensures.leaves m was c.in-Err-renew_shop.ensures.crash
+    renewed_survives (state g.S.Store c.args.conn.now) (state g.S.Store c.load_earlier_ledger.new.conn) (state g.S.Store c.renew_shop.new.conn) c.load_earlier_ledger.ensures.leaves m was c.in-Err-renew_shop.ensures.crash
 
 -- ---- beside tables of others
 
-pub returns-in-Ok-false-clause-undone : goal.returns-in-Ok-false-clause-undone
-returns-in-Ok-false-clause-undone g c = left_as_before (state g.S.Store c.args.conn.now) (state g.S.Store c.have_earlier_sums.new.conn) c.have_earlier_sums.ensures.leaves (c.is_autocommit-outside.ensures.settled (c.is_autocommit-outside.ensures.value ∙ ap not c.requires))
+pub returns-in-Ok-None-clause-undone : goal.returns-in-Ok-None-clause-undone
+returns-in-Ok-None-clause-undone g c = left_as_before (state g.S.Store c.args.conn.now) (state g.S.Store c.load_earlier_ledger.new.conn) c.load_earlier_ledger.ensures.leaves (c.is_autocommit-outside.ensures.settled (c.is_autocommit-outside.ensures.value ∙ ap not c.requires))
 
-pub returns-in-Ok-false-clause-beside_crash : goal.returns-in-Ok-false-clause-beside_crash
-returns-in-Ok-false-clause-beside_crash g c sees = left_survives (state g.S.Store c.args.conn.now) (state g.S.Store c.have_earlier_sums.new.conn) c.have_earlier_sums.ensures.leaves (c.is_autocommit-outside.ensures.settled (c.is_autocommit-outside.ensures.value ∙ ap not c.requires))
+pub returns-in-Ok-None-clause-beside_crash : goal.returns-in-Ok-None-clause-beside_crash
+returns-in-Ok-None-clause-beside_crash g c sees = left_survives (state g.S.Store c.args.conn.now) (state g.S.Store c.load_earlier_ledger.new.conn) c.load_earlier_ledger.ensures.leaves (c.is_autocommit-outside.ensures.settled (c.is_autocommit-outside.ensures.value ∙ ap not c.requires))
 
 pub returns-in-Err-clause-undone : goal.returns-in-Err-clause-undone
-returns-in-Err-clause-undone g c = left_as_before (state g.S.Store c.args.conn.now) (state g.S.Store c.have_earlier_sums.new.conn) c.have_earlier_sums.ensures.leaves (c.is_autocommit-outside.ensures.settled (c.is_autocommit-outside.ensures.value ∙ ap not c.requires))
+returns-in-Err-clause-undone g c = left_as_before (state g.S.Store c.args.conn.now) (state g.S.Store c.load_earlier_ledger.new.conn) c.load_earlier_ledger.ensures.leaves (c.is_autocommit-outside.ensures.settled (c.is_autocommit-outside.ensures.value ∙ ap not c.requires))
 
 pub returns-in-Err-clause-beside_crash : goal.returns-in-Err-clause-beside_crash
-returns-in-Err-clause-beside_crash g c sees = left_survives (state g.S.Store c.args.conn.now) (state g.S.Store c.have_earlier_sums.new.conn) c.have_earlier_sums.ensures.leaves (c.is_autocommit-outside.ensures.settled (c.is_autocommit-outside.ensures.value ∙ ap not c.requires))
+returns-in-Err-clause-beside_crash g c sees = left_survives (state g.S.Store c.args.conn.now) (state g.S.Store c.load_earlier_ledger.new.conn) c.load_earlier_ledger.ensures.leaves (c.is_autocommit-outside.ensures.settled (c.is_autocommit-outside.ensures.value ∙ ap not c.requires))
 
 pub returns-in-Ok-clause-beside : goal.returns-in-Ok-clause-beside
-returns-in-Ok-clause-beside g c sees = renewed_then (state g.S.Store c.args.conn.now) (state g.S.Store c.have_earlier_sums.new.conn) c.have_earlier_sums.ensures.leaves (c.is_autocommit-outside.ensures.settled (c.is_autocommit-outside.ensures.value ∙ ap not c.requires)) (state g.S.Store c.renew_shop.new.conn) c.in-Ok.ensures.earlier (c.in-Ok.ensures.beside (sees_still (state g.S.Store c.args.conn.now) (state g.S.Store c.have_earlier_sums.new.conn) c.have_earlier_sums.ensures.leaves (c.is_autocommit-outside.ensures.settled (c.is_autocommit-outside.ensures.value ∙ ap not c.requires)) sees))
+returns-in-Ok-clause-beside g c sees = renewed_then (state g.S.Store c.args.conn.now) (state g.S.Store c.load_earlier_ledger.new.conn) c.load_earlier_ledger.ensures.leaves (c.is_autocommit-outside.ensures.settled (c.is_autocommit-outside.ensures.value ∙ ap not c.requires)) (state g.S.Store c.renew_shop.new.conn) c.in-Ok.ensures.earlier (c.in-Ok.ensures.beside (sees_still (state g.S.Store c.args.conn.now) (state g.S.Store c.load_earlier_ledger.new.conn) c.load_earlier_ledger.ensures.leaves (c.is_autocommit-outside.ensures.settled (c.is_autocommit-outside.ensures.value ∙ ap not c.requires)) sees))
 
 pub returns-in-Ok-clause-beside_crash : goal.returns-in-Ok-clause-beside_crash
-returns-in-Ok-clause-beside_crash g c sees = crash_then (state g.S.Store c.args.conn.now) (state g.S.Store c.have_earlier_sums.new.conn) c.have_earlier_sums.ensures.leaves (c.is_autocommit-outside.ensures.settled (c.is_autocommit-outside.ensures.value ∙ ap not c.requires)) (state g.S.Store c.renew_shop.new.conn) (c.in-Ok.ensures.beside_crash (sees_still (state g.S.Store c.args.conn.now) (state g.S.Store c.have_earlier_sums.new.conn) c.have_earlier_sums.ensures.leaves (c.is_autocommit-outside.ensures.settled (c.is_autocommit-outside.ensures.value ∙ ap not c.requires)) sees))
+returns-in-Ok-clause-beside_crash g c sees = crash_then (state g.S.Store c.args.conn.now) (state g.S.Store c.load_earlier_ledger.new.conn) c.load_earlier_ledger.ensures.leaves (c.is_autocommit-outside.ensures.settled (c.is_autocommit-outside.ensures.value ∙ ap not c.requires)) (state g.S.Store c.renew_shop.new.conn) (c.in-Ok.ensures.beside_crash (sees_still (state g.S.Store c.args.conn.now) (state g.S.Store c.load_earlier_ledger.new.conn) c.load_earlier_ledger.ensures.leaves (c.is_autocommit-outside.ensures.settled (c.is_autocommit-outside.ensures.value ∙ ap not c.requires)) sees))
 
 pub returns-in-Err-renew_shop-clause-undone : goal.returns-in-Err-renew_shop-clause-undone
-returns-in-Err-renew_shop-clause-undone g c = undone_then (state g.S.Store c.args.conn.now) (state g.S.Store c.have_earlier_sums.new.conn) c.have_earlier_sums.ensures.leaves (c.is_autocommit-outside.ensures.settled (c.is_autocommit-outside.ensures.value ∙ ap not c.requires)) (state g.S.Store c.renew_shop.new.conn) c.in-Err-renew_shop.ensures.earlier c.in-Err-renew_shop.ensures.undone
+returns-in-Err-renew_shop-clause-undone g c = undone_then (state g.S.Store c.args.conn.now) (state g.S.Store c.load_earlier_ledger.new.conn) c.load_earlier_ledger.ensures.leaves (c.is_autocommit-outside.ensures.settled (c.is_autocommit-outside.ensures.value ∙ ap not c.requires)) (state g.S.Store c.renew_shop.new.conn) c.in-Err-renew_shop.ensures.earlier c.in-Err-renew_shop.ensures.undone
 
 pub returns-in-Err-renew_shop-clause-beside_crash : goal.returns-in-Err-renew_shop-clause-beside_crash
-returns-in-Err-renew_shop-clause-beside_crash g c sees = crash_then (state g.S.Store c.args.conn.now) (state g.S.Store c.have_earlier_sums.new.conn) c.have_earlier_sums.ensures.leaves (c.is_autocommit-outside.ensures.settled (c.is_autocommit-outside.ensures.value ∙ ap not c.requires)) (state g.S.Store c.renew_shop.new.conn) (c.in-Err-renew_shop.ensures.beside_crash (sees_still (state g.S.Store c.args.conn.now) (state g.S.Store c.have_earlier_sums.new.conn) c.have_earlier_sums.ensures.leaves (c.is_autocommit-outside.ensures.settled (c.is_autocommit-outside.ensures.value ∙ ap not c.requires)) sees))
+returns-in-Err-renew_shop-clause-beside_crash g c sees = crash_then (state g.S.Store c.args.conn.now) (state g.S.Store c.load_earlier_ledger.new.conn) c.load_earlier_ledger.ensures.leaves (c.is_autocommit-outside.ensures.settled (c.is_autocommit-outside.ensures.value ∙ ap not c.requires)) (state g.S.Store c.renew_shop.new.conn) (c.in-Err-renew_shop.ensures.beside_crash (sees_still (state g.S.Store c.args.conn.now) (state g.S.Store c.load_earlier_ledger.new.conn) c.load_earlier_ledger.ensures.leaves (c.is_autocommit-outside.ensures.settled (c.is_autocommit-outside.ensures.value ∙ ap not c.requires)) sees))

@@ -7,6 +7,7 @@ use Rattle.shop_tables.specs.Held.{books, HoldsContent, LeavesOnly, StandsFor}
 use Rattle.shop_statements.specs.Shown.{HasShopSchema, Leaves}
 use Rattle.shop_tables.specs.Adopting.{HoldsBeside, StandsBeside}
 use Rattle.shop_tables.proofs.Taken.{earlier_taken, taken}
+use Rattle.shop_book.specs.Ledgers.{content_in}
 use Rattle.shop_store.proofs.Commits.{still_leaves}
 use Rattle.sqlite.specs.State.{HasCleanDisk}
 use Rattle.shop_statements.proofs.Reading.{leaves_then}
@@ -35,12 +36,21 @@ returns-in-Ok-Made-clause-held g c m was = absurd (c.in-Ok-Made.ensures.made (ap
 pub returns-in-Ok-Made-clause-sums : goal.returns-in-Ok-Made-clause-sums
 returns-in-Ok-Made-clause-sums g c clean b was = absurd (c.in-Ok-Made.ensures.made (ap Ok c.in-Ok-Made.field-0-is) b was)
 
+pub returns-in-Ok-Made-clause-loaded : goal.returns-in-Ok-Made-clause-loaded
+returns-in-Ok-Made-clause-loaded g c m was = absurd (c.in-Ok-Made.ensures.made (ap Ok c.in-Ok-Made.field-0-is) (books m was.totals) was.settled)
+
+pub returns-in-Ok-Made-clause-renewed_loaded : goal.returns-in-Ok-Made-clause-renewed_loaded
+returns-in-Ok-Made-clause-renewed_loaded g c m was = absurd (let e = c.in-Ok-Made.ensures.one_only was.settled.shows.schema in let f = c.in-Ok-Made.field-0-is in cc)
+
+pub returns-in-Ok-Made-clause-fresh_loaded : goal.returns-in-Ok-Made-clause-fresh_loaded
+returns-in-Ok-Made-clause-fresh_loaded g c free = ap content_in c.over.ensures.ledger ∙ c.new.ensures
+
 -- ---- tables were found
 
 pub returns-in-Ok-Found-clause-earlier : goal.returns-in-Ok-Found-clause-earlier
 returns-in-Ok-Found-clause-earlier g c =
     let before = c.in-Ok-Found.ensures.earlier in
-    either_way (λ book. book.conn) _ (λ h leaves clean. before (let l = leaves.survives.clean in omega (arith, l, clean))) c.checked.result c.checked.ensures.leaves
+    either_way (λ book. book.storage.conn) _ (λ h leaves clean. before (let l = leaves.survives.clean in omega (arith, l, clean))) c.checked.result c.checked.ensures.leaves
 
 pub returns-in-Ok-Found-clause-fresh : goal.returns-in-Ok-Found-clause-fresh
 returns-in-Ok-Found-clause-fresh g c has = absurd ((c.in-Ok-Found.ensures.found (ap Ok c.in-Ok-Found.field-0-is)).0 has)
@@ -56,28 +66,38 @@ returns-in-Ok-Found-clause-after g c has = absurd ((c.in-Ok-Found.ensures.found 
 
 pub returns-in-Ok-Found-clause-held : goal.returns-in-Ok-Found-clause-held
 returns-in-Ok-Found-clause-held g c m was =
-    either_way (λ book. book.conn) _ (λ h leaves. holds_settled (state g.S.Store c.args.conn) (state g.S.Store h) m was (λ b settled. leaves.stays b (c.in-Ok-Found.ensures.held b settled))) c.checked.result c.checked.ensures.leaves
+    either_way (λ book. book.storage.conn) _ (λ h leaves. holds_settled (state g.S.Store c.args.conn) (state g.S.Store h) m was (λ b settled. leaves.stays b (c.in-Ok-Found.ensures.held b settled))) c.checked.result c.checked.ensures.leaves
 
 pub returns-in-Ok-Found-clause-sums : goal.returns-in-Ok-Found-clause-sums
 returns-in-Ok-Found-clause-sums g c =
-    if_book (λ book. book.conn) _ (λ book leaves sums clean b was. let held = c.in-Ok-Found.ensures.held b was in (sums clean b held, leaves.stays b held)) c.checked.result c.checked.ensures.leaves c.checked.ensures.sums
+    if_book (λ book. book.storage.conn) _ (λ book leaves sums clean b was. let held = c.in-Ok-Found.ensures.held b was in (sums clean b held, leaves.stays b held)) c.checked.result c.checked.ensures.leaves c.checked.ensures.sums
 
 pub returns-in-Ok-Found-clause-still : goal.returns-in-Ok-Found-clause-still
 returns-in-Ok-Found-clause-still g c it =
-    either_way (λ book. book.conn) _ (λ h leaves. survives_then (state g.S.Store c.args.conn) (state g.S.Store c.adopt_tables.new.conn) (state g.S.Store h) (λ _. ⊥) (λ _. ⊥) (λ _. ⊥) (λ _ db none. none) (λ _ db none. none) (c.in-Ok-Found.ensures.still it) leaves.survives)
+    either_way (λ book. book.storage.conn) _ (λ h leaves. survives_then (state g.S.Store c.args.conn) (state g.S.Store c.adopt_tables.new.conn) (state g.S.Store h) (λ _. ⊥) (λ _. ⊥) (λ _. ⊥) (λ _ db none. none) (λ _ db none. none) (c.in-Ok-Found.ensures.still it) leaves.survives)
     c.checked.result c.checked.ensures.leaves
 
 pub returns-in-Ok-Found-clause-foreign : goal.returns-in-Ok-Found-clause-foreign
-returns-in-Ok-Found-clause-foreign g c = if_back (λ book. book.conn) _ (λ back leaves outside is. (c.in-Ok-Found.ensures.found (ap Ok c.in-Ok-Found.field-0-is)).0) c.checked.result c.checked.ensures.leaves c.checked.ensures.mode
+returns-in-Ok-Found-clause-foreign g c = if_back (λ book. book.storage.conn) _ (λ back leaves outside is. (c.in-Ok-Found.ensures.found (ap Ok c.in-Ok-Found.field-0-is)).0) c.checked.result c.checked.ensures.leaves c.checked.ensures.mode
 
 pub returns-in-Ok-Found-clause-unwritten : goal.returns-in-Ok-Found-clause-unwritten
 returns-in-Ok-Found-clause-unwritten g c =
-    if_back (λ book. book.conn) _ (λ back leaves outside is. leaves_then _ _ _ (c.in-Ok-Found.ensures.found (ap Ok c.in-Ok-Found.field-0-is)).1 leaves) c.checked.result c.checked.ensures.leaves c.checked.ensures.mode
+    if_back (λ book. book.storage.conn) _ (λ back leaves outside is. leaves_then _ _ _ (c.in-Ok-Found.ensures.found (ap Ok c.in-Ok-Found.field-0-is)).1 leaves) c.checked.result c.checked.ensures.leaves c.checked.ensures.mode
 
 pub returns-in-Ok-Found-clause-neither : goal.returns-in-Ok-Found-clause-neither
 returns-in-Ok-Found-clause-neither g c =
-    if_back (λ book. book.conn) _ (λ back leaves neither is clean m was. neither is clean (books m was.totals) (c.in-Ok-Found.ensures.held (books m was.totals) was.settled) was.sums) c.checked.result c.checked.ensures.leaves
+    if_back (λ book. book.storage.conn) _ (λ back leaves neither is clean m was. neither is clean (books m was.totals) (c.in-Ok-Found.ensures.held (books m was.totals) was.settled) was.sums) c.checked.result c.checked.ensures.leaves
     c.checked.ensures.neither
+
+pub returns-in-Ok-Found-clause-loaded : goal.returns-in-Ok-Found-clause-loaded
+returns-in-Ok-Found-clause-loaded g c m was =
+    if_book (λ book. book.storage.conn) _ (λ book leaves loaded clean. loaded clean (books m was.totals) (c.in-Ok-Found.ensures.held (books m was.totals) was.settled) was.lines) c.checked.result c.checked.ensures.leaves c.checked.ensures.loaded
+
+pub returns-in-Ok-Found-clause-renewed_loaded : goal.returns-in-Ok-Found-clause-renewed_loaded
+returns-in-Ok-Found-clause-renewed_loaded g c m was = absurd (let e = c.in-Ok-Found.ensures.one_only was.settled.shows.schema in let f = c.in-Ok-Found.field-0-is in cc)
+
+pub returns-in-Ok-Found-clause-fresh_loaded : goal.returns-in-Ok-Found-clause-fresh_loaded
+returns-in-Ok-Found-clause-fresh_loaded g c free = absurd (let e = (c.in-Ok-Found.ensures.free free).0 in let f = c.in-Ok-Found.field-0-is in cc)
 
 -- ---- they weren't taken over
 
@@ -105,25 +125,25 @@ pub returns-in-Ok-Earlier-clause-after : goal.returns-in-Ok-Earlier-clause-after
 returns-in-Ok-Earlier-clause-after g c has = absurd ((c.in-Ok-Earlier.ensures.one (ap Ok c.in-Ok-Earlier.field-0-is)).0 has)
 
 pub returns-in-Ok-Earlier-clause-earlier : goal.returns-in-Ok-Earlier-clause-earlier
-returns-in-Ok-Earlier-clause-earlier g c = either_way (λ book. book.conn) _ (λ h early clean. c.in-Ok-Earlier.ensures.earlier (early clean)) c.renewed.result c.renewed.ensures.earlier
+returns-in-Ok-Earlier-clause-earlier g c = either_way (λ book. book.storage.conn) _ (λ h early clean. c.in-Ok-Earlier.ensures.earlier (early clean)) c.renewed.result c.renewed.ensures.earlier
 
 pub returns-in-Ok-Earlier-clause-held : goal.returns-in-Ok-Earlier-clause-held
 returns-in-Ok-Earlier-clause-held g c m was = absurd ((c.in-Ok-Earlier.ensures.one (ap Ok c.in-Ok-Earlier.field-0-is)).1 was.settled.shows.schema)
 
 pub returns-in-Ok-Earlier-clause-sums : goal.returns-in-Ok-Earlier-clause-sums
-returns-in-Ok-Earlier-clause-sums g c = if_book (λ book. book.conn) _ (λ book early none clean b was. absurd ((c.in-Ok-Earlier.ensures.one (ap Ok c.in-Ok-Earlier.field-0-is)).1 was.shows.schema)) c.renewed.result c.renewed.ensures.earlier c.renewed.ensures.failures
+returns-in-Ok-Earlier-clause-sums g c = if_book (λ book. book.storage.conn) _ (λ book early none clean b was. absurd ((c.in-Ok-Earlier.ensures.one (ap Ok c.in-Ok-Earlier.field-0-is)).1 was.shows.schema)) c.renewed.result c.renewed.ensures.earlier c.renewed.ensures.failures
 
 pub returns-in-Ok-Earlier-clause-still : goal.returns-in-Ok-Earlier-clause-still
 returns-in-Ok-Earlier-clause-still g c it = absurd ((c.in-Ok-Earlier.ensures.one (ap Ok c.in-Ok-Earlier.field-0-is)).1 it)
 
 pub returns-in-Ok-Earlier-clause-foreign : goal.returns-in-Ok-Earlier-clause-foreign
-returns-in-Ok-Earlier-clause-foreign g c = if_back (λ book. book.conn) _ (λ back early outside is. (c.in-Ok-Earlier.ensures.one (ap Ok c.in-Ok-Earlier.field-0-is)).0) c.renewed.result c.renewed.ensures.earlier c.renewed.ensures.mode
+returns-in-Ok-Earlier-clause-foreign g c = if_back (λ book. book.storage.conn) _ (λ back early outside is. (c.in-Ok-Earlier.ensures.one (ap Ok c.in-Ok-Earlier.field-0-is)).0) c.renewed.result c.renewed.ensures.earlier c.renewed.ensures.mode
 
 pub returns-in-Ok-Earlier-clause-unwritten : goal.returns-in-Ok-Earlier-clause-unwritten
-returns-in-Ok-Earlier-clause-unwritten g c = if_back (λ book. book.conn) _ (λ back early leaves is. leaves_then _ _ _ (c.in-Ok-Earlier.ensures.one (ap Ok c.in-Ok-Earlier.field-0-is)).2 (leaves is)) c.renewed.result c.renewed.ensures.earlier c.renewed.ensures.unwritten
+returns-in-Ok-Earlier-clause-unwritten g c = if_back (λ book. book.storage.conn) _ (λ back early leaves is. leaves_then _ _ _ (c.in-Ok-Earlier.ensures.one (ap Ok c.in-Ok-Earlier.field-0-is)).2 (leaves is)) c.renewed.result c.renewed.ensures.earlier c.renewed.ensures.unwritten
 
 pub returns-in-Ok-Earlier-clause-neither : goal.returns-in-Ok-Earlier-clause-neither
-returns-in-Ok-Earlier-clause-neither g c = if_back (λ book. book.conn) _ (λ back early outside is clean m was. absurd ((c.in-Ok-Earlier.ensures.one (ap Ok c.in-Ok-Earlier.field-0-is)).1 was.settled.shows.schema)) c.renewed.result c.renewed.ensures.earlier c.renewed.ensures.mode
+returns-in-Ok-Earlier-clause-neither g c = if_back (λ book. book.storage.conn) _ (λ back early outside is clean m was. absurd ((c.in-Ok-Earlier.ensures.one (ap Ok c.in-Ok-Earlier.field-0-is)).1 was.settled.shows.schema)) c.renewed.result c.renewed.ensures.earlier c.renewed.ensures.mode
 
 pub returns-in-Ok-Earlier-clause-renewed : goal.returns-in-Ok-Earlier-clause-renewed
 returns-in-Ok-Earlier-clause-renewed g c m was = c.renewed.ensures.renewed m (settled_earlier (state g.S.Store c.args.conn) (state g.S.Store c.adopt_tables.new.conn) m (c.in-Ok-Earlier.ensures.one (ap Ok c.in-Ok-Earlier.field-0-is)).2 was)
@@ -132,13 +152,22 @@ pub returns-in-Ok-Earlier-clause-as_before : goal.returns-in-Ok-Earlier-clause-a
 returns-in-Ok-Earlier-clause-as_before g c m was = c.renewed.ensures.as_before m (settled_earlier (state g.S.Store c.args.conn) (state g.S.Store c.adopt_tables.new.conn) m (c.in-Ok-Earlier.ensures.one (ap Ok c.in-Ok-Earlier.field-0-is)).2 was)
 
 pub returns-in-Ok-Earlier-clause-renewed_crash : goal.returns-in-Ok-Earlier-clause-renewed_crash
-returns-in-Ok-Earlier-clause-renewed_crash g c m was = either_way (λ book. book.conn) _ (λ h crash. survives_then (state g.S.Store c.args.conn) (state g.S.Store c.adopt_tables.new.conn) (state g.S.Store h) (λ _. ⊥) (λ db. StandsFor db m) (λ db. StandsFor db m) (λ _ db none. absurd none) (λ _ db stands. stands) (c.in-Ok-Earlier.ensures.one (ap Ok c.in-Ok-Earlier.field-0-is)).2.survives crash) c.renewed.result (c.renewed.ensures.crash m (settled_earlier (state g.S.Store c.args.conn) (state g.S.Store c.adopt_tables.new.conn) m (c.in-Ok-Earlier.ensures.one (ap Ok c.in-Ok-Earlier.field-0-is)).2 was))
+returns-in-Ok-Earlier-clause-renewed_crash g c m was = either_way (λ book. book.storage.conn) _ (λ h crash. survives_then (state g.S.Store c.args.conn) (state g.S.Store c.adopt_tables.new.conn) (state g.S.Store h) (λ _. ⊥) (λ db. StandsFor db m) (λ db. StandsFor db m) (λ _ db none. absurd none) (λ _ db stands. stands) (c.in-Ok-Earlier.ensures.one (ap Ok c.in-Ok-Earlier.field-0-is)).2.survives crash) c.renewed.result (c.renewed.ensures.crash m (settled_earlier (state g.S.Store c.args.conn) (state g.S.Store c.adopt_tables.new.conn) m (c.in-Ok-Earlier.ensures.one (ap Ok c.in-Ok-Earlier.field-0-is)).2 was))
 
 pub returns-in-Ok-Earlier-clause-renewed_after : goal.returns-in-Ok-Earlier-clause-renewed_after
 returns-in-Ok-Earlier-clause-renewed_after g c m was = c.renewed.ensures.after m (settled_earlier (state g.S.Store c.args.conn) (state g.S.Store c.adopt_tables.new.conn) m (c.in-Ok-Earlier.ensures.one (ap Ok c.in-Ok-Earlier.field-0-is)).2 was)
 
 pub returns-in-Ok-Earlier-clause-not_earlier : goal.returns-in-Ok-Earlier-clause-not_earlier
-returns-in-Ok-Earlier-clause-not_earlier g c = if_back (λ book. book.conn) _ (λ back early neither is clean m was. neither is clean m (settled_earlier (state g.S.Store c.args.conn) (state g.S.Store c.adopt_tables.new.conn) m (c.in-Ok-Earlier.ensures.one (ap Ok c.in-Ok-Earlier.field-0-is)).2 was)) c.renewed.result c.renewed.ensures.earlier c.renewed.ensures.neither
+returns-in-Ok-Earlier-clause-not_earlier g c = if_back (λ book. book.storage.conn) _ (λ back early neither is clean m was. neither is clean m (settled_earlier (state g.S.Store c.args.conn) (state g.S.Store c.adopt_tables.new.conn) m (c.in-Ok-Earlier.ensures.one (ap Ok c.in-Ok-Earlier.field-0-is)).2 was)) c.renewed.result c.renewed.ensures.earlier c.renewed.ensures.neither
+
+pub returns-in-Ok-Earlier-clause-loaded : goal.returns-in-Ok-Earlier-clause-loaded
+returns-in-Ok-Earlier-clause-loaded g c m was = absurd ((c.in-Ok-Earlier.ensures.one (ap Ok c.in-Ok-Earlier.field-0-is)).1 was.settled.shows.schema)
+
+pub returns-in-Ok-Earlier-clause-renewed_loaded : goal.returns-in-Ok-Earlier-clause-renewed_loaded
+returns-in-Ok-Earlier-clause-renewed_loaded g c m was = c.renewed.ensures.loaded m (settled_earlier (state g.S.Store c.args.conn) (state g.S.Store c.adopt_tables.new.conn) m (c.in-Ok-Earlier.ensures.one (ap Ok c.in-Ok-Earlier.field-0-is)).2 was)
+
+pub returns-in-Ok-Earlier-clause-fresh_loaded : goal.returns-in-Ok-Earlier-clause-fresh_loaded
+returns-in-Ok-Earlier-clause-fresh_loaded g c free = absurd (let e = (c.in-Ok-Earlier.ensures.free free).0 in let f = c.in-Ok-Earlier.field-0-is in cc)
 
 -- ---- and nowhere else
 
@@ -164,7 +193,7 @@ pub returns-in-Ok-Found-clause-renewed_after : goal.returns-in-Ok-Found-clause-r
 returns-in-Ok-Found-clause-renewed_after g c m was = absurd (let e = c.in-Ok-Found.ensures.one_only was.settled.shows.schema in let f = c.in-Ok-Found.field-0-is in cc)
 
 pub returns-in-Ok-Found-clause-not_earlier : goal.returns-in-Ok-Found-clause-not_earlier
-returns-in-Ok-Found-clause-not_earlier g c = if_back (λ book. book.conn) _ (λ back leaves outside is clean m was. absurd (let e = c.in-Ok-Found.ensures.one_only was.settled.shows.schema in let f = c.in-Ok-Found.field-0-is in cc)) c.checked.result c.checked.ensures.leaves c.checked.ensures.mode
+returns-in-Ok-Found-clause-not_earlier g c = if_back (λ book. book.storage.conn) _ (λ back leaves outside is clean m was. absurd (let e = c.in-Ok-Found.ensures.one_only was.settled.shows.schema in let f = c.in-Ok-Found.field-0-is in cc)) c.checked.result c.checked.ensures.leaves c.checked.ensures.mode
 
 pub returns-in-Err-clause-as_before : goal.returns-in-Err-clause-as_before
 returns-in-Err-clause-as_before g c m was = settled_earlier (state g.S.Store c.args.conn) (state g.S.Store c.adopt_tables.new.conn) m (c.in-Err.ensures.one_leaves was.settled.shows.schema) was
@@ -202,22 +231,22 @@ pub returns-in-Ok-Found-clause-schema : goal.returns-in-Ok-Found-clause-schema
 returns-in-Ok-Found-clause-schema g c has = absurd ((c.in-Ok-Found.ensures.found (ap Ok c.in-Ok-Found.field-0-is)).0 has)
 
 pub returns-in-Ok-Found-clause-held_after : goal.returns-in-Ok-Found-clause-held_after
-returns-in-Ok-Found-clause-held_after g c m was up = either_way (λ book. book.conn) _ (λ h leaves. still_leaves g.S.Store g.met.S.Store.settled c.args.conn h m up was (survives_then (state g.S.Store c.args.conn) (state g.S.Store c.adopt_tables.new.conn) (state g.S.Store h) (λ _. ⊥) (λ _. ⊥) (λ _. ⊥) (λ _ db none. none) (λ _ db none. none) (c.in-Ok-Found.ensures.still was.settled.shows.schema) leaves.survives)) c.checked.result c.checked.ensures.leaves
+returns-in-Ok-Found-clause-held_after g c m was up = either_way (λ book. book.storage.conn) _ (λ h leaves. still_leaves g.S.Store g.met.S.Store.settled c.args.conn h m up was (survives_then (state g.S.Store c.args.conn) (state g.S.Store c.adopt_tables.new.conn) (state g.S.Store h) (λ _. ⊥) (λ _. ⊥) (λ _. ⊥) (λ _ db none. none) (λ _ db none. none) (c.in-Ok-Found.ensures.still was.settled.shows.schema) leaves.survives)) c.checked.result c.checked.ensures.leaves
 
 pub returns-in-Ok-Found-clause-renewed_schema : goal.returns-in-Ok-Found-clause-renewed_schema
 returns-in-Ok-Found-clause-renewed_schema g c m was = absurd (let e = c.in-Ok-Found.ensures.one_only was.settled.shows.schema in let f = c.in-Ok-Found.field-0-is in cc)
 
 pub returns-in-Ok-Found-clause-version : goal.returns-in-Ok-Found-clause-version
-returns-in-Ok-Found-clause-version g c it = if_book (λ book. book.conn) _ (λ book leaves none clean. c.in-Ok-Found.ensures.named it (let l = leaves.survives.clean in omega (arith, l, clean))) c.checked.result c.checked.ensures.leaves c.checked.ensures.failures
+returns-in-Ok-Found-clause-version g c it = if_book (λ book. book.storage.conn) _ (λ book leaves none clean. c.in-Ok-Found.ensures.named it (let l = leaves.survives.clean in omega (arith, l, clean))) c.checked.result c.checked.ensures.leaves c.checked.ensures.failures
 
 pub returns-in-Ok-Found-clause-earlier_version : goal.returns-in-Ok-Found-clause-earlier_version
-returns-in-Ok-Found-clause-earlier_version g c it = if_book (λ book. book.conn) _ (λ book leaves none clean. c.in-Ok-Found.ensures.one_named it (let l = leaves.survives.clean in omega (arith, l, clean))) c.checked.result c.checked.ensures.leaves c.checked.ensures.failures
+returns-in-Ok-Found-clause-earlier_version g c it = if_book (λ book. book.storage.conn) _ (λ book leaves none clean. c.in-Ok-Found.ensures.one_named it (let l = leaves.survives.clean in omega (arith, l, clean))) c.checked.result c.checked.ensures.leaves c.checked.ensures.failures
 
 pub returns-in-Ok-Found-clause-read_only : goal.returns-in-Ok-Found-clause-read_only
-returns-in-Ok-Found-clause-read_only g c it = either_way (λ book. book.conn) _ (λ h leaves. leaves_then _ _ _ (c.in-Ok-Found.ensures.taken (taken c.args.conn.schema it)) leaves) c.checked.result c.checked.ensures.leaves
+returns-in-Ok-Found-clause-read_only g c it = either_way (λ book. book.storage.conn) _ (λ h leaves. leaves_then _ _ _ (c.in-Ok-Found.ensures.taken (taken c.args.conn.schema it)) leaves) c.checked.result c.checked.ensures.leaves
 
 pub returns-in-Ok-Found-clause-earlier_read_only : goal.returns-in-Ok-Found-clause-earlier_read_only
-returns-in-Ok-Found-clause-earlier_read_only g c it none = either_way (λ book. book.conn) _ (λ h leaves clean. leaves_then _ _ _ (c.in-Ok-Found.ensures.taken (earlier_taken c.args.conn.schema it)) leaves) c.checked.result c.checked.ensures.leaves
+returns-in-Ok-Found-clause-earlier_read_only g c it none = either_way (λ book. book.storage.conn) _ (λ h leaves clean. leaves_then _ _ _ (c.in-Ok-Found.ensures.taken (earlier_taken c.args.conn.schema it)) leaves) c.checked.result c.checked.ensures.leaves
 
 pub returns-in-Ok-Found-clause-free : goal.returns-in-Ok-Found-clause-free
 returns-in-Ok-Found-clause-free g c free = absurd (let e = (c.in-Ok-Found.ensures.free free).0 in let f = c.in-Ok-Found.field-0-is in cc)
@@ -235,13 +264,13 @@ pub returns-in-Ok-Earlier-clause-version : goal.returns-in-Ok-Earlier-clause-ver
 returns-in-Ok-Earlier-clause-version g c it = absurd ((c.in-Ok-Earlier.ensures.one (ap Ok c.in-Ok-Earlier.field-0-is)).1 it)
 
 pub returns-in-Ok-Earlier-clause-earlier_version : goal.returns-in-Ok-Earlier-clause-earlier_version
-returns-in-Ok-Earlier-clause-earlier_version g c it = if_book (λ book. book.conn) _ (λ book early none clean. c.in-Ok-Earlier.ensures.one_named it (early clean)) c.renewed.result c.renewed.ensures.earlier c.renewed.ensures.failures
+returns-in-Ok-Earlier-clause-earlier_version g c it = if_book (λ book. book.storage.conn) _ (λ book early none clean. c.in-Ok-Earlier.ensures.one_named it (early clean)) c.renewed.result c.renewed.ensures.earlier c.renewed.ensures.failures
 
 pub returns-in-Ok-Earlier-clause-read_only : goal.returns-in-Ok-Earlier-clause-read_only
 returns-in-Ok-Earlier-clause-read_only g c it = absurd ((c.in-Ok-Earlier.ensures.one (ap Ok c.in-Ok-Earlier.field-0-is)).1 it)
 
 pub returns-in-Ok-Earlier-clause-earlier_read_only : goal.returns-in-Ok-Earlier-clause-earlier_read_only
-returns-in-Ok-Earlier-clause-earlier_read_only g c it none = either_way (λ book. book.conn) _ (λ h early clean. absurd (none (c.in-Ok-Earlier.ensures.one_named it (early clean)))) c.renewed.result c.renewed.ensures.earlier
+returns-in-Ok-Earlier-clause-earlier_read_only g c it none = either_way (λ book. book.storage.conn) _ (λ h early clean. absurd (none (c.in-Ok-Earlier.ensures.one_named it (early clean)))) c.renewed.result c.renewed.ensures.earlier
 
 pub returns-in-Ok-Earlier-clause-free : goal.returns-in-Ok-Earlier-clause-free
 returns-in-Ok-Earlier-clause-free g c free = absurd (let e = (c.in-Ok-Earlier.ensures.free free).0 in let f = c.in-Ok-Earlier.field-0-is in cc)
@@ -264,7 +293,7 @@ pub returns-in-Ok-Made-clause-no_old_totals : goal.returns-in-Ok-Made-clause-no_
 returns-in-Ok-Made-clause-no_old_totals g c it clean = c.in-Ok-Made.ensures.no_old_totals it (subst (λ h. HasCleanDisk (state g.S.Store h)) c.over.ensures.conn clean)
 
 pub returns-in-Ok-Found-clause-no_old_totals : goal.returns-in-Ok-Found-clause-no_old_totals
-returns-in-Ok-Found-clause-no_old_totals g c it = if_book (λ book. book.conn) _ (λ book leaves none clean. c.in-Ok-Found.ensures.no_old_totals it (let l = leaves.survives.clean in omega (arith, l, clean))) c.checked.result c.checked.ensures.leaves c.checked.ensures.failures
+returns-in-Ok-Found-clause-no_old_totals g c it = if_book (λ book. book.storage.conn) _ (λ book leaves none clean. c.in-Ok-Found.ensures.no_old_totals it (let l = leaves.survives.clean in omega (arith, l, clean))) c.checked.result c.checked.ensures.leaves c.checked.ensures.failures
 
 pub returns-in-Ok-Earlier-clause-no_old_totals : goal.returns-in-Ok-Earlier-clause-no_old_totals
 returns-in-Ok-Earlier-clause-no_old_totals g c it = absurd ((c.in-Ok-Earlier.ensures.one (ap Ok c.in-Ok-Earlier.field-0-is)).1 it)
@@ -322,18 +351,18 @@ returns-in-Ok-Found-clause-renewed_beside_crash g c names sees = absurd (let e =
 pub returns-in-Ok-Earlier-clause-renewed_beside : goal.returns-in-Ok-Earlier-clause-renewed_beside
 returns-in-Ok-Earlier-clause-renewed_beside g c names sees =
     let leaves = (c.in-Ok-Earlier.ensures.earlier_names names).1 in
-    if_book (λ book. book.conn) _ (λ book early held. renewed_then (state g.S.Store c.args.conn) (state g.S.Store c.adopt_tables.new.conn) leaves c.in-Ok-Earlier.ensures.settled (state g.S.Store book.conn) early held) c.renewed.result c.renewed.ensures.earlier
+    if_book (λ book. book.storage.conn) _ (λ book early held. renewed_then (state g.S.Store c.args.conn) (state g.S.Store c.adopt_tables.new.conn) leaves c.in-Ok-Earlier.ensures.settled (state g.S.Store book.storage.conn) early held) c.renewed.result c.renewed.ensures.earlier
     (c.renewed.ensures.beside (sees_still (state g.S.Store c.args.conn) (state g.S.Store c.adopt_tables.new.conn) leaves c.in-Ok-Earlier.ensures.settled sees))
 
 pub returns-in-Ok-Earlier-clause-earlier_undone : goal.returns-in-Ok-Earlier-clause-earlier_undone
 returns-in-Ok-Earlier-clause-earlier_undone g c names =
     let leaves = (c.in-Ok-Earlier.ensures.earlier_names names).1 in
-    if_back (λ book. book.conn) _ (λ back early undone. undone_then (state g.S.Store c.args.conn) (state g.S.Store c.adopt_tables.new.conn) leaves c.in-Ok-Earlier.ensures.settled (state g.S.Store back.1) early undone) c.renewed.result c.renewed.ensures.earlier c.renewed.ensures.undone
+    if_back (λ book. book.storage.conn) _ (λ back early undone. undone_then (state g.S.Store c.args.conn) (state g.S.Store c.adopt_tables.new.conn) leaves c.in-Ok-Earlier.ensures.settled (state g.S.Store back.1) early undone) c.renewed.result c.renewed.ensures.earlier c.renewed.ensures.undone
 
 pub returns-in-Ok-Earlier-clause-renewed_beside_crash : goal.returns-in-Ok-Earlier-clause-renewed_beside_crash
 returns-in-Ok-Earlier-clause-renewed_beside_crash g c names sees =
     let leaves = (c.in-Ok-Earlier.ensures.earlier_names names).1 in
-    either_way (λ book. book.conn) _ (λ h s. crash_then (state g.S.Store c.args.conn) (state g.S.Store c.adopt_tables.new.conn) leaves c.in-Ok-Earlier.ensures.settled (state g.S.Store h) s) c.renewed.result (c.renewed.ensures.beside_crash (sees_still (state g.S.Store c.args.conn) (state g.S.Store c.adopt_tables.new.conn) leaves c.in-Ok-Earlier.ensures.settled sees))
+    either_way (λ book. book.storage.conn) _ (λ h s. crash_then (state g.S.Store c.args.conn) (state g.S.Store c.adopt_tables.new.conn) leaves c.in-Ok-Earlier.ensures.settled (state g.S.Store h) s) c.renewed.result (c.renewed.ensures.beside_crash (sees_still (state g.S.Store c.args.conn) (state g.S.Store c.adopt_tables.new.conn) leaves c.in-Ok-Earlier.ensures.settled sees))
 
 pub returns-in-Err-clause-renewed_beside_crash : goal.returns-in-Err-clause-renewed_beside_crash
 returns-in-Err-clause-renewed_beside_crash g c names sees = left_survives (state g.S.Store c.args.conn) (state g.S.Store c.adopt_tables.new.conn) (c.in-Err.ensures.earlier_names names).1 c.in-Err.ensures.settled

@@ -1,6 +1,7 @@
-use Rattle.std.proofs.Common.{Err, ap, sym, subst}
+use Rattle.std.proofs.Common.{Err, ap, sym, subst, ◌∙◌}
 use Rattle.sqlite.specs.Held.{state}
-use Rattle.sqlite.specs.State.{Survives}
+use Rattle.sqlite.specs.State.{HasCleanDisk, Survives}
+use Rattle.shop_book.specs.Ledgers.{content_in}
 use Rattle.shop_tables.specs.Held.{HoldsContent, LeavesOnly, StandsFor}
 use Rattle.shop_statements.specs.Shown.{HasShopSchema}
 use Rattle.shop_tables.specs.Renewing.{HoldsRenewed, StandsRenewed}
@@ -14,6 +15,11 @@ returns-in-Ok-clause-crash g c m was = subst (λ h. Survives (state g.S.Store c.
 
 pub returns-in-Ok-clause-after : goal.returns-in-Ok-clause-after
 returns-in-Ok-clause-after g c m was = subst (λ h. LeavesOnly (state g.S.Store h) m) (sym c.over.ensures.conn) (c.in-Ok.ensures.after m was)
+
+pub returns-in-Ok-clause-loaded : goal.returns-in-Ok-clause-loaded
+returns-in-Ok-clause-loaded g c m was clean =
+    let before : HasCleanDisk (state g.S.Store c.renew.new.conn) = subst (λ h. HasCleanDisk (state g.S.Store h)) c.over.ensures.conn clean in
+    ap content_in c.over.ensures.ledger ∙ c.in-Ok.ensures.loaded m was before
 
 pub returns-in-Err-clause-neither : goal.returns-in-Err-clause-neither
 returns-in-Err-clause-neither g c is clean m was = c.in-Err.ensures.neither (ap Err is) clean m was

@@ -1,9 +1,0 @@
-use Rattle.std.proofs.Common.{subst}
-use Rattle.shop_book.proofs.LedgerBooks.{as_told, read_by}
-use Rattle.shop_book.proofs.ledger_book.LedgerBookBook.kept.Goals as goal
-
-pub returns-clause-row : goal.returns-clause-row
-returns-clause-row g c clean m was = as_told _ _ _ c.count.ensures.answer (c.kept-answer.ensures.row (subst g.S.Storage.has_clean_disk c.count.ensures.storage clean) m was.0)
-
-pub returns-clause-keeps : goal.returns-clause-keeps
-returns-clause-keeps g c = read_by g.S.Storage _ _ _ _ c.count.ensures.ledger c.count.ensures.storage c.kept-answer.ensures.leaves c.count.ensures.failures

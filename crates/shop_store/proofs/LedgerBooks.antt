@@ -1,0 +1,45 @@
+-- What a ledger beside a storage keeps.
+use Rattle.std.proofs.Common.{◌≡◌, ℕ, Result, Ok, Err, IfOk, sym, ap, subst, ◌∙◌}
+use Rattle.shop_records.specs.Content.{Content}
+use Rattle.shop_book.specs.Books.{Keeps}
+use Rattle.shop_book.specs.Storages.{IsRead}
+use Rattle.shop_book.specs.Ledgers.{content_in}
+use Rattle.shop_store.specs.LedgerBooks.{HoldsBoth, told_by}
+use Rattle.shop_book.specs.declared.books.BookFault.{BookFault}
+use Rattle.shop_book.specs.declared.storage.Storage.{Ghosts}
+use Rattle.shop_book.specs.declared.storage.StorageFault.{StorageFault}
+use Rattle.shop_store.specs.declared.posted.LedgerBook.{LedgerBook}
+
+lift : {T : Type 0} (P : T → Type 0) (r : Result T StorageFault) → IfOk r P → IfOk (told_by r) P
+lift P (Ok x) h = h
+lift P (Err e) h = tt
+
+-- what is said of the storage's answer is said of the book's
+pub as_told : {T : Type 0} (P : T → Type 0) (r : Result T StorageFault) (answer : Result T BookFault) → answer ≡ told_by r → IfOk r P → IfOk answer P
+as_told P r answer same h = subst (λ a. IfOk a P) (sym same) (lift P r h)
+
+module _ {S : Type 0} (g : Ghosts S) where
+  -- what a book holds, it holds with another ledger of the same content and another storage that holds it
+  pub holds_both : (old new : LedgerBook S) (m : Content) → HoldsBoth g old m → g.holds new.storage m → content_in new.ledger ≡ content_in old.ledger → (g.has_clean_disk new.storage → g.has_clean_disk old.storage)
+      → HoldsBoth g new m
+  holds_both old new m was held same earlier = (held, λ clean. same ∙ was.1 (earlier clean))
+
+  -- a reading of the storage leaves the book as it was
+  pub read_by : (counts : ℕ → ℕ → Type 0) (old new : LedgerBook S) (mid : S) → new.ledger ≡ old.ledger → new.storage ≡ mid → IsRead g.has_clean_disk g.holds g.may_leave old.storage mid → counts old.failures new.failures
+      → Keeps (λ b. g.has_clean_disk b.storage) (HoldsBoth g) (λ b left. g.may_leave b.storage left) (λ b. b.failures) counts old new
+  read_by counts old new mid ledger storage read counted =
+      let r = subst (IsRead g.has_clean_disk g.holds g.may_leave old.storage) (sym storage) read in
+      record {
+        clean_disk = r.clean_disk;
+        stays = λ clean m was. holds_both old new m was (r.stays clean m was.0) (ap content_in ledger) r.clean_disk;
+        crash = λ clean m was left may. r.crash clean m was.0 left may;
+        failures = counted;
+      }
+
+  still : (storage : S) → IsRead g.has_clean_disk g.holds g.may_leave storage storage
+  still storage = record { clean_disk = λ clean. clean; stays = λ clean m was. was; crash = λ clean m was left may. may }
+
+  -- and so does one of the ledger
+  pub counted : (counts : ℕ → ℕ → Type 0) (old new : LedgerBook S) → new.ledger ≡ old.ledger → new.storage ≡ old.storage → counts old.failures new.failures
+      → Keeps (λ b. g.has_clean_disk b.storage) (HoldsBoth g) (λ b left. g.may_leave b.storage left) (λ b. b.failures) counts old new
+  counted counts old new ledger storage count = read_by counts old new old.storage ledger storage (still old.storage) count

@@ -1,0 +1,11 @@
+use Rattle.std.proofs.Common.{refl, ap, ◌∙◌}
+use Rattle.shop_records.specs.Lists.{parts_after}
+use Rattle.std.specs.Prelude.{take}
+use Rattle.shop_store.proofs.LedgerBooks.{counted}
+use Rattle.shop_store.proofs.ledger_book.LedgerBookBook.first_parts.Goals as goal
+
+pub returns-clause-rows : goal.returns-clause-rows
+returns-clause-rows g c clean m was = c.in_ok-rows.ensures ∙ ap (λ x. take c.args.most (parts_after x c.args.material c.args.after)) (was.1 clean)
+
+pub returns-clause-keeps : goal.returns-clause-keeps
+returns-clause-keeps g c = counted g.S.Storage _ _ _ refl refl refl
