@@ -48,29 +48,6 @@ def gone(trial):
     trial.ended(trial.run("ticket", "--store", path, "2"), 1, err="refused 99 StoreFault\n")
 
 
-@case(
-    "rows of no book in lists",
-    "Lists that come to a turn of 5, a kind of 3 or a number over 32 bits, and a job of state 9 or of a plan that is "
-    "none, are told as 99; one that begins behind such a row is told.",
-)
-def spoiled_lists(trial):
-    spoils = [
-        ("UPDATE demands SET turn = 5 WHERE number = 1", '{"after":0,"ask":"demands"}'),
-        ("UPDATE demands SET turn = 5 WHERE number = 1", '{"after":0,"ask":"demands","material":"GLASS"}'),
-        ("UPDATE materials SET kind = 3", '{"ask":"materials"}'),
-        ("UPDATE jobs SET tree = 'x4 y3 p1'", '{"ask":"job","job":2}'),
-        ("UPDATE jobs SET state = 9", '{"ask":"job","job":2}'),
-        ("UPDATE kept SET number = 4294967296 WHERE number = 4", '{"ask":"terminal","terminal":1}'),
-    ]
-    for number, (statement, line) in enumerate(spoils):
-        path = filled(trial, f"spoiled-{number}.db", exchanges=DAY[:4])
-        tables.change(path, statement)
-        shop = trial.shop(f"spoiled-{number}.db")
-        contradicts(trial, shop, line, statement)
-        behind = json.loads(shop.reply('{"after":1,"ask":"demands"}'))
-        trial.equal([it["demand"] for it in behind["demands"]], [2, 3], statement)
-
-
 ENTRY = "{{code='{}',kind='sheet',kerf='0',min_long='1',min_short='1'}}"
 
 

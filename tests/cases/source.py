@@ -34,7 +34,6 @@ LISTED = {
     "shop_serve/src/answers.rt note_want": "what the watch told of a backup is asked for, to be noted",
     "shop_serve/src/clients.rt ask": "there is no answer where memory is wanting for it",
     "shop_store/src/loading_parts.rt stopped": "the loader of parts says whether it stopped for want of memory",
-    "shop_store/src/named_parts.rt searched_parts": "the taker of parts stops where its list has no room",
     "shop_text/src/yields.rt report_text": "the taker of a report's lines stops where its text has no room",
     "shop_wire/src/serving.rt write_made": "the text is handed over as it was made, or the want of memory",
     "shop_wire/src/telling.rt plans_refused": "the server asks for it where the text of an answer, or the answer of it, isn't made for want of memory",
@@ -189,7 +188,7 @@ def never_made(trial):
 
 
 # Takers whose stop is told as a want of memory, by the file in which each stands.
-TAKERS = ("shop_desk/src/racks.rt", "shop_store/src/takers.rt", "shop_text/src/yields.rt")
+TAKERS = ("shop_desk/src/racks.rt", "shop_text/src/yields.rt")
 
 
 @case(

@@ -330,26 +330,55 @@ def thousand(trial):
         trial.equal(len(json.loads(shop.reply('{"ask":"rack","material":"GLASS"}'))["parts"]), count)
 
 
+# A row of each table that stands for nothing that a shop has, and what the second line tells of it.
+SPOILS = [
+    ("UPDATE jobs SET state = 9", "jobs 2"),
+    ("UPDATE jobs SET tree = 'x4 y3 p1'", "jobs 2"),
+    ("UPDATE jobs SET tree = 'x4 y3'", "jobs 2"),
+    ("UPDATE demands SET turn = 5 WHERE number = 2", "demands 2"),
+    ("UPDATE materials SET kind = 3", "materials GLASS"),
+    ("UPDATE materials SET kind = 0", "materials GLASS"),
+    ("UPDATE parts SET state = 7 WHERE node = 1", "parts 1/1"),
+    ("UPDATE parts SET batch = 'b-1' WHERE node = 0", "parts 1/0"),
+]
+NO_ROW = "a row stands for nothing that a shop has; put a copy of it and its log in its place: "
+
+
 @case(
     "rows of no book",
-    "A job of state 9, a plan or a kept reply that is none, a turn of 5, a kind of 3 and a bar with the limits of a sheet are "
-    "told as 99 where they are asked for; all else is answered.",
+    "A job of state 9 or of a plan that is none, a turn of 5, a kind of 3, a bar with the limits of a sheet, a part "
+    "of state 7 or of a batch that is no code is `fault version` at each start, and the second line names the row; the file stays as it "
+    "was.",
 )
 def spoiled(trial):
-    spoils = [
-        ("UPDATE jobs SET state = 9", DONE, None),
-        ("UPDATE jobs SET tree = 'x4 y3 p1'", DONE, None),
-        ("UPDATE demands SET turn = 5 WHERE number = 1", '{"ask":"demand","demand":1}', None),
-        ("UPDATE materials SET kind = 3", TOTALS, None),
-        ("UPDATE materials SET kind = 0", TOTALS, None),
-        ("UPDATE kept SET reply = '{' WHERE number = 4", RESERVE, None),
-    ]
-    for number, (statement, line, _) in enumerate(spoils):
+    for number, (statement, row) in enumerate(SPOILS):
+        name = f"spoiled-{number}.db"
+        path = filled(trial, name, exchanges=[*DAY[:1], received("GLASS", 10, 8, 2, 2), *DAY[2:4]])
+        tables.change(path, statement)
+        before = tables.dump(path)
+        for words in (("ticket", "--store", name, "2"), ("yield", "--store", name, "GLASS")):
+            trial.ended(trial.run(*words), 1, err="fault version\n", why=f"{name}: {NO_ROW}{row}", sent=statement)
+        trial.equal(tables.dump(path), before, statement)
+
+
+@case(
+    "kept replies that are none",
+    "A kept reply that is none, and the last number of a terminal over 32 bits, are told as 99 where they are asked for; all else is "
+    "answered.",
+)
+def spoiled_texts(trial):
+    for number, (statement, line) in enumerate(
+        (
+            ("UPDATE kept SET reply = '{' WHERE number = 4", RESERVE),
+            ("UPDATE kept SET number = 4294967296 WHERE number = 4", '{"ask":"terminal","terminal":1}'),
+        )
+    ):
         path = filled(trial, f"spoiled-{number}.db", exchanges=DAY[:4])
         tables.change(path, statement)
         shop = trial.shop(f"spoiled-{number}.db")
-        trial.equal(shop.send(line).partition(b"\r\n")[0], b"HTTP/1.1 503 Service Unavailable", statement)
-        trial.equal(shop.reply(line), b'{"name":"StoreFault","refused":99}', statement)
+        for _ in range(2):
+            trial.equal(shop.send(line).partition(b"\r\n")[0], b"HTTP/1.1 503 Service Unavailable", statement)
+            trial.equal(shop.reply(line), b'{"name":"StoreFault","refused":99}', statement)
         trial.equal(shop.reply('{"ask":"trace","part":"1/0"}')[:14], b'{"batch":"B-1"', statement)
 
 

@@ -1,11 +1,17 @@
 -- What is told of each cause.
-use Rattle.std.specs.Prelude.{ℕ, List, codes}
+use Rattle.std.specs.Prelude.{ℕ, List, [], ◌∷◌, ◌++◌, codes}
+use Rattle.std.specs.Fmt.{signed_decimal}
 use Rattle.shop_advice.specs.declared.causes.FileCause.{FileCause}
 use Rattle.shop_advice.specs.declared.causes.FileCause.TheVariants as file
 use Rattle.shop_advice.specs.declared.causes.StoreCause.{StoreCause}
 use Rattle.shop_advice.specs.declared.causes.StoreCause.TheVariants as store
 use Rattle.shop_advice.specs.declared.causes.BackupCause.{BackupCause}
 use Rattle.shop_advice.specs.declared.causes.BackupCause.TheVariants as backup
+use Rattle.shop_advice.specs.declared.causes.RowKey.{RowKey}
+use Rattle.shop_advice.specs.declared.causes.RowKey.TheVariants as key
+use Rattle.shop_advice.specs.declared.causes.RowName.{RowName}
+use Rattle.shop_advice.specs.declared.causes.StoreTable.{StoreTable}
+use Rattle.shop_advice.specs.declared.causes.StoreTable.TheVariants as table
 use Rattle.shop_advice.specs.declared.causes.VersionCause.{VersionCause}
 use Rattle.shop_advice.specs.declared.causes.VersionCause.TheVariants as version
 use Rattle.shop_advice.specs.declared.causes.ShopCause.{ShopCause}
@@ -63,6 +69,27 @@ abbrev pub version_text : VersionCause → List ℕ
 version_text version.Newer = codes "a newer cutshop made it; run that one"
 version_text version.Foreign = codes "it has the tables of another program; name another file"
 version_text version.Contradicting = codes "its totals or rows contradict each other; put a copy of it and its log in its place"
+version_text (version.Row row) = codes "a row stands for nothing that a shop has; put a copy of it and its log in its place: "
+
+-- a table's name in the store
+abbrev pub table_text : StoreTable → List ℕ
+table_text table.Materials = codes "materials"
+table_text table.Parts = codes "parts"
+table_text table.Jobs = codes "jobs"
+table_text table.Orders = codes "orders"
+table_text table.Demands = codes "demands"
+
+-- a key behind a space, where it is one
+abbrev pub key_text : RowKey → List ℕ
+key_text key.Unknown = []
+key_text (key.Number n) = 32 ∷ signed_decimal n
+key_text (key.Part act node) = 32 ∷ signed_decimal act ++ 47 ∷ signed_decimal node
+key_text (key.Code code) = 32 ∷ code
+
+-- which row it is: its table and, behind a space, its key, where that is one
+abbrev pub row_text : RowName → List ℕ
+row_text row = table_text row.table ++ key_text row.key
+
 
 -- of a shop file; after some stands a key, or what TOML wants
 abbrev pub shop_text : ShopCause → List ℕ

@@ -1,7 +1,11 @@
 //! Causes, each with the words that tell it.
 
-ghost use Rattle.std.specs.Prelude.{◌≡◌};
+ghost use Rattle.std.specs.Prelude.{◌≡◌, IfOk, string_bytes};
 ghost use Rattle.shop_advice.specs.Causes as spec;
+
+use cut_measure::Code;
+use std::alloc::Global;
+use std::fmt::Error;
 
 /// Why a file can't be read.
 #[derive(Clone, Copy, Debug, PartialEq, Eq)]
@@ -105,8 +109,38 @@ pub enum BackupCause {
     Failed,
 }
 
-/// Why the tables of a database are no shop's of this program.
+/// A table of a store whose rows are read at a start.
 #[derive(Clone, Copy, Debug, PartialEq, Eq)]
+pub enum StoreTable {
+    Materials,
+    Parts,
+    Jobs,
+    Orders,
+    Demands,
+}
+
+/// The key of a row, as far as it is one.
+#[derive(Clone, Copy, Debug, PartialEq)]
+pub enum RowKey {
+    /// It is none.
+    Unknown,
+    /// A number.
+    Number(i64),
+    /// An act and a node.
+    Part(i64, i64),
+    /// A code.
+    Code(Code),
+}
+
+/// Which row of a store it is.
+#[derive(Clone, Copy, Debug, PartialEq)]
+pub struct RowName {
+    pub table: StoreTable,
+    pub key: RowKey,
+}
+
+/// Why the tables of a database are no shop's of this program.
+#[derive(Clone, Copy, Debug, PartialEq)]
 pub enum VersionCause {
     /// They are of a later version.
     Newer,
@@ -114,6 +148,8 @@ pub enum VersionCause {
     Foreign,
     /// They are of a known version, and contradict each other.
     Contradicting,
+    /// They are of a known version, and this row stands for nothing that a shop has.
+    Row(RowName),
 }
 
 /// What is wrong in a shop file.
@@ -242,6 +278,42 @@ impl VersionCause {
             VersionCause::Foreign => "it has the tables of another program; name another file",
             VersionCause::Contradicting => {
                 "its totals or rows contradict each other; put a copy of it and its log in its place"
+            }
+            VersionCause::Row(_) => {
+                "a row stands for nothing that a shop has; put a copy of it and its log in its place: "
+            }
+        }
+    }
+}
+
+impl StoreTable {
+    /// Its name in the store.
+    pub fn text(self) -> &'static str
+        ensures { result.now ≡ spec.table_text self }
+    {
+        match self {
+            StoreTable::Materials => "materials",
+            StoreTable::Parts => "parts",
+            StoreTable::Jobs => "jobs",
+            StoreTable::Orders => "orders",
+            StoreTable::Demands => "demands",
+        }
+    }
+}
+
+impl RowName {
+    /// Its table, and behind a space its key, where that is one: a number, a part's name or a code.
+    pub fn text(self, alloc: Global) -> Result<String, Error>
+        ensures { IfOk result (λ text. string_bytes text ≡ spec.row_text self) }
+    {
+        let table = self.table.text();
+        match self.key {
+            RowKey::Unknown => format!(in alloc; "{table}"),
+            RowKey::Number(number) => format!(in alloc; "{table} {number}"),
+            RowKey::Part(act, node) => format!(in alloc; "{table} {act}/{node}"),
+            RowKey::Code(code) => {
+                let code = code.as_str();
+                format!(in alloc; "{table} {code}")
             }
         }
     }

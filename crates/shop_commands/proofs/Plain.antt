@@ -61,6 +61,7 @@ of_version : (c : VersionCause) → IsPlain (version_text c)
 of_version version.Newer = refl
 of_version version.Foreign = refl
 of_version version.Contradicting = refl
+of_version (version.Row row) = refl
 
 of_backup : (c : BackupCause) → IsPlain (backup_text c)
 of_backup backup.NoFolder = refl

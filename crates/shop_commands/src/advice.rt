@@ -30,7 +30,7 @@ pub(crate) const NO_MEMORY_TOLD: &str =
     "fault memory\n  memory ran out; end other programs, or give this one more\n";
 
 /// Why a fault came, as far as it is known.
-#[derive(Clone, Copy, Debug, PartialEq, Eq)]
+#[derive(Clone, Copy, Debug, PartialEq)]
 pub enum Cause {
     /// A file can't be read.
     File(FileCause),
@@ -410,6 +410,17 @@ fn port_advice(alloc: Global, request: &Request<'_>, cause: PortCause) -> Option
     advice_of(alloc, about.as_str(), Cause::Port(cause), "")
 }
 
+// Why a database is no shop's, and which of its rows stands for nothing.
+fn version_advice(alloc: Global, name: &str, cause: VersionCause) -> Option<Advice>
+    ensures { IfSome result (IsOf (kind.Version cause)) }
+{
+    if let VersionCause::Row(row) = cause {
+        let word = row.text(alloc).ok()?;
+        return advice_of(alloc, name, Cause::Version(cause), word.as_str());
+    }
+    advice_of(alloc, name, Cause::Version(cause), "")
+}
+
 /// Why a stream failed. None of another fault, and for want of memory.
 pub(crate) fn stream_advice(alloc: Global, fault: Fault) -> Option<Advice>
     ensures { IfSome result (IsAdviceOf fault) }
@@ -427,7 +438,7 @@ fn system_advice(alloc: Global, request: &Request<'_>, fault: Fault) -> Option<A
 {
     match fault {
         Fault::Store(cause) => advice_of(alloc, store_name(request), Cause::Store(cause), ""),
-        Fault::Version(cause) => advice_of(alloc, store_name(request), Cause::Version(cause), ""),
+        Fault::Version(cause) => version_advice(alloc, store_name(request), cause),
         Fault::Port(cause) => port_advice(alloc, request, cause),
         Fault::Backup(cause) => advice_of(alloc, backup_name(request), Cause::Backup(cause), ""),
         _ => stream_advice(alloc, fault),

@@ -63,7 +63,7 @@ pub struct OrderFault {
 }
 
 /// Why the work stopped.
-#[derive(Clone, Copy, Debug, PartialEq, Eq)]
+#[derive(Clone, Copy, Debug, PartialEq)]
 pub enum Fault {
     /// The file can't be read.
     File,

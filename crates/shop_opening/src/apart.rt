@@ -163,7 +163,7 @@ fn open_over<D: Disk + Drop>(
     };
     match SqlBook::adopt(alloc, conn) {
         Ok(book) => Ok(book),
-        Err((fault, last)) => Err(adopt_fault(fault, last)),
+        Err((fault, last)) => Err(adopt_fault(alloc, fault, last)),
     }
 }
 

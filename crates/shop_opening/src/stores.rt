@@ -7,8 +7,10 @@ ghost use Rattle.shop_opening.specs.Openings.{AreTablesLeft, IsAdoptFault, IsCod
 
 use crate::before::{Found, LookFault, look_before};
 use crate::made::{Made, is_special};
-use shop_advice::{StoreCause, VersionCause, look_at_store};
-use shop_store::{BookFault, SqlBook};
+use cut_measure::Code;
+use shop_advice::{RowKey, RowName, StoreCause, StoreTable, VersionCause, look_at_store};
+use shop_store::{BookFault, Loaded, SqlBook, load_earlier_ledger, load_ledger};
+use shop_tables::{NoRow, TableFault};
 use sqlite::{Connection, Error, ErrorCode, FileFrom, FileStore, Leftover, Start, Unknown};
 use sqlite_disk::Disk;
 use std::alloc::Global;
@@ -17,7 +19,7 @@ use std::alloc::Global;
 pub type StoreBook<S> = SqlBook<FileStore<FileFrom<S>>>;
 
 /// Why a store can't be opened.
-#[derive(Clone, Copy, Debug, PartialEq, Eq)]
+#[derive(Clone, Copy, Debug, PartialEq)]
 pub enum OpenFault {
     /// Memory was wanting.
     NoMemory,
@@ -108,11 +110,69 @@ fn version_of<D: Disk + Drop>(conn: &mut Connection<FileStore<D>>) -> Option<i64
     }
 }
 
+// A key that is a number.
+fn number_key(number: Option<i64>) -> RowKey {
+    match number {
+        Some(number) => RowKey::Number(number),
+        None => RowKey::Unknown,
+    }
+}
+
+// A key that is a code.
+fn code_key(code: Option<Code>) -> RowKey {
+    match code {
+        Some(code) => RowKey::Code(code),
+        None => RowKey::Unknown,
+    }
+}
+
+// Which row stands for nothing.
+fn row_name(row: NoRow) -> RowName {
+    match row {
+        NoRow::Material(code) => RowName {
+            table: StoreTable::Materials,
+            key: code_key(code),
+        },
+        NoRow::Part(Some(act), Some(node)) => RowName {
+            table: StoreTable::Parts,
+            key: RowKey::Part(act, node),
+        },
+        NoRow::Part(..) => RowName {
+            table: StoreTable::Parts,
+            key: RowKey::Unknown,
+        },
+        NoRow::Job(number) => RowName {
+            table: StoreTable::Jobs,
+            key: number_key(number),
+        },
+        NoRow::Order(code) => RowName {
+            table: StoreTable::Orders,
+            key: code_key(code),
+        },
+        NoRow::Demand(number) => RowName {
+            table: StoreTable::Demands,
+            key: number_key(number),
+        },
+    }
+}
+
+// What is wrong in tables of a known version, which are read once more for it.
+fn contradiction(loaded: Result<Loaded, TableFault>) -> VersionCause {
+    match loaded {
+        Ok(Loaded::NoRow(row)) => VersionCause::Row(row_name(row)),
+        _ => VersionCause::Contradicting,
+    }
+}
+
 // Why a database isn't taken over.
-fn foreign_cause<D: Disk + Drop>(conn: &mut Connection<FileStore<D>>) -> VersionCause {
+fn foreign_cause<D: Disk + Drop>(
+    alloc: Global,
+    conn: &mut Connection<FileStore<D>>,
+) -> VersionCause {
     match version_of(conn) {
         Some(version) if version > 2 => VersionCause::Newer,
-        Some(1 | 2) => VersionCause::Contradicting,
+        Some(2) => contradiction(load_ledger(alloc, conn)),
+        Some(1) => contradiction(load_earlier_ledger(alloc, conn)),
         _ => VersionCause::Foreign,
     }
 }
@@ -130,6 +190,7 @@ fn failure_of<D: Disk + Drop>(conn: Connection<FileStore<D>>) -> StoreCause
 
 /// What the failure to take a database over is.
 pub(crate) fn adopt_fault<D: Disk + Drop>(
+    alloc: Global,
     fault: BookFault,
     mut conn: Connection<FileStore<D>>,
 ) -> OpenFault
@@ -138,7 +199,7 @@ pub(crate) fn adopt_fault<D: Disk + Drop>(
     match fault {
         BookFault::NoMemory => OpenFault::NoMemory,
         BookFault::Store => OpenFault::Store(failure_of(conn)),
-        BookFault::WrongVersion => OpenFault::Version(foreign_cause(&mut conn)),
+        BookFault::WrongVersion => OpenFault::Version(foreign_cause(alloc, &mut conn)),
     }
 }
 
@@ -197,7 +258,7 @@ fn open_looked<S: Start>(
         Err(Ok((fault, conn))) => {
             // As long as the files are open, no other program has them.
             made.take_away(rt, alloc, path);
-            Err(adopt_fault(fault, conn))
+            Err(adopt_fault(alloc, fault, conn))
         }
         Err(Err((error, left))) => {
             let fault = open_fault(rt, alloc, path, error);

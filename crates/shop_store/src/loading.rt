@@ -5,6 +5,7 @@ ghost use Rattle.sqlite.specs.Held.{state};
 ghost use Rattle.shop_records.specs.Content.{Content, changed};
 ghost use Rattle.shop_records.specs.Lists.{materials_of, order_codes};
 ghost use Rattle.shop_statements.specs.Rows.{IsKeyed};
+ghost use Rattle.shop_statements.specs.Earlier.{OnBooksEarlier};
 ghost use Rattle.shop_statements.specs.Shown.{Leaves, OnBooks};
 ghost use Rattle.shop_tables.specs.Changing.{HasSums};
 ghost use Rattle.shop_book.specs.Ledgers.{bare, content_in};
@@ -150,4 +151,17 @@ pub fn load_ledger<S: Alter>(alloc: Global, conn: &mut Connection<S>) -> Result<
         Loaded::OtherSums => Ok(Loaded::OtherSums),
         Loaded::NoRow(row) => Ok(Loaded::NoRow(row)),
     }
+}
+
+/// The same of tables of version 1.
+pub fn load_earlier_ledger<S: Alter>(
+    alloc: Global,
+    conn: &mut Connection<S>,
+) -> Result<Loaded, TableFault>
+    ensures loaded { OnBooksEarlier (state S.Store conn.old) (state S.Store conn.new)
+        (λ books. IfOk result (IsLoaded (HasSums books) (bare books.content))) }
+    ensures leaves { Leaves (state S.Store conn.old) (state S.Store conn.new) }
+    ensures mode { conn.old.in_transaction ≡ false → conn.new.in_transaction ≡ false }
+{
+    load_ledger(alloc, conn)
 }

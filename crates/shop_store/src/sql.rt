@@ -19,6 +19,7 @@ ghost use Rattle.shop_store.specs.EarlierBooks.{HoldsEarlierContent, IsSettledEa
 ghost use Rattle.shop_store.specs.SqlBooks.{adopt_fault, book_fault, EitherWay};
 ghost use Rattle.shop_book.specs.declared.books.BookFault.TheVariants.{WrongVersion};
 
+use crate::loaded::Loaded;
 use crate::loading::{load_earlier_ledger, load_ledger};
 use crate::posted::LedgerBook;
 use crate::sql_storage::SqlStorage;
@@ -100,8 +101,9 @@ fn renew<S: Alter>(
 {
     let _outside = conn.is_autocommit();
     let ledger = match load_earlier_ledger(alloc, conn) {
-        Ok(Some(ledger)) => ledger,
-        Ok(None) => return Err(BookFault::WrongVersion),
+        Ok(Loaded::Ledger(ledger)) => ledger,
+        Ok(Loaded::OtherSums) => return Err(BookFault::WrongVersion),
+        Ok(Loaded::NoRow(_)) => return Err(BookFault::WrongVersion),
         Err(fault) => return Err(fault_of_tables(fault)),
     };
     match renew_shop(conn) {
@@ -261,8 +263,9 @@ impl<S: Alter> SqlBook<S> {
             → Holds (state S.Store conn) b → ¬ HasSums b) }
     {
         match load_ledger(alloc, &mut conn) {
-            Ok(Some(ledger)) => Ok(SqlBook::over(alloc, conn, ledger)),
-            Ok(None) => Err((BookFault::WrongVersion, conn)),
+            Ok(Loaded::Ledger(ledger)) => Ok(SqlBook::over(alloc, conn, ledger)),
+            Ok(Loaded::OtherSums) => Err((BookFault::WrongVersion, conn)),
+            Ok(Loaded::NoRow(_)) => Err((BookFault::WrongVersion, conn)),
             Err(fault) => Err((fault_of_tables(fault), conn)),
         }
     }
