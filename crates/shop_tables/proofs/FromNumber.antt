@@ -1,8 +1,8 @@
 -- What the queries of demands and of jobs from a number on give of the books.
-use Rattle.std.proofs.Common.{◌≡◌, ◌++◌, ℕ, pos, nat_le, List, [], ◌∷◌, map, filter, take, refl, ap, ◌∙◌}
+use Rattle.std.proofs.Common.{◌≡◌, ◌++◌, ℕ, pos, nat_le, List, [], ◌∷◌, map, take, refl, ap, ◌∙◌}
 use Rattle.std.specs.List.{list_all}
 use Rattle.std.specs.Cmp.{nat_cmp_total}
-use Rattle.std.specs.FinMap.{entries, nat_cmp-IsAntisymmetric, values}
+use Rattle.std.specs.FinMap.{entries, nat_cmp-IsAntisymmetric}
 use Rattle.std.proofs.lemmas.List.{take-map}
 use Rattle.sqlite_value.specs.declared.value.Value.TheVariants.{Int}
 use Rattle.sqlite_value.specs.Order.{Row, column}
