@@ -64,7 +64,7 @@ DEPTHS = {
     "shop_request/src/routes.rt add_all": (100, "the routes"),
     "shop_serve/src/lines.rt due_of": (256, "the lines of which it is known when they were written"),
     "shop_tables/src/laying.rt run_all": (100, "the statements that make the tables"),
-    "shop_tables/src/writing.rt write_all": (1000, "the rows that one message writes"),
+    "shop_tables/src/writing.rt write_all": (10, "halves of the rows that one message writes, at most 1000"),
 }
 
 

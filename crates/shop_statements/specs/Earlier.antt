@@ -1,5 +1,5 @@
 -- The tables of version 1, and what they stand for.
-use Rattle.std.specs.Prelude.{◌≡◌, ℕ, pos, List, [], ◌∷◌, map, codes, IsTrue}
+use Rattle.std.specs.Prelude.{◌≡◌, ◌⊎◌, ℕ, pos, List, [], ◌∷◌, map, codes, IsTrue}
 use Rattle.std.specs.List.{AllByRecursion}
 use Rattle.std.specs.FinMap.{FinMap, entries}
 use Rattle.sqlite_value.specs.declared.value.Value.TheVariants.{Int, Text}
@@ -14,7 +14,7 @@ use Rattle.shop_records.specs.Content.{Content}
 use Rattle.shop_records.specs.declared.records.Totals.{Totals}
 use Rattle.shop_statements.specs.Layout.{laid}
 use Rattle.shop_statements.specs.Rows.{AreRows, AreOrders, IsKeyed, meta_row, material_row, part_row, job_row, demand_row, kept_row, import_row}
-use Rattle.shop_statements.specs.Shown.{Books}
+use Rattle.shop_statements.specs.Shown.{Books, Holds}
 
 -- Version 1 has these nine tables and nothing else.
 abbrev pub earlier_schema : Schema
@@ -68,3 +68,11 @@ StandsInEarlier db b = IsSound earlier_schema db × StandsEarlier db b.content b
 -- what is said of books that were held in version 1 holds, where the disk gave back what was written
 abbrev pub OnBooksEarlier : State → State → (Books → Type 0) → Type 0
 OnBooksEarlier old new what = HasCleanDisk new → (b : Books) → HoldsEarlier old b → what b
+
+-- The connection holds the books in version 2, or in version 1.
+abbrev pub HoldsEither : State → Books → Type 0
+HoldsEither s b = Holds s b ⊎ HoldsEarlier s b
+
+-- what is said of books that were held in either version holds, where the disk gave back what was written
+abbrev pub OnBooksEither : State → State → (Books → Type 0) → Type 0
+OnBooksEither old new what = HasCleanDisk new → (b : Books) → HoldsEither old b → what b

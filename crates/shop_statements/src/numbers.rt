@@ -45,6 +45,10 @@ fn number_of<S: Alter>(conn: &mut Connection<S>, word: &str) -> Result<u32, Tabl
         (λ books. (n : ℕ) → filter (λ e. eq_by_cmp code_cmp e.0 word.now)
         (meta_entries books.content) ≡ (word.now, n) ∷ []
         → IfOk result (λ number. number ≡ n)) }
+    ensures earlier { OnBooksEarlier (state S.Store conn.old) (state S.Store conn.new)
+        (λ books. (n : ℕ) → filter (λ e. eq_by_cmp code_cmp e.0 word.now)
+        (earlier_entries books.content) ≡ (word.now, n) ∷ []
+        → IfOk result (λ number. number ≡ n)) }
     ensures stands { HasCleanDisk (state S.Store conn.new) → HasShopTables conn.old.schema
         → IfOk result (λ number. IsNumberRow (state S.Store conn.old) word.now
         (Int (pos number) ∷ [])) }
@@ -61,6 +65,8 @@ fn number_of<S: Alter>(conn: &mut Connection<S>, word: &str) -> Result<u32, Tabl
 pub fn find_last_act<S: Alter>(conn: &mut Connection<S>) -> Result<u32, TableFault>
     ensures number { OnBooks (state S.Store conn.old) (state S.Store conn.new)
         (λ books. IfOk result (λ number. number ≡ books.content.last_act)) }
+    ensures earlier { OnBooksEarlier (state S.Store conn.old) (state S.Store conn.new)
+        (λ books. IfOk result (λ number. number ≡ books.content.last_act)) }
     ensures stands { HasCleanDisk (state S.Store conn.new) → HasShopTables conn.old.schema
         → IfOk result (λ number. IsNumberRow (state S.Store conn.old) (codes "act")
         (Int (pos number) ∷ [])) }
@@ -73,6 +79,8 @@ pub fn find_last_act<S: Alter>(conn: &mut Connection<S>) -> Result<u32, TableFau
 /// The number of the last demand, 0 at first.
 pub fn find_last_demand<S: Alter>(conn: &mut Connection<S>) -> Result<u32, TableFault>
     ensures number { OnBooks (state S.Store conn.old) (state S.Store conn.new)
+        (λ books. IfOk result (λ number. number ≡ books.content.last_demand)) }
+    ensures earlier { OnBooksEarlier (state S.Store conn.old) (state S.Store conn.new)
         (λ books. IfOk result (λ number. number ≡ books.content.last_demand)) }
     ensures stands { HasCleanDisk (state S.Store conn.new) → HasShopTables conn.old.schema
         → IfOk result (λ number. IsNumberRow (state S.Store conn.old) (codes "demand")

@@ -25,7 +25,7 @@ use Rattle.shop_statements.specs.Shown.{Books, IsAsWas, Leaves}
 use Rattle.shop_statements.proofs.Finding.{code_same, code_total}
 use Rattle.shop_tables.proofs.Ordered.{by_first, filter_true, in_order, rows_seen}
 use Rattle.shop_statements.proofs.Terms.{Reads, from_table}
-use Rattle.shop_tables.proofs.ListTexts.{by_code, all_codes_text, all_codes_terms, all_parts_text, parts_of_terms, parts_of_order}
+use Rattle.shop_tables.proofs.ListTexts.{by_code, by_rowid, first_of, all_codes_text, all_codes_terms, all_materials_text, all_materials_terms, all_parts_text, parts_of_terms, parts_of_order, demands_from_text, from_tests, open_demands_terms, jobs_from_text, jobs_from_terms, first_orders_text, orders_after_text, orders_after_tests}
 
 -- ---- the books that were held
 
@@ -59,6 +59,27 @@ pub earlier_parts_is : Reads earlier_schema all_parts_text (from_table 4 [] part
     (codes "act" ∷ codes "node" ∷ codes "material" ∷ codes "batch" ∷ codes "root_act" ∷ codes "root_node" ∷ codes "x" ∷ codes "y" ∷ codes "w" ∷ codes "h" ∷ codes "state" ∷ codes "detail" ∷ [])
 unfolding understood everything
 earlier_parts_is = record { command = refl; listing = refl; plain = (refl, refl) }
+
+pub earlier_materials_is : Reads earlier_schema all_materials_text (from_table 2 [] all_materials_terms by_code) (codes "kind" ∷ codes "kerf" ∷ codes "min_long" ∷ codes "min_short" ∷ codes "code" ∷ [])
+unfolding understood everything
+earlier_materials_is = record { command = refl; listing = refl; plain = (refl, refl) }
+
+pub earlier_demands_from_is : Reads earlier_schema demands_from_text (first_of (col 0 1) (from_table 9 from_tests open_demands_terms by_rowid))
+    (codes "ord" ∷ codes "line" ∷ codes "material" ∷ codes "w" ∷ codes "h" ∷ codes "turn" ∷ codes "worth" ∷ codes "wanted" ∷ codes "reserved" ∷ codes "made" ∷ codes "number" ∷ [])
+unfolding understood everything
+earlier_demands_from_is = record { command = refl; listing = refl; plain = (refl, refl) }
+
+pub earlier_jobs_from_is : Reads earlier_schema jobs_from_text (first_of (col 0 1) (from_table 6 from_tests jobs_from_terms by_rowid)) (codes "part_act" ∷ codes "part_node" ∷ codes "tree" ∷ codes "state" ∷ codes "job" ∷ [])
+unfolding understood everything
+earlier_jobs_from_is = record { command = refl; listing = refl; plain = (refl, refl) }
+
+pub earlier_first_orders_is : Reads earlier_schema first_orders_text (first_of (col 0 0) (from_table 7 [] all_codes_terms by_code)) (codes "ord" ∷ [])
+unfolding understood everything
+earlier_first_orders_is = record { command = refl; listing = refl; plain = (refl, refl) }
+
+pub earlier_orders_after_is : Reads earlier_schema orders_after_text (first_of (col 0 1) (from_table 7 orders_after_tests all_codes_terms by_code)) (codes "ord" ∷ [])
+unfolding understood everything
+earlier_orders_after_is = record { command = refl; listing = refl; plain = (refl, refl) }
 
 abbrev pub earlier_totals_text : List ℕ
 earlier_totals_text = codes "SELECT received, stock, rack, pieces, kerf, scrap, 0, material FROM totals ORDER BY material"
@@ -98,8 +119,12 @@ lists_earlier_totals old new b has rows shown =
     later (x ∷ d) = refl
 
 -- what a query's rows are on held books of version 1
+pub held_given_earlier : {E : Type 0} (sql : List ℕ) (params : Row) (old new : State) (is : is_select sql ≡ true) (left : is_select sql ≡ true → Leaves old new) (b : Books) (P : List Row → Type 0) (r : Result (Vec Answered Global) E) → HasCleanDisk new → HoldsEarlier old b
+    → ((rows : List Row) → ShowsEarlier old b → Shown sql params old new rows → P rows) → IfOk r (λ rows. Shown sql params old new rows.items) → IfOk r (λ rows. P rows.items)
+held_given_earlier sql params old new is left b P r clean was finds given =
+    let before : HasCleanDisk old = let l = (left is).survives.clean in omega (arith, l) in
+    rows_seen sql params old new (ShowsEarlier old b) P r (λ up. (was before up).shows) finds given
+
 pub rows_given_earlier : (sql : List ℕ) (old new : State) (is : is_select sql ≡ true) (left : is_select sql ≡ true → Leaves old new) (b : Books) (list : List Row) (r : Result (Vec Answered Global) Error) → HasCleanDisk new → HoldsEarlier old b
     → ((rows : List Row) → ShowsEarlier old b → Shown sql [] old new rows → rows ≡ list) → IfOk r (λ rows. Shown sql [] old new rows.items) → IfOk r (λ rows. rows.items ≡ list)
-rows_given_earlier sql old new is left b list r clean was finds given =
-    let before : HasCleanDisk old = let l = (left is).survives.clean in omega (arith, l) in
-    rows_seen sql old new (ShowsEarlier old b) list r (λ up. (was before up).shows) finds given
+rows_given_earlier sql old new is left b list r = held_given_earlier sql [] old new is left b (λ rows. rows ≡ list) r

@@ -5,10 +5,9 @@ use Rattle.std.specs.declared.alloc.Global.{Global}
 use Rattle.std.specs.Ordering.{is_gt, is_lt, nat_cmp, ordering_then}
 use Rattle.std.specs.declared.cmp.Ordering.TheVariants.{Equal}
 use Rattle.std.specs.Cmp.{nat_cmp_total}
-use Rattle.std.specs.FinMap.{nat_cmp-IsAntisymmetric, values}
+use Rattle.std.specs.FinMap.{entries, nat_cmp-IsAntisymmetric, values}
 use Rattle.std.proofs.lemmas.Bool.Decides.{nat_tests}
 use Rattle.std.proofs.lemmas.List.{take-map}
-use Rattle.std.proofs.lemmas.Result.{IfOk-weaker}
 use Rattle.sqlite_value.specs.declared.keys.Collation.TheVariants.{Binary}
 use Rattle.sqlite_value.specs.declared.value.Value.{Value}
 use Rattle.sqlite_value.specs.declared.value.Value.TheVariants.{Int, Text}
@@ -22,9 +21,11 @@ use Rattle.sqlite.specs.Query.{Output, as_count, limited}
 use Rattle.sqlite.specs.Program.{IsProgramAnswer}
 use Rattle.sqlite.specs.Term.{Term, col, eval, holds}
 use Rattle.sqlite.specs.Schema.{Schema}
+use Rattle.sqlite.specs.Tree.{Trees}
 use Rattle.sqlite.specs.State.{State, HasCleanDisk, Shown}
 use Rattle.sqlite.proofs.Callers.{reads_as}
 use Rattle.shop_records.specs.Columns.{is_waiting}
+use Rattle.shop_records.specs.Content.{Content}
 use Rattle.shop_records.specs.Lists.{is_asked_for, is_open, materials_of, open_demands, waiting_jobs}
 use Rattle.shop_records.specs.declared.records.Demand.{Demand}
 use Rattle.shop_records.specs.declared.records.Job.{Job}
@@ -33,18 +34,17 @@ use Rattle.shop_records.specs.declared.records.JobState.TheVariants as stands
 use Rattle.shop_records.specs.declared.records.Material.{Material}
 use Rattle.shop_tables.specs.Listing.{code_row}
 use Rattle.shop_tables.specs.ListedRows.{listed_demand, listed_material, number_row}
-use Rattle.shop_statements.specs.Rows.{demand_columns, demand_row, job_row, job_state_number, material_columns, material_row}
+use Rattle.shop_statements.specs.Rows.{AreRows, IsKeyed, demand_columns, demand_row, job_row, job_state_number, material_columns, material_row}
 use Rattle.shop_statements.specs.Selecting.{is_select}
 use Rattle.shop_statements.specs.Shown.{Books, Holds, Leaves, Shows}
 use Rattle.shop_statements.proofs.Finding.{code_same, code_total}
 use Rattle.shop_tables.proofs.Firsts.{first_answer, of_values}
-use Rattle.shop_statements.proofs.Kept.{shown_open}
 use Rattle.shop_statements.proofs.Keys.{and_true, equal-Int, equal-Text, same_number, told}
 use Rattle.shop_tables.proofs.Listed.{ranked}
 use Rattle.shop_statements.proofs.Lists.{map-map}
 use Rattle.shop_tables.proofs.ListTexts.{all_materials_text, all_materials_terms, all_materials_is, by_rowid, first_of, open_demands_text, open_demands_terms, open_demands_tests, open_demands_is, open_demands_of_text, open_demands_of_tests, open_demands_of_is, waiting_jobs_text, waiting_jobs_terms, waiting_jobs_tests, waiting_jobs_is, by_code}
-use Rattle.shop_tables.proofs.Ordered.{by_first, filter_true, in_order}
-use Rattle.shop_statements.proofs.Terms.{from_table}
+use Rattle.shop_tables.proofs.Ordered.{by_first, filter_true, in_order, rows_seen}
+use Rattle.shop_statements.proofs.Terms.{Reads, from_table}
 use Rattle.shop_statements.proofs.Texts.{shop, shop_is}
 
 -- what a query's rows are on held books
@@ -52,7 +52,7 @@ pub held_given : {E : Type 0} (sql : List ℕ) (params : Row) (old new : State) 
     → ((rows : List Row) → Shows old b → Shown sql params old new rows → P rows) → IfOk r (λ rows. Shown sql params old new rows.items) → IfOk r (λ rows. P rows.items)
 held_given sql params old new is left b P r clean was finds given =
     let before : HasCleanDisk old = let l = (left is).survives.clean in omega (arith, l) in
-    IfOk-weaker r _ _ (λ rows shown. finds rows.items (was before (shown_open sql params old new rows.items shown)).shows shown) given
+    rows_seen sql params old new (Shows old b) P r (λ up. (was before up).shows) finds given
 
 -- ---- tests of numbers
 
@@ -85,40 +85,48 @@ and_and false b c = refl
 
 -- ---- materials
 
+-- under any schema in which the text means this
+pub lists_materials_of : (old new : State) (schema : Schema) (has : old.now.schema ≡ schema) (names : List (List ℕ)) → Reads schema all_materials_text (from_table 2 [] all_materials_terms by_code) names → (content : Content) → IsKeyed content
+    → AreRows 1 (map material_row (entries content.materials)) (old.now.trees 2) → (rows : List Row) → Shown all_materials_text [] old new rows → rows ≡ map listed_material (materials_of content)
+lists_materials_of old new schema has names is content keyed are rows shown =
+    let a = (reads_as all_materials_text [] old new schema has _ is.command is.plain is.listing rows shown).answer in
+    in_order code_total code_same 2 [] all_materials_terms by_code (λ e. (Text e.0 ∷ [], material_columns e.1 ++ code_row e.0)) (λ e f. by_first e.0 f.0) 1 old.now.trees [] refl material_row (λ _. true) (λ _. true) (λ r. refl) (λ e. refl)
+    (λ d. (column d 0 ∷ [], column d 1 ∷ column d 2 ∷ column d 3 ∷ column d 4 ∷ column d 0 ∷ [])) five_later (λ e. refl) rows content.materials are a
+    ∙ of_values code_total code_same content.materials (λ (m : Material). m.code) keyed.materials _ (λ _. true) (λ _. true) (λ x. refl)
+    ∙ ap (map listed_material) (filter_true (materials_of content))
+  where
+    five_later : (r : Row) → ◌≡◌ {A = Output} (column r 1 ∷ [], column r 2 ∷ column r 3 ∷ column r 4 ∷ column r 5 ∷ column r 1 ∷ [])
+        (column (drop 1 r) 0 ∷ [], column (drop 1 r) 1 ∷ column (drop 1 r) 2 ∷ column (drop 1 r) 3 ∷ column (drop 1 r) 4 ∷ column (drop 1 r) 0 ∷ [])
+    five_later [] = refl
+    five_later (x ∷ d) = refl
+
+-- ---- demands
+
+-- the rows of the first demands that pass these tests
+module _ (db : Trees) (content : Content) (keyed : IsKeyed content) (are : AreRows 0 (map demand_row (entries content.demands)) (db 9)) (tests : List Term) (params : Row) (most : ℕ) (limits : as_count (eval (col 0 1) (params ∷ [])) ≡ Some most)
+    (t : ℕ × Demand → Bool) (p : Demand → Bool) (passes : (e : ℕ × Demand) → list_all (holds (params ∷ demand_row e ∷ [])) tests ≡ t e) (same_test : (d : Demand) → t (d.number, d) ≡ p d) where
+  pub demands_first : (rows : List Row) → IsProgramAnswer [] (first_of (col 0 1) (from_table 9 tests open_demands_terms by_rowid)) db params rows → rows ≡ map listed_demand (take most (filter p (values content.demands)))
+  demands_first rows a =
+      let whole = first_answer 9 tests open_demands_terms by_rowid (col 0 1) db params rows a in
+      let all : whole.0 ≡ map listed_demand (filter p (values content.demands)) =
+      in_order nat_cmp_total nat_cmp-IsAntisymmetric 9 tests open_demands_terms by_rowid (λ e. (Int (pos e.0) ∷ [], demand_columns e.1 ++ number_row e.0)) (λ e f. by_number e.0 f.0) 0 db params refl demand_row t (λ r. list_all (holds (params ∷ r ∷ [])) tests) (λ r. refl) passes
+      (λ d. (column d 0 ∷ [], column d 2 ∷ column d 3 ∷ column d 4 ∷ column d 5 ∷ column d 6 ∷ column d 7 ∷ column d 8 ∷ column d 9 ∷ column d 10 ∷ column d 11 ∷ column d 0 ∷ [])) (λ r. refl) (λ e. refl) whole.0 content.demands are whole.1
+      ∙ of_values nat_cmp_total nat_cmp-IsAntisymmetric content.demands (λ (d : Demand). d.number) keyed.demands _ t p same_test in
+      whole.2 ∙ (λ i. limited (limits i) (all i)) ∙ take-map listed_demand most _
+
+-- ---- lists of today's tables
+
 module _ (old new : State) (b : Books) (has : Shows old b) where
   abbrev over : Schema
   over = shop old.now.schema has.schema
 
   pub lists_materials : (rows : List Row) → Shown all_materials_text [] old new rows → rows ≡ map listed_material (materials_of b.content)
-  lists_materials rows shown =
-      let is = all_materials_is old.now.schema has.schema in
-      let a = (reads_as all_materials_text [] old new over (shop_is old.now.schema has.schema) _ is.command is.plain is.listing rows shown).answer in
-      in_order code_total code_same 2 [] all_materials_terms by_code (λ e. (Text e.0 ∷ [], material_columns e.1 ++ code_row e.0)) (λ e f. by_first e.0 f.0) 1 old.now.trees [] refl material_row (λ _. true) (λ _. true) (λ r. refl) (λ e. refl)
-      (λ d. (column d 0 ∷ [], column d 1 ∷ column d 2 ∷ column d 3 ∷ column d 4 ∷ column d 0 ∷ [])) five_later (λ e. refl) rows b.content.materials has.stands.materials a
-      ∙ of_values code_total code_same b.content.materials (λ (m : Material). m.code) has.keyed.materials _ (λ _. true) (λ _. true) (λ x. refl)
-      ∙ ap (map listed_material) (filter_true (materials_of b.content))
-    where
-      five_later : (r : Row) → ◌≡◌ {A = Output} (column r 1 ∷ [], column r 2 ∷ column r 3 ∷ column r 4 ∷ column r 5 ∷ column r 1 ∷ [])
-          (column (drop 1 r) 0 ∷ [], column (drop 1 r) 1 ∷ column (drop 1 r) 2 ∷ column (drop 1 r) 3 ∷ column (drop 1 r) 4 ∷ column (drop 1 r) 0 ∷ [])
-      five_later [] = refl
-      five_later (x ∷ d) = refl
-
-  -- the rows of the first open demands, by any further test
-  module _ (tests : List Term) (params : Row) (most : ℕ) (limits : as_count (eval (col 0 1) (params ∷ [])) ≡ Some most) (t : ℕ × Demand → Bool) (p : Demand → Bool)
-      (passes : (e : ℕ × Demand) → list_all (holds (params ∷ demand_row e ∷ [])) tests ≡ t e) (same_test : (d : Demand) → t (d.number, d) ≡ p d) where
-    pub demands_first : (rows : List Row) → IsProgramAnswer [] (first_of (col 0 1) (from_table 9 tests open_demands_terms by_rowid)) old.now.trees params rows → rows ≡ map listed_demand (take most (filter p (values b.content.demands)))
-    demands_first rows a =
-        let whole = first_answer 9 tests open_demands_terms by_rowid (col 0 1) old.now.trees params rows a in
-        let all : whole.0 ≡ map listed_demand (filter p (values b.content.demands)) =
-        in_order nat_cmp_total nat_cmp-IsAntisymmetric 9 tests open_demands_terms by_rowid (λ e. (Int (pos e.0) ∷ [], demand_columns e.1 ++ number_row e.0)) (λ e f. by_number e.0 f.0) 0 old.now.trees params refl demand_row t (λ r. list_all (holds (params ∷ r ∷ [])) tests) (λ r. refl) passes
-        (λ d. (column d 0 ∷ [], column d 2 ∷ column d 3 ∷ column d 4 ∷ column d 5 ∷ column d 6 ∷ column d 7 ∷ column d 8 ∷ column d 9 ∷ column d 10 ∷ column d 11 ∷ column d 0 ∷ [])) (λ r. refl) (λ e. refl) whole.0 b.content.demands has.stands.demands whole.1
-        ∙ of_values nat_cmp_total nat_cmp-IsAntisymmetric b.content.demands (λ (d : Demand). d.number) has.keyed.demands _ t p same_test in
-        whole.2 ∙ (λ i. limited (limits i) (all i)) ∙ take-map listed_demand most _
+  lists_materials = lists_materials_of old new over (shop_is old.now.schema has.schema) _ (all_materials_is old.now.schema has.schema) b.content has.keyed has.stands.materials
 
   pub lists_open_demands : (after most : ℕ) (rows : List Row) → Shown open_demands_text (Int (pos after) ∷ Int (pos most) ∷ []) old new rows → rows ≡ map listed_demand (take most (open_demands b.content after None))
   lists_open_demands after most rows shown =
       let is = open_demands_is old.now.schema has.schema in
-      demands_first open_demands_tests (Int (pos after) ∷ Int (pos most) ∷ []) most refl (λ e. nat_lt after e.0 && is_open e.1) (λ d. nat_lt after d.number && is_asked_for None d.material && is_open d)
+      demands_first old.now.trees b.content has.keyed has.stands.demands open_demands_tests (Int (pos after) ∷ Int (pos most) ∷ []) most refl (λ e. nat_lt after e.0 && is_open e.1) (λ d. nat_lt after d.number && is_asked_for None d.material && is_open d)
       (λ e i. greater-Int e.0 after i && (and_true (less (Int (pos e.1.made)) (Int (pos e.1.wanted))) ∙ less-Int e.1.made e.1.wanted) i)
       (λ d i. sym (and_true (nat_lt after d.number)) i && is_open d) rows
       (reads_as open_demands_text (Int (pos after) ∷ Int (pos most) ∷ []) old new over (shop_is old.now.schema has.schema) _ is.command is.plain is.listing rows shown).answer
@@ -127,7 +135,7 @@ module _ (old new : State) (b : Books) (has : Shows old b) where
       → rows ≡ map listed_demand (take most (open_demands b.content after (Some code)))
   lists_open_demands_of after most code rows shown =
       let is = open_demands_of_is old.now.schema has.schema in
-      demands_first open_demands_of_tests (Int (pos after) ∷ Int (pos most) ∷ Text code ∷ []) most refl (λ e. nat_lt after e.0 && is_asked_for (Some code) e.1.material && is_open e.1) (λ d. nat_lt after d.number && is_asked_for (Some code) d.material && is_open d)
+      demands_first old.now.trees b.content has.keyed has.stands.demands open_demands_of_tests (Int (pos after) ∷ Int (pos most) ∷ Text code ∷ []) most refl (λ e. nat_lt after e.0 && is_asked_for (Some code) e.1.material && is_open e.1) (λ d. nat_lt after d.number && is_asked_for (Some code) d.material && is_open d)
       (λ e.
       (λ i. greater-Int e.0 after i && (equal-Text e.1.material code i && (and_true (less (Int (pos e.1.made)) (Int (pos e.1.wanted))) ∙ less-Int e.1.made e.1.wanted) i))
       ∙ and_and (nat_lt after e.0) (is_asked_for (Some code) e.1.material) (is_open e.1))

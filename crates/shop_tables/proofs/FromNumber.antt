@@ -1,45 +1,59 @@
 -- What the queries of demands and of jobs from a number on give of the books.
-use Rattle.std.proofs.Common.{◌≡◌, ◌++◌, ℕ, pos, nat_le, List, [], ◌∷◌, map, filter, take, refl, ap, ◌∙◌}
+use Rattle.std.proofs.Common.{◌≡◌, ◌++◌, ℕ, pos, nat_le, List, [], ◌∷◌, map, take, refl, ap, ◌∙◌}
 use Rattle.std.specs.List.{list_all}
 use Rattle.std.specs.Cmp.{nat_cmp_total}
-use Rattle.std.specs.FinMap.{nat_cmp-IsAntisymmetric, values}
+use Rattle.std.specs.FinMap.{entries, nat_cmp-IsAntisymmetric}
 use Rattle.std.proofs.lemmas.List.{take-map}
 use Rattle.sqlite_value.specs.declared.value.Value.TheVariants.{Int}
 use Rattle.sqlite_value.specs.Order.{Row, column}
+use Rattle.sqlite.specs.Schema.{Schema}
 use Rattle.sqlite.specs.State.{State, Shown}
 use Rattle.sqlite.specs.Term.{col, holds}
 use Rattle.sqlite.proofs.Callers.{reads_as}
+use Rattle.shop_records.specs.Content.{Content}
 use Rattle.shop_records.specs.declared.records.Job.{Job}
-use Rattle.shop_statements.specs.Rows.{job_columns, job_row}
+use Rattle.shop_statements.specs.Rows.{AreRows, IsKeyed, demand_row, job_columns, job_row}
 use Rattle.shop_statements.specs.Shown.{Books, Shows}
 use Rattle.shop_statements.proofs.Keys.{and_true}
+use Rattle.shop_statements.proofs.Terms.{Reads, from_table}
 use Rattle.shop_statements.proofs.Texts.{shop, shop_is}
 use Rattle.shop_tables.specs.ListedRows.{listed_demand, listed_job, number_row}
 use Rattle.shop_tables.specs.RowsFrom.{demands_from, jobs_from}
 use Rattle.shop_tables.proofs.FirstParts.{at_least-Int}
 use Rattle.shop_tables.proofs.FirstRows.{by_number, demands_first}
 use Rattle.shop_tables.proofs.Firsts.{first_answer, of_values}
-use Rattle.shop_tables.proofs.ListTexts.{by_rowid, demands_from_is, demands_from_text, from_tests, jobs_from_is, jobs_from_terms, jobs_from_text}
+use Rattle.shop_tables.proofs.ListTexts.{by_rowid, demands_from_is, demands_from_text, first_of, from_tests, jobs_from_is, jobs_from_terms, jobs_from_text, open_demands_terms}
 use Rattle.shop_tables.proofs.Ordered.{in_order}
 
-module _ (old new : State) (b : Books) (has : Shows old b) (from most : ℕ) where
+-- under any schema in which the texts mean these queries
+module _ (old new : State) (schema : Schema) (has : old.now.schema ≡ schema) (names : List (List ℕ)) (content : Content) (keyed : IsKeyed content) (from most : ℕ) where
   abbrev params : Row
   params = Int (pos from) ∷ Int (pos most) ∷ []
 
-  pub lists_demands_from : (rows : List Row) → Shown demands_from_text params old new rows → rows ≡ map listed_demand (take most (demands_from b.content from))
-  lists_demands_from rows shown =
-      let is = demands_from_is old.now.schema has.schema in
-      demands_first old new b has from_tests params most refl (λ e. nat_le from e.0) (λ d. nat_le from d.number) (λ e. and_true _ ∙ at_least-Int e.0 from) (λ d. refl) rows
-      (reads_as demands_from_text params old new (shop old.now.schema has.schema) (shop_is old.now.schema has.schema) _ is.command is.plain is.listing rows shown).answer
+  pub lists_demands_from_of : Reads schema demands_from_text (first_of (col 0 1) (from_table 9 from_tests open_demands_terms by_rowid)) names → AreRows 0 (map demand_row (entries content.demands)) (old.now.trees 9)
+      → (rows : List Row) → Shown demands_from_text params old new rows → rows ≡ map listed_demand (take most (demands_from content from))
+  lists_demands_from_of is are rows shown =
+      demands_first old.now.trees content keyed are from_tests params most refl (λ e. nat_le from e.0) (λ d. nat_le from d.number) (λ e. and_true _ ∙ at_least-Int e.0 from) (λ d. refl) rows
+      (reads_as demands_from_text params old new schema has _ is.command is.plain is.listing rows shown).answer
 
-  pub lists_jobs_from : (rows : List Row) → Shown jobs_from_text params old new rows → rows ≡ map listed_job (take most (jobs_from b.content from))
-  lists_jobs_from rows shown =
-      let is = jobs_from_is old.now.schema has.schema in
-      let a = (reads_as jobs_from_text params old new (shop old.now.schema has.schema) (shop_is old.now.schema has.schema) _ is.command is.plain is.listing rows shown).answer in
+  pub lists_jobs_from_of : Reads schema jobs_from_text (first_of (col 0 1) (from_table 6 from_tests jobs_from_terms by_rowid)) names → AreRows 0 (map job_row (entries content.jobs)) (old.now.trees 6)
+      → (rows : List Row) → Shown jobs_from_text params old new rows → rows ≡ map listed_job (take most (jobs_from content from))
+  lists_jobs_from_of is are rows shown =
+      let a = (reads_as jobs_from_text params old new schema has _ is.command is.plain is.listing rows shown).answer in
       let whole = first_answer 6 from_tests jobs_from_terms by_rowid (col 0 1) old.now.trees params rows a in
-      let all : whole.0 ≡ map listed_job (jobs_from b.content from) =
+      let all : whole.0 ≡ map listed_job (jobs_from content from) =
       in_order nat_cmp_total nat_cmp-IsAntisymmetric 6 from_tests jobs_from_terms by_rowid (λ e. (Int (pos e.0) ∷ [], job_columns e.1 ++ number_row e.0)) (λ e f. by_number e.0 f.0) 0 old.now.trees params refl job_row (λ e. nat_le from e.0)
       (λ r. list_all (holds (params ∷ r ∷ [])) from_tests) (λ r. refl) (λ e. and_true _ ∙ at_least-Int e.0 from)
-      (λ d. (column d 0 ∷ [], column d 2 ∷ column d 3 ∷ column d 4 ∷ column d 5 ∷ column d 0 ∷ [])) (λ r. refl) (λ e. refl) whole.0 b.content.jobs has.stands.jobs whole.1
-      ∙ of_values nat_cmp_total nat_cmp-IsAntisymmetric b.content.jobs (λ (j : Job). j.act) (λ number job found. (has.keyed.jobs number job found).numbered) _ (λ e. nat_le from e.0) (λ j. nat_le from j.act) (λ j. refl) in
+      (λ d. (column d 0 ∷ [], column d 2 ∷ column d 3 ∷ column d 4 ∷ column d 5 ∷ column d 0 ∷ [])) (λ r. refl) (λ e. refl) whole.0 content.jobs are whole.1
+      ∙ of_values nat_cmp_total nat_cmp-IsAntisymmetric content.jobs (λ (j : Job). j.act) (λ number job found. (keyed.jobs number job found).numbered) _ (λ e. nat_le from e.0) (λ j. nat_le from j.act) (λ j. refl) in
       whole.2 ∙ ap (take most) all ∙ take-map listed_job most _
+
+module _ (old new : State) (b : Books) (has : Shows old b) (from most : ℕ) where
+  abbrev over : Schema
+  over = shop old.now.schema has.schema
+
+  pub lists_demands_from : (rows : List Row) → Shown demands_from_text (Int (pos from) ∷ Int (pos most) ∷ []) old new rows → rows ≡ map listed_demand (take most (demands_from b.content from))
+  lists_demands_from = lists_demands_from_of old new over (shop_is old.now.schema has.schema) _ b.content has.keyed from most (demands_from_is old.now.schema has.schema) has.stands.demands
+
+  pub lists_jobs_from : (rows : List Row) → Shown jobs_from_text (Int (pos from) ∷ Int (pos most) ∷ []) old new rows → rows ≡ map listed_job (take most (jobs_from b.content from))
+  lists_jobs_from = lists_jobs_from_of old new over (shop_is old.now.schema has.schema) _ b.content has.keyed from most (jobs_from_is old.now.schema has.schema) has.stands.jobs

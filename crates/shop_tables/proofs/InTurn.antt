@@ -1,7 +1,7 @@
 -- Writings, one after another.
-use Rattle.std.proofs.Common.{◌≡◌, ◌≢◌, ℕ, ◌≤◌, ◌-◌, List, [], ◌∷◌, Option, length, take, drop, get_or, sym, Some, None, Ok, Result, OnOk, ◌∙◌, subst, arith}
+use Rattle.std.proofs.Common.{◌≡◌, ◌≢◌, ℕ, List, [], ◌∷◌, ◌++◌, Option, length, take, drop, get_or, refl, sym, ap, Some, None, Ok, Result, OnOk, ◌∙◌, subst, arith}
 use Rattle.std.specs.Result.{IsErr}
-use Rattle.std.proofs.lemmas.List.{take_all}
+use Rattle.std.proofs.lemmas.List.{take-append-drop}
 use Rattle.std.proofs.lemmas.Result.{IfOk-from_err}
 use Rattle.sqlite.specs.State.{State}
 use Rattle.shop_statements.specs.declared.faults.TableFault.{TableFault}
@@ -62,14 +62,26 @@ module _ {X : Type 0} {with_one : X → Books → Books} (with_list : List X →
   pub of_all : {a b : State} {r : Result (Unit {0}) TableFault} {Needs : Books → Type 0} (rows : List X) → Writes a b r Needs (with_all with_one rows) → Writes a b r Needs (with_list rows)
   of_all rows w = writes_so (λ x needs. needs) (list_is rows) w
 
-after : {A : Type 0} (x : A) (xs : List A) → take (length (x ∷ xs) - 1) (drop 1 (x ∷ xs)) ≡ xs
-after x xs = take_all (length (x ∷ xs) - 1) xs (omega arith)
+module _ {X : Type 0} (Needs : X → Books → Type 0) (with_one : X → Books → Books) where
+  with_both : (xs ys : List X) (b : Books) → with_all with_one ys (with_all with_one xs b) ≡ with_all with_one (xs ++ ys) b
+  with_both [] ys b = refl
+  with_both (x ∷ xs) ys b = with_both xs ys (with_one x b)
 
-module _ {X : Type 0} {a b c : State} {r : Result (Unit {0}) TableFault} (Needs : X → Books → Type 0) (with_one : X → Books → Books) where
-  pub first_then : (rows : List X) (row : X) → 1 ≤ length rows → row ≡ get_or rows 0 row → Writes a b (Ok tt) (Needs row) (with_one row)
-      → Writes b c r (AreInTurn Needs with_one (take (length rows - 1) (drop 1 rows))) (with_all with_one (take (length rows - 1) (drop 1 rows)))
-      → Writes a c r (AreInTurn Needs with_one rows) (with_all with_one rows)
-  first_then [] row some is one more = absurd (omega arith)
-  first_then (x ∷ rest) row some is one more =
-      writes_then (subst (λ (w : X). Writes a b (Ok tt) (Needs w) (with_one w)) is one)
-      (subst (λ (ws : List X). Writes b c r (AreInTurn Needs with_one ws) (with_all with_one ws)) (after x rest) more)
+  each_in_turn : (xs ys : List X) (b : Books) → AreInTurn Needs with_one (xs ++ ys) b → AreInTurn Needs with_one xs b × AreInTurn Needs with_one ys (with_all with_one xs b)
+  each_in_turn [] ys b both = (tt, both)
+  each_in_turn (x ∷ xs) ys b both = let more = each_in_turn xs ys (with_one x b) both.1 in ((both.0, more.0), more.1)
+
+  pub none_written : {a : State} (rows : List X) → length rows ≡ 0 → Writes a a (Ok tt) (AreInTurn Needs with_one rows) (with_all with_one rows)
+  none_written [] none = writes_nothing (λ b. refl)
+  none_written (x ∷ rows) none = absurd (omega (arith, none))
+
+  pub one_written : {a b : State} {r : Result (Unit {0}) TableFault} (rows : List X) (row : X) → length rows ≡ 1 → row ≡ get_or rows 0 row → Writes a b r (Needs row) (with_one row) → Writes a b r (AreInTurn Needs with_one rows) (with_all with_one rows)
+  one_written [] row one is w = absurd (omega (arith, one))
+  one_written {a} {b} {r} (x ∷ []) row one is w = writes_so (λ y needs. needs.0) (λ y. refl) (subst (λ (z : X). Writes a b r (Needs z) (with_one z)) is w)
+  one_written (x ∷ y ∷ rows) row one is w = absurd (omega (arith, one))
+
+  pub both_written : {a b c : State} {r : Result (Unit {0}) TableFault} (n : ℕ) (rows first others : List X) → first ≡ take n rows → others ≡ drop n rows → Writes a b (Ok tt) (AreInTurn Needs with_one first) (with_all with_one first)
+      → Writes b c r (AreInTurn Needs with_one others) (with_all with_one others) → Writes a c r (AreInTurn Needs with_one rows) (with_all with_one rows)
+  both_written {a} {b} {c} {r} n rows first others front back one two =
+      subst (λ (ws : List X). Writes a c r (AreInTurn Needs with_one ws) (with_all with_one ws)) (ap (λ l. l ++ others) front ∙ ap (λ l. take n rows ++ l) back ∙ take-append-drop n rows)
+      (writes_so (each_in_turn first others) (with_both first others) (writes_then one two))

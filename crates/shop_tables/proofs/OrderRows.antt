@@ -5,7 +5,7 @@ use Rattle.std.specs.declared.cmp.Ordering.{Ordering}
 use Rattle.std.specs.declared.cmp.Ordering.TheVariants.{Less, Equal, Greater}
 use Rattle.std.specs.Ordering.{is_gt, is_lt, nat_cmp, ordering_reverse}
 use Rattle.std.specs.Cmp.{nat_cmp_total}
-use Rattle.std.specs.FinMap.{FinMap, entries, nat_cmp-IsAntisymmetric}
+use Rattle.std.specs.FinMap.{entries, nat_cmp-IsAntisymmetric}
 use Rattle.std.proofs.lemmas.List.{take-map}
 use Rattle.std.proofs.lemmas.List.Sorted.{IsPermutation-trans, ranks_by, sorted_far}
 use Rattle.std.proofs.lemmas.Map.Keys.{ge_from_not_lt}
@@ -15,22 +15,23 @@ use Rattle.sqlite_value.proofs.OrderLemmas.{value_cmp-Text}
 use Rattle.sqlite_sql.specs.Ops.{binary}
 use Rattle.sqlite_trees.proofs.ListLemmas.{all-filter, all-permutation, pull_back}
 use Rattle.sqlite.specs.Query.{Output, output, output_cmp}
+use Rattle.sqlite.specs.Schema.{Schema}
 use Rattle.sqlite.specs.State.{State, Shown}
 use Rattle.sqlite.specs.Term.{col, holds}
 use Rattle.sqlite.proofs.Callers.{reads_as}
 use Rattle.cut_measure.specs.Codes.{code_cmp}
-use Rattle.shop_records.specs.Content.{demand_at}
+use Rattle.shop_records.specs.Content.{Content, demand_at}
 use Rattle.shop_records.specs.Elements.{IsIn}
 use Rattle.shop_records.specs.Lists.{is_code_after, orders_after}
 use Rattle.shop_records.specs.Soundness.{HasLines}
 use Rattle.shop_records.proofs.OrderCodes.{codes_are}
-use Rattle.shop_statements.specs.Rows.{demand_columns, demand_row, order_row}
+use Rattle.shop_statements.specs.Rows.{AreOrders, demand_columns, demand_row, order_row}
 use Rattle.shop_statements.specs.Shown.{Books, Shows}
 use Rattle.shop_statements.proofs.Finding.{code_same, code_total}
 use Rattle.shop_statements.proofs.Keys.{and_true, equal-Text, shown_as, told}
 use Rattle.shop_statements.proofs.Lists.{filter-map, map-map}
 use Rattle.shop_statements.proofs.Selects.{selects}
-use Rattle.shop_statements.proofs.Terms.{from_table}
+use Rattle.shop_statements.proofs.Terms.{Reads, from_table}
 use Rattle.shop_statements.proofs.Texts.{shop, shop_is}
 use Rattle.shop_tables.specs.Listing.{code_row}
 use Rattle.shop_tables.specs.ListedRows.{AreRowsOfLines, listed_demand, number_row}
@@ -38,7 +39,7 @@ use Rattle.shop_tables.specs.RowsShown.{is_above}
 use Rattle.shop_tables.proofs.FirstRows.{by_number}
 use Rattle.shop_tables.proofs.Firsts.{each_entry, first_answer}
 use Rattle.shop_tables.proofs.LinesInOrder.{Entry, are_lines, demand_of, is_of}
-use Rattle.shop_tables.proofs.ListTexts.{all_codes_terms, by_code, by_line, first_orders_is, first_orders_text, lines_is, lines_tests, lines_text, open_demands_terms, orders_after_is, orders_after_tests, orders_after_text}
+use Rattle.shop_tables.proofs.ListTexts.{all_codes_terms, by_code, by_line, first_of, first_orders_is, first_orders_text, lines_is, lines_tests, lines_text, open_demands_terms, orders_after_is, orders_after_tests, orders_after_text}
 use Rattle.shop_tables.proofs.Ordered.{by_first, in_order}
 use Rattle.shop_tables.proofs.RowsAsShown.{sorted_from}
 
@@ -118,39 +119,47 @@ one_later (x ∷ d) = refl
 abbrev code_out : List ℕ × Unit {0} → Output
 code_out e = (Text e.0 ∷ [], code_row e.0)
 
-module _ (old new : State) (b : Books) (has : Shows old b) (most : ℕ) where
-  abbrev codes_there : FinMap code_cmp (Unit {0})
-  codes_there = has.stands.orders.codes
-
+-- under any schema in which the texts mean these queries
+module _ (old new : State) (schema : Schema) (has : old.now.schema ≡ schema) (names : List (List ℕ)) (content : Content) (are : AreOrders content.orders (old.now.trees 7)) (most : ℕ) where
   abbrev code_of : List ℕ × Unit {0} → List ℕ
   code_of e = e.0
 
   -- what is shown of the table's codes is what is listed of the books' orders
-  orders_as : (after : Option (List ℕ)) → map (λ e. (code_out e).1) (filter (λ e. is_code_after after e.0) (entries codes_there)) ≡ map code_row (orders_after b.content after)
+  orders_as : (after : Option (List ℕ)) → map (λ e. (code_out e).1) (filter (λ e. is_code_after after e.0) (entries are.codes)) ≡ map code_row (orders_after content after)
   orders_as after =
-      sym (map-map code_row code_of (filter (λ e. is_code_after after e.0) (entries codes_there)))
-      ∙ ap (map code_row) (sym (filter-map code_of (is_code_after after) (entries codes_there)) ∙ ap (filter (is_code_after after)) (sym (codes_are b.content codes_there has.stands.orders.there)))
+      sym (map-map code_row code_of (filter (λ e. is_code_after after e.0) (entries are.codes)))
+      ∙ ap (map code_row) (sym (filter-map code_of (is_code_after after) (entries are.codes)) ∙ ap (filter (is_code_after after)) (sym (codes_are content are.codes are.there)))
 
-  pub lists_first_orders : (rows : List Row) → Shown first_orders_text (Int (pos most) ∷ []) old new rows → rows ≡ map code_row (take most (orders_after b.content None))
-  lists_first_orders rows shown =
-      let is = first_orders_is old.now.schema has.schema in
+  pub lists_first_orders_of : Reads schema first_orders_text (first_of (col 0 0) (from_table 7 [] all_codes_terms by_code)) names
+      → (rows : List Row) → Shown first_orders_text (Int (pos most) ∷ []) old new rows → rows ≡ map code_row (take most (orders_after content None))
+  lists_first_orders_of is rows shown =
       let params = Int (pos most) ∷ [] in
-      let a = (reads_as first_orders_text params old new (shop old.now.schema has.schema) (shop_is old.now.schema has.schema) _ is.command is.plain is.listing rows shown).answer in
+      let a = (reads_as first_orders_text params old new schema has _ is.command is.plain is.listing rows shown).answer in
       let first = first_answer 7 [] all_codes_terms by_code (col 0 0) old.now.trees params rows a in
-      let all : first.0 ≡ map code_row (orders_after b.content None) =
+      let all : first.0 ≡ map code_row (orders_after content None) =
       in_order code_total code_same 7 [] all_codes_terms by_code code_out (λ e f. by_first e.0 f.0) 1 old.now.trees params refl order_row (λ _. true) (λ _. true) (λ r. refl) (λ e. refl)
-      (λ d. (column d 0 ∷ [], column d 0 ∷ [])) one_later (λ e. refl) first.0 codes_there has.stands.orders.rows first.1
+      (λ d. (column d 0 ∷ [], column d 0 ∷ [])) one_later (λ e. refl) first.0 are.codes are.rows first.1
       ∙ orders_as None in
       first.2 ∙ ap (take most) all ∙ take-map code_row most _
 
-  pub lists_orders_after : (after : List ℕ) (rows : List Row) → Shown orders_after_text (Text after ∷ Int (pos most) ∷ []) old new rows → rows ≡ map code_row (take most (orders_after b.content (Some after)))
-  lists_orders_after after rows shown =
-      let is = orders_after_is old.now.schema has.schema in
+  pub lists_orders_after_of : Reads schema orders_after_text (first_of (col 0 1) (from_table 7 orders_after_tests all_codes_terms by_code)) names
+      → (after : List ℕ) (rows : List Row) → Shown orders_after_text (Text after ∷ Int (pos most) ∷ []) old new rows → rows ≡ map code_row (take most (orders_after content (Some after)))
+  lists_orders_after_of is after rows shown =
       let params = Text after ∷ Int (pos most) ∷ [] in
-      let a = (reads_as orders_after_text params old new (shop old.now.schema has.schema) (shop_is old.now.schema has.schema) _ is.command is.plain is.listing rows shown).answer in
+      let a = (reads_as orders_after_text params old new schema has _ is.command is.plain is.listing rows shown).answer in
       let first = first_answer 7 orders_after_tests all_codes_terms by_code (col 0 1) old.now.trees params rows a in
-      let all : first.0 ≡ map code_row (orders_after b.content (Some after)) =
+      let all : first.0 ≡ map code_row (orders_after content (Some after)) =
       in_order code_total code_same 7 orders_after_tests all_codes_terms by_code code_out (λ e f. by_first e.0 f.0) 1 old.now.trees params refl order_row (λ e. is_code_after (Some after) e.0) (is_after after) (after_later after) (λ e. and_true _ ∙ above-Text e.0 after)
-      (λ d. (column d 0 ∷ [], column d 0 ∷ [])) one_later (λ e. refl) first.0 codes_there has.stands.orders.rows first.1
+      (λ d. (column d 0 ∷ [], column d 0 ∷ [])) one_later (λ e. refl) first.0 are.codes are.rows first.1
       ∙ orders_as (Some after) in
       first.2 ∙ ap (take most) all ∙ take-map code_row most _
+
+module _ (old new : State) (b : Books) (has : Shows old b) (most : ℕ) where
+  abbrev over : Schema
+  over = shop old.now.schema has.schema
+
+  pub lists_first_orders : (rows : List Row) → Shown first_orders_text (Int (pos most) ∷ []) old new rows → rows ≡ map code_row (take most (orders_after b.content None))
+  lists_first_orders = lists_first_orders_of old new over (shop_is old.now.schema has.schema) _ b.content has.stands.orders most (first_orders_is old.now.schema has.schema)
+
+  pub lists_orders_after : (after : List ℕ) (rows : List Row) → Shown orders_after_text (Text after ∷ Int (pos most) ∷ []) old new rows → rows ≡ map code_row (take most (orders_after b.content (Some after)))
+  lists_orders_after = lists_orders_after_of old new over (shop_is old.now.schema has.schema) _ b.content has.stands.orders most (orders_after_is old.now.schema has.schema)

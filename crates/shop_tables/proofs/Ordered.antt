@@ -124,9 +124,9 @@ module _ (old new : State) (b : Books) (has : Shows old b) where
       eight_later (x ∷ d) = refl
 
 -- what a query's rows are where this is seen
-pub rows_seen : (sql : List ℕ) (old new : State) (Sees : Type 0) (list : List Row) (r : Result (Vec Answered Global) Error) → (IsTrue old.is_open → Sees)
-    → ((rows : List Row) → Sees → Shown sql [] old new rows → rows ≡ list) → IfOk r (λ rows. Shown sql [] old new rows.items) → IfOk r (λ rows. rows.items ≡ list)
-rows_seen sql old new Sees list r was finds given = IfOk-weaker r _ _ (λ rows shown. finds rows.items (was (shown_open sql [] old new rows.items shown)) shown) given
+pub rows_seen : {E : Type 0} (sql : List ℕ) (params : Row) (old new : State) (Sees : Type 0) (P : List Row → Type 0) (r : Result (Vec Answered Global) E) → (IsTrue old.is_open → Sees)
+    → ((rows : List Row) → Sees → Shown sql params old new rows → P rows) → IfOk r (λ rows. Shown sql params old new rows.items) → IfOk r (λ rows. P rows.items)
+rows_seen sql params old new Sees P r was finds given = IfOk-weaker r _ _ (λ rows shown. finds rows.items (was (shown_open sql params old new rows.items shown)) shown) given
 
 -- what holds where this is seen
 pub seen_then : (sql : List ℕ) (old new : State) (Sees P : Type 0) (r : Result (Vec Answered Global) Error) → (IsTrue old.is_open → Sees) → (Sees → P) → IfOk r (λ rows. Shown sql [] old new rows.items) → IfOk r (λ rows. P)
@@ -137,4 +137,4 @@ pub rows_given : (sql : List ℕ) (old new : State) (is : is_select sql ≡ true
     → ((rows : List Row) → Shows old b → Shown sql [] old new rows → rows ≡ list) → IfOk r (λ rows. Shown sql [] old new rows.items) → IfOk r (λ rows. rows.items ≡ list)
 rows_given sql old new is left b list r clean was finds given =
     let before : HasCleanDisk old = let l = (left is).survives.clean in omega (arith, l) in
-    rows_seen sql old new (Shows old b) list r (λ up. (was before up).shows) finds given
+    rows_seen sql [] old new (Shows old b) (λ rows. rows ≡ list) r (λ up. (was before up).shows) finds given

@@ -5,6 +5,7 @@ ghost use Rattle.sqlite.specs.Held.{state};
 ghost use Rattle.sqlite.specs.State.{HasCleanDisk};
 ghost use Rattle.shop_tables.specs.ListedRows.{listed_demand, listed_job};
 ghost use Rattle.shop_tables.specs.RowsFrom.{demands_from, jobs_from};
+ghost use Rattle.shop_statements.specs.Earlier.{OnBooksEarlier};
 ghost use Rattle.shop_statements.specs.Shown.{Leaves, OnBooks};
 
 use crate::invalid::int_in;
@@ -20,6 +21,9 @@ pub fn demand_rows_from<S: Alter>(
     most: usize,
 ) -> Result<Vec<Row>, TableFault>
     ensures rows { OnBooks (state S.Store conn.old) (state S.Store conn.new)
+        (λ books. IfOk result (λ rows. rows.items
+        ≡ map listed_demand (take most (demands_from books.content from)))) }
+    ensures earlier { OnBooksEarlier (state S.Store conn.old) (state S.Store conn.new)
         (λ books. IfOk result (λ rows. rows.items
         ≡ map listed_demand (take most (demands_from books.content from)))) }
     ensures was_open { HasCleanDisk (state S.Store conn.new)
@@ -44,6 +48,9 @@ pub fn job_rows_from<S: Alter>(
     most: usize,
 ) -> Result<Vec<Row>, TableFault>
     ensures rows { OnBooks (state S.Store conn.old) (state S.Store conn.new)
+        (λ books. IfOk result (λ rows. rows.items
+        ≡ map listed_job (take most (jobs_from books.content from)))) }
+    ensures earlier { OnBooksEarlier (state S.Store conn.old) (state S.Store conn.new)
         (λ books. IfOk result (λ rows. rows.items
         ≡ map listed_job (take most (jobs_from books.content from)))) }
     ensures was_open { HasCleanDisk (state S.Store conn.new)

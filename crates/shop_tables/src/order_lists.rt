@@ -3,6 +3,7 @@
 ghost use Rattle.std.specs.Prelude.{◌≡◌, false, map, take, Some, None, IfOk, IsTrue};
 ghost use Rattle.sqlite.specs.Held.{state};
 ghost use Rattle.sqlite.specs.State.{HasCleanDisk};
+ghost use Rattle.shop_statements.specs.Earlier.{OnBooksEarlier};
 ghost use Rattle.shop_statements.specs.Layout.{HasShopTables};
 ghost use Rattle.shop_statements.specs.Shown.{Leaves, OnBooks};
 ghost use Rattle.shop_records.specs.Lists.{orders_after};
@@ -20,6 +21,9 @@ fn first_rows<S: Alter>(conn: &mut Connection<S>, most: usize) -> Result<Vec<Row
     ensures gives { GivesRows (state S.Store conn.old) (state S.Store conn.new) result
         (λ books rows. rows ≡ map code_row (take most (orders_after books.content None)))
         (λ db. AreOrderRows None most (db 7)) }
+    ensures earlier { OnBooksEarlier (state S.Store conn.old) (state S.Store conn.new)
+        (λ books. IfOk result (λ rows. rows.items
+        ≡ map code_row (take most (orders_after books.content None)))) }
     ensures mode { conn.old.in_transaction ≡ false → conn.new.in_transaction ≡ false }
 {
     let limit = at_most(most)?;
@@ -39,6 +43,9 @@ fn rows_after<S: Alter>(
     ensures gives { GivesRows (state S.Store conn.old) (state S.Store conn.new) result
         (λ books rows. rows ≡ map code_row (take most (orders_after books.content (Some after))))
         (λ db. AreOrderRows (Some after) most (db 7)) }
+    ensures earlier { OnBooksEarlier (state S.Store conn.old) (state S.Store conn.new)
+        (λ books. IfOk result (λ rows. rows.items
+        ≡ map code_row (take most (orders_after books.content (Some after))))) }
     ensures mode { conn.old.in_transaction ≡ false → conn.new.in_transaction ≡ false }
 {
     let limit = at_most(most)?;
@@ -59,6 +66,9 @@ pub fn order_rows<S: Alter>(
     ensures gives { GivesRows (state S.Store conn.old) (state S.Store conn.new) result
         (λ books rows. rows ≡ map code_row (take most (orders_after books.content after)))
         (λ db. AreOrderRows after most (db 7)) }
+    ensures earlier { OnBooksEarlier (state S.Store conn.old) (state S.Store conn.new)
+        (λ books. IfOk result (λ rows. rows.items
+        ≡ map code_row (take most (orders_after books.content after)))) }
     ensures mode { conn.old.in_transaction ≡ false → conn.new.in_transaction ≡ false }
 {
     match after {

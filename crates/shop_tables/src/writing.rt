@@ -155,7 +155,7 @@ pub(crate) fn write_some<W: Writing<Row>, Row, S: Alter>(
     }
 }
 
-/// Writes rows one after another.
+/// Writes rows one after another: of more than one those of either half.
 #[tactic(auto, using(crate::proofs::InTurn::stops))]
 pub(crate) fn write_all<W: Writing<Row>, Row, S: Alter>(
     tx: &mut Transaction<'_, S>,
@@ -165,9 +165,13 @@ pub(crate) fn write_all<W: Writing<Row>, Row, S: Alter>(
     ensures writes { Writes (state S.Store tx.old.conn.now) (state S.Store tx.new.conn.now) result
         (AreInTurn W.needs W.makes rows.now) (with_all W.makes rows.now) }
 {
-    let [first, more @ ..] = rows else {
+    if rows.len() == 0 {
         return Ok(());
-    };
-    W::write(tx, first)?;
-    write_all::<W, Row, S>(tx, more)
+    }
+    if rows.len() == 1 {
+        return W::write(tx, &rows[0]);
+    }
+    let (first, others) = rows.split_at(rows.len() / 2);
+    write_all::<W, Row, S>(tx, first)?;
+    write_all::<W, Row, S>(tx, others)
 }

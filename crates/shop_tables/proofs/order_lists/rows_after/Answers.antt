@@ -1,10 +1,15 @@
-use Rattle.std.proofs.Common.{[], ◌∷◌, pos, Ok}
+use Rattle.std.proofs.Common.{◌≡◌, [], ◌∷◌, pos, map, take, Some, Ok}
 use Rattle.sqlite.specs.Held.{state}
 use Rattle.sqlite_value.specs.declared.value.Value.TheVariants.{Int, Text}
 use Rattle.shop_tables.proofs.ListTexts.{orders_after_text, orders_after_selects}
-use Rattle.shop_tables.proofs.OrderRows.{lists_orders_after}
+use Rattle.shop_tables.proofs.OrderRows.{lists_orders_after, lists_orders_after_of}
 use Rattle.shop_tables.proofs.RowsAsShown.{gives, gives_none, orders_after_shown}
 use Rattle.shop_statements.proofs.Reading.{leaves_itself}
+use Rattle.shop_records.specs.Lists.{orders_after}
+use Rattle.shop_statements.specs.Earlier.{earlier_schema}
+use Rattle.shop_statements.specs.declared.faults.TableFault.{TableFault}
+use Rattle.shop_tables.specs.Listing.{code_row}
+use Rattle.shop_tables.proofs.EarlierRows.{earlier_orders_after_is, held_given_earlier}
 use Rattle.shop_tables.proofs.order_lists.rows_after.Goals as goal
 
 pub returns-in_err-limit-clause-gives : goal.returns-in_err-limit-clause-gives
@@ -19,3 +24,10 @@ returns-clause-gives g c =
     let new = state g.S.Store c.all_rows.new.conn in
     gives orders_after_text (Text c.args.after ∷ Int (pos c.args.most) ∷ []) old new _ _ (Ok c.in_ok-rows.rows) orders_after_selects c.all_rows.ensures.leaves (λ clean. rw (c.params-to_sql.ensures, c.params-to_sql-2.ensures, c.in_ok-limit.ensures, c.as_str.ensures.value) at (c.in_ok-rows.ensures.rows clean))
     (λ b has rows. lists_orders_after old new b has c.args.most c.args.after rows) (λ h rows. orders_after_shown old new h c.args.after c.args.most rows)
+
+pub returns-clause-earlier : goal.returns-clause-earlier
+returns-clause-earlier g c clean b was =
+    let old = state g.S.Store c.args.conn.now in
+    let new = state g.S.Store c.all_rows.new.conn in
+    held_given_earlier {E = TableFault} orders_after_text (Text c.args.after ∷ Int (pos c.args.most) ∷ []) old new orders_after_selects c.all_rows.ensures.leaves b (λ rows. rows ≡ map code_row (take c.args.most (orders_after b.content (Some c.args.after)))) (Ok c.in_ok-rows.rows) clean was
+    (λ rows has given. lists_orders_after_of old new earlier_schema has.schema _ b.content has.stands.orders c.args.most earlier_orders_after_is c.args.after rows given) (rw (c.params-to_sql.ensures, c.params-to_sql-2.ensures, c.in_ok-limit.ensures, c.as_str.ensures.value) at (c.in_ok-rows.ensures.rows clean))

@@ -1,11 +1,14 @@
-use Rattle.std.proofs.Common.{refl}
-use Rattle.shop_statements.proofs.Steps.{none_below}
-use Rattle.shop_tables.proofs.InTurn.{first_then, ran_writes, writes_nothing}
+use Rattle.std.proofs.Common.{◌/◌, length, arith}
+use Rattle.shop_tables.proofs.InTurn.{both_written, none_written, one_written, ran_writes}
 use Rattle.shop_tables.proofs.writing.+write_all.Goals as goal
 
-pub returns-in_default-clause-writes : goal.returns-in_default-clause-writes
-returns-in_default-clause-writes g t c = rw (none_below c.args.rows.now c.in_default.len_below) (writes_nothing (λ b. refl))
+pub returns-then-rows-eq0-clause-writes : goal.returns-then-rows-eq0-clause-writes
+returns-then-rows-eq0-clause-writes g t c = none_written g.W.Writing.needs g.W.Writing.makes c.args.rows.now (omega arith)
+
+pub returns-then-rows-eq1-clause-writes : goal.returns-then-rows-eq1-clause-writes
+returns-then-rows-eq1-clause-writes g t c =
+    one_written g.W.Writing.needs g.W.Writing.makes c.args.rows.now c.index-rows-0.result (omega arith) c.index-rows-0.is (ran_writes c.write.ensures.ran c.write.ensures.put c.write.ensures.others c.write.ensures.within)
 
 pub returns-clause-writes : goal.returns-clause-writes
 returns-clause-writes g t c =
-    first_then g.W.Writing.needs g.W.Writing.makes c.args.rows.now c.first-item.result c.in-len1-up.len_at_least c.first-item.is (ran_writes c.in_ok-write.ensures.ran c.in_ok-write.ensures.put c.in_ok-write.ensures.others c.write.ensures.within) c.write_all.ensures.writes
+    both_written g.W.Writing.needs g.W.Writing.makes (length c.args.rows.now / 2) c.args.rows.now c.split_at.result.0.now c.split_at.result.1.now c.split_at.ensures.front c.split_at.ensures.back c.in_ok-write_all.ensures.writes c.write_all-2.ensures.writes
