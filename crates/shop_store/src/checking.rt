@@ -1,23 +1,17 @@
 //! Whether the totals of tables are the sums of their parts.
 
-ghost use Rattle.std.specs.Prelude.{◌≡◌, ◌<◌, ◌^◌, ℕ, List, false, true, IfOk, IsTrue};
+ghost use Rattle.std.specs.Prelude.{◌≡◌, ◌<◌, ◌^◌, ℕ, List, IfOk, IsTrue};
 ghost use Rattle.std.specs.Bool.{Decides};
-ghost use Rattle.sqlite.specs.Held.{state};
 ghost use Rattle.cut_measure.specs.Codes.{code_cmp};
 ghost use Rattle.shop_records.specs.declared.records.Column.{Column as ColumnOf};
-ghost use Rattle.shop_tables.specs.Changing.{HasSums};
-ghost use Rattle.shop_statements.specs.Earlier.{OnBooksEarlier};
-ghost use Rattle.shop_statements.specs.Shown.{Leaves, OnBooks};
 ghost use Rattle.shop_rows.specs.Adding.{has_sums};
-ghost use Rattle.shop_store.specs.Checking.{AddsPart, AreNarrow, AreSumsIn, IsListOf, are_totals_for};
+ghost use Rattle.shop_store.specs.Checking.{AddsPart, AreNarrow, AreSumsIn, are_totals_for};
 ghost use Rattle.shop_rows.specs.Rows.{rise};
 ghost use Rattle.shop_rows.specs.Sums.{sum_at, sums_key, total_in};
 
 use crate::adders::PartAdder;
 use shop_records::{MaterialTotals, Part, PartVisitor, Totals};
 use shop_rows::{Sums, count_part, has_totals, no_sums, put};
-use shop_tables::{Lent, TableFault, lend_all_parts, list_earlier_totals, list_totals};
-use sqlite::{Alter, Connection};
 use std::alloc::{AllocError, Global};
 
 impl PartVisitor for PartAdder {
