@@ -90,7 +90,6 @@ key_text (key.Code code) = 32 ∷ code
 abbrev pub row_text : RowName → List ℕ
 row_text row = table_text row.table ++ key_text row.key
 
-
 -- of a shop file; after some stands a key, or what TOML wants
 abbrev pub shop_text : ShopCause → List ℕ
 shop_text shop.Long = codes "it is over 65536 bytes long"

@@ -1,11 +1,10 @@
 //! Causes, each with the words that tell it.
 
-ghost use Rattle.std.specs.Prelude.{◌≡◌, IfOk, string_bytes};
+ghost use Rattle.std.specs.Prelude.{◌≡◌, ◌∷◌, ◌++◌, IfOk, string_bytes};
 ghost use Rattle.shop_advice.specs.Causes as spec;
 
 use cut_measure::Code;
-use std::alloc::Global;
-use std::fmt::Error;
+use std::alloc::{AllocError, Global};
 
 /// Why a file can't be read.
 #[derive(Clone, Copy, Debug, PartialEq, Eq)]
@@ -301,20 +300,25 @@ impl StoreTable {
     }
 }
 
+// A table and a code.
+fn with_code(alloc: Global, table: &str, code: &Code) -> Result<String, AllocError>
+    ensures { IfOk result (λ text. string_bytes text ≡ table.now ++ 32 ∷ code.now) }
+{
+    let code = code.as_str();
+    format!(in alloc; "{table} {code}")
+}
+
 impl RowName {
     /// Its table, and behind a space its key, where that is one: a number, a part's name or a code.
-    pub fn text(self, alloc: Global) -> Result<String, Error>
-        ensures { IfOk result (λ text. string_bytes text ≡ spec.row_text self) }
+    pub fn text(&self, alloc: Global) -> Result<String, AllocError>
+        ensures { IfOk result (λ text. string_bytes text ≡ spec.row_text self.now) }
     {
         let table = self.table.text();
-        match self.key {
+        match &self.key {
             RowKey::Unknown => format!(in alloc; "{table}"),
             RowKey::Number(number) => format!(in alloc; "{table} {number}"),
             RowKey::Part(act, node) => format!(in alloc; "{table} {act}/{node}"),
-            RowKey::Code(code) => {
-                let code = code.as_str();
-                format!(in alloc; "{table} {code}")
-            }
+            RowKey::Code(code) => with_code(alloc, table, code),
         }
     }
 }

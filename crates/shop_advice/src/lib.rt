@@ -8,7 +8,8 @@ mod notes;
 mod shop_lines;
 
 pub use causes::{
-    BackupCause, FailureCause, FileCause, RowKey, RowName, ShopCause, StoreCause, StoreTable, VersionCause,
+    BackupCause, FailureCause, FileCause, RowKey, RowName, ShopCause, StoreCause, StoreTable,
+    VersionCause,
 };
 pub use looks::{backup_cause, is_disk_full, is_there, kind_cause, look_at_file, look_at_store};
 pub use notes::{answer_note, backup_note, no_backup_note, tells_failure};

@@ -414,7 +414,7 @@ fn port_advice(alloc: Global, request: &Request<'_>, cause: PortCause) -> Option
 fn version_advice(alloc: Global, name: &str, cause: VersionCause) -> Option<Advice>
     ensures { IfSome result (IsOf (kind.Version cause)) }
 {
-    if let VersionCause::Row(row) = cause {
+    if let VersionCause::Row(row) = &cause {
         let word = row.text(alloc).ok()?;
         return advice_of(alloc, name, Cause::Version(cause), word.as_str());
     }
