@@ -5,7 +5,7 @@ ghost use Rattle.cut_sheets.specs.Table.{IsTable, heights};
 ghost use Rattle.cut_fill_sheets.specs.Scaled.{AreTabled};
 
 use crate::lay::{Sides, want_sides};
-use cut_sheets::keep::keep;
+use cut_sheets::keep::{Kept, MOST_KEPT, keep};
 use cut_sheets::read::worth_at;
 use cut_sheets::sheet::{MOST_STEPS, Table, best_table};
 use cut_tree::Node;
@@ -14,9 +14,6 @@ use std::alloc::{AllocError, Global};
 
 /// The greatest worth of a want in a table.
 const MOST_TABLED: u32 = 1_073_741_824;
-
-/// So many pieces of a want are kept of a tree at most: no plan has more.
-const MOST_KEPT: u32 = 256;
 
 /// How sides become steps.
 #[derive(Clone, Copy, PartialEq, Eq)]
@@ -27,7 +24,8 @@ pub(crate) enum Rounding {
     Down,
 }
 
-/// What a rectangle's best tree is worth, how many pieces of each want it has, and it, with no more pieces than are left.
+/// What a rectangle's best tree is worth, how many pieces of each want it has, and the tree of its first pieces, with no
+/// more of a want than are left and no more than any plan has.
 #[derive(Drop)]
 pub(crate) struct Best {
     pub worth: u64,
@@ -139,8 +137,9 @@ fn best_tree(
     let w = room.0.min(across);
     let h = room.1.min(down);
     let mut counts = vec![in alloc; 0u32; wants.len()]?;
-    let tree = keep(alloc, wants, table, across + 1, w, h, &mut counts)?;
+    let kept = keep(alloc, wants, table, across + 1, w, h, &mut counts)?;
     let worth = worth_at(wants, table, across + 1, w, h);
+    let Kept { tree, is_whole: _ } = kept;
     Ok(Best {
         worth,
         counts,

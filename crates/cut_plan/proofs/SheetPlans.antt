@@ -8,6 +8,7 @@ use Rattle.std.proofs.lemmas.Bool.{ne_eqb}
 use Rattle.std.proofs.lemmas.Bool.Decides.{eqb_tells}
 use Rattle.std.proofs.lemmas.List.Elements.{All-contains}
 use Rattle.std.proofs.lemmas.List.Sums.{sum_by-cons}
+use Rattle.cut_tree.specs.declared.token.TheConstants.{MOST_CUTS}
 use Rattle.cut_sheets.specs.declared.sheet.TheConstants.{MOST_STEPS}
 use Rattle.cut_measure.specs.declared.sizes.Axis.TheVariants.{X, Y}
 use Rattle.cut_measure.specs.Measures.{Extent}
@@ -18,15 +19,18 @@ use Rattle.cut_wants.specs.Legal.{Legal, of_demand, worth_of, IsWithinCounts, Ha
 use Rattle.cut_sheets.specs.Rounded.{steps_down, want_up, wants_up, wants_down, is_exact}
 use Rattle.cut_wants.specs.Best.{IsBestOf}
 use Rattle.cut_bars.specs.Counts.{AreCounts, worth_of_counts}
-use Rattle.cut_sheets.specs.Kept.{KeepsLeaves, Places}
+use Rattle.cut_sheets.specs.Kept.{KeepsLeaves, IsKept, Places}
+use Rattle.cut_sheets.specs.Table.{HaveSides}
+use Rattle.cut_sheets.specs.declared.keep.Kept.{Kept}
+use Rattle.cut_sheets.proofs.PlacedLeaves.{kept_places, laid_out, leaf_count-le_cuts}
 use Rattle.cut_wants.proofs.LeafSums.{Contains-cases, Contains-head, Contains-tail, of_demand_found, weigh, weigh-count}
 use Rattle.cut_bars.proofs.BarCounts.{tree_counts, tree_total}
 use Rattle.cut_sheets.proofs.BestWorths.{in_get}
-use Rattle.cut_sheets.proofs.SheetSteps.{down_worth, leaf_sum-same, exact_wants}
+use Rattle.cut_sheets.proofs.SheetSteps.{down_worth, leaf_sum-same, exact_wants, steps_inside}
 use Rattle.cut_plan.specs.Proposals.{AreDemands, HasDemandNumber}
-use Rattle.cut_plan.specs.Sheets.{IsCutting, kept_counts, dropped_of, IsSheetPlan, IsCeiling}
+use Rattle.cut_plan.specs.Sheets.{IsCutting, IsFirstCutting, kept_counts, dropped_of, IsSheetPlan, IsCeiling, HasManyKept}
 
-pub cutting : (wants : List Want) (p q : ℕ) (old new : List ℕ) (kept : Tree) → KeepsLeaves wants p q old new kept → length new ≡ length wants → ((i : ℕ) → get_or old i 0 ≡ 0) → p ≤ MOST_STEPS → q ≤ MOST_STEPS
+cutting : (wants : List Want) (p q : ℕ) (old new : List ℕ) (kept : Tree) → KeepsLeaves wants p q old new kept → length new ≡ length wants → ((i : ℕ) → get_or old i 0 ≡ 0) → p ≤ MOST_STEPS → q ≤ MOST_STEPS
     → ((i : ℕ) → i < length new → get_or new i 0 ≤ get_or old i 0 + p * q) → IsCutting wants p q new kept
 cutting wants p q old new kept k len zeros pp qq grown = record {
   tree = k.leaves.tree;
@@ -38,6 +42,16 @@ cutting wants p q old new kept k len zeros pp qq grown = record {
   small = λ i lt. omega (arith, grown i lt, zeros i, mul-le p q MOST_STEPS MOST_STEPS pp qq);
   inside = k.inside;
   pruned = k.pruned;
+}
+
+-- the same of the first ones of those that are kept
+pub first_cutting : (wants : List Want) (p q : ℕ) (old new : List ℕ) (kept : Kept) → IsKept wants p q old new kept → length new ≡ length wants → ((i : ℕ) → get_or old i 0 ≡ 0)
+    → p ≤ MOST_STEPS → q ≤ MOST_STEPS → ((i : ℕ) → i < length new → get_or new i 0 ≤ get_or old i 0 + p * q) → IsFirstCutting wants p q new kept
+first_cutting wants p q old new kept k len zeros pp qq grown = record {
+  all = k.all;
+  cutting = cutting wants p q old new k.all k.keeps len zeros pp qq grown;
+  whole = k.whole;
+  more = λ e. (k.more e).0;
 }
 
 contains_get : (xs : List Want) (x : Want) → Contains xs x → (i : ℕ) × (slice_get xs i ≡ Some x)
@@ -185,6 +199,17 @@ laid size k s wants counts kept tree worth dropped own c p len is_worth is_dropp
     each x has =
         let i = contains_get wants x has in
         minimum i.0 x i.1 ∙ ap (λ n. min n x.left) (exact i.0 x i.1)
+
+-- what is laid out of more pieces than a plan has takes more cuts than it may have
+pub many_kept : (size : Extent) (k s : ℕ) (wants : List Want) (counts : List ℕ) (all : Tree) → HaveOwnDemands wants → HaveSides wants → 1 ≤ s
+    → IsCutting (wants_up k s wants) (steps_down k s size.w) (steps_down k s size.h) counts all → length counts ≡ length wants → MOST_CUTS + 1 < leaf_count all
+    → HasManyKept size k s wants
+many_kept size k s wants counts all own sides pos c len more =
+    let places = kept_places wants k s all _ _ size.w size.h pos sides c.inside c.pruned (steps_inside k s size.w) (steps_inside k s size.h) in
+    let out = laid_out wants k s all size.w size.h own sides c.pruned places in
+    let plan = laid size k s wants counts all out.0 _ _ own c out.1 len refl refl in
+    let many : MOST_CUTS < cut_count out.0 = omega (arith, leaf_count-le_cuts out.0, out.1.sums (λ _. 1), more) in
+    record { tree = out.0; worth = _; dropped = _; laid = plan; many = omega (arith, many, plan.few_cuts); many_cuts = many }
 
 pub zero_at : (xs : List ℕ) → All (λ a. a ≡ 0) xs → (i : ℕ) → get_or xs i 0 ≡ 0
 zero_at [] zeros i = refl

@@ -1,13 +1,15 @@
 -- Plans of a sheet, with a ceiling.
-use Rattle.std.specs.Prelude.{◌≡◌, ℕ, ◌+◌, ◌-◌, ◌*◌, ◌≤◌, ◌<◌, List, [], ◌∷◌, length, min, sum_by, slice_get, slice_index, Some, Contains}
+use Rattle.std.specs.Prelude.{◌≡◌, false, IsTrue, ℕ, ◌+◌, ◌-◌, ◌*◌, ◌≤◌, ◌<◌, List, [], ◌∷◌, length, min, sum_by, slice_get, slice_index, Some, Contains}
 use Rattle.cut_tree.specs.declared.token.TheConstants.{MOST_CUTS}
 use Rattle.cut_measure.specs.Measures.{Extent}
 use Rattle.cut_tree.specs.Tree.{Tree, CutsInto, count_of, cut_count}
+use Rattle.cut_tree.specs.Nodes.{tree_of}
 use Rattle.cut_wants.specs.declared.wants.Want.{Want}
-use Rattle.cut_wants.specs.Legal.{Legal, IsWithinCounts, worth_of}
+use Rattle.cut_wants.specs.Legal.{Legal, IsWithinCounts, worth_of, leaf_count}
 use Rattle.cut_wants.specs.Best.{IsBestOf}
 use Rattle.cut_sheets.specs.Rounded.{steps_down, wants_down, wants_up}
 use Rattle.cut_sheets.specs.Kept.{IsInside, IsPruned}
+use Rattle.cut_sheets.specs.declared.keep.Kept.{Kept}
 use Rattle.cut_plan.specs.declared.sheets.SheetProposal.{SheetProposal}
 
 -- a tree that is best for the sheet in steps, with sides rounded up
@@ -26,6 +28,13 @@ pub record IsCutting (wants : List Want) (p q : ℕ) (counts : List ℕ) (kept :
   pub small : (i : ℕ) → i < length counts → slice_index counts i ≤ 250000
   pub inside : CutsInto (IsInside wants) kept p q 0
   pub pruned : IsPruned kept
+
+-- The same where only the first ones of those that are kept are in the tree, if they are more than a plan has.
+pub record IsFirstCutting (wants : List Want) (p q : ℕ) (counts : List ℕ) (kept : Kept) : Type 0 where
+  pub all : Tree
+  pub cutting : IsCutting wants p q counts all
+  pub whole : IsTrue kept.is_whole → tree_of kept.tree ≡ all
+  pub more : kept.is_whole ≡ false → MOST_CUTS + 1 < leaf_count all
 
 -- of each count at most what is left
 abbrev pub kept_counts : List Want → List ℕ → List ℕ

@@ -5,7 +5,8 @@ ghost use Rattle.cut_measure.specs.declared.sizes.Kind.TheVariants.{Sheet};
 ghost use Rattle.cut_tree.specs.Tree.{cut_count};
 ghost use Rattle.cut_tree.specs.Nodes.{tree_of};
 ghost use Rattle.cut_wants.specs.Legal.{HaveOwnDemands};
-ghost use Rattle.cut_sheets.specs.Table.{HaveSidesAndBoundedWorths};
+ghost use Rattle.cut_sheets.specs.Rounded.{steps_down, wants_up};
+ghost use Rattle.cut_sheets.specs.Table.{HaveSides, HaveSidesAndBoundedWorths};
 ghost use Rattle.cut_wants.specs.Best.{IsBestOf};
 ghost use Rattle.cut_plan.specs.declared.faults.PlanFault.TheVariants.{NoMemory, TableTooLarge};
 ghost use Rattle.cut_plan.specs.Faults.{plan_fault};
@@ -16,7 +17,7 @@ use crate::faults::{PlanFault, first_fault};
 use cut_bars::bar::counted_worth;
 use cut_measure::{Kind, MOST_KERF, Size};
 use cut_sheets::bound::{all_up, ceiling_beside};
-use cut_sheets::keep::keep;
+use cut_sheets::keep::{Kept, keep};
 use cut_sheets::place::place;
 use cut_sheets::read::worth_at;
 use cut_sheets::sheet::{MOST_STEPS, best_table};
@@ -36,11 +37,11 @@ pub struct SheetProposal {
     pub ceiling: u64,
 }
 
-/// The counts of a best tree's leaves by want, the tree of those that are kept, and what the best tree is worth.
+/// The counts of a best tree's leaves by want, the first ones of those that are kept, and what the best tree is worth.
 #[derive(Drop)]
 pub struct Cutting {
     pub counts: Vec<u32>,
-    pub kept: Node,
+    pub kept: Kept,
     pub best: u64,
 }
 
@@ -65,7 +66,7 @@ fn kept_leaves(
     requires across { across ≤ MOST_STEPS }
     requires down { down ≤ MOST_STEPS }
     ensures kept { IfOk result
-        (λ c. spec.IsCutting wants.now across down c.counts.items (tree_of c.kept)) }
+        (λ c. spec.IsFirstCutting wants.now across down c.counts.items c.kept) }
     ensures best { IfOk result (λ c. IsBestOf wants.now 0 across down c.best) }
 {
     let table = best_table(alloc, wants, across, down)?;
@@ -100,26 +101,52 @@ fn dropped_of(wants: &[Want], counts: &[u32]) -> u32
     dropped
 }
 
-// The kept leaves of a best tree of the problem rounded up, on the sheet itself.
+// Which leaves of a best tree of the problem rounded up are kept.
+fn cut_up(
+    alloc: Global,
+    size: Size,
+    kerf: u32,
+    step: u32,
+    wants: &[Want],
+) -> Result<Cutting, AllocError>
+    requires kerf { kerf ≤ MOST_KERF }
+    requires faultless { plan_fault Sheet size kerf step wants.now ≡ None }
+    ensures sides { IfOk result (λ _. HaveSides wants.now) }
+    ensures kept { IfOk result (λ c. spec.IsFirstCutting (wants_up kerf step wants.now)
+        (steps_down kerf step size.w) (steps_down kerf step size.h) c.counts.items c.kept) }
+    ensures best { IfOk result (λ c. IsBestOf (wants_up kerf step wants.now) 0
+        (steps_down kerf step size.w) (steps_down kerf step size.h) c.best) }
+{
+    let scaled = all_up(alloc, wants, kerf, step)?;
+    let across = ((size.w() + kerf) / step) as usize;
+    let down = ((size.h() + kerf) / step) as usize;
+    let cutting = kept_leaves(alloc, &scaled, across, down)?;
+    Ok(cutting)
+}
+
+// The kept leaves on the sheet itself.
 fn lay_out(
     alloc: Global,
     size: Size,
     kerf: u32,
     step: u32,
     wants: &[Want],
+    cutting: Cutting,
 ) -> Result<Laid, AllocError>
     requires kerf { kerf ≤ MOST_KERF }
     requires faultless { plan_fault Sheet size kerf step wants.now ≡ None }
+    requires sides { HaveSides wants.now }
+    requires kept { spec.IsCutting (wants_up kerf step wants.now) (steps_down kerf step size.w)
+        (steps_down kerf step size.h) cutting.counts.items (tree_of cutting.kept.tree) }
+    requires best { IsBestOf (wants_up kerf step wants.now) 0 (steps_down kerf step size.w)
+        (steps_down kerf step size.h) cutting.best }
     ensures laid { IfOk result
         (λ l. spec.IsSheetPlan size kerf step wants.now (tree_of l.root) l.worth l.dropped) }
     ensures few { IfOk result (λ l. cut_count (tree_of l.root) < 2 ^ 32) }
     ensures ceiling { IfOk result (λ l. spec.IsCeiling size kerf step wants.now l.ceiling) }
 {
-    let scaled = all_up(alloc, wants, kerf, step)?;
-    let across = ((size.w() + kerf) / step) as usize;
-    let down = ((size.h() + kerf) / step) as usize;
-    let cutting = kept_leaves(alloc, &scaled, across, down)?;
-    let root = place(alloc, wants, &cutting.kept, size.w(), size.h(), kerf, step)?;
+    let tree = &cutting.kept.tree;
+    let root = place(alloc, wants, tree, size.w(), size.h(), kerf, step)?;
     let kept = kept_counts(alloc, wants, &cutting.counts)?;
     let worth = counted_worth(wants, &kept);
     let dropped = dropped_of(wants, &cutting.counts);
@@ -182,7 +209,13 @@ fn faultless_sheet(
         (λ fault. (fault ≡ NoMemory)
         ⊎ ((fault ≡ TableTooLarge) × spec.HasManyKept size kerf step wants.now)) }
 {
-    match lay_out(alloc, size, kerf, step, wants) {
+    let Ok(cutting) = cut_up(alloc, size, kerf, step, wants) else {
+        return Err(PlanFault::NoMemory);
+    };
+    if !cutting.kept.is_whole {
+        return Err(PlanFault::TableTooLarge);
+    }
+    match lay_out(alloc, size, kerf, step, wants, cutting) {
         Ok(laid) => proposal_of(alloc, size, kerf, step, wants, laid),
         Err(_) => Err(PlanFault::NoMemory),
     }

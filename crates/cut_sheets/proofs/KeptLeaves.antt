@@ -1,15 +1,19 @@
 -- The leaves that are kept of a best tree, joined.
-use Rattle.std.proofs.Common.{◌≡◌, ℕ, ◌+◌, ◌-◌, ◌<◌, ◌≤◌, ◌⊎◌, Bool, true, false, List, length, get_or, sym, refl, ap, ◌∙◌, subst, inl, inr, arith, Some, cond, eqb}
+use Rattle.std.proofs.Common.{◌≡◌, ℕ, ◌+◌, ◌-◌, ◌<◌, ◌≤◌, ◌⊎◌, Bool, true, false, List, [], ◌∷◌, ◌++◌, length, get_or, min, sym, refl, ap, ◌∙◌, subst, inl, inr, arith, Some, cond, eqb}
 use Rattle.std.specs.Prelude.{slice_get, slice_set}
+use Rattle.std.proofs.lemmas.Bool.{cases_lt}
 use Rattle.std.proofs.lemmas.Bool.Decides.{eqb_tells}
 use Rattle.cut_measure.specs.declared.sizes.Axis.{Axis}
 use Rattle.cut_measure.specs.declared.sizes.Axis.TheVariants.{X, Y}
 use Rattle.cut_tree.specs.Tree.{Tree, Rest, Piece, Trim, Cut, CutsInto, leaf_sum}
 use Rattle.cut_wants.specs.declared.wants.Want.{Want}
-use Rattle.cut_wants.specs.Legal.{HasSides, HaveOwnDemands}
+use Rattle.cut_tree.specs.Nodes.{tree_of}
+use Rattle.cut_wants.specs.Legal.{HasSides, HaveOwnDemands, leaf_count}
 use Rattle.cut_wants.specs.Best.{IsBestOf}
 use Rattle.cut_sheets.specs.Table.{CountsLeaves, IsPieceAt, IsCutX, IsCutY}
-use Rattle.cut_sheets.specs.Kept.{FitsInto, IsInside, IsPruned, joined, KeepsLeaves}
+use Rattle.cut_sheets.specs.declared.keep.TheConstants.{MOST_KEPT}
+use Rattle.cut_sheets.specs.declared.keep.Part.{Part}
+use Rattle.cut_sheets.specs.Kept.{FitsInto, IsInside, IsPruned, joined, rejoined, KeepsLeaves, KeepsPiece, KeepsFirst}
 use Rattle.cut_sheets.proofs.BestWorths.{contains_get, own_at, leaves_none, leaves_piece, leaves_x, leaves_y, counts_one}
 
 pub wider_inside : (wants : List Want) (t : Tree) (w h w' h' : ℕ) → CutsInto (IsInside wants) t w h 0 → w ≤ w' → h ≤ h' → CutsInto (IsInside wants) t w' h' 0
@@ -71,7 +75,7 @@ joined_inside wants axis a (Cut x p t t') (Piece e r) w h w1 h1 w2 h2 a1 b1 a2 b
 joined_inside wants axis a (Cut x p t t') (Trim y q u) w h w1 h1 w2 h2 a1 b1 a2 b2 l m c = c
 joined_inside wants axis a (Cut x p t t') (Cut y q u v) w h w1 h1 w2 h2 a1 b1 a2 b2 l m c = c
 
-pub keeps_none : (wants : List Want) (w h best : ℕ) (old : List ℕ) → IsBestOf wants 0 w h best → best ≡ 0 → KeepsLeaves wants w h old old Rest
+keeps_none : (wants : List Want) (w h best : ℕ) (old : List ℕ) → IsBestOf wants 0 w h best → best ≡ 0 → KeepsLeaves wants w h old old Rest
 keeps_none wants w h best old b z = record { leaves = leaves_none wants w h best old b z; few = λ i x has. omega arith; inside = tt; pruned = tt }
 
 keeps_joined : (wants : List Want) (axis : Axis) (a w h w1 h1 w2 h2 : ℕ) (old mid new : List ℕ) (t u : Tree) → w1 ≤ w → h1 ≤ h → w2 ≤ w → h2 ≤ h
@@ -84,7 +88,7 @@ keeps_joined wants axis a w h w1 h1 w2 h2 old mid new t u a1 b1 a2 b2 leaves p q
   pruned = joined_pruned axis a t u p.pruned q.pruned;
 }
 
-pub keeps_x : (wants : List Want) (w h best a : ℕ) (old mid new : List ℕ) (t u : Tree) → IsBestOf wants 0 w h best → IsCutX wants w h best a
+keeps_x : (wants : List Want) (w h best a : ℕ) (old mid new : List ℕ) (t u : Tree) → IsBestOf wants 0 w h best → IsCutX wants w h best a
     → KeepsLeaves wants a h old mid t → KeepsLeaves wants (w - a) h mid new u → KeepsLeaves wants w h old new (joined X a t u)
 keeps_x wants w h best a old mid new t u b c p q =
     let there : w - a ≡ w - a - 0 = omega arith in
@@ -92,7 +96,7 @@ keeps_x wants w h best a old mid new t u b c p q =
     (leaves_x wants w h best a old mid new b c p.leaves q.leaves) p q
     (c.some, omega (arith, c.inside), p.inside, subst (λ m. CutsInto (IsInside wants) u m h 0) there q.inside)
 
-pub keeps_y : (wants : List Want) (w h best a : ℕ) (old mid new : List ℕ) (t u : Tree) → IsBestOf wants 0 w h best → IsCutY wants w h best a
+keeps_y : (wants : List Want) (w h best a : ℕ) (old mid new : List ℕ) (t u : Tree) → IsBestOf wants 0 w h best → IsCutY wants w h best a
     → KeepsLeaves wants w a old mid t → KeepsLeaves wants w (h - a) mid new u → KeepsLeaves wants w h old new (joined Y a t u)
 keeps_y wants w h best a old mid new t u b c p q =
     let there : h - a ≡ h - a - 0 = omega arith in
@@ -105,7 +109,7 @@ room_of_sides x false w h s = (omega (arith, s.0), omega (arith, s.1))
 room_of_sides x true w h s = (s.0, omega (arith, s.1), omega (arith, s.2))
 
 -- a leaf that is kept, or not
-pub keeps_piece : (wants : List Want) (w h best i : ℕ) (turned : Bool) (old : List ℕ) (kept : Tree) → HaveOwnDemands wants → length old ≡ length wants → IsBestOf wants 0 w h best
+keeps_piece : (wants : List Want) (w h best i : ℕ) (turned : Bool) (old : List ℕ) (kept : Tree) → HaveOwnDemands wants → length old ≡ length wants → IsBestOf wants 0 w h best
     → (p : IsPieceAt wants w h best i turned)
     → ((get_or old i 0 < p.want.left) × (kept ≡ Piece p.want.demand turned)) ⊎ ((p.want.left ≤ get_or old i 0) × (kept ≡ Rest))
     → KeepsLeaves wants w h old (slice_set old i (get_or old i 0 + 1)) kept
@@ -148,3 +152,107 @@ keeps_piece wants w h best i turned old kept own len b p way =
 
     same_want : (j : ℕ) (y : Want) → slice_get wants j ≡ Some y → j ≡ i → y ≡ p.want
     same_want j y hj e = let q : Some y ≡ Some p.want = sym hj ∙ ap (slice_get wants) e ∙ p.here in cc
+
+-- ---- the first ones of those that are kept
+
+joined_same : (axis : Axis) (a : ℕ) (t t' u u' : Tree) → t ≡ t' → u ≡ u' → joined axis a t u ≡ joined axis a t' u'
+joined_same axis a t t' u u' p q = ap (λ v. joined axis a v u) p ∙ ap (λ v. joined axis a t' v) q
+
+pub first_none : (wants : List Want) (w h best n : ℕ) (old : List ℕ) → IsBestOf wants 0 w h best → best ≡ 0 → KeepsFirst wants w h old old n n Rest
+first_none wants w h best n old b z = record {
+  all = Rest;
+  keeps = keeps_none wants w h best old b z;
+  counted = omega arith;
+  whole = λ _. refl;
+  few = omega arith;
+  pruned = tt;
+}
+
+-- a piece that is one of the first, or not
+first_leaf : (d : ℕ) (r : Bool) (n m : ℕ) (t : Tree) → KeepsPiece d r n m t → (leaf_count t + min n MOST_KEPT ≡ min m MOST_KEPT) × IsPruned t
+first_leaf d r n m t k =
+    elim (cases_lt n MOST_KEPT) [
+      | inl lt ↦ subst (λ v. (leaf_count v + min n MOST_KEPT ≡ min m MOST_KEPT) × IsPruned v) (sym (k.first lt)) (omega (arith, lt, k.counted), tt)
+      | inr ge ↦ subst (λ v. (leaf_count v + min n MOST_KEPT ≡ min m MOST_KEPT) × IsPruned v) (sym (k.past ge)) (omega (arith, ge, k.counted), tt)
+    ]
+
+pub first_piece : (wants : List Want) (w h best i : ℕ) (turned : Bool) (old : List ℕ) (n m : ℕ) (tree : Tree) → HaveOwnDemands wants → length old ≡ length wants → IsBestOf wants 0 w h best
+    → (p : IsPieceAt wants w h best i turned)
+    → ((get_or old i 0 < p.want.left) × KeepsPiece p.want.demand turned n m tree) ⊎ ((p.want.left ≤ get_or old i 0) × (m ≡ n) × (tree ≡ Rest))
+    → KeepsFirst wants w h old (slice_set old i (get_or old i 0 + 1)) n m tree
+first_piece wants w h best i turned old n m tree own len b p way =
+    elim way [
+      | inl k ↦
+          let leaf = first_leaf p.want.demand turned n m tree k.1 in
+          record {
+            all = Piece p.want.demand turned;
+            keeps = keeps_piece wants w h best i turned old (Piece p.want.demand turned) own len b p (inl (k.0, refl));
+            counted = omega (arith, k.1.counted);
+            whole = λ le. k.1.first (omega (arith, le, k.1.counted));
+            few = leaf.0;
+            pruned = leaf.1;
+          }
+      | inr k ↦ record {
+        all = Rest;
+        keeps = keeps_piece wants w h best i turned old Rest own len b p (inr (k.0, refl));
+        counted = omega (arith, k.1);
+        whole = λ le. k.2;
+        few = subst (λ v. leaf_count v + min n MOST_KEPT ≡ min m MOST_KEPT) (sym k.2) (omega (arith, k.1));
+        pruned = subst IsPruned (sym k.2) tt;
+      }
+    ]
+
+pub first_x : (wants : List Want) (w h best a : ℕ) (old mid new : List ℕ) (n m o : ℕ) (t u : Tree) → IsBestOf wants 0 w h best → IsCutX wants w h best a
+    → KeepsFirst wants a h old mid n m t → KeepsFirst wants (w - a) h mid new m o u → KeepsFirst wants w h old new n o (joined X a t u)
+first_x wants w h best a old mid new n m o t u b c p q = record {
+  all = joined X a p.all q.all;
+  keeps = keeps_x wants w h best a old mid new p.all q.all b c p.keeps q.keeps;
+  counted = omega (arith, p.counted, q.counted, joined_sum (λ _. 1) X a p.all q.all);
+  whole = λ le. joined_same X a t p.all u q.all (p.whole (omega (arith, le, p.counted, q.counted))) (q.whole le);
+  few = omega (arith, p.few, q.few, joined_sum (λ _. 1) X a t u);
+  pruned = joined_pruned X a t u p.pruned q.pruned;
+}
+
+pub first_y : (wants : List Want) (w h best a : ℕ) (old mid new : List ℕ) (n m o : ℕ) (t u : Tree) → IsBestOf wants 0 w h best → IsCutY wants w h best a
+    → KeepsFirst wants w a old mid n m t → KeepsFirst wants w (h - a) mid new m o u → KeepsFirst wants w h old new n o (joined Y a t u)
+first_y wants w h best a old mid new n m o t u b c p q = record {
+  all = joined Y a p.all q.all;
+  keeps = keeps_y wants w h best a old mid new p.all q.all b c p.keeps q.keeps;
+  counted = omega (arith, p.counted, q.counted, joined_sum (λ _. 1) Y a p.all q.all);
+  whole = λ le. joined_same Y a t p.all u q.all (p.whole (omega (arith, le, p.counted, q.counted))) (q.whole le);
+  few = omega (arith, p.few, q.few, joined_sum (λ _. 1) Y a t u);
+  pruned = joined_pruned Y a t u p.pruned q.pruned;
+}
+
+-- ---- parts of cuts, whose second parts are to come
+
+pub rejoined_push : (parts : List Part) (p : Part) (t : Tree) → rejoined (parts ++ (p ∷ [])) t ≡ rejoined parts (joined p.axis p.place (tree_of p.first) t)
+rejoined_push [] p t = refl
+rejoined_push (q ∷ parts) p t = ap (joined q.axis q.place (tree_of q.first)) (rejoined_push parts p t)
+
+-- what the rectangle that is left gives is, with the parts before it, what the whole gives
+pub record LeadsTo (wants : List Want) (w h : ℕ) (old : List ℕ) (n p q : ℕ) (mid : List ℕ) (m : ℕ) (parts : List Part) : Type 0 where
+  pub whole : (new : List ℕ) (o : ℕ) (t : Tree) → KeepsFirst wants p q mid new m o t → KeepsFirst wants w h old new n o (rejoined parts t)
+
+pub leads_first : (wants : List Want) (w h : ℕ) (old : List ℕ) (n : ℕ) → LeadsTo wants w h old n w h old n []
+leads_first wants w h old n = record { whole = λ new o t k. k }
+
+pub leads_x : (wants : List Want) (w h : ℕ) (old : List ℕ) (n p q : ℕ) (mid : List ℕ) (m : ℕ) (parts : List Part) (best a : ℕ) (after : List ℕ) (o : ℕ) (part : Part)
+    → LeadsTo wants w h old n p q mid m parts → IsBestOf wants 0 p q best → IsCutX wants p q best a → part.axis ≡ X → part.place ≡ a
+    → KeepsFirst wants a q mid after m o (tree_of part.first) → LeadsTo wants w h old n (p - a) q after o (parts ++ (part ∷ []))
+leads_x wants w h old n p q mid m parts best a after o part l b c axis place k = record {
+  whole = λ new r t s.
+      subst (KeepsFirst wants w h old new n r)
+      (ap (λ x. rejoined parts (joined x a (tree_of part.first) t)) (sym axis) ∙ ap (λ x. rejoined parts (joined part.axis x (tree_of part.first) t)) (sym place) ∙ sym (rejoined_push parts part t))
+      (l.whole new r (joined X a (tree_of part.first) t) (first_x wants p q best a mid after new m o r (tree_of part.first) t b c k s));
+}
+
+pub leads_y : (wants : List Want) (w h : ℕ) (old : List ℕ) (n p q : ℕ) (mid : List ℕ) (m : ℕ) (parts : List Part) (best a : ℕ) (after : List ℕ) (o : ℕ) (part : Part)
+    → LeadsTo wants w h old n p q mid m parts → IsBestOf wants 0 p q best → IsCutY wants p q best a → part.axis ≡ Y → part.place ≡ a
+    → KeepsFirst wants p a mid after m o (tree_of part.first) → LeadsTo wants w h old n p (q - a) after o (parts ++ (part ∷ []))
+leads_y wants w h old n p q mid m parts best a after o part l b c axis place k = record {
+  whole = λ new r t s.
+      subst (KeepsFirst wants w h old new n r)
+      (ap (λ x. rejoined parts (joined x a (tree_of part.first) t)) (sym axis) ∙ ap (λ x. rejoined parts (joined part.axis x (tree_of part.first) t)) (sym place) ∙ sym (rejoined_push parts part t))
+      (l.whole new r (joined Y a (tree_of part.first) t) (first_y wants p q best a mid after new m o r (tree_of part.first) t b c k s));
+}

@@ -188,3 +188,36 @@ places_y wants k s a w h t u t' u' ft fu low high p q =
       sums = λ f. omega (arith, p.sums f, q.sums f);
       few_cuts = omega (arith, p.few_cuts, q.few_cuts, full_leaves t ft, full_leaves u fu);
     }
+
+full_pruned : (t : Tree) → IsFull t → IsPruned t
+full_pruned Rest full = tt
+full_pruned (Piece d b) full = tt
+full_pruned (Trim x a t) full = absurd full
+full_pruned (Cut x a t u) full = full
+
+-- a kept tree that has places is laid out as some tree
+pub laid_out : (wants : List Want) (k s : ℕ) (t : Tree) (w h : ℕ) → HaveOwnDemands wants → HaveSides wants → IsPruned t → HasPlaces wants k s t w h
+    → (placed : Tree) × Places wants k t w h placed
+laid_out wants k s Rest w h own sides pruned places = (Rest, record { legal = tt; sums = λ f. refl; few_cuts = omega arith })
+laid_out wants k s (Piece d false) w h own sides pruned places =
+    let one = sides places.0 places.1 in
+    (_, corner_upright wants k d w h places.0.size own places (places.0, places.1, places.2, refl) one.0 one.1)
+laid_out wants k s (Piece d true) w h own sides pruned places =
+    let one = sides places.0 places.1 in
+    (_, corner_turned wants k d w h places.0.size own places (places.0, places.1, places.2, refl) one.0 one.1)
+laid_out wants k s (Trim x a t) w h own sides pruned places = absurd pruned
+laid_out wants k s (Cut X a t u) w h own sides pruned places =
+    let first = laid_out wants k s t (a * s - k) h own sides (full_pruned t pruned.0) places.2 in
+    let second = laid_out wants k s u (w - a * s) h own sides (full_pruned u pruned.1) places.3 in
+    (Cut X (a * s - k) first.0 second.0, places_x wants k s a w h t u first.0 second.0 pruned.0 pruned.1 places.0 places.1 first.1 second.1)
+laid_out wants k s (Cut Y a t u) w h own sides pruned places =
+    let first = laid_out wants k s t w (a * s - k) own sides (full_pruned t pruned.0) places.2 in
+    let second = laid_out wants k s u w (h - a * s) own sides (full_pruned u pruned.1) places.3 in
+    (Cut Y (a * s - k) first.0 second.0, places_y wants k s a w h t u first.0 second.0 pruned.0 pruned.1 places.0 places.1 first.1 second.1)
+
+-- each piece but one has a cut
+pub leaf_count-le_cuts : (t : Tree) → leaf_count t ≤ cut_count t + 1
+leaf_count-le_cuts Rest = omega arith
+leaf_count-le_cuts (Piece d b) = omega arith
+leaf_count-le_cuts (Trim x a t) = omega (arith, leaf_count-le_cuts t)
+leaf_count-le_cuts (Cut x a t u) = omega (arith, leaf_count-le_cuts t, leaf_count-le_cuts u)

@@ -1,11 +1,15 @@
 -- What is kept of a best tree of a sheet in steps, and how it is laid out on the sheet itself.
-use Rattle.std.specs.Prelude.{◌≡◌, ℕ, ◌+◌, ◌-◌, ◌*◌, ◌<◌, ◌≤◌, Bool, true, false, IsTrue, List, Contains, Some, slice_get, slice_index, min, ◌==◌, nat_lt, if◌then◌else◌}
+use Rattle.std.specs.Prelude.{◌≡◌, ℕ, ◌+◌, ◌-◌, ◌*◌, ◌^◌, ◌<◌, ◌≤◌, Bool, true, false, IsTrue, List, [], ◌∷◌, Contains, Some, slice_get, slice_index, min, ◌==◌, nat_lt, if◌then◌else◌}
 use Rattle.cut_measure.specs.declared.sizes.Axis.{Axis}
 use Rattle.cut_measure.specs.declared.sizes.Axis.TheVariants.{X, Y}
 use Rattle.cut_tree.specs.Tree.{Tree, Rest, Piece, Trim, Cut, CutsInto, leaf_sum, count_of, cut_count}
 use Rattle.cut_wants.specs.declared.wants.Want.{Want}
 use Rattle.cut_wants.specs.Legal.{Legal, leaf_count}
+use Rattle.cut_tree.specs.Nodes.{tree_of}
 use Rattle.cut_sheets.specs.Table.{CountsLeaves}
+use Rattle.cut_sheets.specs.declared.keep.TheConstants.{MOST_KEPT}
+use Rattle.cut_sheets.specs.declared.keep.Kept.{Kept}
+use Rattle.cut_sheets.specs.declared.keep.Part.{Part}
 
 -- the want has room in these sides, turned where it may be
 abbrev pub FitsInto : Want → Bool → ℕ → ℕ → Type 0
@@ -46,6 +50,36 @@ pub record KeepsLeaves (wants : List Want) (w h : ℕ) (old new : List ℕ) (kep
       count_of kept x.demand + min (slice_index old i) x.left ≡ min (slice_index new i) x.left
   pub inside : CutsInto (IsInside wants) kept w h 0
   pub pruned : IsPruned kept
+
+-- the first parts of cuts, each of which has for its second part what comes after it
+abbrev pub rejoined : List Part → Tree → Tree
+rejoined [] t = t
+rejoined (p ∷ parts) t = joined p.axis p.place (tree_of p.first) (rejoined parts t)
+
+-- a piece that is kept after so many others stands in the tree as one of the first ones, or not; they are counted
+pub record KeepsPiece (demand : ℕ) (turned : Bool) (before after : ℕ) (tree : Tree) : Type 0 where
+  pub counted : after ≡ min (before + 1) (2 ^ 32 - 1)
+  pub first : before < MOST_KEPT → tree ≡ Piece demand turned
+  pub past : MOST_KEPT ≤ before → tree ≡ Rest
+
+-- Leaves are kept after so many others, and counted as far as a tree may have them. The first ones of them are joined to a
+-- tree, as many as there may be beside those before.
+pub record KeepsFirst (wants : List Want) (w h : ℕ) (old new : List ℕ) (before after : ℕ) (tree : Tree) : Type 0 where
+  pub all : Tree
+  pub keeps : KeepsLeaves wants w h old new all
+  pub counted : min after (MOST_KEPT + 1) ≡ min (before + leaf_count all) (MOST_KEPT + 1)
+  pub whole : after ≤ MOST_KEPT → tree ≡ all
+  pub few : leaf_count tree + min before MOST_KEPT ≡ min after MOST_KEPT
+  pub pruned : IsPruned tree
+
+-- the tree of all that are kept, or of the first ones where they are more than a plan has
+pub record IsKept (wants : List Want) (w h : ℕ) (old new : List ℕ) (kept : Kept) : Type 0 where
+  pub all : Tree
+  pub keeps : KeepsLeaves wants w h old new all
+  pub whole : IsTrue kept.is_whole → tree_of kept.tree ≡ all
+  pub more : kept.is_whole ≡ false → (MOST_KEPT < leaf_count all) × (leaf_count (tree_of kept.tree) ≡ MOST_KEPT)
+  pub pruned : IsPruned (tree_of kept.tree)
+  pub few : leaf_count (tree_of kept.tree) ≤ MOST_KEPT
 
 -- the kept tree has places on a sheet of these sides, its cuts being counted in steps
 abbrev pub HasPlaces : List Want → (kerf step : ℕ) → Tree → (w h : ℕ) → Type 0

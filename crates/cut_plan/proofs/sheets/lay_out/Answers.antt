@@ -1,6 +1,6 @@
 use Rattle.std.proofs.Common.{◌≡◌, length, arith, ◌∙◌}
 use Rattle.cut_measure.specs.declared.sizes.Kind.TheVariants.{Sheet}
-use Rattle.cut_sheets.proofs.SheetSteps.{up_own, up_small, steps_inside}
+use Rattle.cut_sheets.proofs.SheetSteps.{steps_inside}
 use Rattle.cut_sheets.proofs.PlacedLeaves.{kept_places}
 use Rattle.cut_plan.proofs.Faultless as sound
 use Rattle.std.proofs.lemmas.List.{length-map}
@@ -8,24 +8,6 @@ use Rattle.cut_sheets.specs.Rounded.{want_up}
 use Rattle.cut_plan.specs.Sheets.{kept_counts}
 use Rattle.cut_plan.proofs.SheetPlans.{laid, few_laid, kept_left, dropped_small}
 use Rattle.cut_plan.proofs.sheets.lay_out.Goals as goal
-
-pub all_up-requires-clause-step : goal.all_up-requires-clause-step
-all_up-requires-clause-step c =
-    let f = sound.faultless Sheet c.args.size c.args.kerf c.args.step c.args.wants.now c.requires.faultless in
-    sound.is_step c.args.kerf c.args.step c.args.wants.now f.stepped
-
-pub kept_leaves-requires-clause-own : goal.kept_leaves-requires-clause-own
-kept_leaves-requires-clause-own c =
-    let f = sound.faultless Sheet c.args.size c.args.kerf c.args.step c.args.wants.now c.requires.faultless in
-    rw (c.deref.ensures.value, c.in_ok-scaled.ensures.value) (up_own c.args.kerf c.args.step c.args.wants.now (sound.own _ Sheet c.args.wants.now f.in_range))
-
-pub kept_leaves-requires-clause-small : goal.kept_leaves-requires-clause-small
-kept_leaves-requires-clause-small c =
-    let f = sound.faultless Sheet c.args.size c.args.kerf c.args.step c.args.wants.now c.requires.faultless in
-    rw (c.deref.ensures.value, c.in_ok-scaled.ensures.value) (
-    up_small c.args.kerf c.args.step c.args.wants.now (sound.is_step c.args.kerf c.args.step c.args.wants.now f.stepped).some c.in_ok-scaled.ensures.sides
-    (sound.worthy _ Sheet c.args.wants.now f.in_range)
-    )
 
 pub place-requires-clause-own : goal.place-requires-clause-own
 place-requires-clause-own c =
@@ -35,57 +17,57 @@ place-requires-clause-own c =
 pub place-requires-clause-places : goal.place-requires-clause-places
 place-requires-clause-places c =
     let f = sound.faultless Sheet c.args.size c.args.kerf c.args.step c.args.wants.now c.requires.faultless in
-    let cut = rw (c.deref.ensures.value, c.in_ok-scaled.ensures.value, c.w.ensures.value, c.h.ensures.value) at c.in_ok-cutting.ensures.kept in
-    rw (c.w-2.ensures.value, c.h-2.ensures.value) (
+    let cut = c.requires.kept in
+    rw (c.w.ensures.value, c.h.ensures.value) (
     kept_places c.args.wants.now c.args.kerf c.args.step _ _ _ c.args.size.w c.args.size.h (sound.is_step c.args.kerf c.args.step c.args.wants.now f.stepped).some
-    c.in_ok-scaled.ensures.sides cut.inside cut.pruned (steps_inside c.args.kerf c.args.step c.args.size.w) (steps_inside c.args.kerf c.args.step c.args.size.h)
+    c.requires.sides cut.inside cut.pruned (steps_inside c.args.kerf c.args.step c.args.size.w) (steps_inside c.args.kerf c.args.step c.args.size.h)
     )
 
 pub counted_worth-worth-requires-clause-len : goal.counted_worth-worth-requires-clause-len
 counted_worth-worth-requires-clause-len c =
     let f = sound.faultless Sheet c.args.size c.args.kerf c.args.step c.args.wants.now c.requires.faultless in
-    let cut = rw (c.deref.ensures.value, c.in_ok-scaled.ensures.value, c.w.ensures.value, c.h.ensures.value) at c.in_ok-cutting.ensures.kept in
-    let len : length c.in_ok-cutting.cutting.counts.items ≡ length c.args.wants.now = cut.len ∙ length-map c.args.wants.now (want_up c.args.kerf c.args.step) in
-    rw (c.deref-3.ensures.value, c.in_ok-kept.ensures, c.deref-2.ensures.value) (
-    sound.counts_length c.args.wants.now (kept_counts c.args.wants.now c.in_ok-cutting.cutting.counts.items) (kept_left c.args.wants.now c.in_ok-cutting.cutting.counts.items len)
+    let cut = c.requires.kept in
+    let len : length c.args.cutting.counts.items ≡ length c.args.wants.now = cut.len ∙ length-map c.args.wants.now (want_up c.args.kerf c.args.step) in
+    rw (c.deref-2.ensures.value, c.in_ok-kept.ensures, c.deref.ensures.value) (
+    sound.counts_length c.args.wants.now (kept_counts c.args.wants.now c.args.cutting.counts.items) (kept_left c.args.wants.now c.args.cutting.counts.items len)
     )
 
 pub counted_worth-worth-requires-clause-small : goal.counted_worth-worth-requires-clause-small
 counted_worth-worth-requires-clause-small c =
     let f = sound.faultless Sheet c.args.size c.args.kerf c.args.step c.args.wants.now c.requires.faultless in
-    let cut = rw (c.deref.ensures.value, c.in_ok-scaled.ensures.value, c.w.ensures.value, c.h.ensures.value) at c.in_ok-cutting.ensures.kept in
-    let len : length c.in_ok-cutting.cutting.counts.items ≡ length c.args.wants.now = cut.len ∙ length-map c.args.wants.now (want_up c.args.kerf c.args.step) in
-    let left = kept_left c.args.wants.now c.in_ok-cutting.cutting.counts.items len in
-    rw (c.deref-3.ensures.value, c.in_ok-kept.ensures, c.deref-2.ensures.value) (omega (
+    let cut = c.requires.kept in
+    let len : length c.args.cutting.counts.items ≡ length c.args.wants.now = cut.len ∙ length-map c.args.wants.now (want_up c.args.kerf c.args.step) in
+    let left = kept_left c.args.wants.now c.args.cutting.counts.items len in
+    rw (c.deref-2.ensures.value, c.in_ok-kept.ensures, c.deref.ensures.value) (omega (
       arith,
-      sound.value_left c.args.wants.now (kept_counts c.args.wants.now c.in_ok-cutting.cutting.counts.items) left,
+      sound.value_left c.args.wants.now (kept_counts c.args.wants.now c.args.cutting.counts.items) left,
       sound.left_fits Sheet c.args.wants.now f.in_range,
     ))
 
 pub dropped_of-dropped-requires-clause-small : goal.dropped_of-dropped-requires-clause-small
 dropped_of-dropped-requires-clause-small c =
     let f = sound.faultless Sheet c.args.size c.args.kerf c.args.step c.args.wants.now c.requires.faultless in
-    let cut = rw (c.deref.ensures.value, c.in_ok-scaled.ensures.value, c.w.ensures.value, c.h.ensures.value) at c.in_ok-cutting.ensures.kept in
-    rw c.deref-4.ensures.value (omega (arith, dropped_small c.args.wants.now c.in_ok-cutting.cutting.counts.items cut.small, sound.few _ Sheet c.args.wants.now f.in_range))
+    let cut = c.requires.kept in
+    rw c.deref-3.ensures.value (omega (arith, dropped_small c.args.wants.now c.args.cutting.counts.items cut.small, sound.few _ Sheet c.args.wants.now f.in_range))
 
 pub returns-clause-laid : goal.returns-clause-laid
 returns-clause-laid c =
     let f = sound.faultless Sheet c.args.size c.args.kerf c.args.step c.args.wants.now c.requires.faultless in
-    let cut = rw (c.deref.ensures.value, c.in_ok-scaled.ensures.value, c.w.ensures.value, c.h.ensures.value) at c.in_ok-cutting.ensures.kept in
-    let len : length c.in_ok-cutting.cutting.counts.items ≡ length c.args.wants.now = cut.len ∙ length-map c.args.wants.now (want_up c.args.kerf c.args.step) in
-    let places = rw (c.w-2.ensures.value, c.h-2.ensures.value) at c.in_ok-root.ensures in
-    laid c.args.size c.args.kerf c.args.step c.args.wants.now c.in_ok-cutting.cutting.counts.items _ _ _ _ (sound.own _ Sheet c.args.wants.now f.in_range) cut places len
-    (rw (c.deref-3.ensures.value, c.in_ok-kept.ensures, c.deref-2.ensures.value) at c.counted_worth-worth.ensures) (rw c.deref-4.ensures.value at c.dropped_of-dropped.ensures)
+    let cut = c.requires.kept in
+    let len : length c.args.cutting.counts.items ≡ length c.args.wants.now = cut.len ∙ length-map c.args.wants.now (want_up c.args.kerf c.args.step) in
+    let places = rw (c.w.ensures.value, c.h.ensures.value) at c.in_ok-root.ensures in
+    laid c.args.size c.args.kerf c.args.step c.args.wants.now c.args.cutting.counts.items _ _ _ _ (sound.own _ Sheet c.args.wants.now f.in_range) cut places len
+    (rw (c.deref-2.ensures.value, c.in_ok-kept.ensures, c.deref.ensures.value) at c.counted_worth-worth.ensures) (rw c.deref-3.ensures.value at c.dropped_of-dropped.ensures)
 
 pub returns-clause-few : goal.returns-clause-few
 returns-clause-few c =
     let f = sound.faultless Sheet c.args.size c.args.kerf c.args.step c.args.wants.now c.requires.faultless in
-    let cut = rw (c.deref.ensures.value, c.in_ok-scaled.ensures.value, c.w.ensures.value, c.h.ensures.value) at c.in_ok-cutting.ensures.kept in
-    let len : length c.in_ok-cutting.cutting.counts.items ≡ length c.args.wants.now = cut.len ∙ length-map c.args.wants.now (want_up c.args.kerf c.args.step) in
-    let places = rw (c.w-2.ensures.value, c.h-2.ensures.value) at c.in_ok-root.ensures in
+    let cut = c.requires.kept in
+    let len : length c.args.cutting.counts.items ≡ length c.args.wants.now = cut.len ∙ length-map c.args.wants.now (want_up c.args.kerf c.args.step) in
+    let places = rw (c.w.ensures.value, c.h.ensures.value) at c.in_ok-root.ensures in
     omega (
       arith,
-      few_laid c.args.size c.args.kerf c.args.step c.args.wants.now c.in_ok-cutting.cutting.counts.items _ _ (sound.own _ Sheet c.args.wants.now f.in_range) cut places len,
+      few_laid c.args.size c.args.kerf c.args.step c.args.wants.now c.args.cutting.counts.items _ _ (sound.own _ Sheet c.args.wants.now f.in_range) cut places len,
       sound.few _ Sheet c.args.wants.now f.in_range,
     )
 
