@@ -19,7 +19,7 @@ use Rattle.shop_records.specs.declared.records.Column.TheVariants.{Received, Sto
 use Rattle.shop_records.specs.declared.records.Part.{Part}
 use Rattle.shop_records.specs.declared.records.Totals.{Totals}
 use Rattle.shop_tables.specs.Changing.{HasSums}
-use Rattle.shop_tables.specs.Listing.{AreAllTotals, HaveTotals, named}
+use Rattle.shop_tables.specs.Listing.{HaveTotals, named}
 use Rattle.shop_statements.specs.Shown.{Books}
 use Rattle.shop_statements.specs.declared.faults.TableFault.{TableFault}
 use Rattle.shop_store.specs.Checking.{AddsPart, AreNarrow, AreSumsIn, IsListOf, are_totals_for}
@@ -171,9 +171,6 @@ module _ (b : Books) (sums : List Sums) (counted : (column : Column) (code : Lis
 
 abbrev Told : Books → Bool → Type 0
 Told b good = Decides good (HasSums b)
-
-pub not_listed : (b : Books) → AreAllTotals b None → Told b false
-not_listed b none = (λ h. absurd (cc), λ has. absurd (none has.there))
 
 -- all parts were added to sums of nothing
 pub added_all : (b : Books) (list : List MaterialTotals) (old new : PartAdder) (visited : Result Bool TableFault) (good : Bool) → IsListOf b list → ((column : Column) (code : List ℕ) → sum_at column code old.sums.items ≡ 0)

@@ -11,6 +11,7 @@ pub mod RenewedBeside
 pub mod Renewals
 pub mod Commits
 -- a ledger that is loaded
+pub mod HeldEither
 pub mod Chunks
 pub mod Loads
 pub mod LoadedParts

@@ -17,7 +17,7 @@ mod sql_storage;
 mod sql_storing;
 
 pub use loaded::Loaded;
-pub use loading::load_ledger;
+pub use loading::{load_earlier_ledger, load_ledger};
 pub use posted::LedgerBook;
 pub use reopening::{left_commits_are_found, left_renewals_are_found, reopen_book};
 pub use shop_book::{Book, BookFault, FoundJob, JobHead, MOST_FAILURES, MemBook};

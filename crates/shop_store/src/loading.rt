@@ -4,10 +4,12 @@ ghost use Rattle.std.specs.Prelude.{◌≡◌, false, None, IfOk, OnOk};
 ghost use Rattle.sqlite.specs.Held.{state};
 ghost use Rattle.shop_records.specs.Content.{Content, changed};
 ghost use Rattle.shop_records.specs.Lists.{materials_of, order_codes};
+ghost use Rattle.shop_statements.specs.Earlier.{OnBooksEarlier, OnBooksEither};
 ghost use Rattle.shop_statements.specs.Rows.{IsKeyed};
 ghost use Rattle.shop_statements.specs.Shown.{Leaves, OnBooks};
 ghost use Rattle.shop_tables.specs.Changing.{HasSums};
 ghost use Rattle.shop_book.specs.Ledgers.{bare, content_in};
+ghost use Rattle.shop_store.specs.Checking.{IsListOf};
 ghost use Rattle.shop_store.specs.Loading.{IsLoaded, put_material, put_order, with_each, with_work};
 
 use crate::loadable::load_each;
@@ -16,9 +18,10 @@ use crate::loading_parts::load_parts;
 use crate::numbered::load_numbered;
 use cut_measure::Code;
 use shop_book::Ledger;
-use shop_records::{Change, Demand, DemandList, Job, Material, PartList, Reply};
+use shop_records::{Change, Demand, DemandList, Job, Material, MaterialTotals, PartList, Reply};
 use shop_tables::{
-    NoRow, TableFault, find_last_act, find_last_demand, list_totals, material_rows, order_rows,
+    NoRow, TableFault, find_last_act, find_last_demand, list_earlier_totals, list_totals,
+    material_rows, order_rows,
 };
 use sqlite::{Alter, Connection};
 use std::alloc::Global;
@@ -31,7 +34,7 @@ fn load_materials<S: Alter>(
     conn: &mut Connection<S>,
     ledger: &mut Ledger,
 ) -> Result<Option<NoRow>, TableFault>
-    ensures loaded { OnBooks (state S.Store conn.old) (state S.Store conn.new)
+    ensures loaded { OnBooksEither (state S.Store conn.old) (state S.Store conn.new)
         (λ books. IfOk result (λ none. (none ≡ None)
         × (content_in ledger.new
         ≡ with_each put_material (materials_of books.content) (content_in ledger.old))
@@ -48,7 +51,7 @@ fn load_orders<S: Alter>(
     conn: &mut Connection<S>,
     ledger: &mut Ledger,
 ) -> Result<Option<NoRow>, TableFault>
-    ensures loaded { OnBooks (state S.Store conn.old) (state S.Store conn.new)
+    ensures loaded { OnBooksEither (state S.Store conn.old) (state S.Store conn.new)
         (λ books. IfOk result (λ none. (none ≡ None)
         × (content_in ledger.new
         ≡ with_each put_order (order_codes books.content) (content_in ledger.old)))) }
@@ -88,7 +91,7 @@ fn load_numbers<S: Alter>(
     conn: &mut Connection<S>,
     ledger: &mut Ledger,
 ) -> Result<(), TableFault>
-    ensures loaded { OnBooks (state S.Store conn.old) (state S.Store conn.new)
+    ensures loaded { OnBooksEither (state S.Store conn.old) (state S.Store conn.new)
         (λ books. OnOk result (content_in ledger.new ≡ record (content_in ledger.old) {
           last_act = books.content.last_act;
           last_demand = books.content.last_demand;
@@ -108,7 +111,7 @@ fn load_work<S: Alter>(
     conn: &mut Connection<S>,
     mut ledger: Ledger,
 ) -> Result<Loaded, TableFault>
-    ensures loaded { OnBooks (state S.Store conn.old) (state S.Store conn.new)
+    ensures loaded { OnBooksEither (state S.Store conn.old) (state S.Store conn.new)
         (λ books. IsKeyed books.content
         → (content_in ledger).materials ≡ books.content.materials
         → (content_in ledger).parts ≡ books.content.parts
@@ -129,6 +132,29 @@ fn load_work<S: Alter>(
     Ok(Loaded::Ledger(ledger))
 }
 
+// All tables behind the totals, which are these.
+fn load_behind<S: Alter>(
+    alloc: Global,
+    conn: &mut Connection<S>,
+    totals: &[MaterialTotals],
+) -> Result<Loaded, TableFault>
+    ensures loaded { OnBooksEither (state S.Store conn.old) (state S.Store conn.new)
+        (λ books. IsListOf books totals.now
+        → IfOk result (IsLoaded (HasSums books) (bare books.content))) }
+    ensures leaves { Leaves (state S.Store conn.old) (state S.Store conn.new) }
+    ensures mode { conn.old.in_transaction ≡ false → conn.new.in_transaction ≡ false }
+{
+    let mut ledger = Ledger::new(alloc);
+    if let Some(row) = load_materials(alloc, conn, &mut ledger)? {
+        return Ok(Loaded::NoRow(row));
+    }
+    match load_parts(alloc, conn, ledger, totals)? {
+        Loaded::Ledger(ledger) => load_work(alloc, conn, ledger),
+        Loaded::OtherSums => Ok(Loaded::OtherSums),
+        Loaded::NoRow(row) => Ok(Loaded::NoRow(row)),
+    }
+}
+
 /// Reads each table once, in the order of its keys, into a ledger. Tables that stand for books give the ledger of all their
 /// rows but long texts if their totals are the sums of their parts, and else `OtherSums`; only other tables give `NoRow`. A
 /// number or a code that is out of the range of its type is a `TableFault::Store`, but for those of parts.
@@ -141,13 +167,21 @@ pub fn load_ledger<S: Alter>(alloc: Global, conn: &mut Connection<S>) -> Result<
     let Some(totals) = list_totals(alloc, conn)? else {
         return Ok(Loaded::OtherSums);
     };
-    let mut ledger = Ledger::new(alloc);
-    if let Some(row) = load_materials(alloc, conn, &mut ledger)? {
-        return Ok(Loaded::NoRow(row));
-    }
-    match load_parts(alloc, conn, ledger, &totals)? {
-        Loaded::Ledger(ledger) => load_work(alloc, conn, ledger),
-        Loaded::OtherSums => Ok(Loaded::OtherSums),
-        Loaded::NoRow(row) => Ok(Loaded::NoRow(row)),
-    }
+    load_behind(alloc, conn, &totals)
+}
+
+/// The same of tables of version 1.
+pub fn load_earlier_ledger<S: Alter>(
+    alloc: Global,
+    conn: &mut Connection<S>,
+) -> Result<Loaded, TableFault>
+    ensures loaded { OnBooksEarlier (state S.Store conn.old) (state S.Store conn.new)
+        (λ books. IfOk result (IsLoaded (HasSums books) (bare books.content))) }
+    ensures leaves { Leaves (state S.Store conn.old) (state S.Store conn.new) }
+    ensures mode { conn.old.in_transaction ≡ false → conn.new.in_transaction ≡ false }
+{
+    let Some(totals) = list_earlier_totals(alloc, conn)? else {
+        return Ok(Loaded::OtherSums);
+    };
+    load_behind(alloc, conn, &totals)
 }

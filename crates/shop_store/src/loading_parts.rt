@@ -7,7 +7,8 @@ ghost use Rattle.shop_records.specs.declared.records.Column.{Column as ColumnOf}
 ghost use Rattle.shop_rows.specs.Adding.{has_sums};
 ghost use Rattle.shop_rows.specs.Sums.{sum_at};
 ghost use Rattle.shop_tables.specs.Changing.{HasSums};
-ghost use Rattle.shop_statements.specs.Shown.{Leaves, OnBooks};
+ghost use Rattle.shop_statements.specs.Earlier.{OnBooksEither};
+ghost use Rattle.shop_statements.specs.Shown.{Leaves};
 ghost use Rattle.shop_book.specs.Ledgers.{content_in};
 ghost use Rattle.shop_store.specs.Checking.{AreNarrow, AreSumsIn, IsListOf, are_totals_for};
 ghost use Rattle.shop_store.specs.declared.loaded.Loaded.TheVariants.{OtherSums};
@@ -139,7 +140,7 @@ pub(crate) fn load_parts<S: Alter>(
     ledger: Ledger,
     totals: &[MaterialTotals],
 ) -> Result<Loaded, TableFault>
-    ensures loaded { OnBooks (state S.Store conn.old) (state S.Store conn.new)
+    ensures loaded { OnBooksEither (state S.Store conn.old) (state S.Store conn.new)
         (λ books. IsListOf books totals.now → IfOk result (IsLoaded (HasSums books)
         (with_each put_part (values books.content.parts) (content_in ledger)))) }
     ensures leaves { Leaves (state S.Store conn.old) (state S.Store conn.new) }

@@ -5,7 +5,8 @@ ghost use Rattle.std.specs.FinMap.{values};
 ghost use Rattle.std.specs.Ordering.{nat_cmp};
 ghost use Rattle.sqlite.specs.Held.{state};
 ghost use Rattle.shop_records.specs.Content.{Content};
-ghost use Rattle.shop_statements.specs.Shown.{Leaves, OnBooks};
+ghost use Rattle.shop_statements.specs.Earlier.{OnBooksEither};
+ghost use Rattle.shop_statements.specs.Shown.{Leaves};
 ghost use Rattle.shop_book.specs.Ledgers.{content_in};
 ghost use Rattle.shop_rows.specs.Rows.{rise};
 ghost use Rattle.shop_store.specs.Loading.{FitInTurn, IsChunk, with_each};
@@ -49,10 +50,10 @@ pub(crate) trait Numbered: Loadable {
         from: usize,
         most: usize,
     ) -> Result<Vec<Row>, TableFault>
-        ensures rows { OnBooks (state S.Store conn.old) (state S.Store conn.new)
+        ensures rows { OnBooksEither (state S.Store conn.old) (state S.Store conn.new)
             (λ books. IfOk result (λ rows. rows.items ≡ map Self.row_of (take most
             (filter (λ (value : Self). nat_le from (number value)) (all books.content))))) }
-        ensures rising { OnBooks (state S.Store conn.old) (state S.Store conn.new)
+        ensures rising { OnBooksEither (state S.Store conn.old) (state S.Store conn.new)
             (λ books. IfOk result (λ _. IsTrue (rise number nat_cmp (all books.content)))) }
         ensures leaves { Leaves (state S.Store conn.old) (state S.Store conn.new) }
         ensures mode { conn.old.in_transaction ≡ false → conn.new.in_transaction ≡ false };
@@ -130,7 +131,7 @@ pub(crate) fn load_numbered<S: Alter, T: Numbered>(
     conn: &mut Connection<S>,
     ledger: &mut Ledger,
 ) -> Result<Option<NoRow>, TableFault>
-    ensures loaded { OnBooks (state S.Store conn.old) (state S.Store conn.new)
+    ensures loaded { OnBooksEither (state S.Store conn.old) (state S.Store conn.new)
         (λ books. FitInTurn T.fits T.put (T.all books.content) (content_in ledger.old)
         → IfOk result (λ none. (none ≡ None)
         × (content_in ledger.new ≡ with_each T.put (T.all books.content) (content_in ledger.old)))) }

@@ -1,49 +1,14 @@
-use Rattle.std.proofs.Common.{◌≡◌, Some, None, ap, ◌∙◌, arith}
-use Rattle.std.specs.FinMap.{values}
-use Rattle.std.proofs.lemmas.Result.{IfOk-weaker}
+use Rattle.std.proofs.Common.{◌∙◌, inl, arith}
 use Rattle.sqlite.specs.Held.{state}
 use Rattle.sqlite.specs.State.{HasCleanDisk}
-use Rattle.shop_records.specs.Content.{Content}
-use Rattle.shop_tables.specs.Changing.{HasSums}
-use Rattle.shop_book.specs.Ledgers.{bare, content_in}
-use Rattle.shop_store.specs.Loading.{put_material, put_part, with_each, with_work}
-use Rattle.shop_store.proofs.LoadedParts.{loaded_as}
-use Rattle.shop_store.proofs.Loads.{all_loaded, stock_loaded, stock_materials, stock_parts}
+use Rattle.shop_statements.proofs.Reading.{leaves_then}
 use Rattle.shop_store.proofs.loading.load_ledger.Goals as goal
 
-pub returns-in-Ledger-clause-loaded : goal.returns-in-Ledger-clause-loaded
-returns-in-Ledger-clause-loaded g c clean b was =
-    let after_parts : HasCleanDisk (state g.S.Store c.load_parts.new.conn) = let l = c.load_work.ensures.leaves.survives.clean in omega (arith, l, clean) in
-    let after_materials : HasCleanDisk (state g.S.Store c.load_materials.new.conn) = let l = c.load_parts.ensures.leaves.survives.clean in omega (arith, l, after_parts) in
-    let after_totals : HasCleanDisk (state g.S.Store c.list_totals.new.conn) = let l = c.load_materials.ensures.leaves.survives.clean in omega (arith, l, after_materials) in
-    let with_totals = c.list_totals.ensures.leaves.stays b was in
-    let with_materials = c.load_materials.ensures.leaves.stays b with_totals in
-    let totals = rw c.in-Some.is at (c.in_ok-totals.ensures.rows after_totals b was) in
-    let materials = c.in_ok-row.ensures.loaded after_materials b with_totals in
-    let keyed = materials.2 in
-    let parts = rw c.in-Ledger.is at (c.in_ok-ledger.ensures.loaded after_parts b with_materials (totals.0, c.deref.ensures.value ∙ totals.1)) in
-    let stock : content_in c.in-Ledger.ledger ≡ stock_loaded b.content keyed = parts.1 ∙ ap (with_each put_part (values b.content.parts)) (materials.1 ∙ ap (with_each put_material (values b.content.materials)) c.new-ledger.ensures) in
-    IfOk-weaker c.load_work.result _ _
-    (loaded_as (Unit {0}) (HasSums b) (with_work b.content (content_in c.in-Ledger.ledger)) (bare b.content) (λ _. parts.0) (λ none. absurd (none tt)) (ap (with_work b.content) stock ∙ all_loaded b.content keyed))
-    (c.load_work.ensures.loaded clean b (c.load_parts.ensures.leaves.stays b with_materials) keyed (ap (λ (m : Content). m.materials) stock ∙ stock_materials b.content keyed) (ap (λ (m : Content). m.parts) stock ∙ stock_parts b.content keyed))
-
-pub returns-in-OtherSums-clause-loaded : goal.returns-in-OtherSums-clause-loaded
-returns-in-OtherSums-clause-loaded g c clean b was =
-    let after_materials : HasCleanDisk (state g.S.Store c.load_materials.new.conn) = let l = c.load_parts.ensures.leaves.survives.clean in omega (arith, l, clean) in
-    let after_totals : HasCleanDisk (state g.S.Store c.list_totals.new.conn) = let l = c.load_materials.ensures.leaves.survives.clean in omega (arith, l, after_materials) in
-    let with_materials = c.load_materials.ensures.leaves.stays b (c.list_totals.ensures.leaves.stays b was) in
-    let totals = rw c.in-Some.is at (c.in_ok-totals.ensures.rows after_totals b was) in
-    rw c.in-OtherSums.is at (c.in_ok-ledger.ensures.loaded clean b with_materials (totals.0, c.deref.ensures.value ∙ totals.1))
+pub returns-clause-leaves : goal.returns-clause-leaves
+returns-clause-leaves g c = leaves_then _ _ _ c.list_totals.ensures.leaves c.load_behind.ensures.leaves
 
 pub returns-clause-loaded : goal.returns-clause-loaded
 returns-clause-loaded g c clean b was =
-    let after_materials : HasCleanDisk (state g.S.Store c.load_materials.new.conn) = let l = c.load_parts.ensures.leaves.survives.clean in omega (arith, l, clean) in
-    let after_totals : HasCleanDisk (state g.S.Store c.list_totals.new.conn) = let l = c.load_materials.ensures.leaves.survives.clean in omega (arith, l, after_materials) in
-    let with_materials = c.load_materials.ensures.leaves.stays b (c.list_totals.ensures.leaves.stays b was) in
-    let totals = rw c.in-Some.is at (c.in_ok-totals.ensures.rows after_totals b was) in
-    absurd (rw c.in-NoRow.is at (c.in_ok-ledger.ensures.loaded clean b with_materials (totals.0, c.deref.ensures.value ∙ totals.1)))
-
-pub returns-in-Some-2-clause-loaded : goal.returns-in-Some-2-clause-loaded
-returns-in-Some-2-clause-loaded g c clean b was =
-    let materials = c.in_ok-row.ensures.loaded clean b (c.list_totals.ensures.leaves.stays b was) in
-    absurd (let none : Some c.in-Some-2.row ≡ None = rw c.in-Some-2.is at materials.0 in cc)
+    let before : HasCleanDisk (state g.S.Store c.list_totals.new.conn) = let l = c.load_behind.ensures.leaves.survives.clean in omega (arith, l, clean) in
+    let totals = rw c.in-Some.is at (c.in_ok-totals.ensures.rows before b was) in
+    c.load_behind.ensures.loaded clean b (inl (c.list_totals.ensures.leaves.stays b was)) (totals.0, c.deref.ensures.value ∙ totals.1)

@@ -9,7 +9,7 @@ use Rattle.shop_store.specs.Checking.{AreSumsIn}
 use Rattle.shop_store.specs.Loading.{IsLoaded, loading_in, put_part, with_each}
 use Rattle.shop_store.proofs.Checked.{leaves_itself}
 use Rattle.shop_store.proofs.Counting.{stopped_at}
-use Rattle.shop_store.proofs.LoadedParts.{IsVisitOf, adder_visit, all_put, loaded_as, sums_are, sums_are_not}
+use Rattle.shop_store.proofs.LoadedParts.{IsVisitOf, adder_visit, all_put, held_visit, loaded_as, sums_are, sums_are_not}
 use Rattle.shop_store.proofs.loading_parts.load_parts.Goals as goal
 
 pub returns-in_err-loader-clause-leaves : goal.returns-in_err-loader-clause-leaves
@@ -17,13 +17,12 @@ returns-in_err-loader-clause-leaves g c = leaves_itself (state g.S.Store c.args.
 
 pub returns-in-All-clause-loaded : goal.returns-in-All-clause-loaded
 returns-in-All-clause-loaded g c clean b was list =
-    let v = c.lend_all_parts.ensures.visit in
     let old = c.in_ok-loader.loader in
     let new = c.lend_all_parts.new.visitor in
     let parts = values b.content.parts in
     let visited = gone_through c.lend_all_parts.result in
     let went = ap gone_through (c.in_ok-lend_all_parts.was ∙ ap Ok c.in-All.is) in
-    let visit : IsVisitOf parts old visited new = record { parts = v.parts; on = v.on; visitor = v.visitor; answer = v.answer; begins = v.begins clean b was } in
+    let visit : IsVisitOf parts old visited new = held_visit (state g.S.Store c.args.conn.now) (state g.S.Store c.lend_all_parts.new.conn) b old new visited clean was c.lend_all_parts.ensures.visit c.lend_all_parts.ensures.earlier in
     let put = all_put parts old new visited went visit in
     let added = adder_visit parts old new visited visit (λ off. absurd (true≢false (sym put.0 ∙ off))) in
     let none = c.in_ok-loader.ensures.none in
@@ -35,13 +34,12 @@ returns-in-All-clause-loaded g c clean b was list =
 
 pub returns-in-Stopped-clause-loaded : goal.returns-in-Stopped-clause-loaded
 returns-in-Stopped-clause-loaded g c clean b was list =
-    let v = c.lend_all_parts.ensures.visit in
     let old = c.in_ok-loader.loader in
     let new = c.lend_all_parts.new.visitor in
     let parts = values b.content.parts in
     let visited = gone_through c.lend_all_parts.result in
     let went = ap gone_through (c.in_ok-lend_all_parts.was ∙ ap Ok c.in-Stopped.is) in
-    let visit : IsVisitOf parts old visited new = record { parts = v.parts; on = v.on; visitor = v.visitor; answer = v.answer; begins = v.begins clean b was } in
+    let visit : IsVisitOf parts old visited new = held_visit (state g.S.Store c.args.conn.now) (state g.S.Store c.lend_all_parts.new.conn) b old new visited clean was c.lend_all_parts.ensures.visit c.lend_all_parts.ensures.earlier in
     let none = c.in_ok-loader.ensures.none in
     let there = c.in_ok-loader.ensures.there in
     IfOk-weaker c.stopped.result _ _

@@ -7,6 +7,7 @@ use Rattle.shop_store.specs.Loading.{IsChunk}
 use Rattle.shop_store.specs.declared.numbered.Chunk.TheVariants as chunk
 use Rattle.shop_store.proofs.Checked.{leaves_itself}
 use Rattle.shop_store.proofs.Chunks.{all_are_put, chunk_fits, chunk_is_put, from, from_0, next_chunk}
+use Rattle.shop_store.proofs.HeldEither.{stays_either}
 use Rattle.shop_store.proofs.numbered.load_numbered.Goals as goal
 
 pub chunks-init : goal.chunks-init
@@ -22,7 +23,7 @@ returns-in-End-clause-loaded g c clean b was fit =
     let it = c.chunks.invariant.read before b was fit in
     let all = g.T.Numbered.all b.content in
     let values = take 1000 (filter (from g.T.Numbered.number c.chunks.from) all) in
-    let rows = c.deref.ensures.value ∙ c.in_ok-rows.ensures.rows clean b (c.chunks.invariant.leaves.stays b was) in
+    let rows = c.deref.ensures.value ∙ c.in_ok-rows.ensures.rows clean b (stays_either (state g.S.Store c.args.conn.now) (state g.S.Store c.chunks.conn) b c.chunks.invariant.leaves was) in
     let read = c.in_ok-load_chunk.ensures values rows (chunk_fits g.T.Numbered.number g.T.Loadable.put g.T.Loadable.fits all it.0 c.chunks.from 1000 (content_in c.args.ledger.now) (content_in c.chunks.ledger) it.1 it.2 fit) in
     let none : values ≡ [] = (rw c.in-End.is at read).0 in
     (refl, all_are_put g.T.Numbered.number g.T.Loadable.put g.T.Loadable.fits all it.0 c.chunks.from 1000 (content_in c.args.ledger.now) (content_in c.chunks.ledger) it.1 it.2 (content_in c.load_chunk.new.ledger) (omega arith) none read.1)
@@ -33,7 +34,7 @@ returns-in-Stranger-clause-loaded g c clean b was fit =
     let it = c.chunks.invariant.read before b was fit in
     let all = g.T.Numbered.all b.content in
     let values = take 1000 (filter (from g.T.Numbered.number c.chunks.from) all) in
-    let rows = c.deref.ensures.value ∙ c.in_ok-rows.ensures.rows clean b (c.chunks.invariant.leaves.stays b was) in
+    let rows = c.deref.ensures.value ∙ c.in_ok-rows.ensures.rows clean b (stays_either (state g.S.Store c.args.conn.now) (state g.S.Store c.chunks.conn) b c.chunks.invariant.leaves was) in
     let read = c.in_ok-load_chunk.ensures values rows (chunk_fits g.T.Numbered.number g.T.Loadable.put g.T.Loadable.fits all it.0 c.chunks.from 1000 (content_in c.args.ledger.now) (content_in c.chunks.ledger) it.1 it.2 fit) in
     absurd ((rw c.in-Stranger.is at read).0)
 
@@ -44,7 +45,7 @@ chunks-preserved g c = record {
   read = λ clean b was fit.
       let before : HasCleanDisk (state g.S.Store c.chunks.conn) = let l = c.rows_from.ensures.leaves.survives.clean in omega (arith, l, clean) in
       let it = c.chunks.invariant.read before b was fit in
-      let held = c.chunks.invariant.leaves.stays b was in
+      let held = stays_either (state g.S.Store c.args.conn.now) (state g.S.Store c.chunks.conn) b c.chunks.invariant.leaves was in
       let all = g.T.Numbered.all b.content in
       let values = take 1000 (filter (from g.T.Numbered.number c.chunks.from) all) in
       let rows = c.deref.ensures.value ∙ c.in_ok-rows.ensures.rows clean b held in

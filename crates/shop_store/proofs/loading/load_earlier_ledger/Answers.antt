@@ -1,0 +1,15 @@
+use Rattle.std.proofs.Common.{◌∙◌, inr, arith}
+use Rattle.sqlite.specs.Held.{state}
+use Rattle.sqlite.specs.State.{HasCleanDisk}
+use Rattle.shop_tables.proofs.EarlierRows.{stays_earlier}
+use Rattle.shop_statements.proofs.Reading.{leaves_then}
+use Rattle.shop_store.proofs.loading.load_earlier_ledger.Goals as goal
+
+pub returns-clause-leaves : goal.returns-clause-leaves
+returns-clause-leaves g c = leaves_then _ _ _ c.list_earlier_totals.ensures.leaves c.load_behind.ensures.leaves
+
+pub returns-clause-loaded : goal.returns-clause-loaded
+returns-clause-loaded g c clean b was =
+    let before : HasCleanDisk (state g.S.Store c.list_earlier_totals.new.conn) = let l = c.load_behind.ensures.leaves.survives.clean in omega (arith, l, clean) in
+    let totals = rw c.in-Some.is at (c.in_ok-totals.ensures.rows before b was) in
+    c.load_behind.ensures.loaded clean b (inr (stays_earlier (state g.S.Store c.args.conn.now) (state g.S.Store c.list_earlier_totals.new.conn) b c.list_earlier_totals.ensures.leaves was)) (totals.0, c.deref.ensures.value ∙ totals.1)
