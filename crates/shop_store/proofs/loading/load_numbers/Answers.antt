@@ -1,7 +1,6 @@
-use Rattle.std.proofs.Common.{◌≡◌, ap, ◌∙◌, arith}
+use Rattle.std.proofs.Common.{ap, ◌∙◌, arith}
 use Rattle.sqlite.specs.Held.{state}
 use Rattle.sqlite.specs.State.{HasCleanDisk}
-use Rattle.shop_records.specs.Content.{Content}
 use Rattle.shop_statements.proofs.Reading.{leaves_then}
 use Rattle.shop_book.specs.Ledgers.{bare, content_in}
 use Rattle.shop_store.proofs.HeldEither.{either, stays_either}

@@ -1,4 +1,4 @@
-use Rattle.std.proofs.Common.{◌≡◌, ◌<◌, None, length, map, ap, ◌∙◌, arith}
+use Rattle.std.proofs.Common.{◌<◌, None, length, map, ap, ◌∙◌, arith}
 use Rattle.shop_records.specs.Lists.{order_codes, orders_after}
 use Rattle.shop_tables.proofs.Ordered.{filter_true}
 use Rattle.shop_tables.specs.Listing.{code_row}
