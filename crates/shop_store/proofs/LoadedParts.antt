@@ -14,7 +14,6 @@ use Rattle.shop_statements.specs.Earlier.{HoldsEither, OnBooksEarlier}
 use Rattle.shop_statements.specs.Shown.{Books, OnBooks}
 use Rattle.shop_rows.specs.Adding.{has_sums}
 use Rattle.shop_rows.specs.Sums.{sum_at}
-use Rattle.shop_book.specs.Ledgers.{content_in}
 use Rattle.shop_store.specs.Checking.{AddsPart, AreSumsIn, IsListOf, are_totals_for}
 use Rattle.shop_store.specs.declared.adders.PartAdder.{PartAdder}
 use Rattle.shop_store.specs.declared.loaded.Loaded.{Loaded}

@@ -1,14 +1,14 @@
 -- The values of the tables, put one after another, are the content.
-use Rattle.std.proofs.Common.{◌≡◌, ℕ, Bool, true, false, ◌||◌, List, [], ◌∷◌, map, filter, Some, refl, sym, ap, ◌∙◌}
+use Rattle.std.proofs.Common.{◌≡◌, ℕ, Bool, true, false, ◌||◌, List, [], ◌∷◌, map, refl, sym, ap, ◌∙◌}
 use Rattle.std.specs.List.{AllByRecursion, list_any}
 use Rattle.std.specs.Ordering.{eq_by_cmp, nat_cmp}
 use Rattle.std.specs.Cmp.{nat_cmp_total}
 use Rattle.std.specs.Cmp.Lexicographic.{nat_list_cmp_total}
-use Rattle.std.specs.FinMap.{FinMap, empty, entries, get, nat_cmp-IsAntisymmetric, values}
+use Rattle.std.specs.FinMap.{empty, entries, get, nat_cmp-IsAntisymmetric, values}
 use Rattle.std.specs.FinSet as set
 use Rattle.std.specs.FinSet.{contains, contains-empty, contains-from_list, contains-insert, same_set}
 use Rattle.cut_measure.specs.Codes.{code_cmp}
-use Rattle.shop_records.specs.Content.{Content, fresh, job_at, with_demands, with_parts}
+use Rattle.shop_records.specs.Content.{Content, fresh, with_demands, with_parts}
 use Rattle.shop_records.specs.Lists.{order_codes}
 use Rattle.shop_records.specs.declared.records.Demand.{Demand}
 use Rattle.shop_records.specs.declared.records.Job.{Job}

@@ -1,5 +1,5 @@
 -- What loading makes of a ledger: the values of the tables, put one after another.
-use Rattle.std.specs.Prelude.{◌≡◌, ℕ, suc, ⊤, List, [], ◌∷◌, ◌++◌, Bool, true, false, map as map_list}
+use Rattle.std.specs.Prelude.{◌≡◌, ℕ, suc, ⊤, List, [], ◌∷◌, ◌++◌, Bool, true, false}
 use Rattle.std.specs.FinMap.{insert, values}
 use Rattle.std.specs.FinSet as set
 use Rattle.shop_records.specs.Content.{Content, with_parts}

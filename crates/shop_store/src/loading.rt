@@ -132,7 +132,7 @@ fn load_work<S: Alter>(
     Ok(Loaded::Ledger(ledger))
 }
 
-// All tables behind the totals, which are these.
+// All tables but the totals, which were read already.
 fn load_behind<S: Alter>(
     alloc: Global,
     conn: &mut Connection<S>,

@@ -1,4 +1,4 @@
-use Rattle.std.proofs.Common.{◌≡◌, ◌+◌, Some, None, [], ap, drop, refl, subst, sym, ◌∙◌, arith}
+use Rattle.std.proofs.Common.{◌≡◌, ◌+◌, Some, None, ap, drop, refl, subst, sym, ◌∙◌, arith}
 use Rattle.shop_book.specs.Ledgers.{content_in}
 use Rattle.shop_records.specs.Content.{Content}
 use Rattle.shop_store.specs.Loading.{FitInTurn, with_each}

@@ -31,8 +31,8 @@ returns-in-OtherSums-clause-loaded g c clean b was list =
     let with_materials = stays_either (state g.S.Store c.args.conn.now) (state g.S.Store c.load_materials.new.conn) b c.load_materials.ensures.leaves was in
     rw c.in-OtherSums.is at (c.in_ok-ledger.ensures.loaded clean b with_materials list)
 
-pub returns-clause-loaded : goal.returns-clause-loaded
-returns-clause-loaded g c clean b was list =
+pub returns-in-NoRow-clause-loaded : goal.returns-in-NoRow-clause-loaded
+returns-in-NoRow-clause-loaded g c clean b was list =
     let with_materials = stays_either (state g.S.Store c.args.conn.now) (state g.S.Store c.load_materials.new.conn) b c.load_materials.ensures.leaves was in
     absurd (rw c.in-NoRow.is at (c.in_ok-ledger.ensures.loaded clean b with_materials list))
 

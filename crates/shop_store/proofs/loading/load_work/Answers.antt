@@ -4,7 +4,6 @@ use Rattle.sqlite.specs.Held.{state}
 use Rattle.sqlite.specs.State.{HasCleanDisk}
 use Rattle.shop_records.specs.Content.{Content}
 use Rattle.shop_records.specs.Lists.{order_codes}
-use Rattle.shop_statements.proofs.Reading.{leaves_then}
 use Rattle.shop_book.specs.Ledgers.{content_in}
 use Rattle.shop_store.specs.Loading.{put_demand, put_order, with_each}
 use Rattle.shop_store.proofs.HeldEither.{stays_either}

@@ -1,4 +1,4 @@
-use Rattle.std.proofs.Common.{◌≡◌, Ok, false, true≢false, ap, sym, ◌∙◌, subst}
+use Rattle.std.proofs.Common.{Ok, true≢false, ap, sym, ◌∙◌, subst}
 use Rattle.std.specs.FinMap.{values}
 use Rattle.std.proofs.lemmas.Result.{IfOk-weaker}
 use Rattle.sqlite.specs.Held.{state}

@@ -1,4 +1,4 @@
-use Rattle.std.proofs.Common.{inl, inr, arith}
+use Rattle.std.proofs.Common.{arith}
 use Rattle.std.proofs.lemmas.Result.{IfOk-weaker}
 use Rattle.std.specs.Cmp.{nat_cmp_total}
 use Rattle.std.specs.FinMap.{nat_cmp-IsAntisymmetric}
@@ -7,7 +7,7 @@ use Rattle.sqlite.specs.Held.{state}
 use Rattle.sqlite.specs.State.{HasCleanDisk}
 use Rattle.shop_rows.specs.Keys.{job_key}
 use Rattle.shop_book.proofs.Loaded.{values_rise}
-use Rattle.shop_store.proofs.HeldEither.{keyed_either}
+use Rattle.shop_store.proofs.HeldEither.{either, keyed_either}
 use Rattle.shop_store.proofs.numbered.JobNumbered.rows_from.Goals as goal
 
 pub returns-clause-rising : goal.returns-clause-rising
@@ -16,4 +16,4 @@ returns-clause-rising g c clean b was =
     IfOk-weaker c.job_rows_from.result _ _ (λ rows up. let keyed = keyed_either (state g.S.Store c.args.conn.now) b before up was in values_rise nat_cmp nat_cmp_total nat_cmp-IsAntisymmetric job_key b.content.jobs (λ number job found. (keyed.jobs number job found).numbered)) (c.job_rows_from.ensures.was_open clean)
 
 pub returns-clause-rows : goal.returns-clause-rows
-returns-clause-rows g c clean b was = elim was [ inl now ↦ c.job_rows_from.ensures.rows clean b now | inr earlier ↦ c.job_rows_from.ensures.earlier clean b earlier ]
+returns-clause-rows g c clean b was = either was (c.job_rows_from.ensures.rows clean b) (c.job_rows_from.ensures.earlier clean b)

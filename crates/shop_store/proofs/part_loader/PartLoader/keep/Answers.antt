@@ -1,8 +1,8 @@
-use Rattle.std.proofs.Common.{◌≡◌, [], ◌∷◌, ap, ◌∙◌}
+use Rattle.std.proofs.Common.{[], ◌∷◌, ap, ◌∙◌}
 use Rattle.shop_records.specs.Content.{with_parts}
 use Rattle.shop_book.specs.Ledgers.{content_in}
 use Rattle.shop_book.proofs.Loaded.{parts_in_chunks}
-use Rattle.shop_store.specs.Loading.{loading_in, put_part}
+use Rattle.shop_store.specs.Loading.{put_part}
 use Rattle.shop_store.proofs.part_loader.PartLoader.keep.Goals as goal
 
 pub returns-clause-loading : goal.returns-clause-loading
