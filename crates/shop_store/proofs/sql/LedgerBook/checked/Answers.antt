@@ -3,7 +3,7 @@ use Rattle.std.specs.Prelude.{is_some}
 use Rattle.sqlite.specs.Held.{state}
 use Rattle.sqlite.specs.State.{HasCleanDisk}
 use Rattle.shop_book.specs.Ledgers.{content_in}
-use Rattle.shop_store.proofs.sql.SqlBook.checked.Goals as goal
+use Rattle.shop_store.proofs.sql.LedgerBook.checked.Goals as goal
 
 pub returns-in-Ok-Some-clause-sums : goal.returns-in-Ok-Some-clause-sums
 returns-in-Ok-Some-clause-sums g c clean b was =
