@@ -67,10 +67,7 @@ fn fresh_book<S: Alter + Drop>(alloc: Global, conn: Connection<S>) -> Result<Sql
 }
 
 // Brings tables of version 1 to version 2 in one transaction, where their totals are the sums of their parts.
-fn renew<S: Alter>(
-    alloc: Global,
-    conn: &mut Connection<S>,
-) -> Result<Ledger, BookFault>
+fn renew<S: Alter>(alloc: Global, conn: &mut Connection<S>) -> Result<Ledger, BookFault>
     requires { conn.old.in_transaction ≡ false }
     ensures mode { conn.new.in_transaction ≡ false }
     ensures earlier { HasCleanDisk (state S.Store conn.new)
