@@ -1,18 +1,27 @@
 use Rattle.std.specs.Prelude.{not}
-use Rattle.std.proofs.Common.{◌∙◌, sym, ap, true≢false}
+use Rattle.std.proofs.Common.{◌∙◌, sym, subst, ap}
 use Rattle.sqlite.specs.Held.{state}
+use Rattle.shop_tables.specs.Changing.{HasSums}
 use Rattle.shop_tables.specs.Held.{books}
+use Rattle.shop_book.specs.Ledgers.{bare}
+use Rattle.shop_store.specs.Loading.{IsLoaded}
 use Rattle.shop_store.proofs.EarlierContents.{renewed_survives, stays_earlier_content}
 use Rattle.shop_store.proofs.RenewedBeside.{crash_then, left_as_before, left_survives, renewed_then, sees_still, undone_then}
 use Rattle.shop_store.proofs.sql.renew.Goals as goal
 
--- ---- the totals weren't the sums, or it wasn't known
+-- ---- a row is none, the totals weren't the sums, or it wasn't known
 
-pub returns-in-Ok-None-clause-as_before : goal.returns-in-Ok-None-clause-as_before
-returns-in-Ok-None-clause-as_before g c m was = stays_earlier_content (state g.S.Store c.args.conn.now) (state g.S.Store c.load_earlier_ledger.new.conn) m c.load_earlier_ledger.ensures.leaves was
+pub returns-in-Ok-OtherSums-clause-as_before : goal.returns-in-Ok-OtherSums-clause-as_before
+returns-in-Ok-OtherSums-clause-as_before g c m was = stays_earlier_content (state g.S.Store c.args.conn.now) (state g.S.Store c.load_earlier_ledger.new.conn) m c.load_earlier_ledger.ensures.leaves was
 
-pub returns-in-Ok-None-clause-neither : goal.returns-in-Ok-None-clause-neither
-returns-in-Ok-None-clause-neither g c is clean m was = true≢false (sym ((c.in-Ok-None.ensures.sums clean (books m was.totals) was.holds).1 was.sums) ∙ ap is_some (sym c.in-Ok-None.field-0-is))
+pub returns-in-Ok-NoRow-clause-as_before : goal.returns-in-Ok-NoRow-clause-as_before
+returns-in-Ok-NoRow-clause-as_before g c m was = stays_earlier_content (state g.S.Store c.args.conn.now) (state g.S.Store c.load_earlier_ledger.new.conn) m c.load_earlier_ledger.ensures.leaves was
+
+pub returns-in-Ok-OtherSums-clause-neither : goal.returns-in-Ok-OtherSums-clause-neither
+returns-in-Ok-OtherSums-clause-neither g c is clean m was = subst (IsLoaded (HasSums (books m was.totals)) (bare m)) c.in-Ok-OtherSums.field-0-is (c.in-Ok-OtherSums.ensures.loaded clean (books m was.totals) was.holds) was.sums
+
+pub returns-in-Ok-NoRow-clause-neither : goal.returns-in-Ok-NoRow-clause-neither
+returns-in-Ok-NoRow-clause-neither g c is clean m was = absurd (subst (IsLoaded (HasSums (books m was.totals)) (bare m)) c.in-Ok-NoRow.field-0-is (c.in-Ok-NoRow.ensures.loaded clean (books m was.totals) was.holds))
 
 pub returns-in-Err-clause-as_before : goal.returns-in-Err-clause-as_before
 returns-in-Err-clause-as_before g c m was = stays_earlier_content (state g.S.Store c.args.conn.now) (state g.S.Store c.load_earlier_ledger.new.conn) m c.load_earlier_ledger.ensures.leaves was
@@ -48,11 +57,17 @@ returns-in-Err-renew_shop-clause-crash g c m was =
 
 -- ---- beside tables of others
 
-pub returns-in-Ok-None-clause-undone : goal.returns-in-Ok-None-clause-undone
-returns-in-Ok-None-clause-undone g c = left_as_before (state g.S.Store c.args.conn.now) (state g.S.Store c.load_earlier_ledger.new.conn) c.load_earlier_ledger.ensures.leaves (c.is_autocommit-outside.ensures.settled (c.is_autocommit-outside.ensures.value ∙ ap not c.requires))
+pub returns-in-Ok-OtherSums-clause-undone : goal.returns-in-Ok-OtherSums-clause-undone
+returns-in-Ok-OtherSums-clause-undone g c = left_as_before (state g.S.Store c.args.conn.now) (state g.S.Store c.load_earlier_ledger.new.conn) c.load_earlier_ledger.ensures.leaves (c.is_autocommit-outside.ensures.settled (c.is_autocommit-outside.ensures.value ∙ ap not c.requires))
 
-pub returns-in-Ok-None-clause-beside_crash : goal.returns-in-Ok-None-clause-beside_crash
-returns-in-Ok-None-clause-beside_crash g c sees = left_survives (state g.S.Store c.args.conn.now) (state g.S.Store c.load_earlier_ledger.new.conn) c.load_earlier_ledger.ensures.leaves (c.is_autocommit-outside.ensures.settled (c.is_autocommit-outside.ensures.value ∙ ap not c.requires))
+pub returns-in-Ok-NoRow-clause-undone : goal.returns-in-Ok-NoRow-clause-undone
+returns-in-Ok-NoRow-clause-undone g c = left_as_before (state g.S.Store c.args.conn.now) (state g.S.Store c.load_earlier_ledger.new.conn) c.load_earlier_ledger.ensures.leaves (c.is_autocommit-outside.ensures.settled (c.is_autocommit-outside.ensures.value ∙ ap not c.requires))
+
+pub returns-in-Ok-OtherSums-clause-beside_crash : goal.returns-in-Ok-OtherSums-clause-beside_crash
+returns-in-Ok-OtherSums-clause-beside_crash g c sees = left_survives (state g.S.Store c.args.conn.now) (state g.S.Store c.load_earlier_ledger.new.conn) c.load_earlier_ledger.ensures.leaves (c.is_autocommit-outside.ensures.settled (c.is_autocommit-outside.ensures.value ∙ ap not c.requires))
+
+pub returns-in-Ok-NoRow-clause-beside_crash : goal.returns-in-Ok-NoRow-clause-beside_crash
+returns-in-Ok-NoRow-clause-beside_crash g c sees = left_survives (state g.S.Store c.args.conn.now) (state g.S.Store c.load_earlier_ledger.new.conn) c.load_earlier_ledger.ensures.leaves (c.is_autocommit-outside.ensures.settled (c.is_autocommit-outside.ensures.value ∙ ap not c.requires))
 
 pub returns-in-Err-clause-undone : goal.returns-in-Err-clause-undone
 returns-in-Err-clause-undone g c = left_as_before (state g.S.Store c.args.conn.now) (state g.S.Store c.load_earlier_ledger.new.conn) c.load_earlier_ledger.ensures.leaves (c.is_autocommit-outside.ensures.settled (c.is_autocommit-outside.ensures.value ∙ ap not c.requires))
@@ -71,3 +86,7 @@ returns-in-Err-renew_shop-clause-undone g c = undone_then (state g.S.Store c.arg
 
 pub returns-in-Err-renew_shop-clause-beside_crash : goal.returns-in-Err-renew_shop-clause-beside_crash
 returns-in-Err-renew_shop-clause-beside_crash g c sees = crash_then (state g.S.Store c.args.conn.now) (state g.S.Store c.load_earlier_ledger.new.conn) c.load_earlier_ledger.ensures.leaves (c.is_autocommit-outside.ensures.settled (c.is_autocommit-outside.ensures.value ∙ ap not c.requires)) (state g.S.Store c.renew_shop.new.conn) (c.in-Err-renew_shop.ensures.beside_crash (sees_still (state g.S.Store c.args.conn.now) (state g.S.Store c.load_earlier_ledger.new.conn) c.load_earlier_ledger.ensures.leaves (c.is_autocommit-outside.ensures.settled (c.is_autocommit-outside.ensures.value ∙ ap not c.requires)) sees))
+
+pub returns-in-Ok-clause-loaded : goal.returns-in-Ok-clause-loaded
+returns-in-Ok-clause-loaded g c m was clean =
+    (subst (IsLoaded (HasSums (books m was.totals)) (bare m)) c.in-Ok-Ledger.field-0-is (c.in-Ok-Ledger.ensures.loaded (c.in-Ok.ensures.earlier clean) (books m was.totals) was.holds)).1

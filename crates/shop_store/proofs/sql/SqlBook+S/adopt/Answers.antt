@@ -15,7 +15,7 @@ use Rattle.shop_store.proofs.Adopting.{holds_fresh, survives_fresh, leaves_fresh
 use Rattle.shop_store.proofs.Checked.{either_way, if_back, if_book}
 use Rattle.shop_store.proofs.EarlierContents.{leaves_survives, settled_earlier}
 use Rattle.shop_store.proofs.RenewedBeside.{crash_then, left_survives, renewed_then, sees_still, undone_then}
-use Rattle.shop_store.proofs.sql.LedgerBook.adopt.Goals as goal
+use Rattle.shop_store.proofs.sql.SqlBook+S.adopt.Goals as goal
 
 -- ---- tables were made
 

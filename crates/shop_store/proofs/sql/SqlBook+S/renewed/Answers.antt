@@ -5,7 +5,7 @@ use Rattle.shop_book.specs.Ledgers.{content_in}
 use Rattle.shop_tables.specs.Held.{HoldsContent, LeavesOnly, StandsFor}
 use Rattle.shop_statements.specs.Shown.{HasShopSchema}
 use Rattle.shop_tables.specs.Renewing.{HoldsRenewed, StandsRenewed}
-use Rattle.shop_store.proofs.sql.LedgerBook.renewed.Goals as goal
+use Rattle.shop_store.proofs.sql.SqlBook+S.renewed.Goals as goal
 
 pub returns-in-Ok-clause-renewed : goal.returns-in-Ok-clause-renewed
 returns-in-Ok-clause-renewed g c m was = subst (λ h. HoldsContent (state g.S.Store h) m) (sym c.over.ensures.conn) (c.in-Ok.ensures.renewed m was)
