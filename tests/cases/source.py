@@ -257,7 +257,6 @@ FAULTED = {
     "shop_tables/src/adopting.rt adopt_version WrongVersion": (2, "another version, or none"),
     "shop_tables/src/adopting.rt from Store": (1, "hands on a fault of `sqlite`, by its contract"),
     "shop_tables/src/lending.rt lend Store": (1, "more rows than a table has"),
-    "shop_tables/src/lending.rt lend_parts Store": (1, "a row that is no part's"),
     "shop_tables/src/listed_rows.rt at_most Store": (1, "so many rows that a statement can't say it"),
     "shop_tables/src/valid_rows.rt plan_of_row Store": (1, "bytes that are no UTF-8"),
     "shop_text/src/tickets.rt push_what StoreFault": (1, "a piece without its demand, by its contract"),

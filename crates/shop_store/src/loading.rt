@@ -58,7 +58,7 @@ fn load_orders<S: Alter>(
     ensures leaves { Leaves (state S.Store conn.old) (state S.Store conn.new) }
     ensures mode { conn.old.in_transaction ≡ false → conn.new.in_transaction ≡ false }
 {
-    let rows = order_rows(conn, None, MOST_ORDERS)?;
+    let rows = order_rows(conn, MOST_ORDERS)?;
     if rows.len() >= MOST_ORDERS {
         return Err(TableFault::Store);
     }

@@ -117,9 +117,6 @@ module _ (codes rows : List Row) (cs : List (List ℕ)) (es : List (List ℕ × 
           let code : get_or cs i [] ≡ read.material = ap (λ ks. get_or ks i []) equal ∙ get_or-map key_of es i none [] (omega (arith, inside, many_rows)) ∙ ap (λ (r : MaterialTotals). r.material) (sym reads) in
           other (shown_in row (code_row read.material) (code_is row is ∙ ap code_row code) 0 (Text read.material) (omega arith) refl)
 
-  pub other_count : ¬ (length codes ≡ length rows) → ¬ (cs ≡ map key_of es)
-  other_count other equal = other (many_codes ∙ ap length equal ∙ length-map es key_of ∙ sym many_rows)
-
   pub all_read : (i : ℕ) (list : List MaterialTotals) → length rows ≤ i → length codes ≡ length rows → list ≡ map named (take i es) → map key_of (take i es) ≡ take i cs → (list ≡ map named es) × (cs ≡ map key_of es)
   all_read i list ended same so_far prefix =
       let whole : take i es ≡ es = take_all i es (omega (arith, ended, many_rows)) in (

@@ -145,10 +145,3 @@ module _ {S : Type 0} (g : Ghosts S) (h : Held S) where
 
       pub committed_others : (HasCleanDisk last → sql.Shows done last done.now done.now false) → LeavesOthers old last
       committed_others ends = record { seen = λ clean up settled. subst (IsSameBeside our_trees old.now) (sym (ends clean).now_is) (spares (late clean) refl is); crash = crash_others }
-
-  -- nothing was done
-  pub same_others : ((db : Trees) → IsTrue old.is_open → old.may_leave db → db ≡ old.committed.trees) → LeavesOthers old old
-  same_others only = record {
-    seen = λ clean up settled. beside_itself our_trees old.now;
-    crash = λ clean up settled db left. subst SparesOld (ap (λ (d : Database). d.trees) settled ∙ sym (only db up left)) (beside_itself our_trees old.now).rows;
-  }

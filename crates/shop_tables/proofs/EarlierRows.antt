@@ -25,7 +25,7 @@ use Rattle.shop_statements.specs.Shown.{Books, IsAsWas, Leaves}
 use Rattle.shop_statements.proofs.Finding.{code_same, code_total}
 use Rattle.shop_tables.proofs.Ordered.{by_first, filter_true, in_order, rows_seen}
 use Rattle.shop_statements.proofs.Terms.{Reads, from_table}
-use Rattle.shop_tables.proofs.ListTexts.{by_code, by_rowid, first_of, all_codes_text, all_codes_terms, all_materials_text, all_materials_terms, all_parts_text, parts_of_terms, parts_of_order, demands_from_text, from_tests, open_demands_terms, jobs_from_text, jobs_from_terms, first_orders_text, orders_after_text, orders_after_tests}
+use Rattle.shop_tables.proofs.ListTexts.{by_code, by_rowid, first_of, all_codes_text, all_codes_terms, all_materials_text, all_materials_terms, all_parts_text, parts_of_terms, parts_of_order, demands_from_text, from_tests, open_demands_terms, jobs_from_text, jobs_from_terms, first_orders_text}
 
 -- ---- the books that were held
 
@@ -76,10 +76,6 @@ earlier_jobs_from_is = record { command = refl; listing = refl; plain = (refl, r
 pub earlier_first_orders_is : Reads earlier_schema first_orders_text (first_of (col 0 0) (from_table 7 [] all_codes_terms by_code)) (codes "ord" ∷ [])
 unfolding understood everything
 earlier_first_orders_is = record { command = refl; listing = refl; plain = (refl, refl) }
-
-pub earlier_orders_after_is : Reads earlier_schema orders_after_text (first_of (col 0 1) (from_table 7 orders_after_tests all_codes_terms by_code)) (codes "ord" ∷ [])
-unfolding understood everything
-earlier_orders_after_is = record { command = refl; listing = refl; plain = (refl, refl) }
 
 abbrev pub earlier_totals_text : List ℕ
 earlier_totals_text = codes "SELECT received, stock, rack, pieces, kerf, scrap, 0, material FROM totals ORDER BY material"

@@ -1,21 +1,15 @@
 -- What the queries that list rows give of the books.
-use Rattle.std.proofs.Common.{◌≡◌, ℕ, pos, Bool, true, false, ◌&&◌, ◌==◌, nat_lt, List, [], ◌∷◌, ◌++◌, map, drop, filter, take, Some, None, Result, IfOk, Vec, refl, sym, ap, ◌∙◌, arith}
+use Rattle.std.proofs.Common.{◌≡◌, ℕ, pos, Bool, true, List, [], ◌∷◌, ◌++◌, map, drop, filter, take, Some, Result, IfOk, Vec, refl, ap, ◌∙◌, arith}
 use Rattle.std.specs.List.{list_all}
 use Rattle.std.specs.declared.alloc.Global.{Global}
-use Rattle.std.specs.Ordering.{is_gt, is_lt, nat_cmp, ordering_then}
+use Rattle.std.specs.Ordering.{nat_cmp, ordering_then}
 use Rattle.std.specs.declared.cmp.Ordering.TheVariants.{Equal}
 use Rattle.std.specs.Cmp.{nat_cmp_total}
 use Rattle.std.specs.FinMap.{entries, nat_cmp-IsAntisymmetric, values}
-use Rattle.std.proofs.lemmas.Bool.Decides.{nat_tests}
 use Rattle.std.proofs.lemmas.List.{take-map}
-use Rattle.sqlite_value.specs.declared.keys.Collation.TheVariants.{Binary}
-use Rattle.sqlite_value.specs.declared.value.Value.{Value}
 use Rattle.sqlite_value.specs.declared.value.Value.TheVariants.{Int, Text}
 use Rattle.sqlite_value.specs.Order.{Row, column, value_cmp}
 use Rattle.sqlite_value.proofs.OrderLemmas.{then-Equal}
-use Rattle.sqlite_sql.specs.declared.ops.BinaryOp.TheVariants.{Compare}
-use Rattle.sqlite_sql.specs.declared.ops.CompareOp.TheVariants.{Gt, Lt}
-use Rattle.sqlite_sql.specs.Ops.{binary, is_true}
 use Rattle.sqlite.specs.declared.rows.Row.{Row as Answered}
 use Rattle.sqlite.specs.Query.{Output, as_count, limited}
 use Rattle.sqlite.specs.Program.{IsProgramAnswer}
@@ -24,25 +18,19 @@ use Rattle.sqlite.specs.Schema.{Schema}
 use Rattle.sqlite.specs.Tree.{Trees}
 use Rattle.sqlite.specs.State.{State, HasCleanDisk, Shown}
 use Rattle.sqlite.proofs.Callers.{reads_as}
-use Rattle.shop_records.specs.Columns.{is_waiting}
 use Rattle.shop_records.specs.Content.{Content}
-use Rattle.shop_records.specs.Lists.{is_asked_for, is_open, materials_of, open_demands, waiting_jobs}
+use Rattle.shop_records.specs.Lists.{materials_of}
 use Rattle.shop_records.specs.declared.records.Demand.{Demand}
-use Rattle.shop_records.specs.declared.records.Job.{Job}
-use Rattle.shop_records.specs.declared.records.JobState.{JobState}
-use Rattle.shop_records.specs.declared.records.JobState.TheVariants as stands
 use Rattle.shop_records.specs.declared.records.Material.{Material}
 use Rattle.shop_tables.specs.Listing.{code_row}
 use Rattle.shop_tables.specs.ListedRows.{listed_demand, listed_material, number_row}
-use Rattle.shop_statements.specs.Rows.{AreRows, IsKeyed, demand_columns, demand_row, job_row, job_state_number, material_columns, material_row}
+use Rattle.shop_statements.specs.Rows.{AreRows, IsKeyed, demand_columns, demand_row, material_columns, material_row}
 use Rattle.shop_statements.specs.Selecting.{is_select}
 use Rattle.shop_statements.specs.Shown.{Books, Holds, Leaves, Shows}
 use Rattle.shop_statements.proofs.Finding.{code_same, code_total}
 use Rattle.shop_tables.proofs.Firsts.{first_answer, of_values}
-use Rattle.shop_statements.proofs.Keys.{and_true, equal-Int, equal-Text, same_number, told}
 use Rattle.shop_tables.proofs.Listed.{ranked}
-use Rattle.shop_statements.proofs.Lists.{map-map}
-use Rattle.shop_tables.proofs.ListTexts.{all_materials_text, all_materials_terms, all_materials_is, by_rowid, first_of, open_demands_text, open_demands_terms, open_demands_tests, open_demands_is, open_demands_of_text, open_demands_of_tests, open_demands_of_is, waiting_jobs_text, waiting_jobs_terms, waiting_jobs_tests, waiting_jobs_is, by_code}
+use Rattle.shop_tables.proofs.ListTexts.{all_materials_text, all_materials_terms, all_materials_is, by_rowid, first_of, open_demands_terms, by_code}
 use Rattle.shop_tables.proofs.Ordered.{by_first, filter_true, in_order, rows_seen}
 use Rattle.shop_statements.proofs.Terms.{Reads, from_table}
 use Rattle.shop_statements.proofs.Texts.{shop, shop_is}
@@ -56,32 +44,8 @@ held_given sql params old new is left b P r clean was finds given =
 
 -- ---- tests of numbers
 
-abbrev greater : Value → Value → Bool
-greater a b = is_true (binary (Compare Gt Binary) a b)
-
-abbrev less : Value → Value → Bool
-less a b = is_true (binary (Compare Lt Binary) a b)
-
-is_greater : (m n : ℕ) → is_gt (nat_cmp m n) ≡ nat_lt n m
-is_greater m n = grind (arith, nat_tests)
-
-is_less : (m n : ℕ) → is_lt (nat_cmp m n) ≡ nat_lt m n
-is_less m n = grind (arith, nat_tests)
-
-greater-Int : (m n : ℕ) → greater (Int (pos m)) (Int (pos n)) ≡ nat_lt n m
-unfolding binary
-greater-Int m n = told _ ∙ ap is_gt (ranked m n) ∙ is_greater m n
-
-less-Int : (m n : ℕ) → less (Int (pos m)) (Int (pos n)) ≡ nat_lt m n
-unfolding binary
-less-Int m n = told _ ∙ ap is_lt (ranked m n) ∙ is_less m n
-
 pub by_number : (a b : ℕ) → ordering_then (value_cmp (Int (pos a)) (Int (pos b))) Equal ≡ nat_cmp a b
 by_number a b = then-Equal (value_cmp (Int (pos a)) (Int (pos b))) ∙ ranked a b
-
-pub and_and : (a b c : Bool) → (a && (b && c)) ≡ ((a && b) && c)
-and_and true b c = refl
-and_and false b c = refl
 
 -- ---- materials
 
@@ -122,41 +86,3 @@ module _ (old new : State) (b : Books) (has : Shows old b) where
 
   pub lists_materials : (rows : List Row) → Shown all_materials_text [] old new rows → rows ≡ map listed_material (materials_of b.content)
   lists_materials = lists_materials_of old new over (shop_is old.now.schema has.schema) _ (all_materials_is old.now.schema has.schema) b.content has.keyed has.stands.materials
-
-  pub lists_open_demands : (after most : ℕ) (rows : List Row) → Shown open_demands_text (Int (pos after) ∷ Int (pos most) ∷ []) old new rows → rows ≡ map listed_demand (take most (open_demands b.content after None))
-  lists_open_demands after most rows shown =
-      let is = open_demands_is old.now.schema has.schema in
-      demands_first old.now.trees b.content has.keyed has.stands.demands open_demands_tests (Int (pos after) ∷ Int (pos most) ∷ []) most refl (λ e. nat_lt after e.0 && is_open e.1) (λ d. nat_lt after d.number && is_asked_for None d.material && is_open d)
-      (λ e i. greater-Int e.0 after i && (and_true (less (Int (pos e.1.made)) (Int (pos e.1.wanted))) ∙ less-Int e.1.made e.1.wanted) i)
-      (λ d i. sym (and_true (nat_lt after d.number)) i && is_open d) rows
-      (reads_as open_demands_text (Int (pos after) ∷ Int (pos most) ∷ []) old new over (shop_is old.now.schema has.schema) _ is.command is.plain is.listing rows shown).answer
-
-  pub lists_open_demands_of : (after most : ℕ) (code : List ℕ) (rows : List Row) → Shown open_demands_of_text (Int (pos after) ∷ Int (pos most) ∷ Text code ∷ []) old new rows
-      → rows ≡ map listed_demand (take most (open_demands b.content after (Some code)))
-  lists_open_demands_of after most code rows shown =
-      let is = open_demands_of_is old.now.schema has.schema in
-      demands_first old.now.trees b.content has.keyed has.stands.demands open_demands_of_tests (Int (pos after) ∷ Int (pos most) ∷ Text code ∷ []) most refl (λ e. nat_lt after e.0 && is_asked_for (Some code) e.1.material && is_open e.1) (λ d. nat_lt after d.number && is_asked_for (Some code) d.material && is_open d)
-      (λ e.
-      (λ i. greater-Int e.0 after i && (equal-Text e.1.material code i && (and_true (less (Int (pos e.1.made)) (Int (pos e.1.wanted))) ∙ less-Int e.1.made e.1.wanted) i))
-      ∙ and_and (nat_lt after e.0) (is_asked_for (Some code) e.1.material) (is_open e.1))
-      (λ d. refl) rows
-      (reads_as open_demands_of_text (Int (pos after) ∷ Int (pos most) ∷ Text code ∷ []) old new over (shop_is old.now.schema has.schema) _ is.command is.plain is.listing rows shown).answer
-
-  pub lists_waiting_jobs : (after most : ℕ) (rows : List Row) → Shown waiting_jobs_text (Int (pos after) ∷ Int (pos most) ∷ []) old new rows → rows ≡ map number_row (take most (map (λ (j : Job). j.act) (waiting_jobs b.content after)))
-  lists_waiting_jobs after most rows shown =
-      let is = waiting_jobs_is old.now.schema has.schema in
-      let params = Int (pos after) ∷ Int (pos most) ∷ [] in
-      let a = (reads_as waiting_jobs_text params old new over (shop_is old.now.schema has.schema) _ is.command is.plain is.listing rows shown).answer in
-      let whole = first_answer 6 waiting_jobs_tests waiting_jobs_terms by_rowid (col 0 1) old.now.trees params rows a in
-      let all : whole.0 ≡ map (λ (j : Job). number_row j.act) (waiting_jobs b.content after) =
-      in_order nat_cmp_total nat_cmp-IsAntisymmetric 6 waiting_jobs_tests waiting_jobs_terms by_rowid (λ e. (Int (pos e.0) ∷ [], number_row e.0)) (λ e f. by_number e.0 f.0) 0 old.now.trees params refl job_row (λ e. nat_lt after e.0 && is_waiting e.1.state)
-      (λ r. list_all (holds (params ∷ r ∷ [])) waiting_jobs_tests) (λ r. refl) (λ e i. greater-Int e.0 after i && (and_true _ ∙ equal-Int (job_state_number e.1.state) 0 ∙ same_number (job_state_number e.1.state) 0 ∙ waits e.1.state) i)
-      (λ d. (column d 0 ∷ [], column d 0 ∷ [])) (λ r. refl) (λ e. refl) whole.0 b.content.jobs has.stands.jobs whole.1
-      ∙ of_values nat_cmp_total nat_cmp-IsAntisymmetric b.content.jobs (λ (j : Job). j.act) (λ number job found. (has.keyed.jobs number job found).numbered) _ (λ e. nat_lt after e.0 && is_waiting e.1.state) (λ j. nat_lt after j.act && is_waiting j.state) (λ j. refl) in
-      whole.2 ∙ ap (take most) (all ∙ sym (map-map number_row (λ (j : Job). j.act) (waiting_jobs b.content after))) ∙ take-map number_row most _
-    where
-      waits : (s : JobState) → (job_state_number s == 0) ≡ is_waiting s
-      waits stands.Waiting = refl
-      waits stands.Done = refl
-      waits stands.Broken = refl
-      waits stands.Released = refl

@@ -1,12 +1,11 @@
 -- The first rows of a query, and the rows of a map's values.
-use Rattle.std.proofs.Common.{◌≡◌, ◌+◌, ◌<◌, ◌≤◌, ℕ, Bool, false, cond, List, [], ◌∷◌, ◌++◌, length, map, filter, take, get_or, Some, T, refl, sym, ap, ◌∙◌, arith}
+use Rattle.std.proofs.Common.{◌≡◌, ℕ, Bool, false, cond, List, [], ◌∷◌, map, filter, Some, T, refl, sym, ap, ◌∙◌}
 use Rattle.std.specs.List.{AllByRecursion}
 use Rattle.std.specs.declared.cmp.Ordering.{Ordering}
 use Rattle.std.specs.Ordering.{eq_by_cmp, is_eq, is_lt, ordering_reverse}
 use Rattle.std.specs.Cmp.{IsTotalOrder, tied_itself}
 use Rattle.std.specs.FinMap.{FinMap, IsAntisymmetric, entries, entries_sorted, find, get, get-entries, is_sorted, values}
 use Rattle.std.specs.FinMap.Entries.{below_all}
-use Rattle.std.proofs.lemmas.List.{get_or-map, length-map, take_all, take_more}
 use Rattle.sqlite_value.specs.declared.value.Value.TheVariants.{Null}
 use Rattle.sqlite_value.specs.declared.keys.Key.{Key}
 use Rattle.sqlite_value.specs.Order.{Row}
@@ -70,15 +69,3 @@ module _ {K X : Type 0} {R : K → K → Ordering} (o : IsTotalOrder R) (same : 
     of_values show t p same_test =
         ap (λ es. map show (filter t es)) rekeyed ∙ ap (map show) (filter-map (λ x. (key x, x)) t (values m)) ∙ map-map show (λ x. (key x, x)) _
         ∙ ap (map (λ x. show (key x, x))) (filter-same (λ x. t (key x, x)) p same_test (values m))
-
--- ---- rows that are read one after another
-
-pub one_more : {X : Type 0} (row_of : X → Row) (rows : List Row) (xs : List X) → rows ≡ map row_of xs → (i : ℕ) → i < length rows → (row : Row) → row ≡ get_or rows i row → (read : X) → ((x : X) → row ≡ row_of x → read ≡ x)
-    → take i xs ++ read ∷ [] ≡ take (i + 1) xs
-one_more row_of rows xs are i inside row is read reads =
-    let within : i < length xs = let same = ap length are ∙ length-map xs row_of in omega (arith, inside, same) in
-    let own : row ≡ row_of (get_or xs i read) = is ∙ ap (λ rs. get_or rs i row) are ∙ get_or-map row_of xs i read row within in
-    ap (λ x. take i xs ++ x ∷ []) (reads _ own) ∙ sym (take_more xs i read within)
-
-pub all_read : {X : Type 0} (row_of : X → Row) (rows : List Row) (xs : List X) → rows ≡ map row_of xs → (i : ℕ) → length rows ≤ i → take i xs ≡ xs
-all_read row_of rows xs are i ended = take_all i xs (let same = ap length are ∙ length-map xs row_of in omega (arith, ended, same))

@@ -1,11 +1,18 @@
 -- What the queries of demands and of jobs from a number on give of the books.
-use Rattle.std.proofs.Common.{◌≡◌, ◌++◌, ℕ, pos, nat_le, List, [], ◌∷◌, map, take, refl, ap, ◌∙◌}
+use Rattle.std.proofs.Common.{◌≡◌, ◌++◌, ℕ, pos, Bool, nat_le, List, [], ◌∷◌, map, take, refl, ap, ◌∙◌, arith}
 use Rattle.std.specs.List.{list_all}
+use Rattle.std.specs.Ordering.{is_ge, nat_cmp}
 use Rattle.std.specs.Cmp.{nat_cmp_total}
 use Rattle.std.specs.FinMap.{entries, nat_cmp-IsAntisymmetric}
+use Rattle.std.proofs.lemmas.Bool.Decides.{nat_tests}
 use Rattle.std.proofs.lemmas.List.{take-map}
+use Rattle.sqlite_value.specs.declared.keys.Collation.TheVariants.{Binary}
+use Rattle.sqlite_value.specs.declared.value.Value.{Value}
 use Rattle.sqlite_value.specs.declared.value.Value.TheVariants.{Int}
 use Rattle.sqlite_value.specs.Order.{Row, column}
+use Rattle.sqlite_sql.specs.declared.ops.BinaryOp.TheVariants.{Compare}
+use Rattle.sqlite_sql.specs.declared.ops.CompareOp.TheVariants.{Ge}
+use Rattle.sqlite_sql.specs.Ops.{binary, is_true}
 use Rattle.sqlite.specs.Schema.{Schema}
 use Rattle.sqlite.specs.State.{State, Shown}
 use Rattle.sqlite.specs.Term.{col, holds}
@@ -14,16 +21,30 @@ use Rattle.shop_records.specs.Content.{Content}
 use Rattle.shop_records.specs.declared.records.Job.{Job}
 use Rattle.shop_statements.specs.Rows.{AreRows, IsKeyed, demand_row, job_columns, job_row}
 use Rattle.shop_statements.specs.Shown.{Books, Shows}
-use Rattle.shop_statements.proofs.Keys.{and_true}
+use Rattle.shop_statements.proofs.Keys.{and_true, told}
 use Rattle.shop_statements.proofs.Terms.{Reads, from_table}
 use Rattle.shop_statements.proofs.Texts.{shop, shop_is}
 use Rattle.shop_tables.specs.ListedRows.{listed_demand, listed_job, number_row}
 use Rattle.shop_tables.specs.RowsFrom.{demands_from, jobs_from}
-use Rattle.shop_tables.proofs.FirstParts.{at_least-Int}
+use Rattle.shop_tables.proofs.Listed.{ranked}
 use Rattle.shop_tables.proofs.FirstRows.{by_number, demands_first}
 use Rattle.shop_tables.proofs.Firsts.{first_answer, of_values}
 use Rattle.shop_tables.proofs.ListTexts.{by_rowid, demands_from_is, demands_from_text, first_of, from_tests, jobs_from_is, jobs_from_terms, jobs_from_text, open_demands_terms}
 use Rattle.shop_tables.proofs.Ordered.{in_order}
+
+-- ---- at least a number
+
+abbrev at_least : Value → Value → Bool
+at_least a b = is_true (binary (Compare Ge Binary) a b)
+
+is_at_least : (m n : ℕ) → is_ge (nat_cmp m n) ≡ nat_le n m
+is_at_least m n = grind (arith, nat_tests)
+
+at_least-Int : (m n : ℕ) → at_least (Int (pos m)) (Int (pos n)) ≡ nat_le n m
+unfolding binary
+at_least-Int m n = told _ ∙ ap is_ge (ranked m n) ∙ is_at_least m n
+
+-- ---- the rows
 
 -- under any schema in which the texts mean these queries
 module _ (old new : State) (schema : Schema) (has : old.now.schema ≡ schema) (names : List (List ℕ)) (content : Content) (keyed : IsKeyed content) (from most : ℕ) where

@@ -10,8 +10,7 @@ use Rattle.sqlite.specs.Steps.{FailsToCommit}
 use Rattle.sqlite.specs.declared.error.Error.{Error}
 use Rattle.sqlite.proofs.StateLemmas.{survives_then}
 use Rattle.sqlite.proofs.Callers.{survives_begin}
-use Rattle.shop_tables.specs.Adopting.{HoldsMade, IsAsBefore, IsVacant, MakesTables, StandsMade}
-use Rattle.shop_statements.specs.Layout.{no_schema}
+use Rattle.shop_tables.specs.Adopting.{HoldsMade, IsAsBefore, MakesTables, StandsMade}
 use Rattle.shop_statements.specs.Shown.{Books, HasShopSchema, Holds, StandsIn, Within}
 use Rattle.shop_tables.proofs.Commits.{old, begun, goes_back, shows_along, stands_in}
 
@@ -61,8 +60,3 @@ module _ {S : Type 0} (g : Ghosts S) (h : Held S) where
     -- the transaction is undone: what was there is seen again
     pub goes_back_as : (IsTrue (old g h).is_open → (old g h).now ≡ (old g h).committed) → Within (begun g h) done → (HasCleanDisk last → IsRolledBack done last) → IsAsBefore (old g h) last
     goes_back_as settled within back clean up = let went = goes_back g h done last late within back clean up in (sym (settled went.was_open ∙ went.seen), went.committed, went.was_open)
-
-  -- the transaction is undone, and nothing was there before it
-  pub vacates : h.schema ≡ no_schema → (IsTrue (old g h).is_open → (old g h).now ≡ (old g h).committed) → (done last : State) → (HasCleanDisk last → HasCleanDisk done) → Within (begun g h) done → (HasCleanDisk last → IsRolledBack done last) → IsVacant last
-  vacates has settled done last late within back clean up =
-      let went = goes_back_as done last late settled within back clean up in (ap (λ (x : Database). x.schema) went.0 ∙ has, went.1)

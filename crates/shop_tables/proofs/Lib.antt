@@ -27,8 +27,5 @@ pub mod Falling
 pub mod FirstRows
 pub mod FromNumber
 pub mod LastNumbers
-pub mod FirstParts
 pub mod RowsAsShown
-pub mod LinesInOrder
 pub mod OrderRows
-pub mod HandedOut

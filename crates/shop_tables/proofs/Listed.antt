@@ -1,19 +1,14 @@
--- The standing parts of a material, in order.
-use Rattle.std.proofs.Common.{◌≡◌, ℕ, pos, Bool, true, false, ◌&&◌, ◌||◌, ◌==◌, List, [], ◌∷◌, ◌++◌, map, drop, filter, Some, refl, sym, ap, ◌∙◌, arith, inl, inr, append-nil, Ok, Err, Result, IfOk}
+-- All parts, in order.
+use Rattle.std.proofs.Common.{◌≡◌, ℕ, pos, Bool, true, false, List, [], ◌∷◌, ◌++◌, map, drop, Some, refl, sym, ap, ◌∙◌, arith, inl, inr, append-nil, Ok, Err, Result, IfOk}
 use Rattle.std.specs.List.{AllByRecursion}
-use Rattle.std.specs.Ordering.{is_eq, int_cmp, nat_cmp, ordering_then}
+use Rattle.std.specs.Ordering.{int_cmp, nat_cmp, ordering_then}
 use Rattle.std.specs.declared.cmp.Ordering.TheVariants.{Equal}
 use Rattle.std.specs.FinMap.{entries, entries_sorted, get-entries, values}
 use Rattle.std.proofs.lemmas.Int.{ints}
 use Rattle.std.proofs.lemmas.Bool.Decides.{nat_tests}
-use Rattle.sqlite_value.specs.declared.value.Value.TheVariants.{Int, Text}
-use Rattle.sqlite_value.specs.declared.keys.Collation.TheVariants.{Binary}
+use Rattle.sqlite_value.specs.declared.value.Value.TheVariants.{Int}
 use Rattle.sqlite_value.specs.Order.{Row, column, value_cmp}
 use Rattle.sqlite_value.proofs.OrderLemmas.{value_cmp-Int, then-Equal}
-use Rattle.sqlite_sql.specs.declared.ops.BinaryOp.TheVariants.{Compare, Or}
-use Rattle.sqlite_sql.specs.declared.ops.CompareOp.TheVariants.{Eq}
-use Rattle.sqlite_sql.specs.Ops.{binary, is_true, from_truth, truth, or3}
-use Rattle.sqlite_trees.proofs.ListLemmas.{all-filter}
 use Rattle.sqlite.specs.Schema.{Schema}
 use Rattle.sqlite.specs.Term.{Term}
 use Rattle.sqlite.specs.Query.{Output, output_cmp}
@@ -22,30 +17,24 @@ use Rattle.sqlite_trees.specs.declared.store.Store.{Ghosts}
 use Rattle.sqlite.specs.Held.{Held, state}
 use Rattle.sqlite.specs.State.{State, HasCleanDisk, Shown, Begins}
 use Rattle.sqlite.proofs.Callers.{reads_as, begins_as}
-use Rattle.cut_measure.specs.Codes.{code_cmp}
 use Rattle.cut_measure.specs.Names.{Name, name_cmp}
-use Rattle.shop_records.specs.Columns.{is_there}
-use Rattle.shop_records.specs.Content.{Content, is_listed, part_at, parts_of}
+use Rattle.shop_records.specs.Content.{Content, part_at}
 use Rattle.shop_records.specs.Elements.{IsIn}
 use Rattle.shop_records.specs.Visits.{IsVisit}
 use Rattle.shop_records.specs.declared.records.Part.{Part}
-use Rattle.shop_records.specs.declared.records.State.{State as PartState}
-use Rattle.shop_records.specs.declared.records.State.TheVariants as stands
 use Rattle.shop_records.proofs.Entries.{found_in}
 use Rattle.shop_tables.specs.Lending.{AreReadOf, IsHeldAt, IsLent, gone_through}
 use Rattle.shop_statements.specs.declared.faults.TableFault.{TableFault}
 use Rattle.shop_tables.specs.declared.lending.Lent.{Lent}
 use Rattle.shop_tables.specs.declared.lending.Lent.TheVariants as lent
-use Rattle.shop_statements.specs.Rows.{AreRows, IsKeyed, part_row, state_number}
+use Rattle.shop_statements.specs.Rows.{AreRows, IsKeyed, part_row}
 use Rattle.shop_statements.specs.Shown.{Books, Shows, Holds, OnBooks}
 use Rattle.shop_tables.specs.Invalid.{IsNoPart}
 use Rattle.shop_statements.specs.Values.{IsPartValue}
 use Rattle.shop_statements.proofs.Finding.{name_total, name_same}
-use Rattle.shop_statements.proofs.Keys.{equal, equal-Text, and_true, as_number, same_number}
-use Rattle.shop_statements.proofs.Lists.{filter-map}
 use Rattle.shop_tables.proofs.Ordered.{filter_true, in_order}
 use Rattle.shop_statements.proofs.Terms.{Reads, from_table}
-use Rattle.shop_tables.proofs.ListTexts.{parts_of_text, parts_of_tests, parts_of_terms, parts_of_order, parts_of_is, all_parts_text, all_parts_is}
+use Rattle.shop_tables.proofs.ListTexts.{parts_of_terms, parts_of_order, all_parts_text, all_parts_is}
 use Rattle.shop_statements.proofs.Texts.{shop, shop_is}
 
 -- ---- the order of the rows
@@ -103,75 +92,6 @@ all_named m keyed = each_entry (λ name part. part.name ≡ name) m keyed.parts
 -- a value under its own name
 abbrev IsOwnValue : Name → Part → Type 0
 IsOwnValue name part = (part.name ≡ name) × IsPartValue part
-
--- ---- the standing parts of a material
-
-abbrev pub either_state : Row → ℕ → Bool
-either_state d at = is_true (binary Or (binary (Compare Eq Binary) (column d at) (Int (pos 0))) (binary (Compare Eq Binary) (column d at) (Int (pos 1))))
-
-abbrev pub stands_of : List ℕ → Row → Bool
-stands_of code d = equal (column d 2) (Text code) && (either_state d 10 && true)
-
-pub two : (x y : Bool) → is_true (from_truth (or3 (truth (from_truth (Some x))) (truth (from_truth (Some y))))) ≡ (x || y)
-two true true = refl
-two true false = refl
-two false true = refl
-two false false = refl
-
-is_number : (s n : ℕ) → is_eq (value_cmp (Int (pos s)) (Int (pos n))) ≡ (s == n)
-is_number s n = ap is_eq (value_cmp-Int (pos s) (pos n)) ∙ as_number s n ∙ same_number s n
-
-or_test : (s : ℕ) → is_true (binary Or (binary (Compare Eq Binary) (Int (pos s)) (Int (pos 0))) (binary (Compare Eq Binary) (Int (pos s)) (Int (pos 1)))) ≡ ((s == 0) || (s == 1))
-unfolding binary
-or_test s = two _ _ ∙ (λ i. is_number s 0 i || is_number s 1 i)
-
-there : (s : PartState) → ((state_number s == 0) || (state_number s == 1)) ≡ is_there s
-there stands.Standing = refl
-there (stands.Reserved n) = refl
-there (stands.Cut n) = refl
-there (stands.Piece n) = refl
-there stands.Kerf = refl
-there stands.Scrap = refl
-there stands.Returned = refl
-
-pub listed : (code : List ℕ) (e : Name × Part) → stands_of code (part_row e) ≡ is_listed code e.1
-listed code e = (λ i. equal-Text e.1.material code i && ((or_test (state_number e.1.state) ∙ there e.1.state) i && true)) ∙ ap (λ b. is_eq (code_cmp e.1.material code) && b) (and_true (is_there e.1.state))
-
-pub listed_later : (code : List ℕ) (r : Row) → (equal (column r 3) (Text code) && (either_state r 11 && true)) ≡ stands_of code (drop 1 r)
-listed_later code [] = refl
-listed_later code (x ∷ d) = refl
-
-module _ (old : State) (code : List ℕ) (b : Books) (has : Shows old b) where
-  abbrev over : Schema
-  over = shop old.now.schema has.schema
-
-  mine : (rows : List Row) → IsProgramAnswer [] (from_table 4 parts_of_tests parts_of_terms parts_of_order) old.now.trees (Text code ∷ []) rows → rows ≡ map part_row (filter (λ e. is_listed code e.1) (entries b.content.parts))
-  mine rows a =
-      in_order name_total name_same 4 parts_of_tests parts_of_terms parts_of_order part_out (by_output parts_of_tests) 1 old.now.trees (Text code ∷ []) refl part_row (λ e. is_listed code e.1) (stands_of code) (listed_later code) (listed code)
-      (λ d. (column d 0 ∷ column d 1 ∷ [], whole d)) shown_later (λ e. refl) rows b.content.parts has.stands.parts a
-
-  listed_named : AllByRecursion (λ (e : Name × Part). e.1.name ≡ e.0) (filter (λ e. is_listed code e.1) (entries b.content.parts))
-  listed_named = all-filter (λ (e : Name × Part). e.1.name ≡ e.0) _ (entries b.content.parts) (all_named b.content has.keyed)
-
-  as_listed : map (λ (e : Name × Part). e.1) (filter (λ e. is_listed code e.1) (entries b.content.parts)) ≡ parts_of b.content code
-  as_listed = sym (filter-map (λ (e : Name × Part). e.1) (is_listed code) (entries b.content.parts))
-
-  -- all rows were lent
-  pub all_listed : (new : State) (given : List Row) (parts : List Part) → Shown parts_of_text (Text code ∷ []) old new given → AreReadOf given parts → parts_of b.content code ≡ parts
-  all_listed new given parts shown read =
-      let is = parts_of_is old.now.schema has.schema in
-      let a = (reads_as parts_of_text (Text code ∷ []) old new over (shop_is old.now.schema has.schema) _ is.command is.plain is.listing given shown).answer in
-      let f = first_parts _ listed_named given [] parts (append-nil given ∙ mine given a) read in
-      sym as_listed ∙ f.1 ∙ ap (λ l. parts ++ l) (f.2 refl) ∙ append-nil parts
-
-  -- the first of them were
-  pub first_listed : (given : List Row) (parts : List Part) → Begins parts_of_text (Text code ∷ []) old given → AreReadOf given parts → (rest : List Part) × (parts_of b.content code ≡ parts ++ rest)
-  first_listed given parts begins read =
-      let is = parts_of_is old.now.schema has.schema in
-      let first = begins_as parts_of_text (Text code ∷ []) old old over (shop_is old.now.schema has.schema) _ is.command is.plain is.listing given begins in
-      let more = first.1 in
-      let f = first_parts _ listed_named given more.0 parts (mine (given ++ more.0) more.1) read in
-      (f.0, sym as_listed ∙ f.1)
 
 -- ---- all parts
 
@@ -311,15 +231,6 @@ module _ {S : Type 0} (g : Ghosts S) (sql : List ℕ) (params : Row) (list : Boo
 
   sees : (b : Books) → Holds (state g old) b → (mid : Held S) → IsHeldAt g sql params old mid → Shows (state g mid) b
   sees b was mid held = (held.stays b was held.clean held.is_open).shows
-
-  pub visited_all : (r : Result Lent TableFault) → r ≡ Ok lent.All → IsLent g sql params old looks new before r after → VisitedHeld (Ok true)
-  visited_all = visits_all g sql params list Shows whole_list first_of old new (Holds (state g old)) sees looks before after
-
-  pub visited_some : (r : Result Lent TableFault) → r ≡ Ok lent.Stopped → IsLent g sql params old looks new before r after → VisitedHeld (Ok false)
-  visited_some = visits_some g sql params list Shows whole_list first_of old new (Holds (state g old)) sees looks before after
-
-  pub visited_till : (r : Result Lent TableFault) (told : Result Bool TableFault) → IfOk told (λ on. ⊥) → IsLent g sql params old looks new before r after → VisitedHeld told
-  visited_till = visits_till g sql params list Shows whole_list first_of old new (Holds (state g old)) sees looks before after
 
   pub visited : (r : Result Lent TableFault) → IsLent g sql params old looks new before r after → VisitedHeld (gone_through r)
   visited = visited_by g sql params list Shows whole_list first_of old new (Holds (state g old)) sees looks before after

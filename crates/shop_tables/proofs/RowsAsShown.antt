@@ -1,20 +1,14 @@
 -- What the queries that list rows show, whatever rows are in the tables.
-use Rattle.std.proofs.Common.{◌≡◌, ◌+◌, ◌<◌, ℕ, pos, Bool, true, false, ◌&&◌, ◌||◌, if◌then◌else◌, List, [], ◌∷◌, ◌++◌, length, map, filter, take, get_or, Option, Some, None, Ok, Err, Result, Vec, IfOk, IsErr, refl, sym, ap, subst, ◌∙◌, arith, IsPermutation, IsSorted}
+use Rattle.std.proofs.Common.{◌≡◌, ◌+◌, ℕ, pos, Bool, true, List, [], ◌∷◌, ◌++◌, map, filter, Option, Some, None, Ok, Err, Result, Vec, IfOk, IsErr, refl, sym, ap, subst, ◌∙◌, arith, IsPermutation, IsSorted}
 use Rattle.std.specs.List.{list_all}
 use Rattle.std.specs.Option.{option_to_list}
 use Rattle.std.specs.declared.cmp.Ordering.{Ordering}
 use Rattle.std.specs.declared.cmp.Ordering.TheVariants.{Equal}
 use Rattle.std.proofs.lemmas.List.Sorted.{IsPermutation-sym}
-use Rattle.std.proofs.lemmas.List.{get_or-map, length-map, map-append, take-map, take_more}
-use Rattle.sqlite_value.specs.declared.keys.Collation.TheVariants.{Binary}
+use Rattle.std.proofs.lemmas.List.{get_or-map, length-map, take-map}
 use Rattle.sqlite_value.specs.declared.keys.Key.{Key}
-use Rattle.sqlite_value.specs.declared.value.Value.{Value}
-use Rattle.sqlite_value.specs.declared.value.Value.TheVariants.{Int, Null, Text}
+use Rattle.sqlite_value.specs.declared.value.Value.TheVariants.{Int, Text}
 use Rattle.sqlite_value.specs.Order.{Row, column}
-use Rattle.sqlite_sql.specs.declared.ops.BinaryOp.TheVariants.{Compare, Or}
-use Rattle.sqlite_sql.specs.declared.ops.CompareOp.{CompareOp}
-use Rattle.sqlite_sql.specs.declared.ops.CompareOp.TheVariants.{Eq, Gt}
-use Rattle.sqlite_sql.specs.Ops.{binary, from_truth, is_true, or3, truth}
 use Rattle.sqlite_trees.proofs.ListLemmas.{pull_back}
 use Rattle.sqlite.specs.Tree.{Trees}
 use Rattle.sqlite.specs.Term.{Term, col, eval, holds, lit}
@@ -29,7 +23,6 @@ use Rattle.shop_statements.specs.Selecting.{is_select}
 use Rattle.shop_statements.specs.Shown.{Books, GivesRow, Leaves, Shows}
 use Rattle.shop_statements.proofs.Kept.{shown_open}
 use Rattle.sqlite.proofs.Callers.{reads_as}
-use Rattle.cut_measure.specs.Names.{Name}
 use Rattle.shop_records.specs.declared.records.Demand.{Demand}
 use Rattle.shop_records.specs.declared.records.Material.{Material}
 use Rattle.shop_statements.specs.declared.faults.TableFault.{TableFault}
@@ -42,10 +35,10 @@ use Rattle.shop_statements.proofs.Selects.{selects}
 use Rattle.shop_statements.proofs.Terms.{from_table}
 use Rattle.shop_statements.proofs.Texts.{shop, shop_is}
 use Rattle.shop_tables.specs.ListedRows.{listed_demand, listed_material, number_row}
-use Rattle.shop_tables.specs.RowsShown.{AreDemandRows, AreJobRows, AreLastRows, AreLineRows, AreMaterialRows, AreOrderRows, ArePartRows, AreShown, GivesRows, by_columns, is_above, is_at_least, is_below}
+use Rattle.shop_tables.specs.RowsShown.{AreLastRows, AreMaterialRows, AreOrderRows, AreShown, GivesRows, by_columns}
 use Rattle.shop_tables.proofs.Firsts.{first_answer}
-use Rattle.shop_tables.proofs.FirstRows.{and_and, held_given}
-use Rattle.shop_tables.proofs.ListTexts.{all_codes_terms, all_materials_is, all_materials_terms, all_materials_text, by_code, by_line, by_rowid, falling, first_of, first_orders_is, first_orders_text, first_parts_is, first_parts_text, last_number_is, last_number_terms, last_number_tests, last_number_text, lines_is, lines_tests, lines_text, old_totals_is, old_totals_terms, old_totals_text, open_demands_is, open_demands_of_is, open_demands_of_tests, open_demands_of_text, open_demands_terms, open_demands_tests, open_demands_text, orders_after_is, orders_after_tests, orders_after_text, parts_after_is, parts_after_tests, parts_after_text, parts_of_order, parts_of_terms, parts_of_tests, waiting_jobs_is, waiting_jobs_terms, waiting_jobs_tests, waiting_jobs_text}
+use Rattle.shop_tables.proofs.FirstRows.{held_given}
+use Rattle.shop_tables.proofs.ListTexts.{all_codes_terms, all_materials_is, all_materials_terms, all_materials_text, by_code, falling, first_of, first_orders_is, first_orders_text, last_number_is, last_number_terms, last_number_tests, last_number_text, old_totals_is, old_totals_terms, old_totals_text}
 
 -- ---- a query on one table
 
@@ -79,34 +72,6 @@ module _ (tree : ℕ) (tests terms : List Term) (order : List (Term × Key)) (db
         record { rows = all.rows; same = all.same; sorted = all.sorted; are = first.2 ∙ (λ i. limited (counts i) (all.are i)) ∙ take-map shown n all.rows }
 
 -- ---- tests
-
-either_of : (n t m u : Bool) → is_true (from_truth (or3 (truth (if n then Null else from_truth (Some t))) (truth (if m then Null else from_truth (Some u)))))
-    ≡ (is_true (if n then Null else from_truth (Some t)) || is_true (if m then Null else from_truth (Some u)))
-either_of true t true u = refl
-either_of true t false true = refl
-either_of true t false false = refl
-either_of false true true u = refl
-either_of false false true u = refl
-either_of false true false true = refl
-either_of false true false false = refl
-either_of false false false true = refl
-either_of false false false false = refl
-
-abbrev compared : CompareOp → Value → Value → Value
-compared op a b = binary (Compare op Binary) a b
-
-either : (op more : CompareOp) (a b c d : Value) → is_true (binary Or (compared op a b) (compared more c d)) ≡ (is_true (compared op a b) || is_true (compared more c d))
-unfolding binary
-either op more a b c d = either_of _ _ _ _
-
--- a part's row after a name
-part_tests : (a b c d : Value) (code : List ℕ) (name : Name) → ((are_equal c (Text code)) && (is_true (binary Or (compared Eq d (Int (pos 0))) (compared Eq d (Int (pos 1)))) && (is_at_least a (Int (pos name.act)) && (is_true (binary Or (compared Gt a (Int (pos name.act))) (compared Gt b (Int (pos name.node)))) && true))))
-    ≡ ((are_equal c (Text code) && (are_equal d (Int (pos 0)) || are_equal d (Int (pos 1)))) && (is_at_least a (Int (pos name.act)) && (is_above a (Int (pos name.act)) || is_above b (Int (pos name.node)))))
-part_tests a b c d code name = (λ i. are_equal c (Text code) && (either Eq Eq d (Int (pos 0)) d (Int (pos 1)) i && (is_at_least a (Int (pos name.act)) && (and_true _ ∙ either Gt Gt a (Int (pos name.act)) b (Int (pos name.node))) i))) ∙ and_and (are_equal c (Text code)) (are_equal d (Int (pos 0)) || are_equal d (Int (pos 1))) (is_at_least a (Int (pos name.act)) && (is_above a (Int (pos name.act)) || is_above b (Int (pos name.node))))
-
--- a part's row
-pub listed_tests : (code : List ℕ) (c d : Value) → (are_equal c (Text code) && (is_true (binary Or (compared Eq d (Int (pos 0))) (compared Eq d (Int (pos 1)))) && true)) ≡ ((are_equal c (Text code) && (are_equal d (Int (pos 0)) || are_equal d (Int (pos 1)))) && true)
-listed_tests code c d = (λ i. are_equal c (Text code) && (and_true _ ∙ either Eq Eq d (Int (pos 0)) d (Int (pos 1))) i) ∙ sym (and_true _)
 
 -- of one row at most
 first_row : (shown : Row → Row) (rows : List Row) → (o : Option Row) × (map shown (limited (Some 1) rows) ≡ option_to_list o)
@@ -144,58 +109,11 @@ module _ (old new : State) (h : HasShopTables old.now.schema) where
       shown_whole 2 [] all_materials_terms by_code old.now.trees [] refl _ (by_columns (1 ∷ [])) (λ _. true) (λ r. refl) (λ a b. refl) (λ r. refl) rows
       (reads_as all_materials_text [] old new over (shop_is old.now.schema h) _ is.command is.plain is.listing rows shown).answer
 
-  pub first_parts_shown : (code : List ℕ) (most : ℕ) (rows : List Row) → Shown first_parts_text (Text code ∷ Int (pos most) ∷ []) old new rows → ArePartRows code None (Some most) (old.now.trees 4) rows
-  first_parts_shown code most rows shown =
-      let is = first_parts_is old.now.schema h in
-      let params = Text code ∷ Int (pos most) ∷ [] in
-      shown_first 4 parts_of_tests parts_of_terms parts_of_order old.now.trees params refl _ (by_columns (1 ∷ 2 ∷ [])) _ (λ r. listed_tests code (column r 3) (column r 11)) (λ a b. refl) (λ r. refl) (col 0 1) most refl rows
-      (reads_as first_parts_text params old new over (shop_is old.now.schema h) _ is.command is.plain is.listing rows shown).answer
-
-  pub parts_after_shown : (code : List ℕ) (after : Name) (most : ℕ) (rows : List Row) → Shown parts_after_text (Text code ∷ Int (pos after.act) ∷ Int (pos after.node) ∷ Int (pos most) ∷ []) old new rows → ArePartRows code (Some after) (Some most) (old.now.trees 4) rows
-  parts_after_shown code after most rows shown =
-      let is = parts_after_is old.now.schema h in
-      let params = Text code ∷ Int (pos after.act) ∷ Int (pos after.node) ∷ Int (pos most) ∷ [] in
-      shown_first 4 parts_after_tests parts_of_terms parts_of_order old.now.trees params refl _ (by_columns (1 ∷ 2 ∷ [])) _ (λ r. part_tests (column r 1) (column r 2) (column r 3) (column r 11) code after) (λ a b. refl) (λ r. refl) (col 0 3) most refl rows
-      (reads_as parts_after_text params old new over (shop_is old.now.schema h) _ is.command is.plain is.listing rows shown).answer
-
-  pub open_demands_shown : (after most : ℕ) (rows : List Row) → Shown open_demands_text (Int (pos after) ∷ Int (pos most) ∷ []) old new rows → AreDemandRows after None most (old.now.trees 9) rows
-  open_demands_shown after most rows shown =
-      let is = open_demands_is old.now.schema h in
-      let params = Int (pos after) ∷ Int (pos most) ∷ [] in
-      shown_first 9 open_demands_tests open_demands_terms by_rowid old.now.trees params refl _ (by_columns (0 ∷ [])) _ (λ r i. is_above (column r 0) (Int (pos after)) && and_true (is_below (column r 11) (column r 9)) i) (λ a b. refl) (λ r. refl) (col 0 1) most refl rows
-      (reads_as open_demands_text params old new over (shop_is old.now.schema h) _ is.command is.plain is.listing rows shown).answer
-
-  pub open_demands_of_shown : (after most : ℕ) (code : List ℕ) (rows : List Row) → Shown open_demands_of_text (Int (pos after) ∷ Int (pos most) ∷ Text code ∷ []) old new rows → AreDemandRows after (Some code) most (old.now.trees 9) rows
-  open_demands_of_shown after most code rows shown =
-      let is = open_demands_of_is old.now.schema h in
-      let params = Int (pos after) ∷ Int (pos most) ∷ Text code ∷ [] in
-      shown_first 9 open_demands_of_tests open_demands_terms by_rowid old.now.trees params refl _ (by_columns (0 ∷ [])) _ (λ r i. is_above (column r 0) (Int (pos after)) && (are_equal (column r 4) (Text code) && and_true (is_below (column r 11) (column r 9)) i)) (λ a b. refl) (λ r. refl) (col 0 1) most refl rows
-      (reads_as open_demands_of_text params old new over (shop_is old.now.schema h) _ is.command is.plain is.listing rows shown).answer
-
-  pub lines_shown : (order : List ℕ) (rows : List Row) → Shown lines_text (Text order ∷ []) old new rows → AreLineRows order (old.now.trees 9) rows
-  lines_shown order rows shown =
-      let is = lines_is old.now.schema h in
-      shown_whole 9 lines_tests open_demands_terms by_line old.now.trees (Text order ∷ []) refl _ (by_columns (3 ∷ [])) _ (λ r. and_true (are_equal (column r 2) (Text order))) (λ a b. refl) (λ r. refl) rows
-      (reads_as lines_text (Text order ∷ []) old new over (shop_is old.now.schema h) _ is.command is.plain is.listing rows shown).answer
-
-  pub first_orders_shown : (most : ℕ) (rows : List Row) → Shown first_orders_text (Int (pos most) ∷ []) old new rows → AreOrderRows None most (old.now.trees 7) rows
+  pub first_orders_shown : (most : ℕ) (rows : List Row) → Shown first_orders_text (Int (pos most) ∷ []) old new rows → AreOrderRows most (old.now.trees 7) rows
   first_orders_shown most rows shown =
       let is = first_orders_is old.now.schema h in
       shown_first 7 [] all_codes_terms by_code old.now.trees (Int (pos most) ∷ []) refl _ (by_columns (1 ∷ [])) _ (λ r. refl) (λ a b. refl) (λ r. refl) (col 0 0) most refl rows
       (reads_as first_orders_text (Int (pos most) ∷ []) old new over (shop_is old.now.schema h) _ is.command is.plain is.listing rows shown).answer
-
-  pub orders_after_shown : (code : List ℕ) (most : ℕ) (rows : List Row) → Shown orders_after_text (Text code ∷ Int (pos most) ∷ []) old new rows → AreOrderRows (Some code) most (old.now.trees 7) rows
-  orders_after_shown code most rows shown =
-      let is = orders_after_is old.now.schema h in
-      shown_first 7 orders_after_tests all_codes_terms by_code old.now.trees (Text code ∷ Int (pos most) ∷ []) refl _ (by_columns (1 ∷ [])) _ (λ r. and_true (is_above (column r 1) (Text code))) (λ a b. refl) (λ r. refl) (col 0 1) most refl rows
-      (reads_as orders_after_text (Text code ∷ Int (pos most) ∷ []) old new over (shop_is old.now.schema h) _ is.command is.plain is.listing rows shown).answer
-
-  pub waiting_jobs_shown : (after most : ℕ) (rows : List Row) → Shown waiting_jobs_text (Int (pos after) ∷ Int (pos most) ∷ []) old new rows → AreJobRows after most (old.now.trees 6) rows
-  waiting_jobs_shown after most rows shown =
-      let is = waiting_jobs_is old.now.schema h in
-      let params = Int (pos after) ∷ Int (pos most) ∷ [] in
-      shown_first 6 waiting_jobs_tests waiting_jobs_terms by_rowid old.now.trees params refl _ (by_columns (0 ∷ [])) _ (λ r i. is_above (column r 0) (Int (pos after)) && and_true (are_equal (column r 5) (Int (pos 0))) i) (λ a b. refl) (λ r. refl) (col 0 1) most refl rows
-      (reads_as waiting_jobs_text params old new over (shop_is old.now.schema h) _ is.command is.plain is.listing rows shown).answer
 
   last_numbers_shown : (terminal : ℕ) (rows : List Row) → Shown last_number_text (Int (pos terminal) ∷ []) old new rows → AreLastRows terminal (old.now.trees 11) rows
   last_numbers_shown terminal rows shown =
@@ -249,12 +167,6 @@ pub shown_read : (cut shown : Row → Row) → ((r : Row) → cut (shown r) ≡ 
 shown_read cut shown whole by most passes stored rows read s is =
     subst (AreShown shown by most passes stored) (s.are ∙ (λ i. map (λ r. sym (whole r) i) (limited most s.rows)) ∙ sym (map-map cut shown (limited most s.rows)) ∙ ap (map cut) (sym s.are) ∙ is) s
 
--- one more row was read
-pub read_more : {X : Type 0} (row_of : X → Row) (cut : Row → Row) (rows : List Row) (xs : List X) (i : ℕ) → map cut (take i rows) ≡ map row_of xs → i < length rows → (row : Row) → row ≡ get_or rows i row → (read : X) → cut row ≡ row_of read
-    → map cut (take (i + 1) rows) ≡ map row_of (xs ++ read ∷ [])
-read_more row_of cut rows xs i was inside row is read same =
-    ap (map cut) (take_more rows i row inside) ∙ map-append cut (take i rows) (get_or rows i row ∷ []) ∙ (λ k. was k ++ (ap cut (sym is) ∙ same) k ∷ []) ∙ sym (map-append row_of xs (read ∷ []))
-
 -- ---- a row that is read whole
 
 own_code : (row : Row) (code : List ℕ) (read : Material) → ((m : Material) (after : Row) → m.code ≡ code → row ≡ material_columns m ++ after → read ≡ m) → columns_of 4 0 row ≡ material_columns read → read.code ≡ code
@@ -277,8 +189,3 @@ demand_read (Err e) row number own exact last = tt
 -- a number that is read of its row is that of the row
 pub last_read : (terminal : ℕ) (stored : List Row) (row : Row) (number : ℕ) → AreLastRows terminal stored (row ∷ []) → column row 0 ≡ Int (pos number) → AreLastRows terminal stored (number_row number ∷ [])
 last_read terminal stored row number are is = shown_read (columns_of 1 0) (columns_of 1 2) (λ r. refl) _ _ _ stored (row ∷ []) (number_row number ∷ []) are (λ i. (is i ∷ []) ∷ [])
-
--- what stands is said of an answer too
-pub always : {X E P : Type 0} (r : Result X E) → P → IfOk r (λ _. P)
-always (Ok x) h = h
-always (Err e) h = tt

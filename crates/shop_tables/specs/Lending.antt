@@ -1,5 +1,5 @@
 -- Parts that are lent one row at a time.
-use Rattle.std.specs.Prelude.{◌≡◌, ◌⊎◌, ℕ, Bool, true, false, List, [], ◌∷◌, ◌++◌, map, ⊤, IsTrue, IfOk, Result, Ok, Err}
+use Rattle.std.specs.Prelude.{◌≡◌, ◌⊎◌, ℕ, Bool, true, false, List, [], ◌∷◌, ◌++◌, ⊤, IsTrue, IfOk, Result, Ok, Err}
 use Rattle.sqlite_value.specs.Order.{Row}
 use Rattle.sqlite_trees.specs.declared.store.Store.{Ghosts}
 use Rattle.sqlite.specs.Held.{Held, state}
@@ -27,14 +27,6 @@ AreReadOf [] [] = ⊤
 AreReadOf [] (p ∷ parts) = ⊥
 AreReadOf (r ∷ rows) [] = ⊥
 AreReadOf (r ∷ rows) (p ∷ parts) = IsReadOf r p × AreReadOf rows parts
-
--- The parts were handed out in turn, and what is shown begins with their rows; it ends with them where the visitor went on.
-pub record HandsOut {V : Type 0} (looks : V → Part → Bool → V → Type 0) (shows : List Row → Type 0) (before after : V) (on : Bool) : Type 0 where
-  pub parts : List Part
-  pub rest : List Row
-  pub shown : shows (map listed_part parts ++ rest)
-  pub seen : HasSeen looks parts on before after
-  pub whole : IsTrue on → rest ≡ []
 
 -- whether each part was answered true
 abbrev pub went_on : Lent → Bool

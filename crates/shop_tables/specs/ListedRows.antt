@@ -1,5 +1,5 @@
 -- Rows that show a value whole.
-use Rattle.std.specs.Prelude.{◌≡◌, ℕ, pos, List, [], ◌∷◌, ◌++◌, map, Option, Some, None}
+use Rattle.std.specs.Prelude.{◌≡◌, ℕ, pos, [], ◌∷◌, ◌++◌, Option, Some, None}
 use Rattle.sqlite_value.specs.declared.value.Value.TheVariants.{Int}
 use Rattle.sqlite_value.specs.Order.{Row}
 use Rattle.shop_records.specs.declared.records.Demand.{Demand}
@@ -7,7 +7,7 @@ use Rattle.shop_records.specs.declared.records.Job.{Job}
 use Rattle.shop_records.specs.declared.records.Material.{Material}
 use Rattle.shop_records.specs.declared.records.Part.{Part}
 use Rattle.shop_records.specs.Content.{Content}
-use Rattle.shop_records.specs.Lists.{AreLines, IsLastNumber}
+use Rattle.shop_records.specs.Lists.{IsLastNumber}
 use Rattle.shop_tables.specs.Listing.{code_row}
 use Rattle.shop_statements.specs.Rows.{demand_columns, job_columns, material_columns, part_row}
 
@@ -29,10 +29,6 @@ listed_demand demand = demand_columns demand ++ number_row demand.number
 -- a job's row, its number after it
 abbrev pub listed_job : Job → Row
 listed_job job = job_columns job ++ number_row job.act
-
--- the rows are those of an order's lines
-abbrev pub AreRowsOfLines : Content → List ℕ → List Row → Type 0
-AreRowsOfLines content order rows = (lines : List Demand) × (rows ≡ map listed_demand lines) × AreLines content order lines
 
 -- the row of a terminal's greatest number; there is none where no message is kept
 abbrev pub IsLastRow : Content → ℕ → Option Row → Type 0

@@ -1,21 +1,15 @@
 -- What a list shows, of tables that may stand for no books.
-use Rattle.std.specs.Prelude.{◌≡◌, ◌⊎◌, ◌&&◌, ◌||◌, ℕ, pos, Bool, true, List, [], ◌∷◌, ◌++◌, map, filter, Option, Some, None, Result, Vec, IfOk, IsTrue, IsPermutation, IsSorted}
+use Rattle.std.specs.Prelude.{◌≡◌, ◌⊎◌, ℕ, pos, Bool, true, List, [], ◌∷◌, ◌++◌, map, filter, Option, Some, None, Result, Vec, IfOk, IsTrue, IsPermutation, IsSorted}
 use Rattle.std.specs.Ordering.{ordering_then}
 use Rattle.std.specs.declared.cmp.Ordering.{Ordering}
 use Rattle.std.specs.declared.cmp.Ordering.TheVariants.{Equal}
-use Rattle.sqlite_value.specs.declared.keys.Collation.TheVariants.{Binary}
-use Rattle.sqlite_value.specs.declared.value.Value.{Value}
-use Rattle.sqlite_value.specs.declared.value.Value.TheVariants.{Int, Text}
+use Rattle.sqlite_value.specs.declared.value.Value.TheVariants.{Int}
 use Rattle.sqlite_value.specs.Order.{Row, column, value_cmp}
-use Rattle.sqlite_sql.specs.declared.ops.BinaryOp.TheVariants.{Compare}
-use Rattle.sqlite_sql.specs.declared.ops.CompareOp.TheVariants.{Ge, Gt, Lt}
-use Rattle.sqlite_sql.specs.Ops.{binary, is_true}
 use Rattle.sqlite_trees.specs.Tree.{Trees}
 use Rattle.sqlite.specs.Query.{limited}
 use Rattle.sqlite.specs.State.{State, HasCleanDisk}
 use Rattle.sqlite.specs.declared.rows.Row.{Row as Answered}
 use Rattle.std.specs.declared.alloc.Global.{Global}
-use Rattle.cut_measure.specs.Names.{Name}
 use Rattle.shop_statements.specs.Found.{are_equal, columns_of}
 use Rattle.shop_statements.specs.Layout.{HasShopTables}
 use Rattle.shop_statements.specs.Shown.{Books, Leaves, OnBooks}
@@ -45,65 +39,15 @@ pub record GivesRows {E : Type 0} (old new : State) (result : Result (Vec Answer
 abbrev pub SeesCommit : State → Type 0
 SeesCommit s = IsTrue s.is_open → s.now ≡ s.committed
 
--- ---- what SQL takes for greater, less, or at least as great
-
-abbrev pub is_above : Value → Value → Bool
-is_above a b = is_true (binary (Compare Gt Binary) a b)
-
-abbrev pub is_below : Value → Value → Bool
-is_below a b = is_true (binary (Compare Lt Binary) a b)
-
-abbrev pub is_at_least : Value → Value → Bool
-is_at_least a b = is_true (binary (Compare Ge Binary) a b)
-
 -- ---- materials: every row of the table, by its code
 
 abbrev pub AreMaterialRows : List Row → List Row → Type 0
 AreMaterialRows = AreShown (λ row. columns_of 4 2 row ++ columns_of 1 1 row) (by_columns (1 ∷ [])) None (λ _. true)
 
--- ---- parts of a material that stand or are reserved, after a name if one is given, by their names
+-- ---- orders, by their codes
 
-abbrev pub stands_in : List ℕ → Row → Bool
-stands_in material row = are_equal (column row 3) (Text material) && (are_equal (column row 11) (Int (pos 0)) || are_equal (column row 11) (Int (pos 1)))
-
-abbrev pub is_past : Option Name → Row → Bool
-is_past None row = true
-is_past (Some name) row =
-    is_at_least (column row 1) (Int (pos name.act)) && (is_above (column row 1) (Int (pos name.act)) || is_above (column row 2) (Int (pos name.node)))
-
-abbrev pub ArePartRows : List ℕ → Option Name → Option ℕ → List Row → List Row → Type 0
-ArePartRows material after most = AreShown (columns_of 12 1) (by_columns (1 ∷ 2 ∷ [])) most (λ row. stands_in material row && is_past after row)
-
--- ---- demands with greater numbers of which fewer are made than are wanted, of one material or of all, by their numbers
-
-abbrev pub is_for : Option (List ℕ) → Row → Bool
-is_for None row = true
-is_for (Some material) row = are_equal (column row 4) (Text material)
-
-abbrev pub AreDemandRows : ℕ → Option (List ℕ) → ℕ → List Row → List Row → Type 0
-AreDemandRows after material most =
-    AreShown (λ row. columns_of 10 2 row ++ columns_of 1 0 row) (by_columns (0 ∷ [])) (Some most)
-    (λ row. is_above (column row 0) (Int (pos after)) && (is_for material row && is_below (column row 11) (column row 9)))
-
--- ---- demands of an order, by their lines
-
-abbrev pub AreLineRows : List ℕ → List Row → List Row → Type 0
-AreLineRows order = AreShown (λ row. columns_of 10 2 row ++ columns_of 1 0 row) (by_columns (3 ∷ [])) None (λ row. are_equal (column row 2) (Text order))
-
--- ---- orders after a code if one is given, by their codes
-
-abbrev pub is_code_past : Option (List ℕ) → Row → Bool
-is_code_past None row = true
-is_code_past (Some code) row = is_above (column row 1) (Text code)
-
-abbrev pub AreOrderRows : Option (List ℕ) → ℕ → List Row → List Row → Type 0
-AreOrderRows after most = AreShown (columns_of 1 1) (by_columns (1 ∷ [])) (Some most) (is_code_past after)
-
--- ---- jobs with greater numbers whose state is that of a waiting one, by their numbers
-
-abbrev pub AreJobRows : ℕ → ℕ → List Row → List Row → Type 0
-AreJobRows after most =
-    AreShown (columns_of 1 0) (by_columns (0 ∷ [])) (Some most) (λ row. is_above (column row 0) (Int (pos after)) && are_equal (column row 5) (Int (pos 0)))
+abbrev pub AreOrderRows : ℕ → List Row → List Row → Type 0
+AreOrderRows most = AreShown (columns_of 1 1) (by_columns (1 ∷ [])) (Some most) (λ _. true)
 
 -- ---- the number of a terminal's kept message with the greatest one; nothing where none is kept
 

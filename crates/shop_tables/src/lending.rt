@@ -1,27 +1,22 @@
 //! Parts that a query lends one row at a time.
 
-ghost use Rattle.std.specs.Prelude.{◌≡◌, ◌≢◌, true, false, None, IfOk, IfSome, IfNone};
+ghost use Rattle.std.specs.Prelude.{◌≡◌, ◌≢◌, true, false, IfOk, IfSome, IfNone};
 ghost use Rattle.sqlite.specs.Held.{state};
 ghost use Rattle.sqlite.specs.Values.{bound};
 ghost use Rattle.std.specs.FinMap.{values};
 ghost use Rattle.shop_statements.specs.Earlier.{OnBooksEarlier};
-ghost use Rattle.sqlite.specs.State.{HasCleanDisk};
-ghost use Rattle.shop_statements.specs.Layout.{HasShopTables};
-ghost use Rattle.shop_tables.specs.Lending.{HandsOut, IsLent, IsReadOf, gone_through};
-ghost use Rattle.shop_tables.specs.RowsShown.{ArePartRows, SeesCommit};
+ghost use Rattle.shop_tables.specs.Lending.{IsLent, IsReadOf, gone_through};
 ghost use Rattle.shop_statements.specs.Selecting.{is_select};
 ghost use Rattle.shop_statements.specs.Shown.{Leaves, OnBooks};
 ghost use Rattle.shop_tables.specs.Invalid.{IsNoPart};
 ghost use Rattle.shop_tables.specs.declared.lending.Lent.TheVariants.{Invalid};
-ghost use Rattle.shop_records.specs.Content.{parts_of};
 ghost use Rattle.shop_records.specs.Visits.{IsVisit};
 
 use crate::invalid::may_be_part;
-use cut_measure::Code;
 use shop_records::{Part, PartVisitor};
 use shop_statements::{TableFault, code_in, name_in, number_in, size_in, state_in};
 use sqlite::types::ValueRef;
-use sqlite::{Alter, Connection, Row, params};
+use sqlite::{Alter, Connection, Row};
 
 /// More rows than a table has.
 const MOST_ROWS: u64 = 18446744073709551615;
@@ -38,7 +33,7 @@ pub enum Lent {
 }
 
 // A part of which each column is shown, its name first.
-pub(crate) fn read_whole(row: &Row) -> Result<Part, TableFault>
+fn read_whole(row: &Row) -> Result<Part, TableFault>
     ensures { IfOk result (IsReadOf row.now) }
 {
     Ok(Part {
@@ -66,7 +61,7 @@ fn read_lent(row: &Row) -> Result<Option<Part>, TableFault>
 }
 
 /// Hands the parts that a query shows to a visitor, for as long as it answers true.
-pub(crate) fn lend<S: Alter, V: PartVisitor>(
+fn lend<S: Alter, V: PartVisitor>(
     conn: &mut Connection<S>,
     sql: &str,
     params: &[ValueRef<'_>],
@@ -92,37 +87,6 @@ pub(crate) fn lend<S: Alter, V: PartVisitor>(
         }
     }
     Err(TableFault::Store)
-}
-
-/// Hands the standing and the reserved parts of a material to a visitor, by rising act and then node, for as long as it
-/// answers true. The answer is true where that was all of them and false where the visitor stopped; after an `Err` too the
-/// parts that were handed out begin them, and the visitor is what they in turn made of it.
-pub fn lend_parts<S: Alter, V: PartVisitor>(
-    conn: &mut Connection<S>,
-    material: Code,
-    visitor: &mut V,
-) -> Result<bool, TableFault>
-    ensures visit { IsVisit V.looks
-        (λ what. OnBooks (state S.Store conn.old) (state S.Store conn.new)
-        (λ books. what (parts_of books.content material))) visitor.old result visitor.new }
-    ensures stands { HasCleanDisk (state S.Store conn.new) → HasShopTables conn.old.schema
-        → SeesCommit (state S.Store conn.old)
-        → IfOk result (HandsOut V.looks (ArePartRows material None None
-        ((state S.Store conn.old).now.trees 4)) visitor.old visitor.new) }
-    ensures leaves { Leaves (state S.Store conn.old) (state S.Store conn.new) }
-    ensures mode { conn.old.in_transaction ≡ false → conn.new.in_transaction ≡ false }
-{
-    let lent = lend(
-        conn,
-        "SELECT act, node, material, batch, root_act, root_node, x, y, w, h, state, detail FROM parts WHERE material = ?1 AND (state = 0 OR state = 1) ORDER BY act, node",
-        params![material.as_str()],
-        visitor,
-    )?;
-    match lent {
-        Lent::All => Ok(true),
-        Lent::Stopped => Ok(false),
-        Lent::Invalid => Err(TableFault::Store),
-    }
 }
 
 /// Hands every part to a visitor, by rising act and then node, for as long as it answers true. What is told is how far it

@@ -5,7 +5,6 @@ mod adopting;
 mod changing;
 mod chunks;
 mod committing;
-mod first_parts;
 mod invalid;
 mod kept_counts;
 mod last_numbers;
@@ -16,37 +15,27 @@ mod listed_rows;
 mod listing;
 mod material_lists;
 mod old_totals;
-mod open_demands;
-mod order_lines;
 mod order_lists;
 mod renewing;
 mod reopening;
 mod valid_rows;
-mod waiting_jobs;
 mod writing;
 
 pub use adopting::{AdoptFault, Adopted, adopt_tables};
 pub use chunks::{demand_rows_from, job_rows_from, part_key_at};
 pub use committing::commit_change;
-pub use first_parts::list_first_parts;
 pub use kept_counts::count_kept;
 pub use last_numbers::find_last_number;
 pub use laws::lending_limits;
 pub use laying::statements_make_tables;
-pub use lending::{Lent, lend_all_parts, lend_parts};
+pub use lending::{Lent, lend_all_parts};
 pub use listing::list_totals;
-pub use material_lists::{list_materials, material_rows};
-pub use open_demands::list_open_demands;
-pub use order_lines::list_lines;
-pub use order_lists::{list_orders, order_rows};
+pub use material_lists::material_rows;
+pub use order_lists::order_rows;
 pub use renewing::{list_earlier_totals, renew_shop, steps_renew_tables};
 pub use reopening::left_contents_are_found;
-pub use shop_statements::{
-    TableFault, find_demand, find_import, find_job, find_kept, find_last_act, find_last_demand,
-    find_material, find_order, find_part, find_totals,
-};
+pub use shop_statements::{TableFault, find_import, find_kept, find_last_act, find_last_demand};
 pub use valid_rows::{
     NoRow, StoredJob, demand_key_of, demand_of_row, job_key_of, job_of_row, material_key_of,
     material_of_row, plan_of_row,
 };
-pub use waiting_jobs::list_waiting_jobs;

@@ -1,15 +1,12 @@
 //! Rows of a query, each of which shows a value whole.
 
-ghost use Rattle.std.specs.Prelude.{◌≡◌, List, map, pos, IfOk};
+ghost use Rattle.std.specs.Prelude.{◌≡◌, pos, IfOk};
 ghost use Rattle.sqlite_value.specs.Order.{Row as Values};
 ghost use Rattle.shop_statements.specs.Found.{columns_of};
 
-use crate::lending::read_whole;
-use cut_measure::Code;
-use shop_records::{Demand, Material, Part, RowList};
+use shop_records::{Demand, Material};
 use shop_statements::{TableFault, code_in, number_in, read_demand, read_material};
 use sqlite::Row;
-use std::alloc::Global;
 
 /// What a row shows whole.
 pub(crate) trait Listed: Copy + Drop {
@@ -41,18 +38,6 @@ impl Listed for Material {
     }
 }
 
-impl Listed for Part {
-    ghost use Rattle.shop_tables.specs.ListedRows.{listed_part};
-
-    ghost row_of = { listed_part };
-
-    ghost width = { 12 };
-
-    fn read(row: &Row) -> Result<Part, TableFault> {
-        read_whole(row)
-    }
-}
-
 impl Listed for Demand {
     ghost use Rattle.shop_tables.specs.ListedRows.{listed_demand};
 
@@ -63,30 +48,6 @@ impl Listed for Demand {
     fn read(row: &Row) -> Result<Demand, TableFault> {
         let number = number_in(row, 10)?;
         read_demand(number, row)
-    }
-}
-
-impl Listed for Code {
-    ghost use Rattle.shop_tables.specs.Listing.{code_row};
-
-    ghost row_of = { code_row };
-
-    ghost width = { 1 };
-
-    fn read(row: &Row) -> Result<Code, TableFault> {
-        code_in(row, 0)
-    }
-}
-
-impl Listed for u32 {
-    ghost use Rattle.shop_tables.specs.ListedRows.{number_row};
-
-    ghost row_of = { number_row };
-
-    ghost width = { 1 };
-
-    fn read(row: &Row) -> Result<u32, TableFault> {
-        number_in(row, 0)
     }
 }
 
@@ -104,19 +65,4 @@ pub(crate) fn at_most(most: usize) -> Result<Limit, TableFault>
         Ok(rows) => Ok(Limit { rows }),
         Err(_) => Err(TableFault::Store),
     }
-}
-
-/// The values of these rows, in order.
-pub(crate) fn read_rows<T: Listed>(alloc: Global, rows: &[Row]) -> Result<RowList<T>, TableFault>
-    ensures values { (values : List T) → rows.now ≡ map T.Listed.row_of values
-        → IfOk result (λ list. list ≡ values) }
-    ensures exact { IfOk result
-        (λ list. map (columns_of T.Listed.width 0) rows.now ≡ map T.Listed.row_of list) }
-{
-    let mut list = RowList::new(alloc);
-    for row in rows {
-        let value = T::read(row)?;
-        list.push(value)?;
-    }
-    Ok(list)
 }

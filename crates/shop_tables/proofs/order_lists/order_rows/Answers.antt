@@ -10,7 +10,7 @@ use Rattle.shop_statements.specs.Earlier.{earlier_schema}
 use Rattle.shop_statements.specs.declared.faults.TableFault.{TableFault}
 use Rattle.shop_tables.specs.Listing.{code_row}
 use Rattle.shop_tables.proofs.EarlierRows.{earlier_first_orders_is, held_given_earlier}
-use Rattle.shop_tables.proofs.order_lists.first_rows.Goals as goal
+use Rattle.shop_tables.proofs.order_lists.order_rows.Goals as goal
 
 pub returns-in_err-limit-clause-gives : goal.returns-in_err-limit-clause-gives
 returns-in_err-limit-clause-gives g c = gives_none c.from_residual.result _ _ _ _ c.from_residual.ensures.0 (leaves_itself _)
