@@ -8,7 +8,7 @@ use Rattle.std.specs.Ordering.{eq_by_cmp, is_eq, nat_cmp, ordering_then}
 use Rattle.std.specs.Cmp.{IsTotalOrder, nat_cmp_total, on_total, then_total}
 use Rattle.std.specs.Cmp.Lexicographic.{nat_list_cmp_total}
 use Rattle.std.specs.FinMap.{IsAntisymmetric, get, nat_cmp-IsAntisymmetric, slice_cmp-IsAntisymmetric}
-use Rattle.sqlite_value.specs.declared.value.Value.TheVariants.{Int, Text, Null}
+use Rattle.sqlite_value.specs.declared.value.Value.TheVariants.{Int, Text}
 use Rattle.sqlite_value.specs.Order.{Row, column}
 use Rattle.sqlite_value.proofs.KeyLemmas.{then_tied}
 use Rattle.sqlite.specs.Schema.{Schema}
@@ -17,12 +17,12 @@ use Rattle.cut_measure.specs.Codes.{code_cmp}
 use Rattle.cut_measure.specs.Names.{Name, name_cmp}
 use Rattle.shop_records.specs.Content.{pair_cmp}
 use Rattle.shop_records.specs.declared.texts.Pair.{Pair}
-use Rattle.shop_statements.specs.Rows.{AreRows, meta_row, meta_entries, material_columns, material_row, part_columns, part_row, job_columns, job_row, order_row, demand_columns, demand_row, kept_columns, kept_row, import_columns, import_row, totals_columns, totals_row}
+use Rattle.shop_statements.specs.Rows.{AreRows, meta_row, meta_entries, kept_columns, kept_row, import_columns, import_row}
 use Rattle.shop_statements.specs.Shown.{Books, Shows}
 use Rattle.shop_statements.proofs.Selects.{selects, selected}
 use Rattle.shop_statements.proofs.Terms.{Reads, from_table}
 use Rattle.shop_statements.proofs.Keys.{equal, equal-Int, equal-Text, and_true, shown_as}
-use Rattle.shop_statements.proofs.Texts.{shop, shop_is, by_one, get_meta_text, get_meta_terms, get_meta_is, get_material_text, get_material_terms, get_material_is, get_part_text, get_part_terms, get_part_is, get_job_text, get_job_terms, get_job_is, get_order_text, get_order_terms, get_order_is, get_demand_text, get_demand_terms, get_demand_is, get_kept_text, get_kept_terms, get_kept_is, get_import_text, get_import_terms, get_import_is, get_totals_text, get_totals_terms, get_totals_is, by_one, by_two, by_number}
+use Rattle.shop_statements.proofs.Texts.{shop, shop_is, by_one, get_meta_text, get_meta_terms, get_meta_is, get_kept_text, get_kept_terms, get_kept_is, get_import_text, get_import_terms, get_import_is, by_one, by_two}
 use Rattle.shop_statements.proofs.Reading.{asked, finds}
 
 pub code_total : IsTotalOrder code_cmp
@@ -88,26 +88,6 @@ material_shown_later : (r : Row) → column r 2 ∷ column r 3 ∷ column r 4 �
 material_shown_later [] = refl
 material_shown_later (x ∷ d) = refl
 
-abbrev part_shown : Row → Row
-part_shown d = column d 2 ∷ column d 3 ∷ column d 4 ∷ column d 5 ∷ column d 6 ∷ column d 7 ∷ column d 8 ∷ column d 9 ∷ column d 10 ∷ column d 11 ∷ []
-
-part_shown_later : (r : Row) → column r 3 ∷ column r 4 ∷ column r 5 ∷ column r 6 ∷ column r 7 ∷ column r 8 ∷ column r 9 ∷ column r 10 ∷ column r 11 ∷ column r 12 ∷ [] ≡ part_shown (drop 1 r)
-part_shown_later [] = refl
-part_shown_later (x ∷ d) = refl
-
-abbrev job_shown : Row → Row
-job_shown d = column d 2 ∷ column d 3 ∷ column d 4 ∷ column d 5 ∷ []
-
-abbrev order_shown : Row → Row
-order_shown d = column d 0 ∷ []
-
-order_shown_later : (r : Row) → column r 1 ∷ [] ≡ order_shown (drop 1 r)
-order_shown_later [] = refl
-order_shown_later (x ∷ d) = refl
-
-abbrev demand_shown : Row → Row
-demand_shown d = column d 2 ∷ column d 3 ∷ column d 4 ∷ column d 5 ∷ column d 6 ∷ column d 7 ∷ column d 8 ∷ column d 9 ∷ column d 10 ∷ column d 11 ∷ []
-
 abbrev kept_shown : Row → Row
 kept_shown d = column d 2 ∷ column d 3 ∷ []
 
@@ -115,34 +95,7 @@ kept_shown_later : (r : Row) → column r 3 ∷ column r 4 ∷ [] ≡ kept_shown
 kept_shown_later [] = refl
 kept_shown_later (x ∷ d) = refl
 
-abbrev totals_shown : Row → Row
-totals_shown d = column d 1 ∷ column d 2 ∷ column d 3 ∷ column d 4 ∷ column d 5 ∷ column d 6 ∷ column d 7 ∷ []
-
-totals_shown_later : (r : Row) → column r 2 ∷ column r 3 ∷ column r 4 ∷ column r 5 ∷ column r 6 ∷ column r 7 ∷ column r 8 ∷ [] ≡ totals_shown (drop 1 r)
-totals_shown_later [] = refl
-totals_shown_later (x ∷ d) = refl
-
 module _ (old new : State) (rows : List Row) (b : Books) (has : Shows old b) where
-  pub finds_material : (code : List ℕ) → Shown get_material_text (Text code ∷ []) old new rows → rows ≡ option_to_list (option_map material_columns (get b.content.materials code))
-  finds_material code shown =
-      finds code_total code_same 1 material_row (λ e. material_columns e.1) b.content.materials code _ (is_word code) (word_later code) (λ e. word_tests e.0 code (material_columns e.1)) _ material_shown material_shown_later (λ e. refl) _ rows has.stands.materials
-      (asked old new has.schema get_material_text (Text code ∷ []) 2 by_one get_material_terms _ (get_material_is old.now.schema has.schema) refl rows shown)
-
-  pub finds_part : (k : Name) → Shown get_part_text (Int (pos k.act) ∷ Int (pos k.node) ∷ []) old new rows → rows ≡ option_to_list (option_map part_columns (get b.content.parts k))
-  finds_part k shown =
-      finds name_total name_same 1 part_row (λ e. part_columns e.1) b.content.parts k _ (is_two k.act k.node) (two_later k.act k.node) (λ e. two_tests e.0.act e.0.node k.act k.node (part_columns e.1)) _ part_shown part_shown_later (λ e. refl) _ rows has.stands.parts
-      (asked old new has.schema get_part_text (Int (pos k.act) ∷ Int (pos k.node) ∷ []) 4 by_two get_part_terms _ (get_part_is old.now.schema has.schema) refl rows shown)
-
-  pub finds_job : (n : ℕ) → Shown get_job_text (Int (pos n) ∷ []) old new rows → rows ≡ option_to_list (option_map job_columns (get b.content.jobs n))
-  finds_job n shown =
-      finds nat_cmp_total nat_cmp-IsAntisymmetric 0 job_row (λ e. job_columns e.1) b.content.jobs n _ (is_number n) (λ r. refl) (λ e. number_tests e.0 n (Null ∷ job_columns e.1)) _ job_shown (λ r. refl) (λ e. refl) _ rows has.stands.jobs
-      (asked old new has.schema get_job_text (Int (pos n) ∷ []) 6 by_number get_job_terms _ (get_job_is old.now.schema has.schema) refl rows shown)
-
-  pub finds_demand : (n : ℕ) → Shown get_demand_text (Int (pos n) ∷ []) old new rows → rows ≡ option_to_list (option_map demand_columns (get b.content.demands n))
-  finds_demand n shown =
-      finds nat_cmp_total nat_cmp-IsAntisymmetric 0 demand_row (λ e. demand_columns e.1) b.content.demands n _ (is_number n) (λ r. refl) (λ e. number_tests e.0 n (Null ∷ demand_columns e.1)) _ demand_shown (λ r. refl) (λ e. refl) _ rows has.stands.demands
-      (asked old new has.schema get_demand_text (Int (pos n) ∷ []) 9 by_number get_demand_terms _ (get_demand_is old.now.schema has.schema) refl rows shown)
-
   pub finds_kept : (k : Pair) → Shown get_kept_text (Int (pos k.terminal) ∷ Int (pos k.number) ∷ []) old new rows → rows ≡ option_to_list (option_map kept_columns (get b.content.kept k))
   finds_kept k shown =
       finds pair_total pair_same 1 kept_row (λ e. kept_columns e.1) b.content.kept k _ (is_two k.terminal k.number) (two_later k.terminal k.number) (λ e. two_tests e.0.terminal e.0.number k.terminal k.number (kept_columns e.1)) _ kept_shown kept_shown_later (λ e. refl) _ rows has.stands.kept
@@ -152,16 +105,6 @@ module _ (old new : State) (rows : List Row) (b : Books) (has : Shows old b) whe
   finds_import code shown =
       finds code_total code_same 1 import_row (λ e. import_columns e.1) b.content.imports code _ (is_word code) (word_later code) (λ e. word_tests e.0 code (import_columns e.1)) _ material_shown material_shown_later (λ e. refl) _ rows has.stands.imports
       (asked old new has.schema get_import_text (Text code ∷ []) 13 by_one get_import_terms _ (get_import_is old.now.schema has.schema) refl rows shown)
-
-  pub finds_totals : (code : List ℕ) → Shown get_totals_text (Text code ∷ []) old new rows → rows ≡ option_to_list (option_map totals_columns (get b.totals code))
-  finds_totals code shown =
-      finds code_total code_same 1 totals_row (λ e. totals_columns e.1) b.totals code _ (is_word code) (word_later code) (λ e. word_tests e.0 code (totals_columns e.1)) _ totals_shown totals_shown_later (λ e. refl) _ rows has.stands.totals2
-      (asked old new has.schema get_totals_text (Text code ∷ []) 17 by_one get_totals_terms _ (get_totals_is old.now.schema has.schema) refl rows shown)
-
-  pub finds_order : (code : List ℕ) → Shown get_order_text (Text code ∷ []) old new rows → rows ≡ option_to_list (option_map (λ u. order_row (code, u)) (get has.stands.orders.codes code))
-  finds_order code shown =
-      finds code_total code_same 1 order_row order_row has.stands.orders.codes code _ (is_word code) (word_later code) (λ e. word_tests e.0 code []) _ order_shown order_shown_later (λ e. refl) _ rows has.stands.orders.rows
-      (asked old new has.schema get_order_text (Text code ∷ []) 7 by_one get_order_terms _ (get_order_is old.now.schema has.schema) refl rows shown)
 
 abbrev pub meta_shown : Row → Row
 meta_shown d = column d 1 ∷ []

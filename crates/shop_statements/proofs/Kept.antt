@@ -1,12 +1,12 @@
 -- What a reading leaves.
-use Rattle.std.proofs.Common.{◌≡◌, ◌⊎◌, inl, inr, ℕ, List, Option, Some, None, Ok, Err, Result, IsTrue, IfOk, IfErr, refl, sym, subst, ◌∙◌}
+use Rattle.std.proofs.Common.{◌≡◌, ◌⊎◌, inl, inr, ℕ, List, Option, Some, None, Ok, Err, Result, IsTrue, IfOk, IfErr, sym, subst, ◌∙◌}
+use Rattle.sqlite.specs.declared.rows.Row.{Row as Answered}
 use Rattle.sqlite_value.specs.Order.{Row}
 use Rattle.sqlite_resolve.specs.declared.compiled.Compiled.{Compiled}
 use Rattle.sqlite_schema.specs.declared.command.Returning.{Returning}
 use Rattle.std.specs.declared.alloc.Global.{Global}
 use Rattle.sqlite.specs.declared.error.Error.{Error}
 use Rattle.std.proofs.Common.{Vec}
-use Rattle.sqlite.specs.declared.rows.Row.{Row as Answered}
 use Rattle.sqlite.specs.Effect.{Database}
 use Rattle.sqlite.specs.State.{State, HasCleanDisk, IsUnchanged, IsRolledBack, Shown, ShowsRows, FailsToQuery, FailsToShow, IsNotRun, KeepsCommit, Survives, CommitsShowing}
 use Rattle.sqlite.specs.Effect.{IsDatabase}
@@ -14,11 +14,6 @@ use Rattle.shop_statements.specs.Layout.{HasShopTables}
 use Rattle.shop_statements.proofs.Queries.{query_returns, query_commits}
 use Rattle.shop_statements.specs.Selecting.{is_select}
 use Rattle.std.proofs.Common.{true}
-use Rattle.std.proofs.lemmas.Bool.{cases_Bool}
-use Rattle.sqlite_trees.specs.declared.store.Store.{Ghosts}
-use Rattle.sqlite.specs.Held.{Held, state}
-use Rattle.sqlite.specs.State.{ExecutesInside}
-use Rattle.std.proofs.Common.{false}
 use Rattle.shop_statements.specs.Rows.{Stands}
 use Rattle.shop_statements.specs.Shown.{Books, IsSettled, Holds, IsAsWas}
 
@@ -114,18 +109,6 @@ query_survives sql params old new is h = record {
 pub keeps_commit : (old new : State) → Stays old new → KeepsCommit old new
 keeps_commit old new (inl same) = record { was_open = λ _. same.0.was_open; committed = λ _. same.0.committed_is }
 keeps_commit old new (inr undone) = record { was_open = undone.was_open; committed = λ up. (undone.undone up).1 }
-
--- a statement that a transaction refuses, or that fails, keeps the last commit
-pub refused_keeps : {S : Type 0} (g : Ghosts S) (sql : List ℕ) (params : Row) (old new : Held S) (e : Error) → (old.in_transaction ≡ false → new ≡ old)
-    → (IsTrue old.in_transaction → ExecutesInside 0 sql params (state g old) (state g new) (Err e)) → KeepsCommit (state g old) (state g new)
-refused_keeps g sql params old new e ended runs = elim (cases_Bool old.in_transaction) [
-  | inl inside ↦ keeps_commit _ _ (by_case (runs inside))
-  | inr out ↦ subst (λ h. KeepsCommit (state g old) (state g h)) (sym (ended out)) (record { was_open = λ up. up; committed = λ _. refl })
-]
-  where
-    by_case : ExecutesInside 0 sql params (state g old) (state g new) (Err e) → Stays (state g old) (state g new)
-    by_case (inl h) = h.1
-    by_case (inr h) = inl h.2
 
 -- a text that was not run keeps it too
 pub not_run_keeps : (old new : State) (sql : List ℕ) (params : Row) (e : Error) → IsNotRun old new sql params e → KeepsCommit old new

@@ -1,5 +1,5 @@
 -- Tests of columns, and the rows of a map's entries that pass them.
-use Rattle.std.proofs.Common.{◌≡◌, ◌⊎◌, ℕ, ℤ, pos, Bool, true, false, cond, not, ◌&&◌, ◌==◌, List, [], ◌∷◌, length, map, drop, filter, refl, sym, ap, subst, ◌∙◌, arith, IsPermutation}
+use Rattle.std.proofs.Common.{◌≡◌, ℕ, ℤ, pos, Bool, true, false, cond, not, ◌&&◌, ◌==◌, List, [], ◌∷◌, length, map, drop, filter, refl, sym, ap, subst, ◌∙◌, arith, IsPermutation}
 use Rattle.std.proofs.lemmas.Int.{ints}
 use Rattle.std.proofs.lemmas.Bool.Decides.{nat_tests}
 use Rattle.std.specs.Ordering.{is_eq, int_cmp, nat_cmp}
@@ -83,14 +83,6 @@ module _ {E : Type 0} (skip : ℕ) (row_of : E → Row) (t : E → Bool) (p q : 
       let right : filter (λ d. not (q d)) (map (drop skip) stored) ≡ map (drop skip) (filter (λ r. not (p r)) stored) =
       filter-map (drop skip) (λ d. not (q d)) stored ∙ ap (map (drop skip)) (sym (filter-same (λ r. not (p r)) _ (λ r. ap not (later r)) stored)) in
       rw (← left, ← right) (IsPermutation-filter (λ d. not (q d)) _ _ h.same)
-
-  -- the rows are shown whole
-  pub shown_rows : (show show' : Row → Row) → ((r : Row) → show r ≡ show' (drop skip r)) → ((e : E) → show' (row_of e) ≡ row_of e) → (es : List E) (stored : List Row) → AreRows skip (map row_of es) stored
-      → IsPermutation (map row_of (filter t es)) (map show (filter p stored))
-  shown_rows show show' at whole es stored h =
-      let left : map show' (map row_of (filter t es)) ≡ map row_of (filter t es) = map-map show' row_of _ ∙ map-same _ row_of whole _ in
-      let right : map show' (map (drop skip) (filter p stored)) ≡ map show (filter p stored) = map-map show' (drop skip) _ ∙ map-same _ show (λ r. sym (at r)) _ in
-      rw (← left, ← right) (IsPermutation-map show' _ _ (matched es stored h))
 
 no_rows : {A : Type 0} (xs : List A) → length xs ≡ 0 → xs ≡ []
 no_rows [] h = refl

@@ -20,4 +20,3 @@ pub mod Steps
 pub mod Beside
 pub mod Versions
 pub mod UnderKeys
-pub mod CutLetters

@@ -1,6 +1,5 @@
 -- Lists, maps and their filters.
-use Rattle.std.proofs.Common.{◌≡◌, ◌<◌, length, Option, Some, None, IsSome, true≢false, arith, Bool, true, false, cond, List, [], ◌∷◌, ◌++◌, map, filter, flat_map, refl, sym, ap}
-use Rattle.std.specs.Option.{option_to_list}
+use Rattle.std.proofs.Common.{◌≡◌, Bool, true, false, cond, List, [], ◌∷◌, ◌++◌, map, filter, flat_map, refl, ap}
 
 pub filter-map : {A B : Type 0} (f : A → B) (p : B → Bool) (xs : List A) → filter p (map f xs) ≡ map f (filter (λ x. p (f x)) xs)
 filter-map f p [] = refl
@@ -24,12 +23,3 @@ map-same f g h (x ∷ xs) = λ i. h x i ∷ map-same f g h xs i
 
 pub filter-same : {A : Type 0} (p q : A → Bool) → ((x : A) → p x ≡ q x) → (xs : List A) → filter p xs ≡ filter q xs
 filter-same p q h xs = λ i. filter (λ x. h x i) xs
-
--- the last of a list of at most one
-pub popped : {A : Type 0} (o r : Option A) (rows left : List A) → rows ≡ option_to_list o → rows ≡ left ++ option_to_list r → (IsSome r → 0 < length rows) → (0 < length rows → IsSome r) → r ≡ o
-popped None None rows left is was f g = refl
-popped None (Some x) rows left is was f g = absurd (let long : 0 < length rows = f refl in let none = rw is at long in omega (arith, none))
-popped (Some a) None rows left is was f g = absurd (true≢false (sym (g (rw is (omega arith)))))
-popped (Some a) (Some x) rows [] is was f g = cc
-popped (Some a) (Some x) rows (l ∷ []) is was f g = absurd (cc)
-popped (Some a) (Some x) rows (l ∷ k ∷ left) is was f g = absurd (cc)

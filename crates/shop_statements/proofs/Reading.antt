@@ -1,5 +1,5 @@
 -- What a query on one table gives of a map.
-use Rattle.std.proofs.Common.{◌≡◌, ℕ, pos, Bool, List, [], ◌∷◌, map, drop, filter, Option, Some, None, option_map, is_some, Result, IfOk, true, arith, refl, ap, subst, IsPermutation}
+use Rattle.std.proofs.Common.{◌≡◌, ℕ, pos, Bool, List, [], ◌∷◌, map, drop, filter, Option, Some, None, option_map, Result, IfOk, true, arith, refl, ap, subst, IsPermutation}
 use Rattle.std.specs.Option.{option_to_list}
 use Rattle.std.specs.List.{list_all}
 use Rattle.std.specs.declared.cmp.Ordering.{Ordering}
@@ -9,7 +9,6 @@ use Rattle.std.specs.FinMap.{FinMap, IsAntisymmetric, entries, get}
 use Rattle.std.proofs.lemmas.List.Sorted.{IsPermutation-trans}
 use Rattle.sqlite_value.specs.Order.{Row}
 use Rattle.sqlite_value.specs.declared.value.Value.TheVariants.{Int}
-use Rattle.cut_measure.specs.Names.{Name}
 use Rattle.sqlite.specs.State.{State, HasCleanDisk, Shown}
 use Rattle.sqlite.specs.Term.{Term, holds}
 use Rattle.sqlite.specs.Query.{output}
@@ -72,18 +71,9 @@ pub read_as : {X : Type 0} (Is : X → Type 0) (columns : X → Row) (o : Option
 read_as Is columns None row x h reads = absurd (let e = h.shown in cc)
 read_as Is columns (Some y) row x h reads = ap Some (reads y (h.known y refl) (let e = h.shown in cc))
 
--- the entry of the row
-pub of_row : {X : Type 0} (Is : X → Type 0) (columns : X → Row) (o : Option X) (row : Row) → IsRowOf Is columns o (Some row) → (y : X) × (o ≡ Some y) × Is y × (row ≡ columns y)
-of_row Is columns None row h = absurd (let e = h.shown in cc)
-of_row Is columns (Some y) row h = (y, refl, h.known y refl, (let e = h.shown in cc))
-
 pub none_as : {X : Type 0} (Is : X → Type 0) (columns : X → Row) (o : Option X) → IsRowOf Is columns o None → None ≡ o
 none_as Is columns None h = refl
 none_as Is columns (Some y) h = absurd (let e = h.shown in cc)
-
-pub is_there : {X : Type 0} (columns : X → Row) (o : Option X) → is_some (option_map columns o) ≡ is_some o
-is_there columns None = refl
-is_there columns (Some x) = refl
 
 -- a query's row on held books is that of what the query finds
 module _ (sql : List ℕ) (params : Row) (old new : State) (is : is_select sql ≡ true) (left : is_select sql ≡ true → Leaves old new) where
@@ -107,6 +97,3 @@ leaves_then a b c first second = record {
 
 pub one_number : (m n : ℕ) → Int (pos m) ≡ Int (pos n) → m ≡ n
 one_number m n h = cc
-
-pub one_name : (a b : Name) → Int (pos a.act) ≡ Int (pos b.act) → Int (pos a.node) ≡ Int (pos b.node) → a ≡ b
-one_name a b act node = λ i. record { act = one_number a.act b.act act i; node = one_number a.node b.node node i }

@@ -31,9 +31,6 @@ went_as a b ran = record {
 pub went_nowhere : (a : State) → Went a a
 went_nowhere a = record { earlier = λ clean. clean; mode = λ clean inside. inside; stays_open = λ clean inside up. up }
 
-pub makes_nothing : (a : State) (b : Books) → Makes a a b b
-makes_nothing a b clean inside has = has
-
 pub within_itself : (a : State) → Within a a
 within_itself a = record {
   kept = λ clean. record { was_open = λ up. up; committed = λ up. refl };

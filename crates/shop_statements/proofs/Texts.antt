@@ -42,36 +42,6 @@ get_meta_text = codes "SELECT value FROM meta WHERE name = ?1"
 abbrev pub get_meta_terms : List Term
 get_meta_terms = col 1 2 ∷ []
 
-abbrev pub get_material_text : List ℕ
-get_material_text = codes "SELECT kind, kerf, min_long, min_short FROM materials WHERE code = ?1"
-
-abbrev pub get_material_terms : List Term
-get_material_terms = col 1 2 ∷ col 1 3 ∷ col 1 4 ∷ col 1 5 ∷ []
-
-abbrev pub get_part_text : List ℕ
-get_part_text = codes "SELECT material, batch, root_act, root_node, x, y, w, h, state, detail FROM parts WHERE act = ?1 AND node = ?2"
-
-abbrev pub get_part_terms : List Term
-get_part_terms = col 1 3 ∷ col 1 4 ∷ col 1 5 ∷ col 1 6 ∷ col 1 7 ∷ col 1 8 ∷ col 1 9 ∷ col 1 10 ∷ col 1 11 ∷ col 1 12 ∷ []
-
-abbrev pub get_job_text : List ℕ
-get_job_text = codes "SELECT part_act, part_node, tree, state FROM jobs WHERE job = ?1"
-
-abbrev pub get_job_terms : List Term
-get_job_terms = col 1 2 ∷ col 1 3 ∷ col 1 4 ∷ col 1 5 ∷ []
-
-abbrev pub get_order_text : List ℕ
-get_order_text = codes "SELECT ord FROM orders WHERE ord = ?1"
-
-abbrev pub get_order_terms : List Term
-get_order_terms = col 1 1 ∷ []
-
-abbrev pub get_demand_text : List ℕ
-get_demand_text = codes "SELECT ord, line, material, w, h, turn, worth, wanted, reserved, made FROM demands WHERE number = ?1"
-
-abbrev pub get_demand_terms : List Term
-get_demand_terms = col 1 2 ∷ col 1 3 ∷ col 1 4 ∷ col 1 5 ∷ col 1 6 ∷ col 1 7 ∷ col 1 8 ∷ col 1 9 ∷ col 1 10 ∷ col 1 11 ∷ []
-
 abbrev pub get_kept_text : List ℕ
 get_kept_text = codes "SELECT command, reply FROM kept WHERE terminal = ?1 AND number = ?2"
 
@@ -83,12 +53,6 @@ get_import_text = codes "SELECT form, material, body, reply FROM imports WHERE o
 
 abbrev pub get_import_terms : List Term
 get_import_terms = col 1 2 ∷ col 1 3 ∷ col 1 4 ∷ col 1 5 ∷ []
-
-abbrev pub get_totals_text : List ℕ
-get_totals_text = codes "SELECT received, stock, rack, pieces, kerf, scrap, returned FROM totals2 WHERE material = ?1"
-
-abbrev pub get_totals_terms : List Term
-get_totals_terms = col 1 2 ∷ col 1 3 ∷ col 1 4 ∷ col 1 5 ∷ col 1 6 ∷ col 1 7 ∷ col 1 8 ∷ []
 
 abbrev pub put_material_text : List ℕ
 put_material_text = codes "INSERT INTO materials (code, kind, kerf, min_long, min_short) VALUES (?1, ?2, ?3, ?4, ?5)"
@@ -173,26 +137,6 @@ module _ (schema : Schema) (h : HasShopTables schema) where
   unfolding understood everything
   get_meta_is = record { command = refl; listing = refl; plain = (refl, refl) }
 
-  pub get_material_is : Reads (shop schema h) get_material_text (from_table 2 by_one get_material_terms []) (codes "kind" ∷ codes "kerf" ∷ codes "min_long" ∷ codes "min_short" ∷ [])
-  unfolding understood everything
-  get_material_is = record { command = refl; listing = refl; plain = (refl, refl) }
-
-  pub get_part_is : Reads (shop schema h) get_part_text (from_table 4 by_two get_part_terms []) (codes "material" ∷ codes "batch" ∷ codes "root_act" ∷ codes "root_node" ∷ codes "x" ∷ codes "y" ∷ codes "w" ∷ codes "h" ∷ codes "state" ∷ codes "detail" ∷ [])
-  unfolding understood everything
-  get_part_is = record { command = refl; listing = refl; plain = (refl, refl) }
-
-  pub get_job_is : Reads (shop schema h) get_job_text (from_table 6 by_number get_job_terms []) (codes "part_act" ∷ codes "part_node" ∷ codes "tree" ∷ codes "state" ∷ [])
-  unfolding understood everything
-  get_job_is = record { command = refl; listing = refl; plain = (refl, refl) }
-
-  pub get_order_is : Reads (shop schema h) get_order_text (from_table 7 by_one get_order_terms []) (codes "ord" ∷ [])
-  unfolding understood everything
-  get_order_is = record { command = refl; listing = refl; plain = (refl, refl) }
-
-  pub get_demand_is : Reads (shop schema h) get_demand_text (from_table 9 by_number get_demand_terms []) (codes "ord" ∷ codes "line" ∷ codes "material" ∷ codes "w" ∷ codes "h" ∷ codes "turn" ∷ codes "worth" ∷ codes "wanted" ∷ codes "reserved" ∷ codes "made" ∷ [])
-  unfolding understood everything
-  get_demand_is = record { command = refl; listing = refl; plain = (refl, refl) }
-
   pub get_kept_is : Reads (shop schema h) get_kept_text (from_table 11 by_two get_kept_terms []) (codes "command" ∷ codes "reply" ∷ [])
   unfolding understood everything
   get_kept_is = record { command = refl; listing = refl; plain = (refl, refl) }
@@ -200,10 +144,6 @@ module _ (schema : Schema) (h : HasShopTables schema) where
   pub get_import_is : Reads (shop schema h) get_import_text (from_table 13 by_one get_import_terms []) (codes "form" ∷ codes "material" ∷ codes "body" ∷ codes "reply" ∷ [])
   unfolding understood everything
   get_import_is = record { command = refl; listing = refl; plain = (refl, refl) }
-
-  pub get_totals_is : Reads (shop schema h) get_totals_text (from_table 17 by_one get_totals_terms []) (codes "received" ∷ codes "stock" ∷ codes "rack" ∷ codes "pieces" ∷ codes "kerf" ∷ codes "scrap" ∷ codes "returned" ∷ [])
-  unfolding understood everything
-  get_totals_is = record { command = refl; listing = refl; plain = (refl, refl) }
 
   pub put_material_is : Writes (shop schema h) put_material_text (Insert 1 (Values put_material_terms 6))
   unfolding understood everything
@@ -263,26 +203,6 @@ pub get_meta_selects : is_select get_meta_text ≡ true
 unfolding everything
 get_meta_selects = refl
 
-pub get_material_selects : is_select get_material_text ≡ true
-unfolding everything
-get_material_selects = refl
-
-pub get_part_selects : is_select get_part_text ≡ true
-unfolding everything
-get_part_selects = refl
-
-pub get_job_selects : is_select get_job_text ≡ true
-unfolding everything
-get_job_selects = refl
-
-pub get_order_selects : is_select get_order_text ≡ true
-unfolding everything
-get_order_selects = refl
-
-pub get_demand_selects : is_select get_demand_text ≡ true
-unfolding everything
-get_demand_selects = refl
-
 pub get_kept_selects : is_select get_kept_text ≡ true
 unfolding everything
 get_kept_selects = refl
@@ -290,7 +210,3 @@ get_kept_selects = refl
 pub get_import_selects : is_select get_import_text ≡ true
 unfolding everything
 get_import_selects = refl
-
-pub get_totals_selects : is_select get_totals_text ≡ true
-unfolding everything
-get_totals_selects = refl

@@ -4,18 +4,13 @@ use Rattle.std.specs.List.{AllByRecursion, flat_map, filter_map}
 use Rattle.sqlite_value.specs.Order.{Row}
 use Rattle.sqlite.specs.Table.{Table}
 use Rattle.sqlite.specs.Schema.{Schema}
-use Rattle.sqlite_rules.specs.Action.{works, Work, deed_of, deed_for, work_by, work_for, pairs}
+use Rattle.sqlite_rules.specs.Action.{works, Work, deed_for, work_by, work_for, pairs}
 use Rattle.sqlite_schema.specs.Rules.{ParentKey, parent_key}
-use Rattle.sqlite_schema.specs.declared.schema.Action.TheVariants.{NoAction}
 use Rattle.sqlite_schema.specs.declared.schema.Keys.{Keys}
 use Rattle.sqlite_schema.specs.declared.schema.Keys.TheVariants.{Enforced}
 use Rattle.sqlite_rules.specs.declared.action.Deed.{Deed}
 use Rattle.sqlite_schema.specs.declared.schema.Reference.{Reference}
 use Rattle.shop_statements.specs.Layout.{HasShopTables, Rests}
-
-no_deed : (b : Bool) → deed_of Enforced b (if b then NoAction else NoAction) ≡ None
-no_deed true = refl
-no_deed false = refl
 
 none_of : (f : Table → Reference → Option Work) (t : Table) (refs : List Reference) → ((r : Reference) → Rests r → f t r ≡ None) → AllByRecursion Rests refs → filter_map (f t) refs ≡ []
 none_of f t [] none rest = refl

@@ -27,7 +27,7 @@ pub(crate) fn count_in(row: &Row, at: usize) -> Result<u64, TableFault>
 }
 
 // A text, lent by its row.
-pub(crate) fn word_in(row: &Row, at: usize) -> Result<&str, TableFault>
+fn word_in(row: &Row, at: usize) -> Result<&str, TableFault>
     ensures { IfOk result (λ word. column row.now at ≡ Word word.now) }
 {
     let ValueRef::Text(bytes) = row.get_ref(at)? else {
@@ -122,18 +122,6 @@ pub(crate) fn kind_in(row: &Row, at: usize) -> Result<Kind, TableFault>
     match number_in(row, at)? {
         0 => Ok(Kind::Bar),
         1 => Ok(Kind::Sheet),
-        _ => Err(TableFault::Store),
-    }
-}
-
-pub(crate) fn job_state_in(row: &Row, at: usize) -> Result<JobState, TableFault>
-    ensures { IfOk result (λ state. column row.now at ≡ Int (pos (job_state_number state))) }
-{
-    match number_in(row, at)? {
-        0 => Ok(JobState::Waiting),
-        1 => Ok(JobState::Done),
-        2 => Ok(JobState::Broken),
-        3 => Ok(JobState::Released),
         _ => Err(TableFault::Store),
     }
 }

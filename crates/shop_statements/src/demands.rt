@@ -1,28 +1,24 @@
 //! The table of demands: read, put and counted.
 
-ghost use Rattle.std.specs.Prelude.{◌≡◌, ◌++◌, false, IfOk, IfSome};
+ghost use Rattle.std.specs.Prelude.{◌≡◌, ◌++◌, IfOk};
 ghost use Rattle.sqlite.specs.Held.{state};
 ghost use Rattle.sqlite_value.specs.Order.{Row as Values};
 ghost use Rattle.shop_records.specs.Content.{demand_at};
 ghost use Rattle.shop_records.specs.declared.records.Demand.{Demand as DemandRecord};
 ghost use Rattle.shop_statements.specs.Beside.{Spares};
 ghost use Rattle.shop_statements.specs.Rows.{demand_columns};
-ghost use Rattle.shop_statements.specs.Shown.{Leaves, OnBooks, IsRowOf};
 ghost use Rattle.std.specs.Prelude.{Some, None, OnOk};
 ghost use Rattle.shop_statements.specs.Changes.{with_demand};
 ghost use Rattle.shop_statements.specs.Shown.{Books, Makes, Ran, Within};
-ghost use Rattle.sqlite.specs.State.{HasCleanDisk};
-ghost use Rattle.shop_statements.specs.Found.{IsUnder, columns_of};
-ghost use Rattle.shop_statements.specs.Layout.{HasShopTables, demands_table};
-ghost use Rattle.sqlite_value.specs.declared.value.Value.TheVariants.{Int};
-ghost use Rattle.std.specs.Prelude.{[], ◌∷◌, option_map, pos};
+ghost use Rattle.shop_statements.specs.Found.{columns_of};
+ghost use Rattle.shop_statements.specs.Layout.{demands_table};
+ghost use Rattle.std.specs.Prelude.{[], ◌∷◌};
 
 use crate::TableFault;
 use crate::columns::{code_in, number_in, number_of_turn, size_in, turn_in};
-use crate::rows::row_by_number;
 use crate::running::run;
 use shop_records::Demand;
-use sqlite::{Alter, Connection, Error, Row, Transaction, params};
+use sqlite::{Alter, Row, Transaction, params};
 
 /// The demand of a number, of its columns; the columns after them don't matter.
 pub fn read_demand(number: u32, row: &Row) -> Result<Demand, TableFault>
@@ -43,45 +39,6 @@ pub fn read_demand(number: u32, row: &Row) -> Result<Demand, TableFault>
         reserved: number_in(row, 8)?,
         made: number_in(row, 9)?,
     })
-}
-
-fn demand_row<S: Alter>(conn: &mut Connection<S>, number: u32) -> Result<Option<Row>, Error>
-    ensures row { OnBooks (state S.Store conn.old) (state S.Store conn.new)
-        (λ books. IfOk result (IsRowOf
-        (λ (demand : DemandRecord). demand.number ≡ number) demand_columns
-        (demand_at books.content number))) }
-    ensures stands { HasCleanDisk (state S.Store conn.new) → HasShopTables conn.old.schema
-        → IfOk result (λ found. IsUnder ((state S.Store conn.old).now.trees 9) 0
-        (Int (pos number) ∷ []) 10 2 found) }
-    ensures leaves { Leaves (state S.Store conn.old) (state S.Store conn.new) }
-    ensures mode { conn.old.in_transaction ≡ false → conn.new.in_transaction ≡ false }
-{
-    row_by_number(
-        conn,
-        "SELECT ord, line, material, w, h, turn, worth, wanted, reserved, made FROM demands WHERE number = ?1",
-        number,
-    )
-}
-
-/// The demand of a number.
-pub fn find_demand<S: Alter>(
-    conn: &mut Connection<S>,
-    number: u32,
-) -> Result<Option<Demand>, TableFault>
-    ensures row { OnBooks (state S.Store conn.old) (state S.Store conn.new)
-        (λ books. IfOk result (λ row. row ≡ demand_at books.content number)) }
-    ensures key { IfOk result (λ row. IfSome row (λ demand. demand.number ≡ number)) }
-    ensures stands { HasCleanDisk (state S.Store conn.new) → HasShopTables conn.old.schema
-        → IfOk result (λ found. IsUnder ((state S.Store conn.old).now.trees 9) 0
-        (Int (pos number) ∷ []) 10 2 (option_map demand_columns found)) }
-    ensures leaves { Leaves (state S.Store conn.old) (state S.Store conn.new) }
-    ensures mode { conn.old.in_transaction ≡ false → conn.new.in_transaction ≡ false }
-{
-    let Some(row) = demand_row(conn, number)? else {
-        return Ok(None);
-    };
-    let demand = read_demand(number, &row)?;
-    Ok(Some(demand))
 }
 
 /// Puts a new demand.

@@ -1,29 +1,25 @@
 //! The table of materials: read and put.
 
-ghost use Rattle.std.specs.Prelude.{◌≡◌, ◌++◌, false, IfOk};
+ghost use Rattle.std.specs.Prelude.{◌≡◌, ◌++◌, IfOk};
 ghost use Rattle.sqlite.specs.Held.{state};
 ghost use Rattle.sqlite_value.specs.Order.{Row as Values};
 ghost use Rattle.shop_records.specs.Content.{material_at};
 ghost use Rattle.shop_records.specs.declared.records.Material.{Material as MaterialRecord};
 ghost use Rattle.shop_statements.specs.Beside.{Spares};
 ghost use Rattle.shop_statements.specs.Rows.{material_columns};
-ghost use Rattle.shop_statements.specs.Shown.{Leaves, OnBooks, IsRowOf};
 ghost use Rattle.std.specs.Prelude.{None, OnOk};
 ghost use Rattle.shop_statements.specs.Changes.{with_material};
 ghost use Rattle.shop_statements.specs.Shown.{Books, Makes, Ran, Within};
-ghost use Rattle.sqlite.specs.State.{HasCleanDisk};
-ghost use Rattle.shop_statements.specs.Found.{IsUnder, columns_of};
-ghost use Rattle.shop_statements.specs.Layout.{HasShopTables, materials_table};
-ghost use Rattle.sqlite_value.specs.declared.value.Value.TheVariants.{Text as Word};
-ghost use Rattle.std.specs.Prelude.{[], ◌∷◌, option_map};
+ghost use Rattle.shop_statements.specs.Found.{columns_of};
+ghost use Rattle.shop_statements.specs.Layout.{materials_table};
+ghost use Rattle.std.specs.Prelude.{[], ◌∷◌};
 
 use crate::TableFault;
 use crate::columns::{kind_in, limits_in, number_of_kind};
-use crate::rows::row_by_text;
 use crate::running::run;
 use cut_measure::Code;
 use shop_records::Material;
-use sqlite::{Alter, Connection, Error, Row, Transaction, params};
+use sqlite::{Alter, Row, Transaction, params};
 
 /// The material of a code, of its columns; the columns after them don't matter.
 pub fn read_material(code: Code, row: &Row) -> Result<Material, TableFault>
@@ -37,44 +33,6 @@ pub fn read_material(code: Code, row: &Row) -> Result<Material, TableFault>
         kind,
         limits: limits_in(kind, row, 1)?,
     })
-}
-
-fn material_row<S: Alter>(conn: &mut Connection<S>, code: Code) -> Result<Option<Row>, Error>
-    ensures row { OnBooks (state S.Store conn.old) (state S.Store conn.new)
-        (λ books. IfOk result (IsRowOf
-        (λ (material : MaterialRecord). material.code ≡ code) material_columns
-        (material_at books.content code))) }
-    ensures stands { HasCleanDisk (state S.Store conn.new) → HasShopTables conn.old.schema
-        → IfOk result (λ found. IsUnder ((state S.Store conn.old).now.trees 2) 1
-        (Word code ∷ []) 4 2 found) }
-    ensures leaves { Leaves (state S.Store conn.old) (state S.Store conn.new) }
-    ensures mode { conn.old.in_transaction ≡ false → conn.new.in_transaction ≡ false }
-{
-    row_by_text(
-        conn,
-        "SELECT kind, kerf, min_long, min_short FROM materials WHERE code = ?1",
-        code.as_str(),
-    )
-}
-
-/// The material of a code.
-pub fn find_material<S: Alter>(
-    conn: &mut Connection<S>,
-    code: Code,
-) -> Result<Option<Material>, TableFault>
-    ensures row { OnBooks (state S.Store conn.old) (state S.Store conn.new)
-        (λ books. IfOk result (λ row. row ≡ material_at books.content code)) }
-    ensures stands { HasCleanDisk (state S.Store conn.new) → HasShopTables conn.old.schema
-        → IfOk result (λ found. IsUnder ((state S.Store conn.old).now.trees 2) 1
-        (Word code ∷ []) 4 2 (option_map material_columns found)) }
-    ensures leaves { Leaves (state S.Store conn.old) (state S.Store conn.new) }
-    ensures mode { conn.old.in_transaction ≡ false → conn.new.in_transaction ≡ false }
-{
-    let Some(row) = material_row(conn, code)? else {
-        return Ok(None);
-    };
-    let material = read_material(code, &row)?;
-    Ok(Some(material))
 }
 
 /// Puts a new material.

@@ -1,87 +1,23 @@
-//! The table of parts: read, put and moved.
+//! The table of parts: put and moved.
 
-ghost use Rattle.std.specs.Prelude.{◌≡◌, false, IfOk};
+ghost use Rattle.std.specs.Prelude.{◌≡◌};
 ghost use Rattle.sqlite.specs.Held.{state};
 ghost use Rattle.shop_records.specs.Content.{part_at};
 ghost use Rattle.shop_records.specs.declared.records.Part.{Part as PartRecord};
 ghost use Rattle.shop_statements.specs.Beside.{Spares};
-ghost use Rattle.shop_statements.specs.Rows.{part_columns};
-ghost use Rattle.shop_statements.specs.Shown.{Leaves, OnBooks, IsRowOf};
 ghost use Rattle.std.specs.Prelude.{Some, None, OnOk};
 ghost use Rattle.shop_records.specs.Content.{in_state};
 ghost use Rattle.shop_statements.specs.Changes.{with_part};
 ghost use Rattle.shop_statements.specs.Shown.{Books, Makes, Ran, Within};
 ghost use Rattle.shop_statements.specs.Values.{IsPartValue};
-ghost use Rattle.sqlite.specs.State.{HasCleanDisk};
-ghost use Rattle.shop_statements.specs.Found.{IsUnder, columns_of};
-ghost use Rattle.shop_statements.specs.Layout.{HasShopTables, parts_table};
-ghost use Rattle.sqlite_value.specs.declared.value.Value.TheVariants.{Int};
-ghost use Rattle.std.specs.Prelude.{[], ◌∷◌, option_map, pos};
+ghost use Rattle.shop_statements.specs.Layout.{parts_table};
+ghost use Rattle.std.specs.Prelude.{[], ◌∷◌};
 
 use crate::TableFault;
-use crate::columns::{code_in, name_in, number_in, number_of_state, size_in, state_in};
-use crate::rows::row_by_two;
+use crate::columns::number_of_state;
 use crate::running::run;
-use cut_measure::PartName;
 use shop_records::Part;
-use sqlite::{Alter, Connection, Error, Row, Transaction, params};
-
-// The part under this name that the columns from `at` on are of.
-pub(crate) fn read_part(name: PartName, row: &Row) -> Result<Part, TableFault>
-    ensures row { (part : PartRecord) → part.name ≡ name → row.now ≡ part_columns part
-        → IfOk result (λ read. read ≡ part) }
-    ensures exact { IfOk result (λ read. columns_of 10 0 row.now ≡ part_columns read) }
-{
-    Ok(Part {
-        name,
-        material: code_in(row, 0)?,
-        batch: code_in(row, 1)?,
-        root: name_in(row, 2)?,
-        x: number_in(row, 4)?,
-        y: number_in(row, 5)?,
-        size: size_in(row, 6)?,
-        state: state_in(row, 8)?,
-    })
-}
-
-fn part_row<S: Alter>(conn: &mut Connection<S>, name: PartName) -> Result<Option<Row>, Error>
-    ensures row { OnBooks (state S.Store conn.old) (state S.Store conn.new)
-        (λ books. IfOk result (IsRowOf (λ (part : PartRecord). part.name ≡ name) part_columns
-        (part_at books.content name))) }
-    ensures stands { HasCleanDisk (state S.Store conn.new) → HasShopTables conn.old.schema
-        → IfOk result (λ found. IsUnder ((state S.Store conn.old).now.trees 4) 1
-        (Int (pos name.act) ∷ Int (pos name.node) ∷ []) 10 3 found) }
-    ensures leaves { Leaves (state S.Store conn.old) (state S.Store conn.new) }
-    ensures mode { conn.old.in_transaction ≡ false → conn.new.in_transaction ≡ false }
-{
-    row_by_two(
-        conn,
-        "SELECT material, batch, root_act, root_node, x, y, w, h, state, detail FROM parts WHERE act = ?1 AND node = ?2",
-        name.act(),
-        name.node(),
-    )
-}
-
-/// The part of a name.
-pub fn find_part<S: Alter>(
-    conn: &mut Connection<S>,
-    name: PartName,
-) -> Result<Option<Part>, TableFault>
-    ensures row { OnBooks (state S.Store conn.old) (state S.Store conn.new)
-        (λ books. IfOk result (λ row. row ≡ part_at books.content name)) }
-    ensures stands { HasCleanDisk (state S.Store conn.new) → HasShopTables conn.old.schema
-        → IfOk result (λ found. IsUnder ((state S.Store conn.old).now.trees 4) 1
-        (Int (pos name.act) ∷ Int (pos name.node) ∷ []) 10 3
-        (option_map part_columns found)) }
-    ensures leaves { Leaves (state S.Store conn.old) (state S.Store conn.new) }
-    ensures mode { conn.old.in_transaction ≡ false → conn.new.in_transaction ≡ false }
-{
-    let Some(row) = part_row(conn, name)? else {
-        return Ok(None);
-    };
-    let part = read_part(name, &row)?;
-    Ok(Some(part))
-}
+use sqlite::{Alter, Transaction, params};
 
 // A part of the program is a value.
 fn in_ranges(part: Part)

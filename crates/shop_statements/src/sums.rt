@@ -1,29 +1,25 @@
 //! The table of totals: a material's cells, read, put and set.
 
-ghost use Rattle.std.specs.Prelude.{◌≡◌, ◌++◌, false, IfOk};
+ghost use Rattle.std.specs.Prelude.{◌≡◌, ◌++◌, IfOk};
 ghost use Rattle.std.specs.FinMap.{get};
 ghost use Rattle.sqlite.specs.Held.{state};
 ghost use Rattle.sqlite_value.specs.Order.{Row as Values};
 ghost use Rattle.shop_records.specs.declared.records.Totals.{Totals as TotalsRecord};
 ghost use Rattle.shop_statements.specs.Beside.{Spares};
 ghost use Rattle.shop_statements.specs.Rows.{totals_columns, totals_row};
-ghost use Rattle.shop_statements.specs.Shown.{Leaves, OnBooks, IsRowOf};
 ghost use Rattle.std.specs.Prelude.{pos, Some, None, OnOk};
 ghost use Rattle.shop_statements.specs.Changes.{with_totals};
 ghost use Rattle.shop_statements.specs.Shown.{Books, HasExecuted, Makes, Ran, Within};
-ghost use Rattle.sqlite.specs.State.{HasCleanDisk};
-ghost use Rattle.shop_statements.specs.Found.{IsUnder, columns_of};
-ghost use Rattle.shop_statements.specs.Layout.{HasShopTables, totals2_table};
-ghost use Rattle.sqlite_value.specs.declared.value.Value.TheVariants.{Text as Word};
-ghost use Rattle.std.specs.Prelude.{[], ◌∷◌, option_map};
+ghost use Rattle.shop_statements.specs.Found.{columns_of};
+ghost use Rattle.shop_statements.specs.Layout.{totals2_table};
+ghost use Rattle.std.specs.Prelude.{[], ◌∷◌};
 
 use crate::TableFault;
 use crate::columns::{count_in, counted};
-use crate::rows::row_by_text;
 use crate::running::run;
 use cut_measure::Code;
 use shop_records::Totals;
-use sqlite::{Alter, Connection, Error, Row, Transaction, params};
+use sqlite::{Alter, Row, Transaction, params};
 
 /// The totals, of their columns; the columns after them don't matter.
 pub fn read_totals(row: &Row) -> Result<Totals, TableFault>
@@ -40,43 +36,6 @@ pub fn read_totals(row: &Row) -> Result<Totals, TableFault>
         scrap: count_in(row, 5)?,
         returned: count_in(row, 6)?,
     })
-}
-
-fn totals_row<S: Alter>(conn: &mut Connection<S>, material: Code) -> Result<Option<Row>, Error>
-    ensures row { OnBooks (state S.Store conn.old) (state S.Store conn.new)
-        (λ books. IfOk result (IsRowOf (λ (totals : TotalsRecord). Unit {0}) totals_columns
-        (get books.totals material))) }
-    ensures stands { HasCleanDisk (state S.Store conn.new) → HasShopTables conn.old.schema
-        → IfOk result (λ found. IsUnder ((state S.Store conn.old).now.trees 17) 1
-        (Word material ∷ []) 7 2 found) }
-    ensures leaves { Leaves (state S.Store conn.old) (state S.Store conn.new) }
-    ensures mode { conn.old.in_transaction ≡ false → conn.new.in_transaction ≡ false }
-{
-    row_by_text(
-        conn,
-        "SELECT received, stock, rack, pieces, kerf, scrap, returned FROM totals2 WHERE material = ?1",
-        material.as_str(),
-    )
-}
-
-/// The totals of a material.
-pub fn find_totals<S: Alter>(
-    conn: &mut Connection<S>,
-    material: Code,
-) -> Result<Option<Totals>, TableFault>
-    ensures row { OnBooks (state S.Store conn.old) (state S.Store conn.new)
-        (λ books. IfOk result (λ row. row ≡ get books.totals material)) }
-    ensures stands { HasCleanDisk (state S.Store conn.new) → HasShopTables conn.old.schema
-        → IfOk result (λ found. IsUnder ((state S.Store conn.old).now.trees 17) 1
-        (Word material ∷ []) 7 2 (option_map totals_columns found)) }
-    ensures leaves { Leaves (state S.Store conn.old) (state S.Store conn.new) }
-    ensures mode { conn.old.in_transaction ≡ false → conn.new.in_transaction ≡ false }
-{
-    let Some(row) = totals_row(conn, material)? else {
-        return Ok(None);
-    };
-    let totals = read_totals(&row)?;
-    Ok(Some(totals))
 }
 
 // Totals as columns have them.
