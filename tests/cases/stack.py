@@ -15,26 +15,26 @@ TREE = "a tree of at most 255 cuts, by `MOST_CUTS`"
 DEPTHS = {
     "cut_bars/src/bar.rt fill_counts": (10, "halves of at most 1000 wants"),
     "cut_bound/src/divisors.rt common_divisor": (48, "Euclid's method on two numbers of 32 bits"),
-    "cut_fill_sheets/src/lay.rt lay": (1000, "a tree of at most 255 pieces, or one of a table"),
+    "cut_fill_sheets/src/lay.rt lay": (256, "a tree of at most 255 pieces"),
     "cut_fill_sheets/src/lay.rt named": (256, TREE),
-    "cut_fill_sheets/src/lay.rt need": (1000, "as `lay`"),
+    "cut_fill_sheets/src/lay.rt need": (256, "as `lay`"),
     "cut_fill_sheets/src/lay.rt rests": (256, TREE),
     "cut_fill_sheets/src/tree.rt count": (256, TREE),
-    "cut_fill_sheets/src/tree.rt cuts": (1000, "as `lay`, laid"),
-    "cut_fill_sheets/src/tree.rt kept": (1000, "strips of at most 255 pieces, or a tree of a table"),
-    "cut_fill_sheets/src/tree.rt refilled": (1000, "a tree of at most 255 cuts, or one of a table in the place of a rest"),
+    "cut_fill_sheets/src/tree.rt cuts": (512, "as `lay`, laid: with one more cut at most for each node, and one more"),
+    "cut_fill_sheets/src/tree.rt kept": (512, "a tree of at most 255 pieces, a rest of which has one of a table, of 256"),
+    "cut_fill_sheets/src/tree.rt refilled": (256, TREE),
     "cut_fill_sheets/src/tree.rt write": (256, TREE),
     "cut_lines/src/lines.rt write_blocks": (10, "the sizes of an order file's plan"),
     "cut_order/src/found.rt cuts_within": (256, TREE),
     "cut_order/src/found.rt has_demands": (256, TREE),
     "cut_order/src/found.rt is_shaped": (256, TREE),
-    "cut_sheets/src/keep.rt keep": (1000, "each cut leaves a step less of a side, and both sides have at most 500"),
-    "cut_sheets/src/place.rt place": (1000, "a tree of a table, as `keep`"),
+    "cut_sheets/src/keep.rt keep_first": (20, "each call has at most half of a side, and both sides have at most 500 steps"),
+    "cut_sheets/src/place.rt place": (256, "a tree of at most 256 pieces, as `keep` gives"),
     "cut_tree/src/bars.rt bar_node": (256, "a bar's pieces, each with a cut, of which a plan has at most 255"),
     "cut_tree/src/halts.rt are_closed": (256, TREE),
     "cut_tree/src/lay.rt lay_node": (256, TREE),
     "cut_tree/src/leaves.rt add_leaves": (256, TREE),
-    "cut_tree/src/node.rt count_cuts": (1000, "a tree that is judged before it is a plan: of a table, or of a text of 511 words"),
+    "cut_tree/src/node.rt count_cuts": (512, "a tree that is judged before it is a plan: of 256 pieces, or of a text of 511 words"),
     "cut_tree/src/node.rt count_nodes": (256, TREE),
     "cut_tree/src/node.rt count_pieces": (256, TREE),
     "cut_tree/src/node.rt is_same": (256, TREE),
@@ -48,12 +48,8 @@ DEPTHS = {
     "shop_machine/src/ordering.rt lines_refusal": (200, "the lines of an order"),
     "shop_machine/src/reserving.rt is_too_many": (256, "the leaves of a tree"),
     "shop_machine/src/reserving.rt leaves_refusal": (256, "the leaves of a tree"),
-    "shop_planning/src/lists.rt has_twice": (1000, "the parts of a question"),
-    "shop_planning/src/posing.rt parts_refusal": (1000, "the parts of a question"),
     "shop_planning/src/posing.rt sizes_refusal": (10, "the sizes to be bought"),
-    "shop_problems/src/judging.rt kind_in": (1000, "the entries of a shop file"),
     "shop_problems/src/steps.rt shortest": (200, "the pieces of a problem"),
-    "shop_problems/src/stock.rt entry_in": (1000, "the entries of a shop file"),
     "shop_problems/src/stock.rt has_twice": (10, "the sizes of an order file's plan"),
     "shop_problems/src/stock.rt least_step": (10, "the sizes of an order file's plan"),
     "shop_request/src/fields.rt values_named": (64, "the fields of a head"),
@@ -122,8 +118,7 @@ def depths(trial):
     for crate in sorted({it.partition("/")[0] for it in sources()}):
         found |= {f"{path} {name}" for path, _, name in circles(defined(crate))}
     trial.equal(sorted(found), sorted(DEPTHS))
-    trial.holds(max(depth for depth, _ in DEPTHS.values()) <= 1000, "a depth of over 1000")
-
+    trial.holds(max(depth for depth, _ in DEPTHS.values()) <= 600, "a depth of over 600")
 
 
 # Sheets of 20 by 6 metres, and pieces of fractions of a millimetre, of which a strip holds thousands.
@@ -157,13 +152,8 @@ def answered(trial, ran, count):
     return told
 
 
-def little():
-    """Gives the new process a stack of 1 MiB, an eighth of what systems give."""
-    resource.setrlimit(resource.RLIMIT_STACK, (1024 * 1024, 1024 * 1024))
-
-
 def least():
-    """Gives the new process a stack of 256 KiB."""
+    """Gives the new process a stack of 256 KiB, a thirty-second of what systems give."""
     resource.setrlimit(resource.RLIMIT_STACK, (256 * 1024, 256 * 1024))
 
 
@@ -173,10 +163,10 @@ def compiled(trial):
         raise Skipped("the program was built without proofs, and takes many times as much of the stack")
 
 
-@case("strips with little stack", "So is that question, with a stack of 1 MiB.")
+@case("strips with little stack", "So is that question, with a stack of 256 KiB.")
 def little_strips(trial):
     compiled(trial)
-    answered(trial, trial.replay(NARROW, prepare=little), len(NARROW))
+    answered(trial, trial.replay(NARROW, prepare=least), len(NARROW))
 
 
 def comb(pieces):
@@ -186,8 +176,8 @@ def comb(pieces):
 
 @case(
     "deep trees with little stack",
-    "A bar is cut by a tree of 255 cuts, each in what the one before left, with a stack of 256 KiB; and with 1 MiB a sheet of 500 by "
-    "500 steps is planned, of whose table the best tree cuts off one step at a time. 100000 brackets are refused.",
+    "With a stack of 256 KiB a bar is cut by a tree of 255 cuts, each in what the one before left, and a sheet of 500 by 500 steps "
+    "is planned, of whose table the best tree cuts off one step at a time. 100000 brackets are refused.",
 )
 def deep(trial):
     compiled(trial)
@@ -204,9 +194,9 @@ def deep(trial):
     demand = yard.order("GLASS", (1, 1, 1000000, False))
     plans = [{"ask": "plans", "calls": 20, "demands": [demand], "material": "GLASS", **more} for more in ({"step": 1}, {"parts": [sheet]})]
     lines = [*yard.lines, *map(compact, plans)]
-    answered(trial, trial.replay(lines, prepare=little), len(lines))
+    answered(trial, trial.replay(lines, prepare=least), len(lines))
     plan = compact({"ask": "plan", "demands": [demand], "part": sheet, "step": 1})
-    told = trial.replay([*yard.lines, plan], prepare=little)
+    told = trial.replay([*yard.lines, plan], prepare=least)
     trial.equal((told.status, json.loads(told.out.split(b"\n")[-2])["refused"]), (0, 91))
 
 

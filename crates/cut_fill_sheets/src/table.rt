@@ -5,7 +5,7 @@ ghost use Rattle.cut_sheets.specs.Table.{IsTable, heights};
 ghost use Rattle.cut_fill_sheets.specs.Scaled.{AreTabled};
 
 use crate::lay::{Sides, want_sides};
-use cut_sheets::keep::{Kept, MOST_KEPT, keep};
+use cut_sheets::keep::{Kept, keep};
 use cut_sheets::read::worth_at;
 use cut_sheets::sheet::{MOST_STEPS, Table, best_table};
 use cut_tree::Node;
@@ -14,6 +14,9 @@ use std::alloc::{AllocError, Global};
 
 /// The greatest worth of a want in a table.
 const MOST_TABLED: u32 = 1_073_741_824;
+
+/// So many pieces of a want are kept of a tree at most: no plan has more.
+const MOST_KEPT: u32 = 256;
 
 /// How sides become steps.
 #[derive(Clone, Copy, PartialEq, Eq)]

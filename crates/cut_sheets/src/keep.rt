@@ -11,14 +11,11 @@ ghost use Rattle.cut_sheets.specs.Kept.{joined, rejoined, KeepsPiece, KeepsFirst
 use crate::read::{Choice, choose, worth_at};
 use crate::sheet::{MOST_STEPS, Table};
 use cut_measure::Axis;
-use cut_tree::Node;
+use cut_tree::{MOST_CUTS, Node};
 use cut_wants::wants::Scaled;
 use std::alloc::{AllocError, Global};
 
-/// So many pieces has a kept tree at most: no plan has more.
-pub const MOST_KEPT: u32 = 256;
-
-/// The tree of the first pieces that are kept of a best tree, and whether they are all of them.
+/// The tree of the first pieces that are kept of a best tree, no more than any plan has, and whether they are all of them.
 #[derive(Drop)]
 pub struct Kept {
     pub tree: Node,
@@ -85,7 +82,7 @@ fn keep_piece(demand: u32, turned: bool, pieces: &mut u32) -> Node
 {
     let before = *pieces;
     *pieces = before.saturating_add(1);
-    if before < MOST_KEPT {
+    if before <= MOST_CUTS {
         Node::Piece(demand, turned)
     } else {
         Node::Rest
@@ -206,6 +203,6 @@ pub fn keep(
     let tree = keep_first(alloc, wants, table, places, w, h, counts, &mut pieces)?;
     Ok(Kept {
         tree,
-        is_whole: pieces <= MOST_KEPT,
+        is_whole: pieces <= MOST_CUTS + 1,
     })
 }

@@ -24,10 +24,12 @@ pub fn is_in_range(query: &PlansQuery) -> bool
 fn has_twice<T: PartialEq>(items: &[T]) -> bool
     ensures { result ≡ lists.has_twice T.eq items.now }
 {
-    let [first, more @ ..] = items else {
-        return false;
-    };
-    more.contains(first) || has_twice(more)
+    for i in 0..items.len() {
+        if items[i + 1..].contains(&items[i]) {
+            return true;
+        }
+    }
+    false
 }
 
 // Whether demands are named that are no list of 1 to 100, each once.

@@ -53,13 +53,12 @@ fn parts_refusal(material: &Code, found: &[Option<Part>]) -> Option<Refusal>
     ensures value { result ≡ question.parts_refusal material.now found.now }
     ensures store { result ≢ Some StoreFault }
 {
-    let [first, more @ ..] = found else {
-        return None;
-    };
-    match part_refusal(material, first) {
-        Some(refusal) => Some(refusal),
-        None => parts_refusal(material, more),
+    for part in found {
+        if let Some(refusal) = part_refusal(material, part) {
+            return Some(refusal);
+        }
     }
+    None
 }
 
 // The refusal of sizes of which one isn't a size of the kind.

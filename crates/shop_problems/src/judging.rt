@@ -20,13 +20,12 @@ pub struct BadField {
 pub(crate) fn kind_in(entries: &[MaterialEntry], material: Code) -> Option<Kind>
     ensures { result ≡ spec.kind_in entries.now material }
 {
-    let [entry, more @ ..] = entries else {
-        return None;
-    };
-    if entry.code == material {
-        return Some(entry.kind);
+    for entry in entries {
+        if entry.code == material {
+            return Some(entry.kind);
+        }
     }
-    kind_in(more, material)
+    None
 }
 
 fn is_height(kind: Kind, h: u32) -> bool

@@ -99,13 +99,12 @@ pub struct StockMaterial {
 fn entry_in<'a>(entries: &'a [MaterialEntry], material: &str) -> Option<&'a MaterialEntry>
     ensures { option_map (λ e. e.now) result ≡ spec.entry_in entries.now material.now }
 {
-    let [entry, more @ ..] = entries else {
-        return None;
-    };
-    if entry.code.as_str() == material {
-        return Some(entry);
+    for entry in entries {
+        if entry.code.as_str() == material {
+            return Some(entry);
+        }
     }
-    entry_in(more, material)
+    None
 }
 
 /// The material of a code: that of the first entry of this code, where its values are in range.

@@ -1,5 +1,0 @@
-use Rattle.std.proofs.Common.{length}
-use Rattle.shop_problems.proofs.judging.+kind_in.Given as goal
-
-abbrev pub decreases-kind_in : goal.decreases-kind_in
-decreases-kind_in l = length l.entries.now
