@@ -402,7 +402,6 @@ LAWLESS = {
     "shop_serve transfers BUFFER_SIZE": ("8192", "drop_rest take_piece", "how much a read of a connection brings at most"),
     "shop_store loading MOST_ORDERS": ("4294967295", "load_orders", "more orders than a shop has, as acts have 32 bits"),
     "shop_store loading_parts PARTS_AT_ONCE": ("4096", "flush_many", "how many parts that were read wait before they are put into a ledger"),
-    "shop_store names ROWS_A_LOOK": ("32", "few_of", "where more than one part in so many stands all rows are gone through"),
     "shop_store numbered MOST_CHUNKS": ("4294967296", "load_numbered", "more times than a table has rows of different numbers of 32 bits"),
     "shop_store numbered ROWS_AT_ONCE": ("1000", "load_numbered", "how many rows of jobs or demands are in memory at once while a ledger is loaded"),
     "shop_streams counted MOST_TRIES": ("1000", "read write", "how often an interrupted call is made again"),
