@@ -2,9 +2,7 @@
 
 No specification has these limits: they lie between what was measured and what a wrong body is reckoned to take."""
 
-import json
-
-from cases.many_rows import HISTORIES, asked_costs, at_most_thrice, begun, measured, old_store, work
+from cases.many_rows import HISTORIES, asked_costs, at_most_thrice, begun, old_store, work
 from kit import aged, tables
 from kit.case import case
 from kit.days import Replay
@@ -150,43 +148,6 @@ def many_parts_at_once(trial):
         seconds[name] = shop.busy() - before
     trial.holds(seconds["400 parts"] <= 40 * seconds["three parts"], f"{seconds}")
     trial.equal(shop.end(), (0, b""))
-
-
-@case(
-    "a demand's row is read once",
-    "A plan of 200 pieces of one demand, and an order of 200 lines of one material, each of which is refused for its last one, "
-    "take less than two thirds of the processor time over a file that those of 200 demands and of 200 materials take.",
-)
-def read_once(trial):
-    codes = [f"M-{it}" for it in range(200)]
-    yard = Yard()
-    for code in codes:
-        yard.material(code)
-    unit = yard.receive(codes[0], 4000)
-    first = yard.bars(codes[0], *[(10, 1000)] * 200)
-    shop = yard.serve(trial)
-
-    def plan(demands):
-        tree = " ".join(f"x10 p{it}" for it in [*demands, 99999]) + " r"
-        return {"do": "reserve", "part": unit, "tree": tree}, 42
-
-    def order(materials):
-        line = {"count": 1, "h": 1, "turn": False, "w": 10, "worth": 1}
-        lines = [line | {"line": number, "material": it} for number, it in enumerate([*materials[1:], "NONE"], 1)]
-        return {"do": "order", "lines": lines, "order": "B-1"}, 20
-
-    def refused(command, number):
-        line = compact({**command, "number": 1, "terminal": 7})
-        return lambda: trial.equal(json.loads(shop.reply(line)).get("refused"), number, line)
-
-    deeds = {
-        "a demand": refused(*plan([first] * 199)),
-        "demands": refused(*plan(range(first, first + 199))),
-        "a material": refused(*order(codes[:1] * 200)),
-        "materials": refused(*order(codes)),
-    }
-    told = measured(shop, deeds)
-    trial.holds(3 * told["a demand"] < 2 * told["demands"] and 3 * told["a material"] < 2 * told["materials"], f"{told}")
 
 
 # Units that are received in `replay`: so many before its memory is looked at, and so many then.

@@ -353,7 +353,7 @@ NO_ROW = "a row stands for nothing that a shop has; put a copy of it and its log
 def spoiled(trial):
     for number, (statement, row) in enumerate(SPOILS):
         name = f"spoiled-{number}.db"
-        path = filled(trial, name, exchanges=[*DAY[:1], received("GLASS", 10, 8, 2, 2), *DAY[2:4]])
+        path = filled(trial, name, exchanges=[*DAY[:1], received("GLASS", 10, 8, 1, 2), *DAY[2:4]])
         tables.change(path, statement)
         before = tables.dump(path)
         for words in (("ticket", "--store", name, "2"), ("yield", "--store", name, "GLASS")):
