@@ -337,27 +337,34 @@ SPOILS = [
     ("UPDATE jobs SET tree = 'x4 y3'", "jobs 2"),
     ("UPDATE demands SET turn = 5 WHERE number = 2", "demands 2"),
     ("UPDATE materials SET kind = 3", "materials GLASS"),
-    ("UPDATE materials SET kind = 0", "materials GLASS"),
     ("UPDATE parts SET state = 7 WHERE node = 1", "parts 1/1"),
     ("UPDATE parts SET batch = 'b-1' WHERE node = 0", "parts 1/0"),
 ]
 NO_ROW = "a row stands for nothing that a shop has; put a copy of it and its log in its place: "
+# Numbers that are out of their ranges, together or alone.
+OUT_OF_RANGE = [
+    "UPDATE materials SET kind = 0",
+    "UPDATE demands SET w = 0 WHERE number = 2",
+    "UPDATE demands SET line = 4294967296 WHERE number = 2",
+]
+DAMAGED = "it or its disk is damaged; put a copy of it and its log in its place"
 
 
 @case(
     "rows of no book",
-    "A job of state 9 or of a plan that is none, a turn of 5, a kind of 3, a bar with the limits of a sheet, a part "
-    "of state 7 or of a batch that is no code is `fault version` at each start, and the second line names the row; the file stays as it "
-    "was.",
+    "A job of state 9 or of a plan that is none, a turn of 5, a kind of 3, a part of state 7 or of a batch that is no code is "
+    "`fault version` at each start, and the second line names the row; a bar with the limits of a sheet, a width of 0 and a line over "
+    "32 bits are `fault store`; the file stays as it was.",
 )
 def spoiled(trial):
-    for number, (statement, row) in enumerate(SPOILS):
+    spoils = [(it, "version", NO_ROW + row) for it, row in SPOILS] + [(it, "store", DAMAGED) for it in OUT_OF_RANGE]
+    for number, (statement, fault, why) in enumerate(spoils):
         name = f"spoiled-{number}.db"
         path = filled(trial, name, exchanges=[*DAY[:1], received("GLASS", 10, 8, 1, 2), *DAY[2:4]])
         tables.change(path, statement)
         before = tables.dump(path)
         for words in (("ticket", "--store", name, "2"), ("yield", "--store", name, "GLASS")):
-            trial.ended(trial.run(*words), 1, err="fault version\n", why=f"{name}: {NO_ROW}{row}", sent=statement)
+            trial.ended(trial.run(*words), 1, err=f"fault {fault}\n", why=f"{name}: {why}", sent=statement)
         trial.equal(tables.dump(path), before, statement)
 
 
