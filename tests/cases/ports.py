@@ -66,8 +66,7 @@ def not_watched(trial):
 def no_clock(trial):
     shop_file, port, store = trial.write("shop.toml", ""), free_port(), "first.db"
     ran = serving(trial, port, store, shop_file, environment=Faults(trial, "clock", at=1, on=True).environment)
-    # (without a clock no line of a server's own is told, as it isn't known when an equal one was)
-    told = f"fault port\n  port {port}: {REFUSES}\n".encode()
+    told = begin_line(store) + f"fault port\n  port {port}: {REFUSES}\n".encode()
     trial.equal((ran.status, ran.out, ran.err), (1, listening(port), told))
     request, counted = request_of(TOTALS), Faults(trial, "clock")
     trial.equal(trial.shop("counted.db", environment=counted.environment).reply(TOTALS), NONE_YET)

@@ -27,7 +27,7 @@ pub fn tells_failure(answer: &[u8]) -> bool
     is_unavailable(answer) && !tells_memory(answer)
 }
 
-// What is told of a store that failed.
+// The words for a store that failed.
 fn failure_note(cause: FailureCause) -> &'static str
     ensures { result.now ≡ spec.failure_note cause }
 {

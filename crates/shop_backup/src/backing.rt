@@ -127,7 +127,7 @@ fn begin_behind<S: Source, W: Sink, T: Shelf<S, W>>(
     Ok(number)
 }
 
-// These numbers but for the greatest, of which so many are left out.
+// These numbers without the greatest, of which so many are left out.
 fn all_but(newest: usize, mut numbers: Vec<u32>) -> Result<Vec<u32>, AllocError>
     ensures { IfOk result (λ old. IsAllBut newest numbers.items old.items) }
 {
@@ -217,8 +217,8 @@ fn pass_all<S: Source, W: Sink, T: Shelf<S, W>>(shelf: &mut T, old: &[u32])
 ///
 /// At `Ok` both files were copied whole, were on the disk before the backup got its name, and that is on the disk, too; then, where
 /// so many are kept, whole ones that were there were taken away, all but the newest, so that with this one so many stay; the place
-/// is told of each that couldn't be taken away. At `Err`, want of memory or what hindered it, none has a name, what was made of it was
-/// taken away, and none that was there. At most 64 KiB of the files are in memory at once.
+/// hears of each that couldn't be taken away. At `Err`, because memory ran out or something hindered it, none has a name, what was
+/// made of it was taken away, and none that was there. At most 64 KiB of the files are in memory at once.
 pub fn back_up<S: Source + Drop, W: Sink + Drop, T: Shelf<S, W>>(
     shelf: &mut T,
     keep: Option<u32>,

@@ -454,7 +454,7 @@ impl<'a, R: Files> Folder<'a, R> {
     }
 
     // Takes away a whole backup, whose name goes first, so that what a stop leaves of it isn't taken for one. Only its two files are
-    // taken away, in the folder that was looked at. Where none of them can be it keeps its name.
+    // taken away, in the folder that was looked at. Where that is possible for none of them, it keeps its name.
     fn remove_whole(&self, whole: &str, part: &str) -> bool {
         let Some(held) = self.backups.hold_whole(self.rt, self.alloc, whole) else {
             return false;
@@ -565,7 +565,7 @@ impl<'a, R: Files> Shelf<Counted<R::File>, Target<R::File>> for Folder<'a, R> {
         }
     }
 
-    // (where memory is wanting it isn't told)
+    // (without memory for it nobody hears of it)
     fn stay(&mut self, number: u32) {
         let _ = self.stayed.push(number);
     }

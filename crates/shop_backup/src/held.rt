@@ -16,8 +16,8 @@ pub(crate) struct HeldFolder {
     fd: OwnedFd,
 }
 
-// How many of these names are one of two. None where another one is among them, but for those of the folder itself and the one
-// that it is in. Each stands before a byte of 0.
+// How many of these names are one of two. None where another one is among them; the names of the folder itself and of the one
+// that it is in don't count. Each stands before a byte of 0.
 fn count_names(names: &[u8], wanted: [&str; 2]) -> Option<u32> {
     let mut count = 0u32;
     for name in names.split(|byte| *byte == 0) {

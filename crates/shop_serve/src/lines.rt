@@ -187,20 +187,29 @@ impl Lines {
         self.know(line, now);
     }
 
+    // Writes one where the clock can't be read. One that can't be made or written at once is counted.
+    fn write_undated<R: Eprint>(&mut self, rt: &R, line: &str) {
+        if self.is_told(rt, line, 0) {
+            self.lost = 0;
+        } else {
+            self.lose();
+        }
+    }
+
     // Counts one that isn't written.
     fn lose(&mut self) {
         self.lost = self.lost.saturating_add(1);
     }
 
     /// Writes a line, which has its end. One that can't be written at once is dropped; where some were, their number stands before the next. An equal
-    /// one is written again after a minute, with how many were left out.
+    /// one is written again after a minute, with how many were left out. Where the clock can't be read each one is written.
     pub fn write<R: Eprint + Clock>(&mut self, rt: &R, line: &str) {
         match Instant::now(rt) {
             Ok(now) => match due_of(&self.known, line, now) {
                 Due::LeftOut => self.leave_out(line),
                 Due::Written(left_out) => self.write_now(rt, line, left_out, now),
             },
-            Err(_) => self.lose(),
+            Err(_) => self.write_undated(rt, line),
         }
     }
 }
