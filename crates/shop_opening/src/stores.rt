@@ -156,12 +156,30 @@ fn row_name(row: NoRow) -> RowName {
     }
 }
 
-// What is wrong in tables of a known version, which are read once more for it.
-fn contradiction(loaded: Result<Loaded, TableFault>) -> VersionCause {
+// What is wrong in tables of a known version, which were read once more for it.
+fn contradiction(loaded: &Result<Loaded, TableFault>) -> VersionCause {
     match loaded {
-        Ok(Loaded::NoRow(row)) => VersionCause::Row(row_name(row)),
+        Ok(Loaded::NoRow(row)) => VersionCause::Row(row_name(*row)),
         _ => VersionCause::Contradicting,
     }
+}
+
+// What is wrong in tables of version 2.
+fn contradiction_in<D: Disk + Drop>(
+    alloc: Global,
+    conn: &mut Connection<FileStore<D>>,
+) -> VersionCause {
+    let loaded = load_ledger(alloc, conn);
+    contradiction(&loaded)
+}
+
+// What is wrong in tables of version 1.
+fn earlier_contradiction_in<D: Disk + Drop>(
+    alloc: Global,
+    conn: &mut Connection<FileStore<D>>,
+) -> VersionCause {
+    let loaded = load_earlier_ledger(alloc, conn);
+    contradiction(&loaded)
 }
 
 // Why a database isn't taken over.
@@ -171,8 +189,8 @@ fn foreign_cause<D: Disk + Drop>(
 ) -> VersionCause {
     match version_of(conn) {
         Some(version) if version > 2 => VersionCause::Newer,
-        Some(2) => contradiction(load_ledger(alloc, conn)),
-        Some(1) => contradiction(load_earlier_ledger(alloc, conn)),
+        Some(2) => contradiction_in(alloc, conn),
+        Some(1) => earlier_contradiction_in(alloc, conn),
         _ => VersionCause::Foreign,
     }
 }
