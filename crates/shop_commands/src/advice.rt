@@ -422,8 +422,8 @@ fn version_advice(alloc: Global, name: &str, cause: VersionCause) -> Option<Advi
 }
 
 /// Why a stream failed. None of another fault, and for want of memory.
-pub(crate) fn stream_advice(alloc: Global, fault: Fault) -> Option<Advice>
-    ensures { IfSome result (IsAdviceOf fault) }
+pub(crate) fn stream_advice(alloc: Global, fault: &Fault) -> Option<Advice>
+    ensures { IfSome result (IsAdviceOf fault.now) }
 {
     match fault {
         Fault::Read => advice_of(alloc, "standard input", Cause::Input, ""),
@@ -441,7 +441,7 @@ fn system_advice(alloc: Global, request: &Request<'_>, fault: Fault) -> Option<A
         Fault::Version(cause) => version_advice(alloc, store_name(request), cause),
         Fault::Port(cause) => port_advice(alloc, request, cause),
         Fault::Backup(cause) => advice_of(alloc, backup_name(request), Cause::Backup(cause), ""),
-        _ => stream_advice(alloc, fault),
+        _ => stream_advice(alloc, &fault),
     }
 }
 
@@ -452,9 +452,9 @@ pub(crate) fn advise<R: Files>(
     alloc: Global,
     request: &Request<'_>,
     is_new: bool,
-    fault: Fault,
+    fault: &Fault,
 ) -> Option<Advice>
-    ensures { IfSome result (IsAdviceOf fault) }
+    ensures { IfSome result (IsAdviceOf fault.now) }
 {
     let name = first_name(request);
     match fault {
@@ -467,7 +467,7 @@ pub(crate) fn advise<R: Files>(
             Cause::Problem(text.cause),
         ),
         Fault::ShopText => shop_advice(rt, alloc, shop_name(request), None),
-        Fault::ShopEntry(entry) => shop_advice(rt, alloc, shop_name(request), Some(entry)),
+        Fault::ShopEntry(entry) => shop_advice(rt, alloc, shop_name(request), Some(*entry)),
         Fault::Entry(refused) => advice_at(
             alloc,
             shop_name(request),
@@ -475,8 +475,8 @@ pub(crate) fn advise<R: Files>(
             refused.entry,
             Cause::Refused(refused.refusal),
         ),
-        Fault::Refused(refusal) => refused_advice(rt, alloc, request, is_new, refusal),
-        _ => system_advice(alloc, request, fault),
+        Fault::Refused(refusal) => refused_advice(rt, alloc, request, is_new, *refusal),
+        _ => system_advice(alloc, request, *fault),
     }
 }
 
@@ -498,8 +498,8 @@ pub(crate) fn makes_store<R: Files>(rt: &R, request: &Request<'_>) -> bool {
 }
 
 // Whether a fault is an order file's.
-fn is_order(fault: Fault) -> bool
-    ensures { result ≡ spec.is_order fault }
+fn is_order(fault: &Fault) -> bool
+    ensures { result ≡ spec.is_order fault.now }
 {
     match fault {
         Fault::Order(_) => true,
@@ -550,7 +550,7 @@ pub(crate) fn fault_lines(
     requires { IfSome advice (IsAdviceOf fault) }
     ensures { IfOk result (λ text. spec.IsFaultTold fault (string_bytes text)) }
 {
-    if is_order(fault) {
+    if is_order(&fault) {
         return line_alone(alloc, fault);
     }
     match advice {

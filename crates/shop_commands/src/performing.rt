@@ -57,7 +57,7 @@ pub(crate) fn report_fault<E: Sink>(alloc: Global, fault: Fault, errors: &mut E)
     ensures status { result ≡ 1 }
     ensures told { TellsFault fault (change_of E.Sink errors.old errors.new) }
 {
-    let advice = stream_advice(alloc, fault);
+    let advice = stream_advice(alloc, &fault);
     tell_fault(alloc, fault, advice, errors)
 }
 
@@ -221,7 +221,7 @@ fn conclude<R: Files, E: Sink>(
     match outcome {
         Ok(()) => 0,
         Err(fault) => {
-            let advice = advise(rt, alloc, request, is_new, fault);
+            let advice = advise(rt, alloc, request, is_new, &fault);
             tell_fault(alloc, fault, advice, errors)
         }
     }
