@@ -2,11 +2,19 @@
 use Rattle.std.specs.Prelude.{◌≡◌}
 use Rattle.std.specs.FinMap as map
 use Rattle.cut_measure.specs.Codes.{code_cmp}
-use Rattle.shop_records.specs.Content.{Content}
+use Rattle.shop_records.specs.Content.{Content, pair_cmp}
+use Rattle.shop_records.specs.declared.imports.ImportRow.{ImportRow}
+use Rattle.shop_records.specs.declared.texts.Kept.{Kept}
 use Rattle.shop_rows.specs.Keys.{import_key}
 use Rattle.shop_rows.specs.Rows.{map_of}
 use Rattle.shop_book.specs.declared.mem_storage.MemStorage.{MemStorage}
 
+abbrev pub kept_in : MemStorage → map.FinMap pair_cmp Kept
+kept_in storage = map.from_sorted storage.kept.entries
+
+abbrev pub imports_in : MemStorage → map.FinMap code_cmp ImportRow
+imports_in storage = map_of import_key code_cmp storage.imports.items
+
 pub record HoldsTexts (storage : MemStorage) (m : Content) : Type 0 where
-  pub kept : map.from_sorted storage.kept.entries ≡ m.kept
-  pub imports : map_of import_key code_cmp storage.imports.items ≡ m.imports
+  pub kept : kept_in storage ≡ m.kept
+  pub imports : imports_in storage ≡ m.imports

@@ -5,6 +5,7 @@ mod books;
 mod keeping;
 mod known_orders;
 mod ledger;
+mod ledger_copies;
 mod ledger_rows;
 mod loading;
 mod mem_storage;

@@ -3,9 +3,9 @@
 ghost use Rattle.std.specs.Prelude.{IfOk, OnOk, OnErr, ◌≡◌};
 ghost use Rattle.shop_book.specs.Memory.{put_kept};
 
-use crate::keeping::{KeptText, find_kept, last_kept};
+use crate::keeping::{KeptText, copy_kept, find_kept, last_kept};
 use crate::mem_storage::MemStorage;
-use crate::memory_lists::find_import;
+use crate::memory_lists::{copy_imports, find_import};
 use crate::storage::{Storage, StorageFault};
 use cut_measure::Code;
 use shop_records::{Change, ImportRow, Kept, KeptMessage, Pair};
@@ -14,8 +14,8 @@ use std::alloc::{AllocError, Global};
 use std::collections::BTreeMap;
 
 impl MemStorage {
-    ghost use Rattle.std.specs.Prelude.{◌≡◌};
-    ghost use Rattle.shop_book.specs.MemStorages.{HoldsTexts};
+    ghost use Rattle.std.specs.Prelude.{◌≡◌, ◌×◌, ◌↔◌, IfOk, IsTrue};
+    ghost use Rattle.shop_book.specs.MemStorages.{HoldsTexts, imports_in, kept_in};
     ghost use Rattle.shop_records.specs.Content.{fresh};
 
     /// The storage of a new shop.
@@ -27,6 +27,40 @@ impl MemStorage {
             kept: BTreeMap::new(alloc),
             imports: Vec::new(alloc),
         }
+    }
+
+    /// A storage with the same texts.
+    pub fn copy(&self, alloc: Global) -> Result<MemStorage, AllocError>
+        ensures kept { IfOk result (λ copy. kept_in copy ≡ kept_in self.now) }
+        ensures imports { IfOk result (λ copy. imports_in copy ≡ imports_in self.now) }
+    {
+        let kept = copy_kept(&self.kept)?;
+        let imports = copy_imports(&self.imports)?;
+        Ok(MemStorage {
+            alloc,
+            kept,
+            imports,
+        })
+    }
+
+    fn has_kept_of(&self, other: &MemStorage) -> bool
+        ensures { IsTrue result ↔ (kept_in self.now ≡ kept_in other.now) }
+    {
+        self.kept == other.kept
+    }
+
+    fn has_imports_of(&self, other: &MemStorage) -> bool
+        ensures { IsTrue result ↔ (imports_in self.now ≡ imports_in other.now) }
+    {
+        self.imports == other.imports
+    }
+
+    /// Whether another storage has the same texts.
+    pub fn has_texts_of(&self, other: &MemStorage) -> bool
+        ensures { IsTrue result
+            ↔ ((kept_in self.now ≡ kept_in other.now) × (imports_in self.now ≡ imports_in other.now)) }
+    {
+        self.has_kept_of(other) && self.has_imports_of(other)
     }
 }
 
@@ -73,6 +107,12 @@ impl Storage for MemStorage {
     ghost holds = { HoldsTexts };
 
     ghost has_clean_disk = { λ storage. ⊤ };
+
+    ghost may_fail = { ⊥ };
+
+    fn out_of_range() -> StorageFault {
+        StorageFault::NoMemory
+    }
 
     fn kept(
         &mut self,

@@ -13,8 +13,8 @@ invariant_of-self-2 c =
     let old = c.args.self.now in
     record { kept_rise = kept_sorted c.args.change.now.kept old.kept.entries c.keep_text.new.kept.entries old.kept_rise c.in_ok-keep_text.ensures.ok; imports_rise = c.put_some.ensures.rising }
 
-pub returns-clause-ok : goal.returns-clause-ok
-returns-clause-ok c clean m was fits =
+pub returns-clause-any : goal.returns-clause-any
+returns-clause-any c never m was =
     let old = c.args.self.now in
     let import = c.in_ok-import.import in
     record {
@@ -24,3 +24,6 @@ returns-clause-ok c clean m was fits =
           ∙ import_after import (map_of import_key code_cmp old.imports.items)
           ∙ (λ i. with_import (c.in_ok-import.ensures i) (was.imports i));
     }
+
+pub returns-clause-ok : goal.returns-clause-ok
+returns-clause-ok c clean m was fits = returns-clause-any c (λ never. never) m was
