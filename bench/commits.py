@@ -39,7 +39,7 @@ def main():
     parser.add_argument("--runs", type=int, default=3)
     given = parser.parse_args()
     with tempfile.TemporaryDirectory() as room:
-        program = given.program or build(room, given.root, "commits", "commit_bench", ["shop_book", "shop_records", "cut_measure"])
+        program = given.program or build(room, given.root, "commits", "commit_bench", ["shop_store", "shop_records", "cut_measure"])
         for materials in given.materials:
             for parts in given.parts:
                 words = [program, str(materials), str(parts)]

@@ -20,10 +20,6 @@ OF_STD = {"push", "extend_from_slice", "Vec::with_capacity", "Vec::from_slice", 
 # and why there is one behind it.
 LISTED = {
     "cut_order/src/answer.rt want_of_memory": "the check of units that are a plan of the order, whose only fault then is this one, by its contract",
-    "shop_commands/src/storeless.rt lines_of": "the book in memory: of an order no two demands have the same line, and it has no other fault then",
-    "shop_commands/src/storeless.rt next_act": "the book in memory, whose only fault is want of memory by its contract",
-    "shop_commands/src/storeless.rt next_demand": "the book in memory, as above",
-    "shop_commands/src/storeless.rt totals": "the book in memory, as above",
     "shop_desk/src/desk_calls.rt known_rack": "the taker of a rack stops where its list has no room",
     "shop_files/src/orders.rt next_row": "a record of a slice, of any length: the reader has no other error",
     "shop_forms/src/writing.rt value_of": "a text that was written by the port's own writer: it is read but for want of memory",
@@ -33,6 +29,7 @@ LISTED = {
     "shop_rows/src/part_rows.rt reserve": "a number of origins of 32 bits: acts end at 2147483647, and each begins one at most",
     "shop_serve/src/answers.rt note_want": "what the watch told of a backup is asked for, to be noted",
     "shop_serve/src/clients.rt ask": "there is no answer where memory is wanting for it",
+    "shop_store/src/ledger_book.rt out_of_range": "a number, a sum or two lines of an order that no history makes, over a storage whose only fault is want of memory, by its contract",
     "shop_store/src/loading_parts.rt stopped": "the loader of parts says whether it stopped for want of memory",
     "shop_text/src/yields.rt report_text": "the taker of a report's lines stops where its text has no room",
     "shop_wire/src/serving.rt write_made": "the text is handed over as it was made, or the want of memory",
@@ -213,7 +210,6 @@ FAILED = re.compile(r"\b(?:TableFault|AdoptFault|BookFault|Refusal)::(Store|Stor
 # The places that tell one where none is handed on, how many each function has, and what is so there.
 FAULTED = {
     "shop_book/src/books.rt from StoreFault": (2, "hands on a book's fault"),
-    "shop_book/src/memory.rt fault Store": (1, "numbers or totals that the book in memory can't hold, by its contract"),
     "shop_desk/src/desk_calls.rt answer_again StoreFault": (1, "the kept reply is none"),
     "shop_examples/src/stores.rt book_over Store": (1, "a connection within a transaction"),
     "shop_machine/src/ending.rt work_of StoreFault": (3, "a job without its part or its material, or rows that don't bear its end, by its contract"),

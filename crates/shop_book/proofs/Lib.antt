@@ -1,4 +1,4 @@
--- what a book in memory holds, and hands out
+-- what rows in memory stand for, and what is handed out
 pub mod Orders
 pub mod Replaced
 pub mod Held

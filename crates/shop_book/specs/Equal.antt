@@ -1,4 +1,4 @@
--- When two books contain the same.
+-- When two contents are the same.
 use Rattle.std.specs.Prelude.{◌≡◌, Bool, true, false, ◌&&◌, ◌==◌, nat_eq}
 use Rattle.std.specs.Prelude.{T, refl}
 use Rattle.std.proofs.Common.{ap, sym, subst, ◌∙◌}
@@ -39,7 +39,6 @@ use Rattle.shop_records.specs.contracts.imports.FormPartialEq.TheImpl as form_eq
 use Rattle.shop_records.specs.contracts.imports.ImportRowPartialEq.TheImpl as import_eq
 use Rattle.shop_rows.specs.Keys.{codes_exact}
 use Rattle.shop_rows.specs.SameParts.{name_decides, part_decides, same_part, size_decides}
-use Rattle.shop_book.specs.Memory.{MemoryBook}
 
 -- ---- tests, as `==` makes them
 
@@ -74,10 +73,6 @@ same_content m n =
     && (same_codes m.orders n.orders
     && (same_entries nat_eq same_demand m.demands n.demands && (same_entries same_pair same_kept m.kept n.kept
     && (same_entries (pointwise nat_eq) same_import m.imports n.imports && (m.last_act == n.last_act && m.last_demand == n.last_demand)))))))
-
--- the same contents, whatever failed
-abbrev pub same_books : MemoryBook → MemoryBook → Bool
-same_books a b = same_content a.content b.content
 
 -- ---- they tell contents apart
 
@@ -252,11 +247,3 @@ content_decides m n =
     (Decides-and _ _ (maps_decide unsigned_Decides demand_decides m.demands n.demands)
     (Decides-and _ _ (maps_decide pair_decides kept_decides m.kept n.kept)
     (Decides-and _ _ (maps_decide bytes_decides import_decides m.imports n.imports) (Decides-and _ _ (unsigned_Decides m.last_act n.last_act) (unsigned_Decides m.last_demand n.last_demand)))))))))
-
-pub same_books_laws : IsPartialEquivalence same_books
-same_books_laws =
-    let is = decided same_content content_decides in
-    record {
-      symm = λ a b. is.symm a.content b.content;
-      trans = λ a b c e f. is.congr a.content b.content c.content e ∙ f;
-    }

@@ -3,12 +3,11 @@ pub mod Failures
 pub mod Books
 pub mod FoundJobs
 pub mod Kept
--- a book in memory
+-- rows and texts in memory
 pub mod Orders
 pub mod Memory
 pub mod Equal
 pub mod Tallies
-pub mod MemBooks
 -- rows in a ledger, and what lasts beside it
 pub mod KeptUp
 pub mod Ledgers

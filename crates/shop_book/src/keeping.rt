@@ -1,13 +1,12 @@
 //! How a message is kept in memory, in one text that takes no more than it needs, and which is the last of a terminal.
 
-ghost use Rattle.std.specs.Prelude.{◌≡◌, ◌⊎◌, ◌<◌, ◌≤◌, ◌^◌, ℕ, IfNone, IfOk, IfSome, IsSome, None, OnOk, OnErr, false};
+ghost use Rattle.std.specs.Prelude.{◌≡◌, ◌⊎◌, ◌<◌, ◌≤◌, ◌^◌, ℕ, IfNone, IfOk, IfSome, IsSome, None, false};
 ghost use Rattle.std.specs.FinMap.{find as find_entry};
 ghost use Rattle.std.specs.Ordering.{is_lt};
 ghost use Rattle.shop_records.specs.Content.{pair_cmp};
 ghost use Rattle.shop_records.specs.declared.texts.Pair.{Pair as PairOf};
-ghost use Rattle.shop_book.specs.Memory.{put_kept};
 
-use shop_records::{Kept, KeptMessage, Pair, Text};
+use shop_records::{Kept, Pair, Text};
 use std::alloc::{AllocError, Global};
 use std::collections::BTreeMap;
 use std::marker::Model;
@@ -100,22 +99,6 @@ impl PartialEq for KeptText {
         let (other_command, other_reply) = other.both();
         command == other_command && reply == other_reply
     }
-}
-
-/// Keeps a message, if there is one, in one text. An `Err` keeps nothing.
-pub fn keep(
-    alloc: Global,
-    kept: &mut BTreeMap<Pair, KeptText>,
-    message: Option<KeptMessage>,
-) -> Result<(), AllocError>
-    ensures ok { OnOk result (kept.new.entries ≡ put_kept message kept.old.entries) }
-    ensures err { OnErr result (kept.new.entries ≡ kept.old.entries) }
-{
-    if let Some(message) = message {
-        let exact = KeptText::of(alloc, &message.kept)?;
-        kept.insert(message.pair, exact)?;
-    }
-    Ok(())
 }
 
 /// The same messages.

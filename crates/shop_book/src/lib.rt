@@ -1,4 +1,4 @@
-//! What is promised of a book, which keeps what the shop contains, and the book in memory.
+//! What is promised of a book, which keeps what the shop contains; rows in a ledger, and a storage in memory.
 #![tactic(auto)]
 
 mod books;
@@ -10,7 +10,6 @@ mod ledger_rows;
 mod loading;
 mod mem_storage;
 mod mem_storing;
-mod memory;
 mod memory_lists;
 mod memory_parts;
 mod order_codes;
@@ -21,6 +20,5 @@ mod storage;
 pub use books::{Book, BookFault, FoundJob, JobHead, MOST_FAILURES};
 pub use ledger::Ledger;
 pub use mem_storage::MemStorage;
-pub use memory::MemBook;
 pub use read_rows::ReadRows;
 pub use storage::{Storage, StorageFault};

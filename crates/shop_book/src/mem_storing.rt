@@ -14,7 +14,7 @@ use std::alloc::{AllocError, Global};
 use std::collections::BTreeMap;
 
 impl MemStorage {
-    ghost use Rattle.std.specs.Prelude.{◌≡◌, ◌×◌, ◌↔◌, IfOk, IsTrue};
+    ghost use Rattle.std.specs.Prelude.{◌≡◌, ◌↔◌, IfOk, IsTrue};
     ghost use Rattle.shop_book.specs.MemStorages.{HoldsTexts, imports_in, kept_in};
     ghost use Rattle.shop_records.specs.Content.{fresh};
 
@@ -94,9 +94,13 @@ fn keep_text(
 }
 
 impl Storage for MemStorage {
-    ghost use Rattle.std.specs.Prelude.{◌≡◌, ⊤};
+    ghost use Rattle.std.specs.Prelude.{◌≡◌, ⊤, false};
     ghost use Rattle.shop_records.specs.Content.{Content};
     ghost use Rattle.shop_book.specs.MemStorages.{HoldsTexts};
+
+    const MAY_FAIL: bool = false;
+
+    ghost MAY_FAIL = { false };
 
     ghost Left = { Content };
 
@@ -107,12 +111,6 @@ impl Storage for MemStorage {
     ghost holds = { HoldsTexts };
 
     ghost has_clean_disk = { λ storage. ⊤ };
-
-    ghost may_fail = { ⊥ };
-
-    fn out_of_range() -> StorageFault {
-        StorageFault::NoMemory
-    }
 
     fn kept(
         &mut self,

@@ -1,6 +1,6 @@
 //! What lasts of a shop: its long texts, and each change, as a whole or not at all.
 
-ghost use Rattle.std.specs.Prelude.{◌≡◌, ◌⊎◌, IfErr, IfOk, IsOk, OnOk, OnErr};
+ghost use Rattle.std.specs.Prelude.{◌≡◌, ◌⊎◌, Bool, IfErr, IfOk, IsOk, OnOk, OnErr, false};
 ghost use Rattle.shop_records.specs.Content.{Content, kept_at, import_at, changed};
 ghost use Rattle.shop_records.specs.Lists.{IsLastNumber};
 ghost use Rattle.shop_records.specs.Soundness.{Fits};
@@ -33,6 +33,11 @@ impl From<AllocError> for StorageFault {
 
 /// Where a shop's changes last. A storage answers for the long texts alone; a ledger answers for all other rows.
 pub trait Storage {
+    /// Whether there is a store that can fail. Where there is none, only memory can run out.
+    const MAY_FAIL: bool;
+
+    ghost MAY_FAIL: { Bool };
+
     /// What a crash may leave, as a later open finds it.
     ghost Left: { Type 0 };
 
@@ -48,14 +53,6 @@ pub trait Storage {
     /// So far the disk returned what the storage wrote.
     ghost has_clean_disk: { Self → Type 0 };
 
-    /// The storage has a store that can fail. Without one only memory can run out.
-    ghost may_fail: { Type 0 };
-
-    /// The fault for a number or a sum that is out of range, or for two lines of an order with the same number, none of
-    /// which a shop's history leads to.
-    fn out_of_range() -> StorageFault
-        ensures { (may_fail → ⊥) → result ≡ NoMemory };
-
     /// What is kept of the accepted message with this pair.
     fn kept(
         &mut self,
@@ -66,26 +63,26 @@ pub trait Storage {
         ensures row { has_clean_disk self.new → (m : Content) → holds self.old m
             → IfOk result (λ row. row
             ≡ kept_at m (record { terminal = terminal; number = number })) }
-        ensures memory { (may_fail → ⊥) → IfErr result (λ fault. fault ≡ NoMemory) }
+        ensures memory { MAY_FAIL ≡ false → IfErr result (λ fault. fault ≡ NoMemory) }
         ensures leaves { IsRead has_clean_disk holds may_leave self.old self.new };
 
     /// What is kept of the import that the order of this code came by.
     fn import(&mut self, alloc: Global, order: Code) -> Result<Option<ImportRow>, StorageFault>
         ensures row { has_clean_disk self.new → (m : Content) → holds self.old m
             → IfOk result (λ row. row ≡ import_at m order) }
-        ensures memory { (may_fail → ⊥) → IfErr result (λ fault. fault ≡ NoMemory) }
+        ensures memory { MAY_FAIL ≡ false → IfErr result (λ fault. fault ≡ NoMemory) }
         ensures leaves { IsRead has_clean_disk holds may_leave self.old self.new };
 
     /// The greatest number of a terminal's kept messages, 0 if it has none.
     fn last_number(&mut self, terminal: u32) -> Result<u32, StorageFault>
         ensures number { has_clean_disk self.new → (m : Content) → holds self.old m
             → IfOk result (λ last. IsLastNumber m terminal last) }
-        ensures sure { (may_fail → ⊥) → IsOk result }
+        ensures sure { MAY_FAIL ≡ false → IsOk result }
         ensures leaves { IsRead has_clean_disk holds may_leave self.old self.new };
 
     /// The number of kept messages, for the log alone: no clause says which number it is.
     fn kept_count(&mut self) -> Result<u32, StorageFault>
-        ensures sure { (may_fail → ⊥) → IsOk result }
+        ensures sure { MAY_FAIL ≡ false → IsOk result }
         ensures leaves { IsRead has_clean_disk holds may_leave self.old self.new };
 
     /// Makes a change that fits the content last as a whole, or not at all. An `Err` leaves the content as it was, whatever the
@@ -93,11 +90,11 @@ pub trait Storage {
     fn commit(&mut self, change: &Change) -> Result<(), StorageFault>
         ensures ok { has_clean_disk self.new → (m : Content) → holds self.old m → Fits m change.now
             → OnOk result (holds self.new (changed m change.now)) }
-        ensures any { (may_fail → ⊥) → (m : Content) → holds self.old m
+        ensures any { MAY_FAIL ≡ false → (m : Content) → holds self.old m
             → OnOk result (holds self.new (changed m change.now)) }
         ensures err { has_clean_disk self.new → (m : Content) → holds self.old m
             → OnErr result (holds self.new m) }
-        ensures memory { (may_fail → ⊥) → IfErr result (λ fault. fault ≡ NoMemory) }
+        ensures memory { MAY_FAIL ≡ false → IfErr result (λ fault. fault ≡ NoMemory) }
         ensures crash { has_clean_disk self.new → (m : Content) → holds self.old m
             → Fits m change.now
             → (left : Left) → may_leave self.new left → may_leave self.old left

@@ -14,7 +14,6 @@ mod replays;
 mod restoring;
 mod running;
 mod stored;
-mod storeless;
 
 pub use advice::second_lines_are_lines;
 pub use faults::Fault;

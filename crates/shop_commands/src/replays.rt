@@ -7,7 +7,7 @@ ghost use Rattle.shop_commands.specs.Sinks.{change_of};
 ghost use Rattle.shop_commands.specs.Sources.{source_change};
 
 use crate::faults::Fault;
-use crate::storeless::StorelessBook;
+use shop_store::MemBook;
 use shop_text::{Sink, Source};
 use shop_wire::replay;
 use std::alloc::Global;
@@ -24,7 +24,7 @@ pub fn replay_fresh<S: Source, W: Sink>(
         (λ f. IsReplayStopped f (source_change S.Source source.old source.new) (change_of W.Sink sink.old sink.new)) }
     ensures reads { S.reads source.new ≤ S.reads source.old + most_reads }
 {
-    let mut book = StorelessBook::new(alloc);
+    let mut book = MemBook::new(alloc);
     match replay(alloc, source, sink, &mut book) {
         Ok(_) => Ok(()),
         Err(fault) => Err(Fault::from(fault)),

@@ -1,13 +1,16 @@
 -- What a ledger beside a storage keeps.
-use Rattle.std.proofs.Common.{◌≡◌, ℕ, Result, Ok, Err, IfOk, sym, ap, subst, ◌∙◌}
+use Rattle.std.proofs.Common.{◌≡◌, ℕ, Bool, true, false, Result, Ok, Err, IfOk, refl, sym, ap, subst, ◌∙◌, true≢false}
+use Rattle.std.specs.Prelude.{IfErr, IsOk, if◌then◌else◌}
 use Rattle.shop_records.specs.Content.{Content}
-use Rattle.shop_book.specs.Books.{Keeps}
+use Rattle.shop_book.specs.Failures.{CountsFailure}
 use Rattle.shop_book.specs.Storages.{IsRead}
 use Rattle.shop_book.specs.Ledgers.{content_in}
-use Rattle.shop_store.specs.LedgerBooks.{HoldsBoth, told_by}
+use Rattle.shop_store.specs.LedgerBooks.{HoldsBoth, KeepsBoth, failed_of, fault_by, told_by}
 use Rattle.shop_book.specs.declared.books.BookFault.{BookFault}
+use Rattle.shop_book.specs.declared.books.BookFault.TheVariants as book
 use Rattle.shop_book.specs.declared.storage.Storage.{Ghosts}
 use Rattle.shop_book.specs.declared.storage.StorageFault.{StorageFault}
+use Rattle.shop_book.specs.declared.storage.StorageFault.TheVariants as storage
 use Rattle.shop_store.specs.declared.posted.LedgerBook.{LedgerBook}
 
 lift : {T : Type 0} (P : T → Type 0) (r : Result T StorageFault) → IfOk r P → IfOk (told_by r) P
@@ -18,6 +21,34 @@ lift P (Err e) h = tt
 pub as_told : {T : Type 0} (P : T → Type 0) (r : Result T StorageFault) (answer : Result T BookFault) → answer ≡ told_by r → IfOk r P → IfOk answer P
 as_told P r answer same h = subst (λ a. IfOk a P) (sym same) (lift P r h)
 
+-- so of one that only memory keeps from being told
+only_memory : {T : Type 0} (r : Result T StorageFault) → IfErr r (λ fault. fault ≡ storage.NoMemory) → IfErr (told_by r) (λ fault. fault ≡ book.NoMemory)
+only_memory (Ok x) h = tt
+only_memory (Err fault) h = ap fault_by h
+
+pub memory_told : {T : Type 0} (r : Result T StorageFault) (answer : Result T BookFault) → answer ≡ told_by r → IfErr r (λ fault. fault ≡ storage.NoMemory) → IfErr answer (λ fault. fault ≡ book.NoMemory)
+memory_told r answer same h = subst (λ a. IfErr a (λ fault. fault ≡ book.NoMemory)) (sym same) (only_memory r h)
+
+sure : {T : Type 0} (r : Result T StorageFault) → IsOk r → IsOk (told_by r)
+sure (Ok x) h = h
+sure (Err fault) h = absurd (true≢false (sym h))
+
+pub sure_told : {T : Type 0} (r : Result T StorageFault) (answer : Result T BookFault) → answer ≡ told_by r → IsOk r → IsOk answer
+sure_told r answer same h = subst (λ a. IsOk a) (sym same) (sure r h)
+
+pub no_fault : {T : Type 0} (r : Result T StorageFault) → IsOk r → IfErr r (λ fault. fault ≡ storage.NoMemory)
+no_fault (Ok x) h = tt
+no_fault (Err fault) h = absurd (true≢false (sym h))
+
+-- a failure is counted only where the store may fail
+pub counts_if : {T : Type 0} (may : Bool) (answer : Result T BookFault) (before after : ℕ) → (may ≡ false → IfErr answer (λ fault. fault ≡ book.NoMemory)) → CountsFailure answer before after
+    → CountsFailure answer (if may then before else 0) (if may then after else 0)
+counts_if true answer before after only counted = counted
+counts_if false (Ok x) before after only counted = refl
+counts_if false (Err book.NoMemory) before after only counted = refl
+counts_if false (Err book.Store) before after only counted = let no : book.Store ≡ book.NoMemory = only refl in cc
+counts_if false (Err book.WrongVersion) before after only counted = absurd counted
+
 module _ {S : Type 0} (g : Ghosts S) where
   -- what a book holds, it holds with another ledger of the same content and another storage that holds it
   pub holds_both : (old new : LedgerBook S) (m : Content) → HoldsBoth g old m → g.holds new.storage m → content_in new.ledger ≡ content_in old.ledger → (g.has_clean_disk new.storage → g.has_clean_disk old.storage)
@@ -25,8 +56,8 @@ module _ {S : Type 0} (g : Ghosts S) where
   holds_both old new m was held same earlier = (held, λ clean. same ∙ was.1 (earlier clean))
 
   -- a reading of the storage leaves the book as it was
-  pub read_by : (counts : ℕ → ℕ → Type 0) (old new : LedgerBook S) (mid : S) → new.ledger ≡ old.ledger → new.storage ≡ mid → IsRead g.has_clean_disk g.holds g.may_leave old.storage mid → counts old.failures new.failures
-      → Keeps (λ b. g.has_clean_disk b.storage) (HoldsBoth g) (λ b left. g.may_leave b.storage left) (λ b. b.failures) counts old new
+  pub read_by : (counts : ℕ → ℕ → Type 0) (old new : LedgerBook S) (mid : S) → new.ledger ≡ old.ledger → new.storage ≡ mid → IsRead g.has_clean_disk g.holds g.may_leave old.storage mid → counts (failed_of g old) (failed_of g new)
+      → KeepsBoth g counts old new
   read_by counts old new mid ledger storage read counted =
       let r = subst (IsRead g.has_clean_disk g.holds g.may_leave old.storage) (sym storage) read in
       record {
@@ -40,6 +71,6 @@ module _ {S : Type 0} (g : Ghosts S) where
   still storage = record { clean_disk = λ clean. clean; stays = λ clean m was. was; crash = λ clean m was left may. may }
 
   -- and so does one of the ledger
-  pub counted : (counts : ℕ → ℕ → Type 0) (old new : LedgerBook S) → new.ledger ≡ old.ledger → new.storage ≡ old.storage → counts old.failures new.failures
-      → Keeps (λ b. g.has_clean_disk b.storage) (HoldsBoth g) (λ b left. g.may_leave b.storage left) (λ b. b.failures) counts old new
+  pub counted : (counts : ℕ → ℕ → Type 0) (old new : LedgerBook S) → new.ledger ≡ old.ledger → new.storage ≡ old.storage → counts (failed_of g old) (failed_of g new)
+      → KeepsBoth g counts old new
   counted counts old new ledger storage count = read_by counts old new old.storage ledger storage (still old.storage) count

@@ -1,5 +1,6 @@
--- a ledger beside a storage, and a storage in tables
+-- a ledger beside a storage, one in memory, and a storage in tables
 pub mod LedgerBooks
+pub mod MemBooks
 pub mod Storing
 pub mod SqlBooks
 pub mod EarlierBooks

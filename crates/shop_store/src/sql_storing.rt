@@ -25,10 +25,15 @@ fn from_tables<T: Drop>(answer: Result<T, TableFault>) -> Result<T, StorageFault
 }
 
 impl<S: Alter> Storage for SqlStorage<S> {
+    ghost use Rattle.std.specs.Prelude.{true};
     ghost use Rattle.sqlite_trees.specs.Tree.{Trees};
     ghost use Rattle.sqlite.specs.State.{HasCleanDisk};
     ghost use Rattle.sqlite.specs.Held.{state};
     ghost use Rattle.shop_tables.specs.Held.{HoldsContent, StandsFor};
+
+    const MAY_FAIL: bool = true;
+
+    ghost MAY_FAIL = { true };
 
     ghost Left = { Trees };
 

@@ -30,28 +30,30 @@ invariant_of-result c =
     let jobs : c.in_ok-jobs.jobs.items ≡ old.jobs.items = c.in_ok-jobs.ensures in
     let orders : c.in_ok-orders.orders.items ≡ old.orders.items = search rules in
     let demands : c.in_ok-demands.demands.items ≡ old.demands.items = search rules in
-    record { kept_up = record {
-      materials_rise = search rules;
-      known = c.in_ok-parts.ensures.known;
-      tally =
-          tally_same (parts_in c.in_ok-parts.parts) c.in_ok-totals.totals.items old.lists.parts.items lists.parts.items c.in_ok-lists.ensures.parts c.in_ok-lists.ensures.order
-          (subst (λ (rows : List Part). Tallies rows c.in_ok-totals.totals.items old.lists.parts.items) (sym parts)
-          (subst (λ (totals : List Sums). Tallies (parts_in old.parts) totals old.lists.parts.items) (sym totals) was.tally));
-      jobs_rise = subst (λ (js : List Job). IsTrue (rise job_key nat_cmp js)) (sym jobs) was.jobs_rise;
-      orders_rise = subst (λ (orders : List KnownOrder). IsTrue (rise known_key code_cmp orders)) (sym orders) was.orders_rise;
-      demands_rise = search rules;
-      placed = λ none.
-          subst (λ (ds : List Demand). IsTrue (list_all (is_placed c.in_ok-orders.orders.items) ds)) (sym demands)
-          (subst (λ (orders : List KnownOrder). IsTrue (list_all (is_placed orders) old.demands.items)) (sym orders) (was.placed none));
-      job_keys = search rules;
-      waiting =
-          subst (λ (js : List Job). ListsNumbers waits (λ number. row_at job_key nat_cmp number js) lists.jobs.items) (sym jobs)
-          (λ number. subst (λ (ks : List ℕ). ListsNumbers waits (λ n. row_at job_key nat_cmp n old.jobs.items) ks) (sym c.in_ok-lists.ensures.jobs) was.waiting number);
-      demand_keys = search rules;
-      open_demands =
-          subst (λ (ds : List Demand). ListsNumbers is_open (λ number. row_at demand_key nat_cmp number ds) lists.demands.items) (sym demands)
-          (λ number. subst (λ (ks : List ℕ). ListsNumbers is_open (λ n. row_at demand_key nat_cmp n old.demands.items) ks) (sym c.in_ok-lists.ensures.demands) was.open_demands number);
-    } }
+    record {
+      kept_up = record {
+        materials_rise = search rules;
+        known = c.in_ok-parts.ensures.known;
+        tally =
+            tally_same (parts_in c.in_ok-parts.parts) c.in_ok-totals.totals.items old.lists.parts.items lists.parts.items c.in_ok-lists.ensures.parts c.in_ok-lists.ensures.order
+            (subst (λ (rows : List Part). Tallies rows c.in_ok-totals.totals.items old.lists.parts.items) (sym parts)
+            (subst (λ (totals : List Sums). Tallies (parts_in old.parts) totals old.lists.parts.items) (sym totals) was.tally));
+        jobs_rise = subst (λ (js : List Job). IsTrue (rise job_key nat_cmp js)) (sym jobs) was.jobs_rise;
+        orders_rise = subst (λ (orders : List KnownOrder). IsTrue (rise known_key code_cmp orders)) (sym orders) was.orders_rise;
+        demands_rise = search rules;
+        placed = λ none.
+            subst (λ (ds : List Demand). IsTrue (list_all (is_placed c.in_ok-orders.orders.items) ds)) (sym demands)
+            (subst (λ (orders : List KnownOrder). IsTrue (list_all (is_placed orders) old.demands.items)) (sym orders) (was.placed none));
+        job_keys = search rules;
+        waiting =
+            subst (λ (js : List Job). ListsNumbers waits (λ number. row_at job_key nat_cmp number js) lists.jobs.items) (sym jobs)
+            (λ number. subst (λ (ks : List ℕ). ListsNumbers waits (λ n. row_at job_key nat_cmp n old.jobs.items) ks) (sym c.in_ok-lists.ensures.jobs) was.waiting number);
+        demand_keys = search rules;
+        open_demands =
+            subst (λ (ds : List Demand). ListsNumbers is_open (λ number. row_at demand_key nat_cmp number ds) lists.demands.items) (sym demands)
+            (λ number. subst (λ (ks : List ℕ). ListsNumbers is_open (λ n. row_at demand_key nat_cmp n old.demands.items) ks) (sym c.in_ok-lists.ensures.demands) was.open_demands number);
+      };
+    }
 
 pub returns : goal.returns
 returns c =

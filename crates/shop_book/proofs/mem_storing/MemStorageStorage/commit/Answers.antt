@@ -1,4 +1,4 @@
-use Rattle.std.proofs.Common.{ap, ◌∙◌}
+use Rattle.std.proofs.Common.{refl, ap, ◌∙◌}
 use Rattle.std.specs.Option.{option_to_list}
 use Rattle.std.specs.Cmp.Lexicographic.{nat_list_cmp_total}
 use Rattle.cut_measure.specs.Codes.{code_cmp}
@@ -26,4 +26,4 @@ returns-clause-any c never m was =
     }
 
 pub returns-clause-ok : goal.returns-clause-ok
-returns-clause-ok c clean m was fits = returns-clause-any c (λ never. never) m was
+returns-clause-ok c clean m was fits = returns-clause-any c refl m was

@@ -1,6 +1,9 @@
 use Rattle.std.proofs.Common.{subst}
-use Rattle.shop_store.proofs.LedgerBooks.{as_told, read_by}
+use Rattle.shop_store.proofs.LedgerBooks.{as_told, read_by, sure_told}
 use Rattle.shop_store.proofs.ledger_book.LedgerBookBook.last_number.Goals as goal
+
+pub returns-clause-sure : goal.returns-clause-sure
+returns-clause-sure g c off = sure_told _ _ c.count.ensures.answer (c.last_number-answer.ensures.sure off)
 
 pub returns-clause-number : goal.returns-clause-number
 returns-clause-number g c clean m was = as_told _ _ _ c.count.ensures.answer (c.last_number-answer.ensures.number (subst g.S.Storage.has_clean_disk c.count.ensures.storage clean) m was.0)

@@ -1,5 +1,5 @@
 use Rattle.shop_store.proofs.Stored.{reads}
 use Rattle.shop_store.proofs.sql_storing.SqlStorageStorage.kept_count.Goals as goal
 
-pub returns : goal.returns
-returns g c = record { leaves = reads g.S.Store (λ storage. storage.conn) _ _ c.count_kept.ensures.leaves }
+pub returns-clause-leaves : goal.returns-clause-leaves
+returns-clause-leaves g c = reads g.S.Store (λ storage. storage.conn) _ _ c.count_kept.ensures.leaves

@@ -1,7 +1,0 @@
-use Rattle.std.proofs.lemmas.Bool.Decides.{same_from_decides}
-use Rattle.shop_book.specs.Equal.{same_books, content_decides}
-use Rattle.shop_book.proofs.memory.MemBookPartialEq.eq.Goals as goal
-
-pub returns-clause-test : goal.returns-clause-test
-returns-clause-test c =
-    same_from_decides c.has_content_of.result (same_books c.args.self.now c.args.other.now) c.has_content_of.ensures (content_decides c.args.self.now.content c.args.other.now.content)
