@@ -175,12 +175,7 @@ impl<S: Storage> Book for LedgerBook<S> {
         Ok(self.ledger.demand(number))
     }
 
-    fn kept(
-        &mut self,
-        alloc: Global,
-        terminal: u32,
-        number: u32,
-    ) -> Result<Option<Kept>, BookFault>
+    fn kept(&mut self, alloc: Global, terminal: u32, number: u32) -> Result<Option<Kept>, BookFault>
         ensures ledger { self.new.ledger ≡ self.old.ledger }
         ensures memory { S.MAY_FAIL ≡ false → IfErr result (λ fault. fault ≡ NoMemory) }
         ensures row { OnBoth S.Storage self.old self.new
@@ -436,10 +431,6 @@ impl<S: Storage> Book for LedgerBook<S> {
     }
 
     fn failures(&self) -> u64 {
-        if S::MAY_FAIL {
-            self.failures
-        } else {
-            0
-        }
+        if S::MAY_FAIL { self.failures } else { 0 }
     }
 }
