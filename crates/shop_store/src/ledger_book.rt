@@ -145,7 +145,8 @@ impl<S: Storage> Book for LedgerBook<S> {
     }
 
     fn job_head(&mut self, number: u32) -> Result<Option<JobHead>, BookFault>
-        ensures exact { result ≡ Ok (option_map head_of (job_at (content_in self.old.ledger) number)) }
+        ensures exact { result
+            ≡ Ok (option_map head_of (job_at (content_in self.old.ledger) number)) }
         ensures same { self.new ≡ self.old }
         ensures row { OnBoth S.Storage self.old self.new
             (λ m. IfOk result (λ head. head ≡ option_map head_of (job_at m number))) }
@@ -179,7 +180,8 @@ impl<S: Storage> Book for LedgerBook<S> {
         ensures ledger { self.new.ledger ≡ self.old.ledger }
         ensures memory { S.MAY_FAIL ≡ false → IfErr result (λ fault. fault ≡ NoMemory) }
         ensures row { OnBoth S.Storage self.old self.new
-            (λ m. IfOk result (λ row. row ≡ kept_at m (record { terminal = terminal; number = number }))) }
+            (λ m. IfOk result
+            (λ row. row ≡ kept_at m (record { terminal = terminal; number = number }))) }
         ensures keeps { KeepsBoth S.Storage (CountsFailure result) self.old self.new }
     {
         let answer = self.storage.kept(alloc, terminal, number);
@@ -215,7 +217,8 @@ impl<S: Storage> Book for LedgerBook<S> {
     }
 
     fn next_demand(&mut self) -> Result<u32, BookFault>
-        ensures exact { IfOk result (λ demand. demand ≡ (content_in self.old.ledger).last_demand + 1) }
+        ensures exact { IfOk result
+            (λ demand. demand ≡ (content_in self.old.ledger).last_demand + 1) }
         ensures sure { (content_in self.old.ledger).last_demand < 2 ^ 32 - 1 → IsOk result }
         ensures memory { S.MAY_FAIL ≡ false → IfErr result (λ fault. fault ≡ NoMemory) }
         ensures ledger { self.new.ledger ≡ self.old.ledger }
@@ -232,7 +235,8 @@ impl<S: Storage> Book for LedgerBook<S> {
     }
 
     fn totals(&mut self, material: Code) -> Result<Totals, BookFault>
-        ensures exact { IfOk result (λ totals. totals ≡ totals_of (content_in self.old.ledger) material) }
+        ensures exact { IfOk result
+            (λ totals. totals ≡ totals_of (content_in self.old.ledger) material) }
         ensures sure { IsInRange (content_in self.old.ledger) → IsOk result }
         ensures memory { S.MAY_FAIL ≡ false → IfErr result (λ fault. fault ≡ NoMemory) }
         ensures ledger { self.new.ledger ≡ self.old.ledger }
@@ -248,7 +252,8 @@ impl<S: Storage> Book for LedgerBook<S> {
     }
 
     fn parts_of(&mut self, alloc: Global, material: Code) -> Result<PartList, BookFault>
-        ensures exact { IfOk result (λ rows. rows ≡ listed_parts (content_in self.old.ledger) material) }
+        ensures exact { IfOk result
+            (λ rows. rows ≡ listed_parts (content_in self.old.ledger) material) }
         ensures memory { IfErr result (λ fault. fault ≡ NoMemory) }
         ensures same { self.new ≡ self.old }
         ensures rows { OnBoth S.Storage self.old self.new
@@ -296,7 +301,8 @@ impl<S: Storage> Book for LedgerBook<S> {
         after: Option<PartName>,
         most: usize,
     ) -> Result<PartList, BookFault>
-        ensures exact { IfOk result (λ rows. rows ≡ take most (parts_after (content_in self.old.ledger) material after)) }
+        ensures exact { IfOk result
+            (λ rows. rows ≡ take most (parts_after (content_in self.old.ledger) material after)) }
         ensures memory { IfErr result (λ fault. fault ≡ NoMemory) }
         ensures same { self.new ≡ self.old }
         ensures rows { OnBoth S.Storage self.old self.new
@@ -314,7 +320,8 @@ impl<S: Storage> Book for LedgerBook<S> {
         material: Option<Code>,
         most: usize,
     ) -> Result<DemandList, BookFault>
-        ensures exact { IfOk result (λ rows. rows ≡ take most (open_demands (content_in self.old.ledger) after material)) }
+        ensures exact { IfOk result
+            (λ rows. rows ≡ take most (open_demands (content_in self.old.ledger) after material)) }
         ensures memory { IfErr result (λ fault. fault ≡ NoMemory) }
         ensures same { self.new ≡ self.old }
         ensures rows { OnBoth S.Storage self.old self.new
@@ -327,7 +334,8 @@ impl<S: Storage> Book for LedgerBook<S> {
 
     fn lines_of(&mut self, alloc: Global, order: Code) -> Result<DemandList, BookFault>
         ensures exact { IfOk result (λ rows. AreLines (content_in self.old.ledger) order rows) }
-        ensures different { AreDifferent (content_in self.old.ledger) → IfErr result (λ fault. fault ≡ NoMemory) }
+        ensures different { AreDifferent (content_in self.old.ledger)
+            → IfErr result (λ fault. fault ≡ NoMemory) }
         ensures memory { S.MAY_FAIL ≡ false → IfErr result (λ fault. fault ≡ NoMemory) }
         ensures ledger { self.new.ledger ≡ self.old.ledger }
         ensures storage { self.new.storage ≡ self.old.storage }
@@ -348,7 +356,8 @@ impl<S: Storage> Book for LedgerBook<S> {
         after: Option<Code>,
         most: usize,
     ) -> Result<CodeList, BookFault>
-        ensures exact { IfOk result (λ codes. codes ≡ take most (orders_after (content_in self.old.ledger) after)) }
+        ensures exact { IfOk result
+            (λ codes. codes ≡ take most (orders_after (content_in self.old.ledger) after)) }
         ensures memory { IfErr result (λ fault. fault ≡ NoMemory) }
         ensures same { self.new ≡ self.old }
         ensures rows { OnBoth S.Storage self.old self.new
@@ -365,11 +374,15 @@ impl<S: Storage> Book for LedgerBook<S> {
         after: u32,
         most: usize,
     ) -> Result<NumberList, BookFault>
-        ensures exact { IfOk result (λ numbers. numbers ≡ take most (map (λ (job : JobOf). job.act) (waiting_jobs (content_in self.old.ledger) after))) }
+        ensures exact { IfOk result
+            (λ numbers. numbers ≡ take most
+            (map (λ (job : JobOf). job.act) (waiting_jobs (content_in self.old.ledger) after))) }
         ensures memory { IfErr result (λ fault. fault ≡ NoMemory) }
         ensures same { self.new ≡ self.old }
         ensures rows { OnBoth S.Storage self.old self.new
-            (λ m. IfOk result (λ numbers. numbers ≡ take most (map (λ (job : JobOf). job.act) (waiting_jobs m after)))) }
+            (λ m. IfOk result
+            (λ numbers. numbers ≡ take most
+            (map (λ (job : JobOf). job.act) (waiting_jobs m after)))) }
         ensures keeps { KeepsBoth S.Storage (CountsFailure result) self.old self.new }
     {
         let numbers = self.ledger.first_jobs(alloc, after, most)?;
