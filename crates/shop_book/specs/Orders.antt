@@ -1,5 +1,5 @@
 -- The orders in memory, and which demands lie with those of their orders.
-use Rattle.std.specs.Prelude.{◌≡◌, ℕ, List, map, Bool, false, Option, Some, None}
+use Rattle.std.specs.Prelude.{◌≡◌, ℕ, List, map, Bool, false, IsTrue, Option, Some, None}
 use Rattle.std.specs.List.{find}
 use Rattle.std.specs.Ordering.{is_eq}
 use Rattle.std.specs.declared.cmp.Ordering.{Ordering}
@@ -31,3 +31,7 @@ is_placed orders demand = is_among (order_at demand.order orders) demand.number
 -- orders that were there are there with the same numbers
 abbrev pub AreKept : List KnownOrder → List KnownOrder → Type 0
 AreKept old new = (code : List ℕ) (order : KnownOrder) → order_at code old ≡ Some order → order_at code new ≡ Some order
+
+-- a number that lay with those of an order lies with them still
+abbrev pub ReachAsFar : List KnownOrder → List KnownOrder → Type 0
+ReachAsFar old new = (code : List ℕ) (number : ℕ) → IsTrue (is_among (order_at code old) number) → IsTrue (is_among (order_at code new) number)

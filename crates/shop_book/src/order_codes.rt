@@ -1,6 +1,6 @@
 //! The orders in memory: their codes and the numbers of their demands, put together with a kept message or not at all.
 
-ghost use Rattle.std.specs.Prelude.{◌≡◌, IfOk, IfSome, IsSome, IsTrue, OnOk, OnErr, false, filter, take};
+ghost use Rattle.std.specs.Prelude.{◌≡◌, ℕ, IfOk, IfSome, IsSome, IsTrue, OnOk, OnErr, false, filter, take};
 ghost use Rattle.std.specs.List.{list_all};
 ghost use Rattle.std.specs.Option.{option_to_list};
 ghost use Rattle.std.specs.Ordering.{nat_cmp};
@@ -13,7 +13,7 @@ ghost use Rattle.std.specs.BTreeMap.Range.{is_from_start};
 ghost use Rattle.shop_book.specs.Orders.{codes_in, is_placed, order_cmp, AreKept};
 ghost use Rattle.shop_book.specs.declared.order_codes.KnownOrder.{KnownOrder as Known};
 ghost use Rattle.shop_rows.specs.Keys.{demand_key};
-ghost use Rattle.shop_rows.specs.Lines.{AreByLine, HaveLines};
+ghost use Rattle.shop_rows.specs.Lines.{is_within, AreByLine, HaveLines};
 ghost use Rattle.shop_rows.specs.Rows.{rise, ArePut, IsPut};
 
 use crate::keeping::{KeptText, keep};
@@ -95,6 +95,19 @@ impl KnownOrder {
         KnownOrder {
             code,
             span: Span::of(rows),
+        }
+    }
+
+    // The order with a number among those of its demands.
+    pub(crate) fn with(self, number: u32) -> KnownOrder
+        ensures code { result.code ≡ self.code }
+        ensures own { IsTrue (is_within result.span number) }
+        ensures all { (other : ℕ) → IsTrue (is_within self.span other)
+            → IsTrue (is_within result.span other) }
+    {
+        KnownOrder {
+            code: self.code,
+            span: self.span.with(number),
         }
     }
 }
