@@ -406,23 +406,17 @@ def at_most_thrice(trial, few, many, counts):
 # How much history: of few and of many parts.
 HISTORIES = (1000, 100000)
 
-# What goes through all demands of a store that was opened again, for each order.
-OF_ORDERS = {
-    "orders": '{"after":"","ask":"orders"}',
-    "lines": '{"ask":"lines","order":"A-1-1"}',
-    "orders behind": '{"after":"OLD-5","ask":"orders"}',
-    "lines of an old order": '{"ask":"lines","order":"OLD-500"}',
-}
-
 
 @case(
     "questions and messages of an old shop",
-    "Behind 100000 parts, jobs, orders and messages of history each list but that of orders, a job, a ticket and a report, a rack, the "
+    "Behind 100000 parts, jobs, orders and messages of history each list, a job, a ticket and a report, a rack, the "
     "totals, a plan, a repeat and each message take at most three times the processor time that they take behind 1000.",
 )
 def old_shop(trial):
     job, (repeat, reply) = aged.HISTORY, aged.scrapped(500)
-    asked = {name: line for name, line in ASKED.items() if name not in OF_ORDERS} | {
+    asked = ASKED | {
+        "orders behind": '{"after":"OLD-5","ask":"orders"}',
+        "lines of an old order": '{"ask":"lines","order":"OLD-500"}',
         "demands behind": f'{{"after":{job - 1},"ask":"demands"}}',
         "job": f'{{"ask":"job","job":{job}}}',
         "trace of an old part": f'{{"ask":"trace","part":"{job}/0"}}',
@@ -439,17 +433,6 @@ def old_shop(trial):
         trial.equal(json.loads(shop.reply(asked["terminal of many"]))["last"], count - 1)
         told.append(costs(trial, shop, asked))
     at_most_thrice(trial, *told, HISTORIES)
-
-
-@case(
-    "orders of an old shop",
-    "Behind 100000 demands of history a page of 100 orders takes at most 0.3 seconds of processor time, over a file, and the lines of "
-    "an order at most 0.01.",
-)
-def old_orders(trial):
-    shop = old_store(trial, HISTORIES[1])
-    for name, seconds in asked_costs(trial, shop, OF_ORDERS).items():
-        trial.holds(seconds <= TIMES * (0.3 if "orders" in name else 0.01), f"{name}: {1e6 * seconds / TIMES:.0f} microseconds")
 
 
 @case(

@@ -16,10 +16,9 @@ use Rattle.shop_records.specs.declared.records.Demand.{Demand}
 use Rattle.shop_rows.specs.Keys.{codes_exact, demand_key}
 use Rattle.shop_rows.specs.Rows.{entries_of, rise, row_at, IsPut, ArePut}
 use Rattle.shop_book.specs.Memory.{order_key, orders_in}
-use Rattle.shop_book.specs.Orders.{codes_in, is_among, is_placed, order_at, AreKept}
+use Rattle.shop_book.specs.Orders.{codes_in, is_placed}
 use Rattle.shop_book.specs.declared.order_codes.KnownOrder.{KnownOrder}
 use Rattle.shop_rows.proofs.Mapped.{all-put-each}
-use Rattle.shop_rows.proofs.Summed.{both}
 use Rattle.shop_rows.proofs.Places.{tested}
 
 firsts : (codes : List (List ℕ)) → map (λ (e : List ℕ × List ℕ). e.0) (entries_of order_key code_cmp codes) ≡ codes
@@ -52,18 +51,7 @@ no e = absurd (subst T (sym e) tt)
 
 -- ---- orders with their numbers
 
--- demands that lie with those of their orders
-pub still_placed : (old new : List KnownOrder) → AreKept old new → (rows : List Demand) → list_all (is_placed old) rows ≡ true → list_all (is_placed new) rows ≡ true
-still_placed old new stay [] placed = refl
-still_placed old new stay (row ∷ rows) placed =
-    let t = both (is_placed old row) (list_all (is_placed old) rows) placed in
-    ap (λ b. b && list_all (is_placed new) rows) (by_found (order_at row.order old) refl t.0) ∙ still_placed old new stay rows t.1
-  where
-    by_found : (found : Option KnownOrder) → order_at row.order old ≡ found → is_among found row.number ≡ true → is_placed new row ≡ true
-    by_found None e among = no among
-    by_found (Some order) e among = ap (λ o. is_among o row.number) (stay row.order order e) ∙ among
-
--- where rows that do are put one after another, all do
+-- where demands that lie with those of their orders are put one after another, all do
 pub all_placed : (orders : List KnownOrder) (rows old new : List Demand) → list_all (is_placed orders) rows ≡ true → list_all (is_placed orders) old ≡ true → ArePut demand_key nat_cmp rows old new
     → list_all (is_placed orders) new ≡ true
 all_placed orders rows old new own placed are_put = all-put-each (is_placed orders) demand_key nat_cmp rows old new own placed are_put

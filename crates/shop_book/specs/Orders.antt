@@ -1,16 +1,11 @@
 -- The orders in memory, and which demands lie with those of their orders.
-use Rattle.std.specs.Prelude.{◌≡◌, ℕ, List, map, Bool, false, Option, Some, None}
+use Rattle.std.specs.Prelude.{◌≡◌, ℕ, List, map, Bool, false, IsTrue, Option, Some, None}
 use Rattle.std.specs.List.{find}
 use Rattle.std.specs.Ordering.{is_eq}
-use Rattle.std.specs.declared.cmp.Ordering.{Ordering}
 use Rattle.cut_measure.specs.Codes.{code_cmp}
 use Rattle.shop_records.specs.declared.records.Demand.{Demand}
 use Rattle.shop_rows.specs.Lines.{is_within}
 use Rattle.shop_book.specs.declared.order_codes.KnownOrder.{KnownOrder}
-
--- by code
-abbrev pub order_cmp : KnownOrder → KnownOrder → Ordering
-order_cmp a b = code_cmp a.code b.code
 
 abbrev pub codes_in : List KnownOrder → List (List ℕ)
 codes_in orders = map (λ (order : KnownOrder). order.code) orders
@@ -31,3 +26,7 @@ is_placed orders demand = is_among (order_at demand.order orders) demand.number
 -- orders that were there are there with the same numbers
 abbrev pub AreKept : List KnownOrder → List KnownOrder → Type 0
 AreKept old new = (code : List ℕ) (order : KnownOrder) → order_at code old ≡ Some order → order_at code new ≡ Some order
+
+-- a number that lay with those of an order lies with them still
+abbrev pub ReachAsFar : List KnownOrder → List KnownOrder → Type 0
+ReachAsFar old new = (code : List ℕ) (number : ℕ) → IsTrue (is_among (order_at code old) number) → IsTrue (is_among (order_at code new) number)

@@ -1,6 +1,7 @@
 //! An order as a ledger knows it.
 
-ghost use Rattle.std.specs.Prelude.{◌≡◌};
+ghost use Rattle.std.specs.Prelude.{◌≡◌, ℕ, IsTrue};
+ghost use Rattle.shop_rows.specs.Lines.{is_within};
 
 use cut_measure::Code;
 use shop_records::Demand;
@@ -36,6 +37,19 @@ impl KnownOrder {
         KnownOrder {
             code,
             span: Span::of(rows),
+        }
+    }
+
+    // The order with a number among those of its demands.
+    pub(crate) fn with(self, number: u32) -> KnownOrder
+        ensures code { result.code ≡ self.code }
+        ensures own { IsTrue (is_within result.span number) }
+        ensures all { (other : ℕ) → IsTrue (is_within self.span other)
+            → IsTrue (is_within result.span other) }
+    {
+        KnownOrder {
+            code: self.code,
+            span: self.span.with(number),
         }
     }
 }

@@ -3,7 +3,7 @@
 ghost use Rattle.shop_book.specs.Ledgers.{bare, content_in, HasRoomFor};
 ghost use Rattle.shop_records.specs.Content.{changed, fresh};
 
-use crate::known_orders::{come_strays, put_order};
+use crate::known_orders::{put_order, reach_all};
 use crate::ledger::Ledger;
 use crate::memory_lists::{put_demands, put_job, reserve_both};
 use crate::memory_parts::{put_stock, reserve_parts};
@@ -43,7 +43,7 @@ impl Ledger {
         reserve_parts(&mut self.parts, &mut self.totals, rows.len() + 1)?;
         reserve_names(&mut self.lists.parts, &change.moved, rows)?;
         reserve_both(&mut self.jobs, &mut self.lists.jobs, 1)?;
-        reserve_rows(&mut self.orders, 1)?;
+        reserve_rows(&mut self.orders, 2)?;
         reserve_both(&mut self.demands, &mut self.lists.demands, count)
     }
 
@@ -55,7 +55,7 @@ impl Ledger {
         let demands = change.demands;
         let wanted = demands.as_slice();
         put_order(&mut self.orders, change.order, wanted);
-        self.strays = come_strays(self.strays, &self.orders, &self.demands, wanted);
+        self.strays |= !reach_all(&mut self.orders, wanted);
         put_some(&mut self.materials, change.material);
         let parts = change.parts;
         put_stock(

@@ -38,8 +38,8 @@ impl Span {
         span
     }
 
-    // From this number on, and up to it.
-    fn with(self, number: u32) -> Span
+    /// From this number on, and up to it.
+    pub fn with(self, number: u32) -> Span
         ensures own { IsTrue (is_within result number) }
         ensures all { (other : ℕ) → IsTrue (is_within self other) → IsTrue (is_within result other) }
     {
