@@ -19,7 +19,7 @@ use Rattle.shop_rows.proofs.ByLine.{found_in, in_filter, in_found}
 use Rattle.shop_rows.proofs.Places.{rising_at, tested}
 use Rattle.shop_rows.proofs.Summed.{both}
 use Rattle.shop_book.specs.Orders.{is_among, is_placed, order_at}
-use Rattle.shop_book.specs.declared.order_codes.KnownOrder.{KnownOrder}
+use Rattle.shop_book.specs.declared.known_orders.KnownOrder.{KnownOrder}
 use Rattle.shop_book.proofs.Held.{get-rows}
 
 -- ---- rows among which all of an order lie

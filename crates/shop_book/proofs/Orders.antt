@@ -17,7 +17,7 @@ use Rattle.shop_rows.specs.Keys.{codes_exact, demand_key}
 use Rattle.shop_rows.specs.Rows.{entries_of, rise, row_at, IsPut, ArePut}
 use Rattle.shop_book.specs.Memory.{order_key, orders_in}
 use Rattle.shop_book.specs.Orders.{codes_in, is_placed}
-use Rattle.shop_book.specs.declared.order_codes.KnownOrder.{KnownOrder}
+use Rattle.shop_book.specs.declared.known_orders.KnownOrder.{KnownOrder}
 use Rattle.shop_rows.proofs.Mapped.{all-put-each}
 use Rattle.shop_rows.proofs.Places.{tested}
 

@@ -5,7 +5,7 @@ use Rattle.std.specs.Ordering.{is_eq}
 use Rattle.cut_measure.specs.Codes.{code_cmp}
 use Rattle.shop_records.specs.declared.records.Demand.{Demand}
 use Rattle.shop_rows.specs.Lines.{is_within}
-use Rattle.shop_book.specs.declared.order_codes.KnownOrder.{KnownOrder}
+use Rattle.shop_book.specs.declared.known_orders.KnownOrder.{KnownOrder}
 
 abbrev pub codes_in : List KnownOrder → List (List ℕ)
 codes_in orders = map (λ (order : KnownOrder). order.code) orders

@@ -12,7 +12,6 @@ mod mem_storage;
 mod mem_storing;
 mod memory_lists;
 mod memory_parts;
-mod order_codes;
 mod posting;
 mod read_rows;
 mod storage;

@@ -16,7 +16,7 @@ use Rattle.shop_book.specs.KeptUp.{known_key}
 use Rattle.shop_book.specs.Ledgers.{content_of_rows}
 use Rattle.shop_book.specs.Orders.{codes_in, is_placed}
 use Rattle.shop_book.specs.Tallies.{Tallies}
-use Rattle.shop_book.specs.declared.order_codes.KnownOrder.{KnownOrder}
+use Rattle.shop_book.specs.declared.known_orders.KnownOrder.{KnownOrder}
 use Rattle.shop_book.proofs.Tallied.{tally_same}
 use Rattle.shop_book.proofs.ledger.Ledger.copy.Goals as goal
 
