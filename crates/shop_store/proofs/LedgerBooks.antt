@@ -1,8 +1,7 @@
 -- What a ledger beside a storage keeps.
-use Rattle.std.proofs.Common.{◌≡◌, ℕ, Bool, true, false, Result, Ok, Err, IfOk, refl, sym, ap, subst, ◌∙◌, true≢false}
-use Rattle.std.specs.Prelude.{IfErr, IsOk, if◌then◌else◌}
+use Rattle.std.proofs.Common.{◌≡◌, ℕ, Result, Ok, Err, IfOk, sym, ap, subst, ◌∙◌, true≢false}
+use Rattle.std.specs.Prelude.{IfErr, IsOk}
 use Rattle.shop_records.specs.Content.{Content}
-use Rattle.shop_book.specs.Failures.{CountsFailure}
 use Rattle.shop_book.specs.Storages.{IsRead}
 use Rattle.shop_book.specs.Ledgers.{content_in}
 use Rattle.shop_store.specs.LedgerBooks.{HoldsBoth, KeepsBoth, failed_of, fault_by, told_by}
@@ -35,19 +34,6 @@ sure (Err fault) h = absurd (true≢false (sym h))
 
 pub sure_told : {T : Type 0} (r : Result T StorageFault) (answer : Result T BookFault) → answer ≡ told_by r → IsOk r → IsOk answer
 sure_told r answer same h = subst (λ a. IsOk a) (sym same) (sure r h)
-
-pub no_fault : {T : Type 0} (r : Result T StorageFault) → IsOk r → IfErr r (λ fault. fault ≡ storage.NoMemory)
-no_fault (Ok x) h = tt
-no_fault (Err fault) h = absurd (true≢false (sym h))
-
--- a failure is counted only where the store may fail
-pub counts_if : {T : Type 0} (may : Bool) (answer : Result T BookFault) (before after : ℕ) → (may ≡ false → IfErr answer (λ fault. fault ≡ book.NoMemory)) → CountsFailure answer before after
-    → CountsFailure answer (if may then before else 0) (if may then after else 0)
-counts_if true answer before after only counted = counted
-counts_if false (Ok x) before after only counted = refl
-counts_if false (Err book.NoMemory) before after only counted = refl
-counts_if false (Err book.Store) before after only counted = let no : book.Store ≡ book.NoMemory = only refl in cc
-counts_if false (Err book.WrongVersion) before after only counted = absurd counted
 
 module _ {S : Type 0} (g : Ghosts S) where
   -- what a book holds, it holds with another ledger of the same content and another storage that holds it
