@@ -1,5 +1,6 @@
 -- a ledger beside a storage, and a storage in tables
 pub mod LedgerBooks
+pub mod InMemory
 pub mod Stored
 -- totals that are sums of parts
 pub mod Counting
