@@ -71,8 +71,8 @@ fn checked(
     units: &[PlannedUnit],
     bound: u64,
 ) -> Result<CheckedOrder, AllocError>
-    requires { IsFewOrderPlan question.now.wants.items question.now.kerf question.now.sizes.items
-        units.now }
+    requires { IsFewOrderPlan question.now.wants.items question.now.kerf question.now.stages
+        question.now.sizes.items units.now }
     ensures checked { IfOk result (IsChecked question.now.wants.items question.now.kerf
         question.now.sizes.items bound units.now) }
     ensures small { IfOk result (λ checked. checked.cost < 2 ^ 63) }
@@ -106,7 +106,7 @@ pub fn answer_of(
     units: Vec<PlannedUnit>,
 ) -> Result<OrderPlan, AllocError>
     requires plan { IsFewOrderPlan certified.now.question.wants.items certified.now.question.kerf
-        certified.now.question.sizes.items units.items }
+        certified.now.question.stages certified.now.question.sizes.items units.items }
     requires filled { All (IsFilledOrFull certified.now.question.sizes.items units.items)
         certified.now.question.wants.items }
     ensures { IfOk result (IsOrderAnswer certified.now.question) }

@@ -5,8 +5,7 @@ ghost use Rattle.cut_plan.specs.Proposals.{AreDemands};
 ghost use Rattle.cut_plan.specs.declared.faults.PlanFault.TheVariants.{NoMemory};
 ghost use Rattle.cut_bound.specs.Orders as orders;
 ghost use Rattle.cut_order.specs.Answers.{Asks, IsOrderAnswer};
-ghost use Rattle.cut_order.specs.Searches.{question_of};
-ghost use Rattle.cut_order.specs.Stocks.{IsStock};
+ghost use Rattle.cut_order.specs.Stocks.{IsStageLimit, IsStock};
 
 use crate::answer::{OrderPlan, answer_of};
 use crate::certified::Certified;
@@ -28,20 +27,25 @@ pub struct OrderSearch {
     kept: Kept,
     pending: Option<Vec<u32>>,
     search: Search,
+    ghost limited: { kept.stages ≡ certified.question.stages },
 }
 
 impl OrderSearch {
+    ghost use Rattle.cut_order.specs.Searches.{question_of};
+
     // A search that found nothing yet.
     fn begin(alloc: Global, question: Question) -> Result<OrderSearch, AllocError>
         ensures { IfOk result (λ search. question_of search ≡ question) }
     {
         let search = search_for(alloc, &question)?;
-        let certified = Certified::new(alloc, question);
         let kept = Kept {
             units: Vec::new(alloc),
             missing: u128::MAX,
             cost: u128::MAX,
+            rest: 0,
+            stages: question.stages,
         };
+        let certified = Certified::new(alloc, question);
         Ok(OrderSearch {
             certified,
             kept,
@@ -56,14 +60,16 @@ impl OrderSearch {
         kind: Kind,
         kerf: u32,
         step: u32,
+        stages: Option<u32>,
         sizes: &[StockSize],
         wants: &[Want],
     ) -> Result<OrderSearch, AllocError>
         requires kerf { kerf ≤ MOST_KERF }
+        requires limit { IsStageLimit stages }
         requires stock { IsStock kind sizes.now }
         requires demands { AreDemands wants.now }
         requires faultless { orders.order_fault kind kerf step sizes.now wants.now ≡ None }
-        ensures { IfOk result (λ search. Asks kind kerf step sizes.now wants.now
+        ensures { IfOk result (λ search. Asks kind kerf step stages sizes.now wants.now
             (question_of search)) }
     {
         let sizes = Vec::from_slice(alloc, sizes)?;
@@ -72,6 +78,7 @@ impl OrderSearch {
             kind,
             kerf,
             step,
+            stages,
             sizes,
             wants,
         };
@@ -79,7 +86,8 @@ impl OrderSearch {
         Ok(search)
     }
 
-    /// A search that made no table yet. The sizes are a stock (`is_stock`), and demands are in
+    /// A search that made no table yet. Each plan that it tells has at most so many stages, 2 to
+    /// 255, if there is a limit. The sizes are a stock (`is_stock`), and demands are in
     /// 1..=2147483647. Faults in the order of `PlanFault`: no want or more than 100, one that is
     /// out of range or stands twice; a sheet's step of 0; a size that is too large; no want that
     /// fits any of the sizes. A want whose side and kerf are shorter than the step is planned all
@@ -89,13 +97,15 @@ impl OrderSearch {
         kind: Kind,
         kerf: u32,
         step: u32,
+        stages: Option<u32>,
         sizes: &[StockSize],
         wants: &[Want],
     ) -> Result<OrderSearch, PlanFault>
         requires kerf { kerf ≤ MOST_KERF }
+        requires limit { IsStageLimit stages }
         requires stock { IsStock kind sizes.now }
         requires demands { AreDemands wants.now }
-        ensures ok { IfOk result (λ search. Asks kind kerf step sizes.now wants.now
+        ensures ok { IfOk result (λ search. Asks kind kerf step stages sizes.now wants.now
             (question_of search)) }
         ensures faulty { IfSome (orders.order_fault kind kerf step sizes.now wants.now)
             (λ fault. result ≡ Err fault) }
@@ -104,7 +114,7 @@ impl OrderSearch {
     {
         match order_fault(kind, kerf, step, sizes, wants) {
             Some(fault) => Err(fault),
-            None => match OrderSearch::asked(alloc, kind, kerf, step, sizes, wants) {
+            None => match OrderSearch::asked(alloc, kind, kerf, step, stages, sizes, wants) {
                 Ok(search) => Ok(search),
                 Err(_) => Err(PlanFault::NoMemory),
             },
