@@ -91,7 +91,7 @@ fn told_prices(
     numbers: &[u32],
 ) -> Result<Vec<Price>, AllocError>
     ensures { IfOk result (λ told. told.items ≡ map price_of (prices.priced question.now.kind
-        question.now.kerf question.now.step question.now.wants.items numbers.now)) }
+        question.now.kerf (prices.step_of question.now.step) question.now.wants.items numbers.now)) }
 {
     let (kind, kerf, step) = (question.kind, question.kerf, question.step);
     let priced = priced(alloc, kind, kerf, step, &question.wants, numbers)?;

@@ -44,7 +44,7 @@ pub fn plan_order(
     alloc: Global,
     kind: Kind,
     kerf: u32,
-    step: u32,
+    step: Option<u32>,
     stages: Option<u32>,
     sizes: &[StockSize],
     wants: &[Want],

@@ -26,8 +26,8 @@ pub struct Question {
     pub kind: Kind,
     /// Tenths of a millimetre, 0 to 200.
     pub kerf: u32,
-    /// Tenths of a millimetre, at least 1; a bar ignores it.
-    pub step: u32,
+    /// Tenths of a millimetre, at least 1, if a sheet's sides are rounded to steps; a bar ignores it.
+    pub step: Option<u32>,
     /// Each plan has at most so many stages, 2 to 255, if there is a limit.
     pub stages: Option<u32>,
     /// At most 1010.

@@ -19,13 +19,25 @@ use cut_plan::{PlanFault, Want};
 use cut_search::search::{Found, FoundUnit, Search};
 use std::alloc::{AllocError, Global};
 
+/// So many points an axis of a table has about.
+const POINTS: usize = 250;
+
+// Prices that are still to be rated.
+#[derive(Drop)]
+struct Pending {
+    // One for each want.
+    numbers: Vec<u32>,
+    // How many points an axis of the table has about.
+    points: usize,
+}
+
 /// A search for plans of an order. Whatever it looks at, what it tells is checked: units are a plan
 /// of the order, and the bound comes with prices and is proved.
 #[derive(Drop)]
 pub struct OrderSearch {
     certified: Certified,
     kept: Kept,
-    pending: Option<Vec<u32>>,
+    pending: Option<Pending>,
     search: Search,
     ghost limited: { kept.stages ≡ certified.question.stages },
 }
@@ -59,7 +71,7 @@ impl OrderSearch {
         alloc: Global,
         kind: Kind,
         kerf: u32,
-        step: u32,
+        step: Option<u32>,
         stages: Option<u32>,
         sizes: &[StockSize],
         wants: &[Want],
@@ -89,14 +101,14 @@ impl OrderSearch {
     /// A search that made no table yet. Each plan that it tells has at most so many stages, 2 to
     /// 255, if there is a limit. The sizes are a stock (`is_stock`), and demands are in
     /// 1..=2147483647. Faults in the order of `PlanFault`: no want or more than 100, one that is
-    /// out of range or stands twice; a sheet's step of 0; a size that is too large; no want that
-    /// fits any of the sizes. A want whose side and kerf are shorter than the step is planned all
-    /// the same, and has no price.
+    /// out of range or stands twice; a sheet's step of 0; a bar that is too long, or a sheet of too
+    /// many steps; no want that fits any of the sizes. A want whose side and kerf are shorter than
+    /// the step is planned all the same, and has no price.
     pub fn new(
         alloc: Global,
         kind: Kind,
         kerf: u32,
-        step: u32,
+        step: Option<u32>,
         stages: Option<u32>,
         sizes: &[StockSize],
         wants: &[Want],
@@ -153,7 +165,8 @@ impl OrderSearch {
             Found::Nothing => Ok(true),
             Found::Ended => Ok(false),
             Found::Prices(numbers) => {
-                self.pending = Some(numbers);
+                let points = POINTS;
+                self.pending = Some(Pending { numbers, points });
                 Ok(true)
             }
             Found::Units(units) => {
@@ -168,8 +181,8 @@ impl OrderSearch {
         ensures { question_of self.new ≡ question_of self.old }
     {
         match self.pending.take() {
-            Some(numbers) => {
-                self.certified.rate(alloc, numbers)?;
+            Some(pending) => {
+                self.certified.rate(alloc, pending.numbers, pending.points)?;
                 Ok(true)
             }
             None => self.go_on(alloc),
