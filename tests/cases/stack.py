@@ -15,6 +15,7 @@ TREE = "a tree of at most 255 cuts, by `MOST_CUTS`"
 DEPTHS = {
     "cut_bars/src/bar.rt fill_counts": (10, "halves of at most 1000 wants"),
     "cut_bound/src/divisors.rt common_divisor": (48, "Euclid's method on two numbers of 32 bits"),
+    "cut_bound/src/stages.rt stages_below": (256, TREE),
     "cut_fill_sheets/src/lay.rt lay": (256, "a tree of at most 255 pieces"),
     "cut_fill_sheets/src/lay.rt named": (256, TREE),
     "cut_fill_sheets/src/lay.rt need": (256, "as `lay`"),
@@ -28,6 +29,7 @@ DEPTHS = {
     "cut_order/src/found.rt cuts_within": (256, TREE),
     "cut_order/src/found.rt has_demands": (256, TREE),
     "cut_order/src/found.rt is_shaped": (256, TREE),
+    "cut_order/src/rests.rt largest_rest": (256, TREE),
     "cut_sheets/src/keep.rt keep_first": (20, "each call has at most half of a side, and both sides have at most 500 steps"),
     "cut_sheets/src/place.rt place": (256, "a tree of at most 256 pieces, as `keep` gives"),
     "cut_tree/src/bars.rt bar_node": (256, "a bar's pieces, each with a cut, of which a plan has at most 255"),

@@ -4,3 +4,4 @@ pub mod Prices
 pub mod Ratings
 pub mod Orders
 pub mod Planned
+pub mod Stages

@@ -13,6 +13,7 @@ mod planned;
 mod price;
 mod prices;
 mod ratings;
+mod stages;
 mod stock;
 
 pub use bound::{least_cost, priced_cost, unpriced_cost};
@@ -31,4 +32,5 @@ pub use planned::{PlannedUnit, are_planned, cost_of, pieces_of, units_at};
 pub use price::greatest_cost;
 pub use prices::{Price, has_price, priced, prices_of};
 pub use ratings::{rated_bars, rated_sheets};
+pub use stages::{count_stages, is_staged, stages_of_examples};
 pub use stock::{RatedSize, StockSize};

@@ -35,7 +35,7 @@ fn planned(
     if !is_stock(kind, &stock) {
         return Err(Error::msg("no stock"));
     }
-    Ok(plan_order(alloc, kind, kerf, 1, &stock, wants, calls))
+    Ok(plan_order(alloc, kind, kerf, Some(1), None, &stock, wants, calls))
 }
 
 /// How many units of a size an order takes, and how many at least; or the order's fault.

@@ -16,7 +16,7 @@ use Rattle.cut_bound.specs.declared.check.CheckedOrder.{CheckedOrder}
 use Rattle.cut_bound.specs.Cuttings.{CutUnit, IsCostBound, cost_at_hand, cost_of}
 use Rattle.cut_bound.specs.Orders.{IsPricedBound}
 use Rattle.cut_bound.specs.Planned.{IsChecked, cutting_of}
-use Rattle.cut_bound.specs.Prices.{price_of, priced}
+use Rattle.cut_bound.specs.Prices.{price_of, priced, step_of}
 use Rattle.cut_bound.proofs.CheckedOrders.{cheapest_order}
 use Rattle.cut_bound.proofs.PlannedUnits.{planned_all}
 use Rattle.cut_bound.proofs.UnitSums.{each_at, falls_short}
@@ -52,11 +52,11 @@ small_cost sizes us cheap few =
       few,
     )
 
-pub answered : (kind : Kind) (k s : ℕ) (sizes : List StockSize) (wants : List Want) (numbers : List ℕ) (plan : OrderPlan) (checked : CheckedOrder) → IsFewOrderPlan wants k sizes plan.units.items
+pub answered : (kind : Kind) (k : ℕ) (s stages : Option ℕ) (sizes : List StockSize) (wants : List Want) (numbers : List ℕ) (plan : OrderPlan) (checked : CheckedOrder) → IsFewOrderPlan wants k stages sizes plan.units.items
     → All (IsFilledOrFull sizes plan.units.items) wants → ∥ IsPricedBound kind k s sizes wants numbers plan.bound ∥₁ → IsChecked wants k sizes plan.bound plan.units.items checked
     → checked.cost < 2 ^ 63 → plan.missing.items ≡ checked.missing.items → plan.cost ≡ checked.cost → plan.proved ≡ checked.proved
-    → plan.prices.items ≡ map price_of (priced kind k s wants numbers) → IsTrue plan.short ↔ (All (λ s. IsSome s.limit) sizes × (cost_at_hand sizes < plan.bound)) → IsAnswerOf kind k s sizes wants plan
-answered kind k s sizes wants numbers plan checked planned filled bound is small missing cost proved told short =
+    → plan.prices.items ≡ map price_of (priced kind k (step_of s) wants numbers) → IsTrue plan.short ↔ (All (λ s. IsSome s.limit) sizes × (cost_at_hand sizes < plan.bound)) → IsAnswerOf kind k s stages sizes wants plan
+answered kind k s stages sizes wants numbers plan checked planned filled bound is small missing cost proved told short =
     let least : IsCostBound wants k sizes plan.bound = λ us cut makes. ∥∥₁_elim bound le_prop (λ b. b.least us cut makes) in
     record {
       planned = planned;

@@ -1,7 +1,7 @@
 -- More units after others: what they make and use, that they stay a plan of the order, and when no more can be added.
 use Rattle.std.proofs.Common.{◌≡◌, ◌⊎◌, ℕ, ◌+◌, ◌*◌, ◌<◌, ◌≤◌, cond, eqb, List, [], ◌∷◌, ◌++◌, length, Option, Some, None, refl, ap, sym, subst, ◌∙◌, inl, inr, append_assoc, arith}
-use Rattle.std.specs.Prelude.{Contains, IfSome, IsTrue, slice_get, sum_by}
-use Rattle.std.proofs.lemmas.Bool.{cases_lt, eq-eqb}
+use Rattle.std.specs.Prelude.{Contains, IfSome, IsTrue, nat_le, slice_get, sum_by}
+use Rattle.std.proofs.lemmas.Bool.{and_parts, cases_lt, eq-eqb, leb-true}
 use Rattle.std.proofs.lemmas.Bool.Decides.{eqb_tells}
 use Rattle.std.proofs.lemmas.List.{append-nil}
 use Rattle.std.proofs.lemmas.Option.{slice_get_within}
@@ -18,10 +18,13 @@ use Rattle.cut_bound.specs.declared.stock.StockSize.{StockSize}
 use Rattle.cut_bound.specs.declared.planned.PlannedUnit.{PlannedUnit}
 use Rattle.cut_bound.specs.Cuttings.{AreAtHand, CutUnit, pieces_of, units_at}
 use Rattle.cut_bound.specs.Planned.{IsPlannedUnit, MakesNoMore, cutting_of, one_of}
+use Rattle.cut_bound.specs.Stages.{IsStaged, stage_count}
 use Rattle.cut_bound.proofs.PlannedUnits.{planned_all, planned_sum}
+use Rattle.cut_order.specs.declared.question.TheConstants.{LEAST_STAGES, MOST_STAGES}
+use Rattle.cut_order.specs.Stocks.{IsStageLimit}
 use Rattle.cut_order.specs.Places.{IsAddition, IsDoneAt, IsFewOrderPlan, IsFilledOrFull, IsGrown, unit_count}
 use Rattle.cut_order.specs.Singles.{single}
-use Rattle.cut_order.proofs.SingleTrees.{single_few_cuts, single_legal, single_sum}
+use Rattle.cut_order.proofs.SingleTrees.{single_few_cuts, single_few_stages, single_legal, single_sum}
 
 pub grown_none : (us : List PlannedUnit) → IsGrown us us
 grown_none us = record { more = []; same = sym (append-nil us) }
@@ -201,6 +204,10 @@ module _ (wants : List Want) (k : ℕ) (sizes : List StockSize) (us : List Plann
             at_hand_on s.limit (units_at (cutting_of us) p) (units_at (cutting_of (us ++ u ∷ [])) p) (omega (arith, same)) (before p s there)
       ]
 
+  single_staged : (stages : Option ℕ) → IsStageLimit stages → IsStaged stages u.plan.tree
+  single_staged None limit = tt
+  single_staged (Some n) limit = omega (arith, leb-true LEAST_STAGES n (and_parts (nat_le LEAST_STAGES n) (nat_le n MOST_STAGES) limit).0, ap stage_count is.tree, single_few_stages k add.stock.size x is.fits)
+
   no_more_pushed : HaveOwnDemands wants → MakesNoMore wants (cutting_of us) → MakesNoMore wants (cutting_of (us ++ u ∷ []))
   no_more_pushed own before =
       All-weaker (Contains wants) (λ (y : Want). pieces_of (cutting_of (us ++ u ∷ [])) y.demand ≤ y.left) each wants (All-contains_itself wants)
@@ -217,14 +224,15 @@ module _ (wants : List Want) (k : ℕ) (sizes : List StockSize) (us : List Plann
                 omega (arith, pieces_pushed y.demand, ap (λ n. pieces_of (cutting_of us) y.demand + u.times * n) none, old)
           ]
 
-  pub plan_pushed : HaveOwnDemands wants → IsFewOrderPlan wants k sizes us → IsFewOrderPlan wants k sizes (us ++ u ∷ [])
-  plan_pushed own before =
+  pub plan_pushed : (stages : Option ℕ) → IsStageLimit stages → HaveOwnDemands wants → IsFewOrderPlan wants k stages sizes us → IsFewOrderPlan wants k stages sizes (us ++ u ∷ [])
+  plan_pushed stages limit own before =
       record {
         plan = record {
           planned = All-push (IsPlannedUnit wants k sizes) us u before.plan.planned (single_unit wants k sizes add.stock x u add.there is);
           at_hand = at_hand_pushed before.plan.at_hand;
           no_more = no_more_pushed own before.plan.no_more;
         };
+        staged = All-push (λ (v : PlannedUnit). IsStaged stages v.plan.tree) us u before.staged (single_staged stages limit);
         few = omega (arith, count_pushed us u, add.few);
       }
 

@@ -1,5 +1,5 @@
 -- The tree of one piece on a unit that it fits is a plan.
-use Rattle.std.proofs.Common.{◌≡◌, ℕ, ◌+◌, ◌≤◌, Bool, true, false, List, refl, ap, sym, subst, ◌∙◌, inl, inr, arith}
+use Rattle.std.proofs.Common.{◌≡◌, ℕ, ◌+◌, ◌≤◌, Bool, true, false, List, Some, refl, ap, sym, subst, ◌∙◌, inl, inr, arith}
 use Rattle.std.specs.Prelude.{◌&&◌, ◌||◌, Contains, IsTrue, nat_le, if◌then◌else◌}
 use Rattle.std.proofs.lemmas.Bool.{and_parts, leb-true}
 use Rattle.std.proofs.lemmas.Bool.Decides.{eqb_tells, leb_tells}
@@ -11,6 +11,7 @@ use Rattle.cut_tree.specs.Patterns.{HasDemands, IsPlan}
 use Rattle.cut_wants.specs.declared.wants.Want.{Want}
 use Rattle.cut_wants.specs.Legal.{IsWantedPiece, Legal}
 use Rattle.cut_plan.specs.Faults.{is_fitting}
+use Rattle.cut_bound.specs.Stages.{stage_count, stages_below}
 use Rattle.cut_plan.specs.Proposals.{HasDemandNumber}
 use Rattle.cut_order.specs.Singles.{cornered, cut_off, is_upright, single}
 
@@ -73,6 +74,13 @@ cornered_cut_count d turned w h k size =
     let below : cut_count column ≤ 1 = off_y_keeps (λ t. cut_count t ≤ 1) h size.h k (Piece d turned) (omega arith) (omega arith) (omega arith) in
     off_x_keeps (λ t. cut_count t ≤ 2) w size.w k column (omega (arith, below)) (omega (arith, below)) (omega (arith, below))
 
+cornered_stages : (d : ℕ) (turned : Bool) (w h k : ℕ) (size : Extent) → stage_count (cornered d turned w h k size) ≤ 2
+cornered_stages d turned w h k size =
+    let column = cut_off Y h size.h k (Piece d turned) in
+    let alone : stage_count column ≤ 1 = off_y_keeps (λ t. stage_count t ≤ 1) h size.h k (Piece d turned) (omega arith) (omega arith) (omega arith) in
+    let below : stages_below (Some X) 1 column ≤ 2 = off_y_keeps (λ t. stages_below (Some X) 1 t ≤ 2) h size.h k (Piece d turned) (omega arith) (omega arith) (omega arith) in
+    off_x_keeps (λ t. stage_count t ≤ 2) w size.w k column (omega (arith, alone)) (omega (arith, below)) (omega (arith, below))
+
 cornered_demands : (d : ℕ) (turned : Bool) (w h k : ℕ) (size : Extent) → HasDemands (Piece d turned) → HasDemands (cornered d turned w h k size)
 cornered_demands d turned w h k size is =
     let column = cut_off Y h size.h k (Piece d turned) in
@@ -107,6 +115,10 @@ single_legal wants k size x has wide tall fits =
 pub single_few_cuts : (k : ℕ) (size : Extent) (x : Want) → IsTrue (is_fitting size x) → cut_count (single k size x) ≤ 2
 single_few_cuts k size x fits =
     single_by (λ t. cut_count t ≤ 2) k size x fits (λ a b. cornered_cut_count x.demand false x.size.w x.size.h k size) (λ t a b. cornered_cut_count x.demand true x.size.h x.size.w k size)
+
+pub single_few_stages : (k : ℕ) (size : Extent) (x : Want) → IsTrue (is_fitting size x) → stage_count (single k size x) ≤ 2
+single_few_stages k size x fits =
+    single_by (λ t. stage_count t ≤ 2) k size x fits (λ a b. cornered_stages x.demand false x.size.w x.size.h k size) (λ t a b. cornered_stages x.demand true x.size.h x.size.w k size)
 
 -- such a plan
 pub single_plan : (k : ℕ) (size : Extent) (x : Want) (t : Tree) → t ≡ single k size x → IsTrue (is_fitting size x) → HasDemandNumber x → 1 ≤ x.size.w → 1 ≤ x.size.h → k ≤ MOST_KERF → 1 ≤ size.w

@@ -1,36 +1,37 @@
 -- The answer to a question: a plan of the order that leaves out only what nothing unused holds, and a bound.
-use Rattle.std.specs.Prelude.{◌≡◌, ◌↔◌, ℕ, ◌+◌, ◌<◌, ◌^◌, IsTrue, IsSome, List, All, map}
+use Rattle.std.specs.Prelude.{◌≡◌, ◌↔◌, ℕ, ◌+◌, ◌<◌, ◌^◌, IsTrue, IsSome, List, All, Option, map}
 use Rattle.cut_measure.specs.declared.sizes.Kind.{Kind}
 use Rattle.cut_wants.specs.declared.wants.Want.{Want}
 use Rattle.cut_bound.specs.declared.stock.StockSize.{StockSize}
 use Rattle.cut_bound.specs.Cuttings.{Cutting, IsCostBound, IsCutting, MakesAll, cost_at_hand, cost_of, pieces_of}
 use Rattle.cut_bound.specs.Orders.{IsPricedBound}
 use Rattle.cut_bound.specs.Planned.{IsCheapest, cutting_of, missing_of}
-use Rattle.cut_bound.specs.Prices.{price_of, priced}
+use Rattle.cut_bound.specs.Prices.{price_of, priced, step_of}
 use Rattle.cut_order.specs.declared.question.Question.{Question}
 use Rattle.cut_order.specs.declared.answer.OrderPlan.{OrderPlan}
 use Rattle.cut_order.specs.Places.{IsFewOrderPlan, IsFilledOrFull}
 
 -- it asks for these wants from these sizes
-pub record Asks (kind : Kind) (kerf step : ℕ) (sizes : List StockSize) (wants : List Want) (question : Question) : Type 0 where
+pub record Asks (kind : Kind) (kerf : ℕ) (step stages : Option ℕ) (sizes : List StockSize) (wants : List Want) (question : Question) : Type 0 where
   pub kind_asked : question.kind ≡ kind
   pub kerf_asked : question.kerf ≡ kerf
   pub step_asked : question.step ≡ step
+  pub stages_asked : question.stages ≡ stages
   pub sizes_asked : question.sizes.items ≡ sizes
   pub wants_asked : question.wants.items ≡ wants
 
 -- the bound, and its prices
-pub record IsToldBound (kind : Kind) (kerf step : ℕ) (sizes : List StockSize) (wants : List Want) (plan : OrderPlan) : Type 0 where
+pub record IsToldBound (kind : Kind) (kerf : ℕ) (step : Option ℕ) (sizes : List StockSize) (wants : List Want) (plan : OrderPlan) : Type 0 where
   pub numbers : List ℕ
-  pub told : plan.prices.items ≡ map price_of (priced kind kerf step wants numbers)
+  pub told : plan.prices.items ≡ map price_of (priced kind kerf (step_of step) wants numbers)
   pub exact : IsPricedBound kind kerf step sizes wants numbers plan.bound
 
--- Each unit has a plan for its size, and as many are at hand. Of each want the pieces planned and those missing are what is
+-- Each unit has a plan for its size, of at most so many stages, and as many are at hand. Of each want the pieces planned and those missing are what is
 -- left, and a piece is missing only where no unused unit holds one, or there are 100000 units. The cost is what the units
 -- cost, and whoever makes all pays at least the bound. `proved` says that they make all and cost as much as the bound;
 -- `short` that all that is at hand costs less than the bound, and nothing may be bought.
-pub record IsAnswerOf (kind : Kind) (kerf step : ℕ) (sizes : List StockSize) (wants : List Want) (plan : OrderPlan) : Type 0 where
-  pub planned : IsFewOrderPlan wants kerf sizes plan.units.items
+pub record IsAnswerOf (kind : Kind) (kerf : ℕ) (step stages : Option ℕ) (sizes : List StockSize) (wants : List Want) (plan : OrderPlan) : Type 0 where
+  pub planned : IsFewOrderPlan wants kerf stages sizes plan.units.items
   pub missing_pieces : plan.missing.items ≡ map (missing_of (cutting_of plan.units.items)) wants
   pub adds_up : All (λ x. pieces_of (cutting_of plan.units.items) x.demand + missing_of (cutting_of plan.units.items) x ≡ x.left) wants
   pub filled : All (IsFilledOrFull sizes plan.units.items) wants
@@ -45,4 +46,4 @@ pub record IsAnswerOf (kind : Kind) (kerf step : ℕ) (sizes : List StockSize) (
 
 -- the answer to a question
 abbrev pub IsOrderAnswer : Question → OrderPlan → Type 0
-IsOrderAnswer q plan = IsAnswerOf q.kind q.kerf q.step q.sizes.items q.wants.items plan
+IsOrderAnswer q plan = IsAnswerOf q.kind q.kerf q.step q.stages q.sizes.items q.wants.items plan

@@ -1,5 +1,5 @@
 -- What an order's units leave over of a stock.
-use Rattle.std.specs.Prelude.{◌≡◌, ◌⊎◌, ℕ, ◌+◌, ◌<◌, ◌≤◌, IsTrue, List, ◌++◌, IfSome, Some, slice_get, sum_by}
+use Rattle.std.specs.Prelude.{◌≡◌, ◌⊎◌, ℕ, ◌+◌, ◌<◌, ◌≤◌, All, IsTrue, List, Option, ◌++◌, IfSome, Some, slice_get, sum_by}
 use Rattle.cut_wants.specs.declared.wants.Want.{Want}
 use Rattle.cut_plan.specs.Faults.{is_fitting}
 use Rattle.cut_bound.specs.declared.limits.TheConstants.{MOST_UNITS}
@@ -7,14 +7,20 @@ use Rattle.cut_bound.specs.declared.stock.StockSize.{StockSize}
 use Rattle.cut_bound.specs.declared.planned.PlannedUnit.{PlannedUnit}
 use Rattle.cut_bound.specs.Cuttings.{pieces_of, units_at}
 use Rattle.cut_bound.specs.Planned.{IsFilled, IsOrderPlan, cutting_of}
+use Rattle.cut_bound.specs.Stages.{IsStaged}
 
 -- how many units they are
 abbrev pub unit_count : List PlannedUnit → ℕ
 unit_count units = sum_by (λ u. u.times) units
 
--- a plan of the order, of at most 100000 units
-pub record IsFewOrderPlan (wants : List Want) (kerf : ℕ) (sizes : List StockSize) (units : List PlannedUnit) : Type 0 where
+-- each unit's plan has at most so many stages, where there is a limit
+abbrev pub AreStaged : (stages : Option ℕ) → List PlannedUnit → Type 0
+AreStaged stages units = All (λ u. IsStaged stages u.plan.tree) units
+
+-- a plan of the order, of at most 100000 units, whose plans keep to the limit of stages
+pub record IsFewOrderPlan (wants : List Want) (kerf : ℕ) (stages : Option ℕ) (sizes : List StockSize) (units : List PlannedUnit) : Type 0 where
   pub plan : IsOrderPlan wants kerf sizes units
+  pub staged : AreStaged stages units
   pub few : unit_count units ≤ MOST_UNITS
 
 -- the same units and others after them

@@ -1,10 +1,10 @@
 -- Stocks that a search takes.
-use Rattle.std.specs.Prelude.{◌≡◌, ℕ, ◌+◌, ◌≤◌, List, All, length, sum_by, unwrap_or}
+use Rattle.std.specs.Prelude.{◌≡◌, ℕ, ◌+◌, ◌≤◌, ◌&&◌, Bool, true, nat_le, IsTrue, List, All, Option, Some, None, length, sum_by, unwrap_or}
 use Rattle.cut_measure.specs.declared.sizes.Kind.{Kind}
 use Rattle.cut_measure.specs.declared.sizes.Kind.TheVariants.{Bar}
 use Rattle.cut_bound.specs.declared.limits.TheConstants.{MOST_BOUGHT_SIZES, MOST_PARTS}
 use Rattle.cut_bound.specs.declared.stock.StockSize.{StockSize}
-use Rattle.cut_order.specs.declared.question.TheConstants.{MOST_COST}
+use Rattle.cut_order.specs.declared.question.TheConstants.{LEAST_STAGES, MOST_COST, MOST_STAGES}
 
 -- the units at hand of the limited sizes, together
 abbrev pub parts_of : List StockSize → ℕ
@@ -20,3 +20,11 @@ pub record IsStock (kind : Kind) (sizes : List StockSize) : Type 0 where
   pub at_hand : parts_of sizes ≤ MOST_PARTS
   pub cheap : All (λ s. s.cost ≤ MOST_COST) sizes
   pub flat : AreFlat kind sizes
+
+-- the limit of a plan's stages, if there is one, is 2 to 255
+abbrev pub is_stage_limit : Option ℕ → Bool
+is_stage_limit None = true
+is_stage_limit (Some n) = nat_le LEAST_STAGES n && nat_le n MOST_STAGES
+
+abbrev pub IsStageLimit : Option ℕ → Type 0
+IsStageLimit stages = IsTrue (is_stage_limit stages)

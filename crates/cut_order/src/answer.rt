@@ -71,8 +71,8 @@ fn checked(
     units: &[PlannedUnit],
     bound: u64,
 ) -> Result<CheckedOrder, AllocError>
-    requires { IsFewOrderPlan question.now.wants.items question.now.kerf question.now.sizes.items
-        units.now }
+    requires { IsFewOrderPlan question.now.wants.items question.now.kerf question.now.stages
+        question.now.sizes.items units.now }
     ensures checked { IfOk result (IsChecked question.now.wants.items question.now.kerf
         question.now.sizes.items bound units.now) }
     ensures small { IfOk result (λ checked. checked.cost < 2 ^ 63) }
@@ -91,7 +91,7 @@ fn told_prices(
     numbers: &[u32],
 ) -> Result<Vec<Price>, AllocError>
     ensures { IfOk result (λ told. told.items ≡ map price_of (prices.priced question.now.kind
-        question.now.kerf question.now.step question.now.wants.items numbers.now)) }
+        question.now.kerf (prices.step_of question.now.step) question.now.wants.items numbers.now)) }
 {
     let (kind, kerf, step) = (question.kind, question.kerf, question.step);
     let priced = priced(alloc, kind, kerf, step, &question.wants, numbers)?;
@@ -106,7 +106,7 @@ pub fn answer_of(
     units: Vec<PlannedUnit>,
 ) -> Result<OrderPlan, AllocError>
     requires plan { IsFewOrderPlan certified.now.question.wants.items certified.now.question.kerf
-        certified.now.question.sizes.items units.items }
+        certified.now.question.stages certified.now.question.sizes.items units.items }
     requires filled { All (IsFilledOrFull certified.now.question.sizes.items units.items)
         certified.now.question.wants.items }
     ensures { IfOk result (IsOrderAnswer certified.now.question) }

@@ -41,7 +41,7 @@ impl Certified {
     }
 
     // The bound at other prices.
-    fn rated(&self, alloc: Global, numbers: &[u32]) -> Result<u64, AllocError>
+    fn rated(&self, alloc: Global, numbers: &[u32], points: usize) -> Result<u64, AllocError>
         ensures { IfOk result (IsPricedBound self.now.question.kind self.now.question.kerf
             self.now.question.step self.now.question.sizes.items self.now.question.wants.items
             numbers.now) }
@@ -53,17 +53,24 @@ impl Certified {
             kind,
             kerf,
             step,
+            points,
             &question.sizes,
             &question.wants,
             numbers,
         )
     }
 
-    /// Keeps the bound at other prices where it is greater. It takes one table.
-    pub fn rate(&mut self, alloc: Global, numbers: Vec<u32>) -> Result<(), AllocError>
+    /// Keeps the bound at other prices where it is greater. It takes one table; of sheets without a
+    /// step that has about so many points an axis.
+    pub fn rate(
+        &mut self,
+        alloc: Global,
+        numbers: Vec<u32>,
+        points: usize,
+    ) -> Result<(), AllocError>
         ensures { self.new.question ≡ self.old.question }
     {
-        let bound = self.rated(alloc, &numbers)?;
+        let bound = self.rated(alloc, &numbers, points)?;
         if bound > self.certificate.bound {
             self.certificate = Certificate { numbers, bound };
         }

@@ -24,8 +24,8 @@ fn missing_of(want: &Want, units: &[PlannedUnit]) -> u32
 // How many units of the size at a place are added for a want, one piece each.
 fn added_at(question: &Question, place: usize, want: &Want, units: &[PlannedUnit]) -> u32
     requires place { place < length question.now.sizes.items }
-    requires plan { IsFewOrderPlan question.now.wants.items question.now.kerf question.now.sizes.items
-        units.now }
+    requires plan { IsFewOrderPlan question.now.wants.items question.now.kerf question.now.stages
+        question.now.sizes.items units.now }
     ensures { IsAddition question.now.sizes.items units.now want.now place result }
 {
     let stock = &question.sizes[place];
@@ -55,10 +55,10 @@ fn fill_at(
 ) -> Result<(), AllocError>
     requires place { place < length question.now.sizes.items }
     requires wanted { Contains question.now.wants.items want.now }
-    requires plan { IsFewOrderPlan question.now.wants.items question.now.kerf question.now.sizes.items
-        units.old.items }
+    requires plan { IsFewOrderPlan question.now.wants.items question.now.kerf question.now.stages
+        question.now.sizes.items units.old.items }
     ensures plan { OnOk result (IsFewOrderPlan question.now.wants.items question.now.kerf
-        question.now.sizes.items units.new.items) }
+        question.now.stages question.now.sizes.items units.new.items) }
     ensures grown { OnOk result (IsGrown units.old.items units.new.items) }
     ensures done { OnOk result (IsDoneAt question.now.sizes.items units.new.items want.now place) }
 {
@@ -80,10 +80,10 @@ fn fill_want(
     units: &mut Vec<PlannedUnit>,
 ) -> Result<(), AllocError>
     requires wanted { Contains question.now.wants.items want.now }
-    requires plan { IsFewOrderPlan question.now.wants.items question.now.kerf question.now.sizes.items
-        units.old.items }
+    requires plan { IsFewOrderPlan question.now.wants.items question.now.kerf question.now.stages
+        question.now.sizes.items units.old.items }
     ensures plan { OnOk result (IsFewOrderPlan question.now.wants.items question.now.kerf
-        question.now.sizes.items units.new.items) }
+        question.now.stages question.now.sizes.items units.new.items) }
     ensures grown { OnOk result (IsGrown units.old.items units.new.items) }
     ensures filled { OnOk result (IsFilledOrFull question.now.sizes.items units.new.items want.now) }
 {
@@ -99,10 +99,10 @@ pub fn complete(
     question: &Question,
     units: &mut Vec<PlannedUnit>,
 ) -> Result<(), AllocError>
-    requires { IsFewOrderPlan question.now.wants.items question.now.kerf question.now.sizes.items
-        units.old.items }
+    requires { IsFewOrderPlan question.now.wants.items question.now.kerf question.now.stages
+        question.now.sizes.items units.old.items }
     ensures plan { OnOk result (IsFewOrderPlan question.now.wants.items question.now.kerf
-        question.now.sizes.items units.new.items) }
+        question.now.stages question.now.sizes.items units.new.items) }
     ensures filled { OnOk result (All (IsFilledOrFull question.now.sizes.items units.new.items)
         question.now.wants.items) }
 {

@@ -1,14 +1,17 @@
 //! Whether found units are a plan of an order, and which of two plans is better.
 
+ghost use Rattle.std.proofs.Props.{props};
 ghost use Rattle.std.specs.Prelude.{◌≡◌, ◌≤◌, ◌↔◌, IfOk, IfSome, IsTrue};
 ghost use Rattle.cut_tree.specs.Nodes.{tree_of};
 ghost use Rattle.cut_tree.specs.Patterns.{HasDemands};
 ghost use Rattle.cut_tree.specs.Tree.{IsShaped, cut_count};
-ghost use Rattle.cut_order.specs.Places.{IsFewOrderPlan};
+ghost use Rattle.cut_bound.specs.Stages.{IsStaged};
+ghost use Rattle.cut_order.specs.Places.{AreStaged, IsFewOrderPlan};
 
 use crate::places::unit_count;
 use crate::question::Question;
-use cut_bound::{CheckFault, CheckedOrder, MOST_UNITS, PlannedUnit, check_order};
+use crate::rests::largest_rest;
+use cut_bound::{CheckFault, CheckedOrder, MOST_UNITS, PlannedUnit, check_order, is_staged};
 use cut_measure::{Axis, MOST_KERF, MOST_NUMBERS, Size};
 use cut_search::search::FoundUnit;
 use cut_tree::{MOST_CUTS, Node, Plan};
@@ -22,6 +25,11 @@ pub struct Kept {
     pub missing: u128,
     /// The sum of the units' costs.
     pub cost: u128,
+    /// The cells of the largest rest of a unit.
+    pub rest: u64,
+    /// Each plan has at most so many stages, if there is a limit.
+    pub stages: Option<u32>,
+    ghost staged: { AreStaged stages units.items } by { Prim.hlevel props },
 }
 
 // Whether the cuts follow the rule on a rectangle.
@@ -85,21 +93,30 @@ fn has_demands(node: &Node) -> bool
     }
 }
 
-// Whether nodes are a plan of a unit.
-fn is_plan(node: &Node, size: Size, kerf: u32) -> bool
-    ensures { IsTrue result → IsShaped (tree_of node.now) size.w size.h kerf
+// Whether nodes are a plan of a unit, of at most so many stages.
+fn is_plan(node: &Node, size: Size, kerf: u32, stages: Option<u32>) -> bool
+    ensures plan { IsTrue result → IsShaped (tree_of node.now) size.w size.h kerf
         × (cut_count (tree_of node.now) ≤ MOST_CUTS) × HasDemands (tree_of node.now) }
+    ensures staged { IsTrue result → IsStaged stages (tree_of node.now) }
 {
     is_shaped(node, size.w(), size.h(), kerf)
         && cuts_within(node, MOST_CUTS).is_some()
         && has_demands(node)
+        && is_staged(node, stages)
 }
 
-// The plan of nodes on a unit, if it is one.
-fn plan_of(alloc: Global, node: Node, size: Size, kerf: u32) -> Result<Option<Plan>, AllocError>
+// The plan of nodes on a unit, if it is one of at most so many stages.
+fn plan_of(
+    alloc: Global,
+    node: Node,
+    size: Size,
+    kerf: u32,
+    stages: Option<u32>,
+) -> Result<Option<Plan>, AllocError>
     requires { kerf ≤ MOST_KERF }
+    ensures { IfOk result (λ found. IfSome found (λ plan. IsStaged stages plan.tree)) }
 {
-    if !is_plan(&node, size, kerf) {
+    if !is_plan(&node, size, kerf, stages) {
         return Ok(None);
     }
     let (_width, _height) = (size.w(), size.h());
@@ -107,25 +124,44 @@ fn plan_of(alloc: Global, node: Node, size: Size, kerf: u32) -> Result<Option<Pl
     Ok(Some(plan))
 }
 
+// The planned unit of one that was found, if it is a plan of one of the sizes.
+fn planned_unit(
+    alloc: Global,
+    question: &Question,
+    unit: FoundUnit,
+) -> Result<Option<PlannedUnit>, AllocError>
+    ensures { IfOk result
+        (λ found. IfSome found (λ planned. IsStaged question.now.stages planned.plan.tree)) }
+{
+    let Some(stock) = question.sizes.get(unit.place) else {
+        return Ok(None);
+    };
+    let (size, kerf, stages) = (stock.size, question.kerf, question.stages);
+    let Some(plan) = plan_of(alloc, unit.node, size, kerf, stages)? else {
+        return Ok(None);
+    };
+    Ok(Some(PlannedUnit {
+        place: unit.place,
+        times: unit.times,
+        plan,
+    }))
+}
+
 // Planned units of those that were found, if each is a plan of one of the sizes.
 fn planned_units(
     alloc: Global,
     question: &Question,
     found: Vec<FoundUnit>,
-) -> Result<Option<Vec<PlannedUnit>>, AllocError> {
+) -> Result<Option<Vec<PlannedUnit>>, AllocError>
+    ensures { IfOk result
+        (λ found. IfSome found (λ units. AreStaged question.now.stages units.items)) }
+{
     let mut units = Vec::new(alloc);
     for unit in found {
-        let Some(stock) = question.sizes.get(unit.place) else {
+        let Some(planned) = planned_unit(alloc, question, unit)? else {
             return Ok(None);
         };
-        let Some(plan) = plan_of(alloc, unit.node, stock.size, question.kerf)? else {
-            return Ok(None);
-        };
-        units.push(PlannedUnit {
-            place: unit.place,
-            times: unit.times,
-            plan,
-        })?;
+        units.push(planned)?;
     }
     Ok(Some(units))
 }
@@ -136,8 +172,9 @@ fn checked(
     question: &Question,
     units: &[PlannedUnit],
 ) -> Result<Option<CheckedOrder>, AllocError>
+    requires { AreStaged question.now.stages units.now }
     ensures { IfOk result (λ told. IfSome told (λ _. IsFewOrderPlan question.now.wants.items
-        question.now.kerf question.now.sizes.items units.now)) }
+        question.now.kerf question.now.stages question.now.sizes.items units.now)) }
 {
     if unit_count(units) > MOST_UNITS as u128 {
         return Ok(None);
@@ -157,7 +194,9 @@ fn checked(
 }
 
 // Copies of planned units, which share their plans' nodes.
-fn copies(alloc: Global, units: &[PlannedUnit]) -> Result<Vec<PlannedUnit>, AllocError> {
+fn copies(alloc: Global, units: &[PlannedUnit]) -> Result<Vec<PlannedUnit>, AllocError>
+    ensures { IfOk result (λ copies. copies.items ≡ units.now) }
+{
     let mut copies = Vec::new(alloc);
     for unit in units {
         let plan = unit.plan.copy(alloc)?;
@@ -170,15 +209,16 @@ fn copies(alloc: Global, units: &[PlannedUnit]) -> Result<Vec<PlannedUnit>, Allo
     Ok(copies)
 }
 
-/// The units that are kept. They are checked once more, so that nothing has to be known of them;
-/// none would be taken if they failed.
+/// The units that are kept. They are checked once more, so that nothing but their stages has to be
+/// known of them; none would be taken if they failed.
 pub fn kept_units(
     alloc: Global,
     question: &Question,
     kept: &Kept,
 ) -> Result<Vec<PlannedUnit>, AllocError>
+    requires { kept.now.stages ≡ question.now.stages }
     ensures { IfOk result (λ units. IsFewOrderPlan question.now.wants.items question.now.kerf
-        question.now.sizes.items units.items) }
+        question.now.stages question.now.sizes.items units.items) }
 {
     let units = copies(alloc, &kept.units)?;
     match checked(alloc, question, &units)? {
@@ -196,19 +236,36 @@ fn sum_of(missing: &[u32]) -> u128 {
     sum
 }
 
-// Whether a plan that leaves out so many pieces and costs so much is better than another.
-fn is_better(missing: u128, cost: u128, than: &Kept) -> bool {
-    missing < than.missing || missing == than.missing && cost < than.cost
+// The cells of the largest rest of found units.
+fn rest_of(question: &Question, found: &[FoundUnit]) -> u64 {
+    let mut largest: u64 = 0;
+    for unit in found {
+        if let Some(stock) = question.sizes.get(unit.place) {
+            let (w, h) = (stock.size.w(), stock.size.h());
+            largest = largest.max(largest_rest(&unit.node, w, h, question.kerf));
+        }
+    }
+    largest
+}
+
+// Whether a plan that leaves out so many pieces, costs so much and has a largest rest of so many
+// cells is better than another.
+fn is_better(missing: u128, cost: u128, rest: u64, than: &Kept) -> bool {
+    missing < than.missing
+        || missing == than.missing && (cost < than.cost || cost == than.cost && rest > than.rest)
 }
 
 /// The found units, if they are a plan of the order that is better than the one that is kept: it
-/// leaves out fewer pieces, or as many at a lower cost.
+/// leaves out fewer pieces, or as many at a lower cost, or it costs as much and has a larger rest.
 pub fn better(
     alloc: Global,
     question: &Question,
     found: Vec<FoundUnit>,
     than: &Kept,
-) -> Result<Option<Kept>, AllocError> {
+) -> Result<Option<Kept>, AllocError>
+    ensures { IfOk result (λ better. IfSome better (λ kept. kept.stages ≡ question.now.stages)) }
+{
+    let rest = rest_of(question, &found);
     let Some(units) = planned_units(alloc, question, found)? else {
         return Ok(None);
     };
@@ -216,12 +273,14 @@ pub fn better(
         return Ok(None);
     };
     let missing = sum_of(&checked.missing);
-    if !is_better(missing, checked.cost, than) {
+    if !is_better(missing, checked.cost, rest, than) {
         return Ok(None);
     }
     Ok(Some(Kept {
         units,
         missing,
         cost: checked.cost,
+        rest,
+        stages: question.stages,
     }))
 }

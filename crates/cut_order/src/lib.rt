@@ -10,6 +10,7 @@ mod found;
 mod places;
 mod planning;
 mod question;
+mod rests;
 mod search;
 mod seek;
 mod single;
@@ -20,5 +21,5 @@ pub use cut_bound::{
     PlannedUnit, Price, StockSize, least_cost,
 };
 pub use planning::plan_order;
-pub use question::{MOST_COST, Question, is_stock};
+pub use question::{LEAST_STAGES, MOST_COST, MOST_STAGES, Question, is_stage_limit, is_stock};
 pub use search::OrderSearch;

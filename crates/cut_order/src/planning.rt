@@ -6,7 +6,7 @@ ghost use Rattle.cut_plan.specs.declared.faults.PlanFault.TheVariants.{NoMemory}
 ghost use Rattle.cut_bound.specs.Orders as orders;
 ghost use Rattle.cut_order.specs.Answers.{IsAnswerOf, IsOrderAnswer};
 ghost use Rattle.cut_order.specs.Searches.{question_of};
-ghost use Rattle.cut_order.specs.Stocks.{IsStock};
+ghost use Rattle.cut_order.specs.Stocks.{IsStageLimit, IsStock};
 
 use crate::answer::OrderPlan;
 use crate::search::OrderSearch;
@@ -38,27 +38,29 @@ fn answer_after(alloc: Global, search: OrderSearch, calls: u32) -> Result<OrderP
     Ok(plan)
 }
 
-/// The plan of an order that a search finds by at most so many calls of `advance`. Faults as
-/// `OrderSearch::new`.
+/// The plan of an order that a search finds by at most so many calls of `advance`. Limits and
+/// faults as `OrderSearch::new`.
 pub fn plan_order(
     alloc: Global,
     kind: Kind,
     kerf: u32,
-    step: u32,
+    step: Option<u32>,
+    stages: Option<u32>,
     sizes: &[StockSize],
     wants: &[Want],
     calls: u32,
 ) -> Result<OrderPlan, PlanFault>
     requires kerf { kerf ≤ MOST_KERF }
+    requires limit { IsStageLimit stages }
     requires stock { IsStock kind sizes.now }
     requires demands { AreDemands wants.now }
-    ensures ok { IfOk result (IsAnswerOf kind kerf step sizes.now wants.now) }
+    ensures ok { IfOk result (IsAnswerOf kind kerf step stages sizes.now wants.now) }
     ensures faulty { IfSome (orders.order_fault kind kerf step sizes.now wants.now)
         (λ fault. result ≡ Err fault) }
     ensures err { IfErr result (λ fault. (fault ≡ NoMemory)
         ⊎ (orders.order_fault kind kerf step sizes.now wants.now ≡ Some fault)) }
 {
-    match OrderSearch::new(alloc, kind, kerf, step, sizes, wants) {
+    match OrderSearch::new(alloc, kind, kerf, step, stages, sizes, wants) {
         Err(fault) => Err(fault),
         Ok(search) => match answer_after(alloc, search, calls) {
             Ok(plan) => Ok(plan),

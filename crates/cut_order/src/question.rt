@@ -5,7 +5,7 @@ ghost use Rattle.cut_measure.specs.declared.ranges.TheConstants.{MOST_KERF};
 ghost use Rattle.cut_plan.specs.Proposals.{AreDemands};
 ghost use Rattle.cut_bound.specs.Orders as orders;
 ghost use Rattle.cut_order.specs.Stocks as stocks;
-ghost use Rattle.cut_order.specs.Stocks.{AreFlat, IsStock};
+ghost use Rattle.cut_order.specs.Stocks.{AreFlat, IsStageLimit, IsStock};
 
 use cut_bound::{MOST_BOUGHT_SIZES, MOST_PARTS, StockSize};
 use cut_measure::Kind;
@@ -14,20 +14,29 @@ use cut_plan::Want;
 /// The most that a unit costs: 100 for each cell of the largest sheet.
 pub const MOST_COST: u64 = 4_000_000_000_000;
 
+/// The least limit of a plan's stages: one piece is cut from an empty unit in so many.
+pub const LEAST_STAGES: u32 = 2;
+
+/// The greatest limit of a plan's stages: no plan has more, since it has at most so many cuts.
+pub const MOST_STAGES: u32 = 255;
+
 /// What is asked of a search.
 #[derive(Drop)]
 pub struct Question {
     pub kind: Kind,
     /// Tenths of a millimetre, 0 to 200.
     pub kerf: u32,
-    /// Tenths of a millimetre, at least 1; a bar ignores it.
-    pub step: u32,
+    /// Tenths of a millimetre, at least 1, if a sheet's sides are rounded to steps; a bar ignores it.
+    pub step: Option<u32>,
+    /// Each plan has at most so many stages, 2 to 255, if there is a limit.
+    pub stages: Option<u32>,
     /// At most 1010.
     pub sizes: Vec<StockSize>,
     /// 1 to 100.
     pub wants: Vec<Want>,
     ghost narrow: { kerf ≤ MOST_KERF },
     ghost stocked: { IsStock kind sizes.items },
+    ghost limited: { IsStageLimit stages },
     ghost numbered: { AreDemands wants.items },
     ghost faultless: { orders.order_fault kind kerf step sizes.items wants.items ≡ None },
 }
@@ -50,6 +59,17 @@ fn are_flat(kind: Kind, sizes: &[StockSize]) -> bool
     match kind {
         Kind::Bar => sizes.iter().all(|stock| stock.size.h() == 1),
         Kind::Sheet => true,
+    }
+}
+
+/// Whether a limit of stages is one that a search takes: none, or 2 to 255.
+pub fn is_stage_limit(stages: Option<u32>) -> bool
+    ensures value { result ≡ stocks.is_stage_limit stages }
+    ensures limit { IsTrue result ↔ IsStageLimit stages }
+{
+    match stages {
+        None => true,
+        Some(most) => LEAST_STAGES <= most && most <= MOST_STAGES,
     }
 }
 

@@ -5,8 +5,7 @@ ghost use Rattle.cut_plan.specs.Proposals.{AreDemands};
 ghost use Rattle.cut_plan.specs.declared.faults.PlanFault.TheVariants.{NoMemory};
 ghost use Rattle.cut_bound.specs.Orders as orders;
 ghost use Rattle.cut_order.specs.Answers.{Asks, IsOrderAnswer};
-ghost use Rattle.cut_order.specs.Searches.{question_of};
-ghost use Rattle.cut_order.specs.Stocks.{IsStock};
+ghost use Rattle.cut_order.specs.Stocks.{IsStageLimit, IsStock};
 
 use crate::answer::{OrderPlan, answer_of};
 use crate::certified::Certified;
@@ -20,28 +19,45 @@ use cut_plan::{PlanFault, Want};
 use cut_search::search::{Found, FoundUnit, Search};
 use std::alloc::{AllocError, Global};
 
+/// So many points an axis of a table has about.
+const POINTS: usize = 250;
+
+// Prices that are still to be rated.
+#[derive(Drop)]
+struct Pending {
+    // One for each want.
+    numbers: Vec<u32>,
+    // How many points an axis of the table has about.
+    points: usize,
+}
+
 /// A search for plans of an order. Whatever it looks at, what it tells is checked: units are a plan
 /// of the order, and the bound comes with prices and is proved.
 #[derive(Drop)]
 pub struct OrderSearch {
     certified: Certified,
     kept: Kept,
-    pending: Option<Vec<u32>>,
+    pending: Option<Pending>,
     search: Search,
+    ghost limited: { kept.stages ≡ certified.question.stages },
 }
 
 impl OrderSearch {
+    ghost use Rattle.cut_order.specs.Searches.{question_of};
+
     // A search that found nothing yet.
     fn begin(alloc: Global, question: Question) -> Result<OrderSearch, AllocError>
         ensures { IfOk result (λ search. question_of search ≡ question) }
     {
         let search = search_for(alloc, &question)?;
-        let certified = Certified::new(alloc, question);
         let kept = Kept {
             units: Vec::new(alloc),
             missing: u128::MAX,
             cost: u128::MAX,
+            rest: 0,
+            stages: question.stages,
         };
+        let certified = Certified::new(alloc, question);
         Ok(OrderSearch {
             certified,
             kept,
@@ -55,15 +71,17 @@ impl OrderSearch {
         alloc: Global,
         kind: Kind,
         kerf: u32,
-        step: u32,
+        step: Option<u32>,
+        stages: Option<u32>,
         sizes: &[StockSize],
         wants: &[Want],
     ) -> Result<OrderSearch, AllocError>
         requires kerf { kerf ≤ MOST_KERF }
+        requires limit { IsStageLimit stages }
         requires stock { IsStock kind sizes.now }
         requires demands { AreDemands wants.now }
         requires faultless { orders.order_fault kind kerf step sizes.now wants.now ≡ None }
-        ensures { IfOk result (λ search. Asks kind kerf step sizes.now wants.now
+        ensures { IfOk result (λ search. Asks kind kerf step stages sizes.now wants.now
             (question_of search)) }
     {
         let sizes = Vec::from_slice(alloc, sizes)?;
@@ -72,6 +90,7 @@ impl OrderSearch {
             kind,
             kerf,
             step,
+            stages,
             sizes,
             wants,
         };
@@ -79,23 +98,26 @@ impl OrderSearch {
         Ok(search)
     }
 
-    /// A search that made no table yet. The sizes are a stock (`is_stock`), and demands are in
+    /// A search that made no table yet. Each plan that it tells has at most so many stages, 2 to
+    /// 255, if there is a limit. The sizes are a stock (`is_stock`), and demands are in
     /// 1..=2147483647. Faults in the order of `PlanFault`: no want or more than 100, one that is
-    /// out of range or stands twice; a sheet's step of 0; a size that is too large; no want that
-    /// fits any of the sizes. A want whose side and kerf are shorter than the step is planned all
-    /// the same, and has no price.
+    /// out of range or stands twice; a sheet's step of 0; a bar that is too long, or a sheet of too
+    /// many steps; no want that fits any of the sizes. A want whose side and kerf are shorter than
+    /// the step is planned all the same, and has no price.
     pub fn new(
         alloc: Global,
         kind: Kind,
         kerf: u32,
-        step: u32,
+        step: Option<u32>,
+        stages: Option<u32>,
         sizes: &[StockSize],
         wants: &[Want],
     ) -> Result<OrderSearch, PlanFault>
         requires kerf { kerf ≤ MOST_KERF }
+        requires limit { IsStageLimit stages }
         requires stock { IsStock kind sizes.now }
         requires demands { AreDemands wants.now }
-        ensures ok { IfOk result (λ search. Asks kind kerf step sizes.now wants.now
+        ensures ok { IfOk result (λ search. Asks kind kerf step stages sizes.now wants.now
             (question_of search)) }
         ensures faulty { IfSome (orders.order_fault kind kerf step sizes.now wants.now)
             (λ fault. result ≡ Err fault) }
@@ -104,7 +126,7 @@ impl OrderSearch {
     {
         match order_fault(kind, kerf, step, sizes, wants) {
             Some(fault) => Err(fault),
-            None => match OrderSearch::asked(alloc, kind, kerf, step, sizes, wants) {
+            None => match OrderSearch::asked(alloc, kind, kerf, step, stages, sizes, wants) {
                 Ok(search) => Ok(search),
                 Err(_) => Err(PlanFault::NoMemory),
             },
@@ -143,7 +165,8 @@ impl OrderSearch {
             Found::Nothing => Ok(true),
             Found::Ended => Ok(false),
             Found::Prices(numbers) => {
-                self.pending = Some(numbers);
+                let points = POINTS;
+                self.pending = Some(Pending { numbers, points });
                 Ok(true)
             }
             Found::Units(units) => {
@@ -158,8 +181,8 @@ impl OrderSearch {
         ensures { question_of self.new ≡ question_of self.old }
     {
         match self.pending.take() {
-            Some(numbers) => {
-                self.certified.rate(alloc, numbers)?;
+            Some(pending) => {
+                self.certified.rate(alloc, pending.numbers, pending.points)?;
                 Ok(true)
             }
             None => self.go_on(alloc),

@@ -1,10 +1,10 @@
 -- The question for plans of all that is open of a material: what a JSON value stands for.
-use Rattle.std.specs.Prelude.{ℕ, ◌+◌, ◌&&◌, List, [], nat_le, if◌then◌else◌, Option, Some, None, is_some, option_map, option_and_then, unwrap_or, codes, bytes_eq}
+use Rattle.std.specs.Prelude.{ℕ, ◌+◌, ◌&&◌, Bool, true, List, [], nat_le, if◌then◌else◌, Option, Some, None, is_some, option_map, option_and_then, unwrap_or, codes, bytes_eq}
 use Rattle.cut_measure.specs.Names.{Name, spelled_name}
 use Rattle.serde_json.specs.Data.{Data}
 use Rattle.serde_json.specs.Find.{get, as_str}
 use Rattle.shop_forms.specs.Fields.{number_at, number_of, code_at, word_at, elements_at, all_of, row}
-use Rattle.shop_plans.specs.declared.limits.TheConstants.{MOST_CALLS, UNIT_COST, USUAL_CALLS, USUAL_REMNANT}
+use Rattle.shop_plans.specs.declared.limits.TheConstants.{LEAST_STAGES, MOST_CALLS, MOST_STAGES, UNIT_COST, USUAL_CALLS, USUAL_REMNANT}
 use Rattle.shop_plans.specs.declared.questions.BuySize.{BuySize}
 use Rattle.shop_plans.specs.declared.questions.PlansQuery.{PlansQuery}
 
@@ -18,7 +18,7 @@ there key d = if is_some (get key d) then 1 else 0
 abbrev pub keys_there : Data → ℕ
 keys_there d =
     2 + there (codes "buy") d + there (codes "calls") d + there (codes "demands") d + there (codes "parts") d
-    + there (codes "remnant") d + there (codes "step") d
+    + there (codes "remnant") d + there (codes "stages") d + there (codes "step") d
 
 -- what a value stands for where its key is there, and nothing, which is no fault, where it is missing
 abbrev pub given : {T : Type 0} → (List ℕ → Data → Option T) → List ℕ → Data → Option (Option T)
@@ -68,12 +68,20 @@ step_of d = given number_at (codes "step") d
 abbrev pub calls_of : Data → Option ℕ
 calls_of d = number_within 1 MOST_CALLS USUAL_CALLS (codes "calls") d
 
+-- a limit of stages, if there is one, is 2 to 255
+abbrev pub is_stage_limit : Option ℕ → Bool
+is_stage_limit None = true
+is_stage_limit (Some most) = nat_le LEAST_STAGES most && nat_le most MOST_STAGES
+
+abbrev pub stages_of : Data → Option (Option ℕ)
+stages_of d = option_and_then (λ stages. if is_stage_limit stages then Some stages else None) (given number_at (codes "stages") d)
+
 abbrev pub plans_fields : Data → Option PlansQuery
 plans_fields d =
     option_and_then (λ material. option_and_then (λ remnant. option_and_then (λ step. option_and_then (λ calls.
-    option_and_then (λ demands. option_and_then (λ parts. option_map (λ buy.
-    record { material = material; demands = demands; parts = parts; buy = buy; remnant = remnant; step = step; calls = calls })
-    (buy_of d)) (parts_of d)) (demands_of d)) (calls_of d)) (step_of d)) (remnant_of d)) (code_at (codes "material") d)
+    option_and_then (λ stages. option_and_then (λ demands. option_and_then (λ parts. option_map (λ buy.
+    record { material = material; demands = demands; parts = parts; buy = buy; remnant = remnant; step = step; calls = calls; stages = stages })
+    (buy_of d)) (parts_of d)) (demands_of d)) (stages_of d)) (calls_of d)) (step_of d)) (remnant_of d)) (code_at (codes "material") d)
 
 -- an object has each key once, so where it has so many keys, it has these and no other
 abbrev pub plans_query_of : Data → Option PlansQuery

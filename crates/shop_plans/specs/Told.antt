@@ -31,7 +31,8 @@ plans_data r =
     object (number_member (codes "bound") r.bound (number_member (codes "cost") r.cost
     (member (codes "missing") (rows_data missing_data r.missing) (text_member (codes "ok") (codes "plans")
     (member (codes "plans") (rows_data plan_data r.plans.items) (member (codes "prices") (rows_data price_data r.prices)
-    (flag_member (codes "proved") r.proved (flag_member (codes "short") r.short (number_member (codes "step") r.step no_members)))))))))
+    (flag_member (codes "proved") r.proved (number_member (codes "rest") r.rest (flag_member (codes "short") r.short
+    (number_member (codes "step") r.step no_members))))))))))
 
 -- the text of an answer: compact JSON
 unfoldable pub plans_text : PlansReply → List ℕ

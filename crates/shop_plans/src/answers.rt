@@ -55,9 +55,11 @@ pub struct PlansReply {
     pub prices: RowList<DemandPrice>,
     /// Nothing is missing, and nothing costs less.
     pub proved: bool,
+    /// The cells of the largest rest that jobs by these plans keep; 0 if they keep none.
+    pub rest: u64,
     /// There is no whole cutting.
     pub short: bool,
-    /// How many tenths of a millimetre a step of the tables has; 0 for a bar.
+    /// How many tenths of a millimetre a step has; 0 if sides aren't rounded, and for a bar.
     pub step: u32,
 }
 
@@ -159,6 +161,7 @@ fn write_plans(alloc: Global, writer: &mut Writer, reply: &PlansReply) -> Result
     write_list(alloc, writer, "plans", &reply.plans)?;
     write_list(alloc, writer, "prices", reply.prices.as_slice())?;
     write_flag(writer, "proved", reply.proved)?;
+    write_number(writer, "rest", reply.rest)?;
     write_flag(writer, "short", reply.short)?;
     write_number(writer, "step", wide(reply.step))?;
     writer.end_object()?;

@@ -6,6 +6,12 @@ pub const UNIT_COST: u32 = 100;
 /// What a cell of a remnant costs where a question doesn't say.
 pub const USUAL_REMNANT: u32 = 90;
 
+/// The least limit of a plan's stages that a question may set.
+pub const LEAST_STAGES: u32 = 2;
+
+/// The greatest limit of a plan's stages that a question may set.
+pub const MOST_STAGES: u32 = 255;
+
 /// The most tables that a question may let the search make.
 pub const MOST_CALLS: u32 = 5000;
 

@@ -6,7 +6,7 @@ ghost use Rattle.shop_records.specs.declared.refusals.Refusal.TheVariants.{BadMe
 ghost use Rattle.shop_forms.specs.Fields.{all_of, elements_at, number_at as number_there};
 ghost use Rattle.shop_plans.specs.Questions as form;
 
-use crate::limits::{MOST_CALLS, UNIT_COST, USUAL_CALLS, USUAL_REMNANT};
+use crate::limits::{LEAST_STAGES, MOST_CALLS, MOST_STAGES, UNIT_COST, USUAL_CALLS, USUAL_REMNANT};
 use cut_measure::{Code, PartName, RowList};
 use serde_json::Value;
 use shop_forms::{Read, code_at, has_keys, number_at, rows_at, word_at};
@@ -38,10 +38,12 @@ pub struct PlansQuery {
     pub buy: BuyList,
     /// What a cell of a remnant costs, 1 to 100, where one of a unit costs 100.
     pub remnant: u32,
-    /// How many tenths of a millimetre a step of a sheet's side has: without it the least that the stock takes.
+    /// How many tenths of a millimetre a step of a sheet's side has, if sides are rounded to steps.
     pub step: Option<u32>,
     /// How many tables the search may make, 1 to 5000.
     pub calls: u32,
+    /// The most stages that a plan may have, 2 to 255: without it there is no limit.
+    pub stages: Option<u32>,
 }
 
 // The sides at the keys of an object.
@@ -129,6 +131,7 @@ fn keys_there(value: &Value) -> usize
         + there(value, "demands")
         + there(value, "parts")
         + there(value, "remnant")
+        + there(value, "stages")
         + there(value, "step")
 }
 
@@ -150,6 +153,28 @@ fn number_within(value: &Value, key: &str, least: u32, most: u32, missing: u32) 
     let number = given_number(value, key)?.unwrap_or(missing);
     if least <= number && number <= most {
         Some(number)
+    } else {
+        None
+    }
+}
+
+// Whether a limit of stages, if there is one, is in its range.
+fn is_stage_limit(stages: Option<u32>) -> bool
+    ensures { result ≡ form.is_stage_limit stages }
+{
+    match stages {
+        None => true,
+        Some(most) => LEAST_STAGES <= most && most <= MOST_STAGES,
+    }
+}
+
+// The limit of stages at a key that may be missing.
+fn given_stages(value: &Value) -> Option<Option<u32>>
+    ensures { result ≡ form.stages_of (view value.now) }
+{
+    let stages = given_number(value, "stages")?;
+    if is_stage_limit(stages) {
+        Some(stages)
     } else {
         None
     }
@@ -188,11 +213,12 @@ fn sizes(alloc: Global, value: &Value) -> Result<Option<BuyList>, AllocError>
 fn plans_fields(alloc: Global, value: &Value) -> Result<Option<PlansQuery>, AllocError>
     ensures { IfOk result (λ query. query ≡ form.plans_fields (view value.now)) }
 {
-    let (Some(material), Some(remnant), Some(step), Some(calls)) = (
+    let (Some(material), Some(remnant), Some(step), Some(calls), Some(stages)) = (
         code_at(value, "material"),
         number_within(value, "remnant", 1, UNIT_COST, USUAL_REMNANT),
         given_number(value, "step"),
         number_within(value, "calls", 1, MOST_CALLS, USUAL_CALLS),
+        given_stages(value),
     ) else {
         return Ok(None);
     };
@@ -211,6 +237,7 @@ fn plans_fields(alloc: Global, value: &Value) -> Result<Option<PlansQuery>, Allo
         remnant,
         step,
         calls,
+        stages,
     }))
 }
 
@@ -228,8 +255,8 @@ fn asked(alloc: Global, value: &Value) -> Result<Option<PlansQuery>, AllocError>
     }
 }
 
-/// The question for plans that a value stands for; refused `BadMessage` where it stands for none, also where `remnant` or
-/// `calls` is out of its range, and `NoMemory` where memory runs out.
+/// The question for plans that a value stands for; refused `BadMessage` if it stands for none, also if `remnant`, `calls` or
+/// `stages` is out of its range, and `NoMemory` where memory runs out.
 pub fn read_plans(alloc: Global, value: &Value) -> Result<PlansQuery, Refusal>
     ensures ok { IfOk result (λ query. form.plans_query_of (view value.now) ≡ Some query) }
     ensures err { IfErr result

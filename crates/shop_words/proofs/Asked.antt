@@ -93,7 +93,7 @@ problem_asked rows named found = as_asked found _ _ (λ request is. inr (named, 
 pub no_lines : (rows : List Row) → ((plan : OrderPlan) → IsOrderPlan rows plan → ⊥) → (request : Request) → IsLinesAsked rows request → ⊥
 no_lines rows none Replay asked = asked
 no_lines rows none (Plan file kerf step) asked = asked
-no_lines rows none (PlanOrder file kerf step calls) asked = asked
+no_lines rows none (PlanOrder file kerf step calls stages) asked = asked
 no_lines rows none (PlanLines plan) asked = none plan asked
 no_lines rows none (Orders file shop None) asked = asked
 no_lines rows none (Orders file shop (Some told)) asked = asked
@@ -106,7 +106,7 @@ no_lines rows none (Restore store from) asked = asked
 pub no_serving : (rows : List Row) → ((serving : Serving) → IsServing rows serving → ⊥) → (request : Request) → IsServeAsked rows request → ⊥
 no_serving rows none Replay asked = asked
 no_serving rows none (Plan file kerf step) asked = asked
-no_serving rows none (PlanOrder file kerf step calls) asked = asked
+no_serving rows none (PlanOrder file kerf step calls stages) asked = asked
 no_serving rows none (PlanLines plan) asked = asked
 no_serving rows none (Orders file shop None) asked = asked
 no_serving rows none (Orders file shop (Some told)) asked = asked
@@ -131,7 +131,7 @@ no_plan_file rows none request asked = nothing (first_of (codes "FILE") rows) as
 pub no_orders_file : (rows : List Row) → first_of (codes "FILE") rows ≡ None → (request : Request) → IsOrdersAsked rows request → ⊥
 no_orders_file rows none Replay asked = asked
 no_orders_file rows none (Plan file kerf step) asked = asked
-no_orders_file rows none (PlanOrder file kerf step calls) asked = asked
+no_orders_file rows none (PlanOrder file kerf step calls stages) asked = asked
 no_orders_file rows none (PlanLines plan) asked = asked
 no_orders_file rows none (Orders file shop None) asked = nothing (first_of (codes "FILE") rows) file.now none asked.0
 no_orders_file rows none (Orders file shop (Some told)) asked = nothing (first_of (codes "FILE") rows) file.now none asked.0
@@ -144,7 +144,7 @@ no_orders_file rows none (Restore store from) asked = asked
 pub no_orders_message : (rows : List Row) → names_message rows ≡ true → ((told : ImportAs) → IsImportAs rows told → ⊥) → (request : Request) → IsOrdersAsked rows request → ⊥
 no_orders_message rows some none Replay asked = asked
 no_orders_message rows some none (Plan file kerf step) asked = asked
-no_orders_message rows some none (PlanOrder file kerf step calls) asked = asked
+no_orders_message rows some none (PlanOrder file kerf step calls stages) asked = asked
 no_orders_message rows some none (PlanLines plan) asked = asked
 no_orders_message rows some none (Orders file shop None) asked = absurd (cc (sym asked.2 ∙ some))
 no_orders_message rows some none (Orders file shop (Some told)) asked = none told asked.2
@@ -162,7 +162,7 @@ no_limit rows some none (Some n) (inr is) = absurd (cc (sym is.0 ∙ some))
 pub no_ticket_store : (rows : List Row) → first_of (codes "store") rows ≡ None → (request : Request) → IsTicketAsked rows request → ⊥
 no_ticket_store rows none Replay asked = asked
 no_ticket_store rows none (Plan file kerf step) asked = asked
-no_ticket_store rows none (PlanOrder file kerf step calls) asked = asked
+no_ticket_store rows none (PlanOrder file kerf step calls stages) asked = asked
 no_ticket_store rows none (PlanLines plan) asked = asked
 no_ticket_store rows none (Orders file shop None) asked = asked
 no_ticket_store rows none (Orders file shop (Some told)) asked = asked
@@ -174,7 +174,7 @@ no_ticket_store rows none (Restore store from) asked = asked
 pub no_yield_store : (rows : List Row) → first_of (codes "store") rows ≡ None → (request : Request) → IsYieldAsked rows request → ⊥
 no_yield_store rows none Replay asked = asked
 no_yield_store rows none (Plan file kerf step) asked = asked
-no_yield_store rows none (PlanOrder file kerf step calls) asked = asked
+no_yield_store rows none (PlanOrder file kerf step calls stages) asked = asked
 no_yield_store rows none (PlanLines plan) asked = asked
 no_yield_store rows none (Orders file shop None) asked = asked
 no_yield_store rows none (Orders file shop (Some told)) asked = asked
@@ -186,7 +186,7 @@ no_yield_store rows none (Restore store from) asked = asked
 pub no_yield_code : (rows : List Row) → ((code : List ℕ) → IsCode (first_of (codes "MATERIAL") rows) code → ⊥) → (request : Request) → IsYieldAsked rows request → ⊥
 no_yield_code rows none Replay asked = asked
 no_yield_code rows none (Plan file kerf step) asked = asked
-no_yield_code rows none (PlanOrder file kerf step calls) asked = asked
+no_yield_code rows none (PlanOrder file kerf step calls stages) asked = asked
 no_yield_code rows none (PlanLines plan) asked = asked
 no_yield_code rows none (Orders file shop None) asked = asked
 no_yield_code rows none (Orders file shop (Some told)) asked = asked
@@ -198,7 +198,7 @@ no_yield_code rows none (Restore store from) asked = asked
 pub no_restore_store : (rows : List Row) → first_of (codes "store") rows ≡ None → (request : Request) → IsRestoreAsked rows request → ⊥
 no_restore_store rows none Replay asked = asked
 no_restore_store rows none (Plan file kerf step) asked = asked
-no_restore_store rows none (PlanOrder file kerf step calls) asked = asked
+no_restore_store rows none (PlanOrder file kerf step calls stages) asked = asked
 no_restore_store rows none (PlanLines plan) asked = asked
 no_restore_store rows none (Orders file shop None) asked = asked
 no_restore_store rows none (Orders file shop (Some told)) asked = asked
@@ -210,7 +210,7 @@ no_restore_store rows none (Restore store from) asked = nothing (first_of (codes
 pub no_restore_from : (rows : List Row) → first_of (codes "from") rows ≡ None → (request : Request) → IsRestoreAsked rows request → ⊥
 no_restore_from rows none Replay asked = asked
 no_restore_from rows none (Plan file kerf step) asked = asked
-no_restore_from rows none (PlanOrder file kerf step calls) asked = asked
+no_restore_from rows none (PlanOrder file kerf step calls stages) asked = asked
 no_restore_from rows none (PlanLines plan) asked = asked
 no_restore_from rows none (Orders file shop None) asked = asked
 no_restore_from rows none (Orders file shop (Some told)) asked = asked

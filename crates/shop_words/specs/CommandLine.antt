@@ -15,7 +15,7 @@ use Rattle.clap.specs.declared.builder.value_parser.ValueParser.{ValueParser}
 use Rattle.clap.specs.declared.builder.value_parser.ValueParser.TheVariants.{Signed}
 use Rattle.cut_measure.specs.Codes.{code_of}
 use Rattle.cut_measure.specs.declared.ranges.TheConstants.{MOST_KERF, MOST_NUMBERS}
-use Rattle.shop_words.specs.declared.words.TheConstants.{LONGEST_STEP, MOST_CALLS, LAST_PORT, MOST_CONNECTIONS, MOST_KEPT, MOST_NAMES, MOST_PAIR, MOST_SIZES}
+use Rattle.shop_words.specs.declared.words.TheConstants.{LEAST_STAGES, LONGEST_STEP, MOST_CALLS, MOST_STAGES, LAST_PORT, MOST_CONNECTIONS, MOST_KEPT, MOST_NAMES, MOST_PAIR, MOST_SIZES}
 use Rattle.shop_words.specs.declared.words.ImportAs.{ImportAs}
 use Rattle.shop_words.specs.declared.words.OrderPlan.{OrderPlan}
 use Rattle.shop_words.specs.declared.words.Serving.{Serving}
@@ -128,6 +128,9 @@ keep_rule = record (option_rule (codes "keep")) { parser = Some (Signed (pos 1) 
 abbrev pub calls_rule : Rule
 calls_rule = record (option_rule (codes "calls")) { parser = Some (Signed (pos 1) (pos 5000)) }
 
+abbrev pub stages_rule : Rule
+stages_rule = record (option_rule (codes "stages")) { parser = Some (Signed (pos 2) (pos 255)) }
+
 -- a form to which each of these was added in turn
 abbrev pub added_in_turn : {X : Type 0} → (App → X → App) → App → List X → App
 added_in_turn add app [] = app
@@ -137,11 +140,11 @@ added_in_turn add app (x ∷ rest) = added_in_turn add (add app x) rest
 abbrev pub app_with : Text → List Rule → App
 app_with name rules = added_in_turn with_rule (new_app name) rules
 
--- `plan FILE [--kerf N] [--step N] [--whole] [--calls N] [--shop FILE] [--material CODE] [--size WxH]..`
+-- `plan FILE [--kerf N] [--step N] [--whole] [--calls N] [--stages N] [--shop FILE] [--material CODE] [--size WxH]..`
 abbrev pub plan_app : App
 plan_app =
     app_with (codes "plan")
-    (file_rule ∷ kerf_rule ∷ step_rule ∷ whole_rule ∷ calls_rule ∷ known_shop_rule ∷ plan_material_rule ∷ size_rule ∷ [])
+    (file_rule ∷ kerf_rule ∷ step_rule ∷ whole_rule ∷ calls_rule ∷ stages_rule ∷ known_shop_rule ∷ plan_material_rule ∷ size_rule ∷ [])
 
 abbrev pub replay_app : App
 replay_app = new_app (codes "replay")
@@ -179,6 +182,7 @@ argument_rule argument.Kerf = kerf_rule
 argument_rule argument.Step = step_rule
 argument_rule argument.Whole = whole_rule
 argument_rule argument.Calls = calls_rule
+argument_rule argument.Stages = stages_rule
 argument_rule argument.PlanShop = known_shop_rule
 argument_rule argument.PlanMaterial = plan_material_rule
 argument_rule argument.Size = size_rule
@@ -279,16 +283,18 @@ AreTexts name rows texts = map (λ text. text.now) texts ≡ texts_under name ro
 abbrev pub IsWhole : List Row → Type 0
 IsWhole rows = HasFlag (codes "whole") rows
 
--- a plan of one rectangle has a step, and says nothing of the search
+-- a plan of one rectangle has a step, and says nothing of the search or of stages
 abbrev pub IsSingleAsked : Text → (kerf : ℕ) → List Row → Request → Type 0
 IsSingleAsked path k rows (Plan file kerf step) =
     (file.now ≡ path) × (kerf ≡ k) × HasNumber (codes "step") rows 0 LONGEST_STEP step × (is_some (first_of (codes "calls") rows) ≡ false)
+    × (is_some (first_of (codes "stages") rows) ≡ false)
 IsSingleAsked path k rows _ = ⊥
 
--- one of all pieces may have both
+-- one of all pieces may have each of them
 abbrev pub IsWholeAsked : Text → (kerf : ℕ) → List Row → Request → Type 0
-IsWholeAsked path k rows (PlanOrder file kerf step calls) =
+IsWholeAsked path k rows (PlanOrder file kerf step calls stages) =
     (file.now ≡ path) × (kerf ≡ k) × MayHaveNumber (codes "step") rows 0 LONGEST_STEP step × MayHaveNumber (codes "calls") rows 1 MOST_CALLS calls
+    × MayHaveNumber (codes "stages") rows LEAST_STAGES MOST_STAGES stages
 IsWholeAsked path k rows _ = ⊥
 
 -- the values of the words that plan a problem file: the file and the kerf, and what else is asked for with the flag, or without
@@ -311,6 +317,7 @@ abbrev pub IsOrderPlan : List Row → OrderPlan → Type 0
 IsOrderPlan rows plan =
     (first_of (codes "FILE") rows ≡ Some plan.file.now) × (first_of (codes "shop") rows ≡ Some plan.shop.now)
     × (first_of (codes "material") rows ≡ Some plan.material.now) × MayHaveNumber (codes "calls") rows 1 MOST_CALLS plan.calls
+    × MayHaveNumber (codes "stages") rows LEAST_STAGES MOST_STAGES plan.stages
     × IsWhole rows × (has_measures rows ≡ false) × (is_some (first_of (codes "size") rows) ≡ true)
     × (times_given (codes "size") rows ≤ MOST_SIZES) × AreTexts (codes "size") rows plan.sizes.items
 
@@ -427,11 +434,17 @@ IsAsked word.Ticket rows request = IsTicketAsked rows request
 IsAsked word.Yield rows request = IsYieldAsked rows request
 IsAsked word.Restore rows request = IsRestoreAsked rows request
 
--- the kerf of a plan is in range
-abbrev pub HasKerf : Request → Type 0
-HasKerf (Plan file kerf step) = kerf ≤ MOST_KERF
-HasKerf (PlanOrder file kerf step calls) = kerf ≤ MOST_KERF
-HasKerf _ = ⊤
+-- a limit of stages, if there is one, is in range
+abbrev pub HasStages : Option ℕ → Type 0
+HasStages None = ⊤
+HasStages (Some n) = (LEAST_STAGES ≤ n) × (n ≤ MOST_STAGES)
+
+-- the kerf and the stages of a plan are in range
+abbrev pub HasMeasures : Request → Type 0
+HasMeasures (Plan file kerf step) = kerf ≤ MOST_KERF
+HasMeasures (PlanOrder file kerf step calls stages) = (kerf ≤ MOST_KERF) × HasStages stages
+HasMeasures (PlanLines plan) = HasStages plan.stages
+HasMeasures _ = ⊤
 
 -- the command that was read, with its values, asks for this
 abbrev pub AsksFor : Option (Text × List Row) → Request → Type 0

@@ -3,7 +3,7 @@ use Rattle.std.specs.Prelude.{◌≡◌, ◌<◌, ◌⊎◌, ◌++◌, ℕ, List
 use Rattle.clap.specs.Words.{Row, Text, first_of}
 use Rattle.cut_measure.specs.Codes.{code_of}
 use Rattle.shop_words.specs.declared.mistakes.Mistake.{Mistake}
-use Rattle.shop_words.specs.declared.mistakes.Mistake.TheVariants.{Material, Order, Origin, NoOrder, NoTerminal, NoNumber, NoKerf, NoStep, LoneCalls, NoWhole, NoShop, NoMaterial, NoSize, WithKerf, WithStep, ManySizes, LoneKeep, ManyHosts, ManyOrigins, Other}
+use Rattle.shop_words.specs.declared.mistakes.Mistake.TheVariants.{Material, Order, Origin, NoOrder, NoTerminal, NoNumber, NoKerf, NoStep, LoneCalls, LoneStages, NoWhole, NoShop, NoMaterial, NoSize, WithKerf, WithStep, ManySizes, LoneKeep, ManyHosts, ManyOrigins, Other}
 use Rattle.shop_words.specs.declared.words.Reading.{Reading}
 use Rattle.shop_words.specs.declared.words.Reading.TheVariants as reading
 use Rattle.shop_words.specs.declared.words.Word.{Word}
@@ -38,6 +38,7 @@ IsMistake w rows NoNumber = (w ≡ word.Orders) × IsMissing (codes "number") ro
 IsMistake w rows NoKerf = (w ≡ word.Plan) × (names_stock rows ≡ false) × IsMissing (codes "kerf") rows
 IsMistake w rows NoStep = (w ≡ word.Plan) × (IsWhole rows → ⊥) × IsMissing (codes "step") rows
 IsMistake w rows LoneCalls = (w ≡ word.Plan) × (IsWhole rows → ⊥) × IsThere (codes "calls") rows
+IsMistake w rows LoneStages = (w ≡ word.Plan) × (IsWhole rows → ⊥) × IsThere (codes "stages") rows
 IsMistake w rows NoWhole = IsLinesPlan w rows × (IsWhole rows → ⊥)
 IsMistake w rows NoShop = IsLinesPlan w rows × IsMissing (codes "shop") rows
 IsMistake w rows NoMaterial = IsLinesPlan w rows × IsMissing (codes "material") rows
@@ -79,6 +80,7 @@ reason NoNumber = codes "'--number <N>' is missing: --order, --terminal and --nu
 reason NoKerf = codes "'--kerf <N>' is missing: it may be left out only with '--shop'"
 reason NoStep = codes "'--step <N>' is missing: it may be left out only with '--whole'"
 reason LoneCalls = codes "'--calls <N>' may be given only with '--whole'"
+reason LoneStages = codes "'--stages <N>' may be given only with '--whole'"
 reason LoneKeep = codes "'--keep <N>' may be given only with '--backup'"
 reason ManyHosts = codes "'--host <NAME>' may be given at most 10 times"
 reason ManyOrigins = codes "'--origin <ORIGIN>' may be given at most 10 times"

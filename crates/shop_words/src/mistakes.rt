@@ -33,6 +33,8 @@ pub enum Mistake<'a> {
     NoStep,
     /// `--calls` stands without `--whole`.
     LoneCalls,
+    /// `--stages` stands without `--whole`.
+    LoneStages,
     /// A plan of an order file lacks this option.
     NoWhole,
     NoShop,
@@ -106,6 +108,9 @@ fn plan_mistake<'a>(plan: &ArgMatches<'a>) -> Mistake<'a>
     }
     if has_option(plan, "calls") {
         return Mistake::LoneCalls;
+    }
+    if has_option(plan, "stages") {
+        return Mistake::LoneStages;
     }
     Mistake::Other
 }
@@ -213,6 +218,7 @@ fn reason(mistake: Mistake<'_>) -> &'static str
         Mistake::NoKerf => "'--kerf <N>' is missing: it may be left out only with '--shop'",
         Mistake::NoStep => "'--step <N>' is missing: it may be left out only with '--whole'",
         Mistake::LoneCalls => "'--calls <N>' may be given only with '--whole'",
+        Mistake::LoneStages => "'--stages <N>' may be given only with '--whole'",
         Mistake::LoneKeep => "'--keep <N>' may be given only with '--backup'",
         Mistake::ManyHosts => "'--host <NAME>' may be given at most 10 times",
         Mistake::ManyOrigins => "'--origin <ORIGIN>' may be given at most 10 times",

@@ -28,6 +28,12 @@ pub const LAST_PORT: u32 = 65535;
 /// The most steps of the search for the plans of a whole order.
 pub const MOST_CALLS: u32 = 5000;
 
+/// The least limit of a plan's stages.
+pub const LEAST_STAGES: u32 = 2;
+
+/// The greatest limit of a plan's stages.
+pub const MOST_STAGES: u32 = 255;
+
 /// The most connections that a limit says, and that are served without one where there is no page.
 pub const MOST_CONNECTIONS: u32 = 1_000_000;
 
@@ -89,6 +95,8 @@ pub struct OrderPlan<'a> {
     pub sizes: Vec<&'a str>,
     /// The most steps of the search: 1 to 5000. None: the usual number.
     pub calls: Option<u32>,
+    /// The most stages of a plan: 2 to 255. None: no limit.
+    pub stages: Option<u32>,
 }
 
 /// What a command line asks for.
@@ -109,10 +117,12 @@ pub enum Request<'a> {
         file: &'a str,
         /// In tenths of a millimetre: 0 to 200.
         kerf: u32,
-        /// In tenths of a millimetre: 0 to 200000. None: the least one that the rectangle takes.
+        /// In tenths of a millimetre: 0 to 200000. None: sides aren't rounded.
         step: Option<u32>,
         /// The most steps of the search: 1 to 5000. None: the usual number.
         calls: Option<u32>,
+        /// The most stages of a plan: 2 to 255. None: no limit.
+        stages: Option<u32>,
     },
     /// Plan all lines of a material of an order file from as many units of some sizes as it takes.
     PlanLines(OrderPlan<'a>),
@@ -175,6 +185,7 @@ enum Argument {
     Step,
     Whole,
     Calls,
+    Stages,
     PlanShop,
     PlanMaterial,
     Size,
@@ -318,6 +329,18 @@ fn calls_arg<'a>(alloc: Global) -> Arg<'a>
         "With --whole, how long plans are searched for, in tables: 1 to 5000, else 500",
     )
     .value_parser(value_parser!(u32).range(1..=5000))
+}
+
+fn stages_arg<'a>(alloc: Global) -> Arg<'a>
+    ensures { line.IsArg line.stages_rule result }
+{
+    option_arg(
+        alloc,
+        "stages",
+        "N",
+        "With --whole, how many stages a plan may have at most, runs of parallel cuts one behind another: 2 to 255, else any number",
+    )
+    .value_parser(value_parser!(u32).range(2..=255))
 }
 
 fn size_arg<'a>(alloc: Global) -> Arg<'a>
@@ -558,6 +581,7 @@ fn arg_of<'a>(alloc: Global, argument: Argument) -> Arg<'a>
         Argument::Step => step_arg(alloc),
         Argument::Whole => whole_arg(alloc),
         Argument::Calls => calls_arg(alloc),
+        Argument::Stages => stages_arg(alloc),
         Argument::PlanShop => plan_shop_arg(alloc),
         Argument::PlanMaterial => plan_material_arg(alloc),
         Argument::Size => size_arg(alloc),
@@ -626,6 +650,7 @@ fn plan_command<'a>(alloc: Global) -> Result<Command<'a>, AllocError>
             Argument::Step,
             Argument::Whole,
             Argument::Calls,
+            Argument::Stages,
             Argument::PlanShop,
             Argument::PlanMaterial,
             Argument::Size,
@@ -852,11 +877,13 @@ fn whole_request<'a>(plan: &ArgMatches<'a>, file: &'a str, kerf: u32) -> Option<
 {
     let step = number_if_any(plan, "step", 0, LONGEST_STEP)?;
     let calls = number_if_any(plan, "calls", 1, MOST_CALLS)?;
+    let stages = number_if_any(plan, "stages", LEAST_STAGES, MOST_STAGES)?;
     Some(Request::PlanOrder {
         file,
         kerf,
         step,
         calls,
+        stages,
     })
 }
 
@@ -867,6 +894,9 @@ fn single_request<'a>(plan: &ArgMatches<'a>, file: &'a str, kerf: u32) -> Option
 {
     let step = number_of(plan, "step", 0, LONGEST_STEP)?;
     if has_option(plan, "calls") {
+        return None;
+    }
+    if has_option(plan, "stages") {
         return None;
     }
     Some(Request::Plan { file, kerf, step })
@@ -908,6 +938,7 @@ fn order_plan<'a>(plan: &ArgMatches<'a>, sizes: Vec<&'a str>) -> Option<OrderPla
     let shop = plan.get_str("shop")?;
     let material = plan.get_str("material")?;
     let calls = number_if_any(plan, "calls", 1, MOST_CALLS)?;
+    let stages = number_if_any(plan, "stages", LEAST_STAGES, MOST_STAGES)?;
     if !is_whole(plan) {
         return None;
     }
@@ -926,6 +957,7 @@ fn order_plan<'a>(plan: &ArgMatches<'a>, sizes: Vec<&'a str>) -> Option<OrderPla
         material,
         sizes,
         calls,
+        stages,
     })
 }
 

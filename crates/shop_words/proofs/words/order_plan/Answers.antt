@@ -32,6 +32,7 @@ returns c =
       sym (c.in_ok-shop.ensures ∙ first_value-rows found (codes "shop")),
       sym (c.in_ok-material.ensures ∙ first_value-rows found (codes "material")),
       c.in_ok-calls.ensures,
+      c.in_ok-stages.ensures,
       c.is_whole.ensures.0 c.if-not-is_whole.false,
       sym c.has_measures.ensures ∙ c.if-has_measures.false,
       sym c.has_option.ensures ∙ c.if-not-has_option.false,
