@@ -1,12 +1,12 @@
 -- What a row has after each step of its filling.
-use Rattle.std.proofs.Common.{◌≡◌, ◌≢◌, ℕ, ◌+◌, ◌-◌, ◌<◌, ◌≤◌, Bool, true, false, List, [], length, take, max, refl, sym, subst, ap, ◌∙◌, inl, inr, arith}
-use Rattle.std.specs.Prelude.{All, Contains, IsTrue, slice_index, slice_index_or}
+use Rattle.std.proofs.Common.{◌≡◌, ◌≢◌, ℕ, ◌+◌, ◌<◌, ◌≤◌, Bool, true, false, List, length, max, sym, subst, inl, inr, arith}
+use Rattle.std.specs.Prelude.{Contains, slice_index}
 use Rattle.std.proofs.lemmas.Bool.{cases_eq, cases_lt}
 use Rattle.cut_wants.specs.declared.wants.Want.{Want}
 use Rattle.cut_classes.specs.declared.pairs.Pair.{Pair}
-use Rattle.cut_classes.specs.Classes.{ArePartsOf, Classes, HasRoom, IsCeiling, IsInClass, count, high_of, low_of}
+use Rattle.cut_classes.specs.Classes.{ArePartsOf, Classes, IsInClass, count, high_of}
 use Rattle.cut_classes.specs.Grids.{AreUsable}
-use Rattle.cut_classes.specs.Filling.{AreFilledRows, CoversParts, DontFall, HasAt, HasCeilingBelow, IsBelowAll, IsOffered, IsOfferedTo, IsOverParts, IsOverSums, IsPieceRow, IsRaised, worth_at}
+use Rattle.cut_classes.specs.Filling.{AreFilledRows, CoversParts, HasAt, HasCeilingBelow, IsBelowAll, IsOffered, IsOfferedTo, IsOverParts, IsOverSums, IsPieceRow, IsRaised, worth_at}
 use Rattle.cut_classes.proofs.FilledTables.{along_row, up_rows}
 
 -- ---- pieces

@@ -1,17 +1,18 @@
 -- A table whose rows are filled one after the other is the least ceiling.
-use Rattle.std.proofs.Common.{◌≡◌, ℕ, ◌+◌, ◌-◌, ◌*◌, ◌<◌, ◌≤◌, Bool, true, false, List, [], ◌∷◌, ◌++◌, length, map, refl, sym, subst, ap, ◌∙◌, inl, inr, arith}
+use Rattle.std.proofs.Common.{◌≡◌, ℕ, ◌+◌, ◌-◌, ◌*◌, ◌<◌, ◌≤◌, Bool, true, false, List, [], ◌∷◌, ◌++◌, length, map, sym, subst, ap, inl, inr, arith}
 use Rattle.std.specs.Prelude.{Contains, Vec, slice_index, slice_index_or}
 use Rattle.std.specs.declared.alloc.Global.{Global}
 use Rattle.std.proofs.lemmas.Bool.{cases_lt}
 use Rattle.std.proofs.lemmas.List.{get_or_append_left, get_or_push, length_push, length-map, map-append}
 use Rattle.cut_measure.specs.declared.ranges.TheConstants.{MOST_WORTH}
 use Rattle.cut_wants.specs.declared.wants.Want.{Want}
-use Rattle.cut_classes.specs.Classes.{ArePartsOf, BeginAtNone, Classes, HasRoom, IsCeiling, IsInClass, IsLeastCeiling, count, high_of, low_of}
+use Rattle.cut_classes.specs.Classes.{ArePartsOf, Classes, HasRoom, IsCeiling, IsInClass, IsLeastCeiling, count, high_of, low_of}
 use Rattle.cut_classes.specs.Grids.{AreCounted, AreUsable}
-use Rattle.cut_classes.specs.Filling.{AreFilledRows, DontFall, HasAt, IsFilledRow, IsOverParts, IsOverSums, rows_of, worth_at}
+use Rattle.cut_classes.specs.Filling.{AreFilledRows, DontFall, HasAt, IsFilledRow, IsOverParts, rows_of, worth_at}
+use Rattle.cut_classes.specs.Rates.{width}
 use Rattle.cut_classes.proofs.LegalTrees.{class_of}
 use Rattle.cut_classes.proofs.Points.{high_most, not_above, own_part, with_first}
-use Rattle.cut_classes.proofs.ScaledAreas.{no_width, scaled, scaled_ceiling, width, worths_small}
+use Rattle.cut_classes.proofs.ScaledAreas.{no_width, scaled, scaled_ceiling, worths_small}
 
 -- ---- worths don't fall
 
@@ -73,7 +74,7 @@ module _ (wants : List Want) (k : ℕ) (xs ys : Classes) (rows : List (List ℕ)
   none_left : (j : ℕ) → j < count ys → worth_at rows 0 j ≡ 0
   none_left j jl =
       let most = (r j (omega (arith, len, jl))).pieces.below (scaled MOST_WORTH xs ys) bound 0 (omega (arith, ux.some)) in
-      none (worth_at rows 0 j) MOST_WORTH (width xs 0) (width ys j) (no_width xs ux) most
+      none (worth_at rows 0 j) MOST_WORTH (width (low_of xs 1 - 1) xs 0) (width (low_of ys 1 - 1) ys j) (no_width (low_of xs 1 - 1) xs ux) most
     where
       none : (v c n m : ℕ) → n ≡ 0 → v ≤ c * (n * m) → v ≡ 0
       none v c n m z le = let le' : v ≤ c * (0 * m) = subst (λ o. v ≤ c * (o * m)) z le in omega (arith, le')
@@ -81,7 +82,7 @@ module _ (wants : List Want) (k : ℕ) (xs ys : Classes) (rows : List (List ℕ)
   none_below : (i : ℕ) → i < count xs → worth_at rows i 0 ≡ 0
   none_below i il =
       let most = (r 0 (omega (arith, len, uy.some))).pieces.below (scaled MOST_WORTH xs ys) bound i il in
-      none (worth_at rows i 0) MOST_WORTH (width xs i) (width ys 0) (no_width ys uy) most
+      none (worth_at rows i 0) MOST_WORTH (width (low_of xs 1 - 1) xs i) (width (low_of ys 1 - 1) ys 0) (no_width (low_of ys 1 - 1) ys uy) most
     where
       none : (v c n m : ℕ) → m ≡ 0 → v ≤ c * (n * m) → v ≡ 0
       none v c n m z le = let le' : v ≤ c * (n * 0) = subst (λ o. v ≤ c * (n * o)) z le in omega (arith, le')

@@ -1,5 +1,5 @@
 -- How a table over classes is filled, row by row.
-use Rattle.std.specs.Prelude.{◌≡◌, ◌⊎◌, ℕ, ◌+◌, ◌≤◌, ◌<◌, Bool, true, false, IsTrue, List, [], length, map, slice_index, slice_index_or, Contains, Vec}
+use Rattle.std.specs.Prelude.{◌≡◌, ℕ, ◌+◌, ◌≤◌, ◌<◌, Bool, true, false, IsTrue, List, [], length, map, slice_index, slice_index_or, Contains, Vec}
 use Rattle.std.specs.declared.alloc.Global.{Global}
 use Rattle.cut_wants.specs.declared.wants.Want.{Want}
 use Rattle.cut_classes.specs.declared.pairs.Pair.{Pair}

@@ -7,6 +7,7 @@ ghost use Rattle.cut_classes.specs.Grids.{AreCounted, IsUsableGrid, across_of, d
 ghost use Rattle.cut_classes.specs.Filling.{HasCeilingBelow, worth_in};
 
 use crate::grid::Grid;
+use crate::narrow::is_narrow;
 use crate::pairs::class_of;
 use crate::table::filled_rows;
 use crate::usable::{counted_wants, is_usable_grid};
@@ -48,8 +49,26 @@ impl CeilingTable {
     }
 }
 
-// The table of wants that it counts.
-fn counted_ceilings(
+// The table of wants that it counts, in narrow numbers.
+fn narrow_ceilings(
+    alloc: Global,
+    kerf: u32,
+    grid: &Grid,
+    wants: &[Want],
+) -> Result<CeilingTable, AllocError>
+    requires kerf { kerf ≤ MOST_KERF }
+    requires usable { IsUsableGrid grid.now }
+    requires counted { AreCounted wants.now kerf (across_of grid.now) (down_of grid.now) }
+    requires fits { HasCeilingBelow (2 ^ 32) wants.now kerf (across_of grid.now) (down_of grid.now) }
+    ensures { IfOk result (λ table. IsLeastCeiling wants.now kerf (across_of grid.now)
+        (down_of grid.now) (worth_in table)) }
+{
+    let rows = filled_rows(alloc, grid, kerf, wants)?;
+    Ok(CeilingTable::Narrow(rows))
+}
+
+// The table of wants that it counts, in wide numbers.
+fn wide_ceilings(
     alloc: Global,
     kerf: u32,
     grid: &Grid,
@@ -63,6 +82,26 @@ fn counted_ceilings(
 {
     let rows = filled_rows(alloc, grid, kerf, wants)?;
     Ok(CeilingTable::Wide(rows))
+}
+
+// The table of wants that it counts.
+fn counted_ceilings(
+    alloc: Global,
+    kerf: u32,
+    grid: &Grid,
+    wants: &[Want],
+) -> Result<CeilingTable, AllocError>
+    requires kerf { kerf ≤ MOST_KERF }
+    requires usable { IsUsableGrid grid.now }
+    requires counted { AreCounted wants.now kerf (across_of grid.now) (down_of grid.now) }
+    ensures { IfOk result (λ table. IsLeastCeiling wants.now kerf (across_of grid.now)
+        (down_of grid.now) (worth_in table)) }
+{
+    if is_narrow(kerf, grid, wants) {
+        narrow_ceilings(alloc, kerf, grid, wants)
+    } else {
+        wide_ceilings(alloc, kerf, grid, wants)
+    }
 }
 
 /// The least table over the classes of a grid that no legal plan of a sheet with sides of two

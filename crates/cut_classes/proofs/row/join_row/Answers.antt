@@ -1,11 +1,6 @@
-use Rattle.std.proofs.Common.{◌+◌, List, length, map, slice_index, slice_index_or, sym, subst, arith}
-use Rattle.std.specs.Prelude.{Vec}
-use Rattle.std.specs.declared.alloc.Global.{Global}
+use Rattle.std.proofs.Common.{map, arith}
 use Rattle.cut_wants.proofs.NumberRows.{same_length}
-use Rattle.cut_classes.specs.declared.pairs.Pair.{Pair}
-use Rattle.cut_classes.specs.Classes.{Classes, count}
 use Rattle.cut_classes.specs.Grids.{across_of, down_of}
-use Rattle.cut_classes.specs.Filling.{CoverParts, CoversParts, IsOverParts}
 use Rattle.cut_classes.proofs.FilledRows.{joined_next, offered_still, pair_below}
 use Rattle.cut_classes.proofs.RaisedRows.{list_covers}
 use Rattle.cut_classes.proofs.row.join_row.Goals as goal

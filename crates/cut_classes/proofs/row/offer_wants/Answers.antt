@@ -1,4 +1,4 @@
-use Rattle.std.proofs.Common.{◌≤◌, Bool, false, true, map, sym, arith}
+use Rattle.std.proofs.Common.{Bool, false, true, map, sym, arith}
 use Rattle.cut_wants.specs.declared.wants.Want.{Want}
 use Rattle.cut_wants.proofs.NumberRows.{same_length}
 use Rattle.cut_classes.specs.Grids.{across_of, down_of}

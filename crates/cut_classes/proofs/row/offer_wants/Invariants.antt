@@ -1,4 +1,4 @@
-use Rattle.std.proofs.Common.{◌≡◌, Bool, length, map, take}
+use Rattle.std.proofs.Common.{Bool, map, take}
 use Rattle.std.specs.Prelude.{Contains}
 use Rattle.cut_wants.specs.declared.wants.Want.{Want}
 use Rattle.cut_classes.specs.Grids.{across_of, down_of}

@@ -6,7 +6,7 @@ use Rattle.cut_classes.specs.declared.pairs.Pair.{Pair}
 use Rattle.cut_classes.specs.Classes.{count}
 use Rattle.cut_classes.specs.Grids.{across_of, down_of}
 use Rattle.cut_classes.specs.Filling.{rows_of, worth_at}
-use Rattle.cut_classes.proofs.FilledRows.{IsOverPairs, over_sums, stacked_row, sum_below}
+use Rattle.cut_classes.proofs.FilledRows.{over_sums, stacked_row, sum_below}
 use Rattle.cut_classes.proofs.Loops.{each_all, each_next}
 use Rattle.cut_classes.proofs.RaisedRows.{count_rows}
 use Rattle.cut_classes.proofs.row.stack_all.Goals as goal

@@ -1,6 +1,4 @@
-use Rattle.std.proofs.Common.{List, length, map, subst, arith}
-use Rattle.std.specs.Prelude.{Vec}
-use Rattle.std.specs.declared.alloc.Global.{Global}
+use Rattle.std.proofs.Common.{length, map, subst, arith}
 use Rattle.cut_classes.specs.Grids.{across_of, down_of}
 use Rattle.cut_classes.specs.Filling.{IsFilledRow, rows_of}
 use Rattle.cut_classes.proofs.FilledTables.{next_vec}
