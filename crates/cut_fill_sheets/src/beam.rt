@@ -1,7 +1,7 @@
 //! A beam search over blocks at exact places: each level places one block more in each of its states, and the best ones of
 //! all that come of that go on.
 
-use crate::blocks::{Block, Blocks, Way};
+use crate::blocks::{Block, Blocks, Extent, Way};
 use crate::choice::{Child, Choice};
 use crate::guide::Guide;
 use crate::space::Space;
@@ -16,8 +16,8 @@ const MOST_BEAM: usize = 100;
 /// So many times the states of a beam are tried, as some are alike.
 const TRIED: usize = 3;
 
-/// Once so many children were rated, the beam has one state alone.
-const MOST_RATED: u64 = 3_000_000;
+/// Once so many ways and blocks were looked at, the beam has one state alone.
+const MOST_LOOKED: u64 = 3_000_000;
 
 /// What a child places its block in.
 #[derive(Clone, Copy)]
@@ -97,9 +97,8 @@ impl Rules<'_> {
         choice: &mut Choice,
     ) -> Result<(), AllocError> {
         let parted = seat.space.parted(block.w, block.h, first);
-        let stages = parted
-            .own
-            .stages_inside(block.extent.across, block.extent.down);
+        let Extent { across, down } = block.extent;
+        let stages = parted.own.stages_of(across > 1, down > 1);
         if self.stages.is_some_and(|most| stages > most) {
             return Ok(());
         }
@@ -145,29 +144,29 @@ impl Rules<'_> {
         to: usize,
         choice: &mut Choice,
     ) -> Result<u64, AllocError> {
-        let mut rated = 0u64;
+        let mut looked = 0u64;
         let blocks = self.blocks.get(from..to).unwrap_or(&[]);
         for (place, block) in (from..to).zip(blocks) {
             if !seat.holds(block) {
                 break;
             }
             self.rate_block(seat, place, block, choice)?;
-            rated = rated.saturating_add(1);
+            looked = looked.saturating_add(1);
         }
-        Ok(rated)
+        Ok(looked)
     }
 
     // Rates the grids of a way.
     fn rate_grids(&self, seat: &Seat, way: &Way, choice: &mut Choice) -> Result<u64, AllocError> {
-        let mut rated = 0u64;
+        let mut looked = 0u64;
         let blocks = self.blocks.get(way.grids..way.end).unwrap_or(&[]);
         for (place, block) in (way.grids..way.end).zip(blocks) {
             if seat.holds(block) {
                 self.rate_block(seat, place, block, choice)?;
             }
-            rated = rated.saturating_add(1);
+            looked = looked.saturating_add(1);
         }
-        Ok(rated)
+        Ok(looked)
     }
 
     // Rates the blocks of a way.
@@ -184,14 +183,14 @@ impl Rules<'_> {
             return Ok(0);
         };
         let mut seat = self.seat(place, state, *space);
-        let mut rated = self.ways.len() as u64;
+        let mut looked = self.ways.len() as u64;
         for way in self.ways {
             seat.left = state.left.get(way.piece).copied().unwrap_or(0);
             if seat.left > 0 && space.holds(way.w, way.h) {
-                rated = rated.saturating_add(self.rate_way(&seat, way, choice)?);
+                looked = looked.saturating_add(self.rate_way(&seat, way, choice)?);
             }
         }
-        Ok(rated)
+        Ok(looked)
     }
 
     // The seat in the next space of a state.
@@ -286,7 +285,8 @@ struct Search {
     seen: Vec<u64>,
     choice: Choice,
     beam: usize,
-    rated: u64,
+    /// How many ways and blocks were looked at.
+    looked: u64,
 }
 
 impl Search {
@@ -303,7 +303,7 @@ impl Search {
             seen: Vec::new(alloc),
             choice: Choice::new(alloc, beam.saturating_mul(TRIED)),
             beam,
-            rated: 0,
+            looked: 0,
         }
     }
 
@@ -321,8 +321,8 @@ impl Search {
     fn rate(&mut self, rules: &Rules<'_>) -> Result<(), AllocError> {
         self.choice.clear();
         for (place, state) in self.level.states().iter().enumerate() {
-            let rated = rules.rate(place, state, &mut self.choice)?;
-            self.rated = self.rated.saturating_add(rated);
+            let looked = rules.rate(place, state, &mut self.choice)?;
+            self.looked = self.looked.saturating_add(looked);
         }
         Ok(())
     }
@@ -339,6 +339,7 @@ impl Search {
         let Some(block) = rules.blocks.get(child.block) else {
             return Ok(());
         };
+        self.looked = self.looked.saturating_add(rules.ways.len() as u64);
         state.copy_from(from)?;
         let first = if child.along_width { Axis::X } else { Axis::Y };
         let number = self.record.steps.len().saturating_add(1);
@@ -364,7 +365,7 @@ impl Search {
 
     // Goes on to the next level with the best children.
     fn advance(&mut self, rules: &Rules<'_>) -> Result<(), AllocError> {
-        let beam = if self.rated > MOST_RATED {
+        let beam = if self.looked > MOST_LOOKED {
             1
         } else {
             self.beam
@@ -410,6 +411,8 @@ pub(crate) fn best_found(
         blocks: &blocks.blocks,
         guide,
         stages,
+        least_w: blocks.ways.iter().map(|way| way.w).min().unwrap_or(0),
+        least_h: blocks.ways.iter().map(|way| way.h).min().unwrap_or(0),
     };
     let mut search = Search::new(alloc, beam.clamp(1, MOST_BEAM));
     search.begin(&rules, left, whole)?;

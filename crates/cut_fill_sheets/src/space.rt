@@ -107,16 +107,16 @@ impl Space {
         }
     }
 
-    /// How many stages a block's pieces have, of which it has so many across and down, where the space is its own rectangle.
-    pub(crate) fn stages_inside(&self, across: u32, down: u32) -> u32 {
-        match (across > 1, down > 1) {
+    /// How many stages there are with cuts along the width, along the height or along both, in the order that gives fewest.
+    pub(crate) fn stages_of(&self, along_width: bool, along_height: bool) -> u32 {
+        match (along_width, along_height) {
             (false, false) => self.stages,
             (true, false) => self.stages_with(Axis::X),
             (false, true) => self.stages_with(Axis::Y),
             // first along the axis of the last cut
             (true, true) => match self.last {
                 Some(_) => self.stages.saturating_add(1),
-                None => 2,
+                None => self.stages.saturating_add(2),
             },
         }
     }

@@ -17,6 +17,10 @@ pub(crate) struct Rules<'a> {
     pub guide: &'a Guide,
     /// The most stages on the way to a piece.
     pub stages: Option<u32>,
+    /// No way is less wide.
+    pub least_w: u32,
+    /// No way is less high.
+    pub least_h: u32,
 }
 
 /// A block that was placed.
@@ -84,16 +88,15 @@ impl Rules<'_> {
         if !space.holds(way.w, way.h) {
             return false;
         }
-        let Some(most) = self.stages else {
-            return true;
-        };
-        let across = space.parted(way.w, way.h, Axis::X);
-        let down = space.parted(way.w, way.h, Axis::Y);
-        across.own.stages.min(down.own.stages) <= most
+        let stages = space.stages_of(way.w < space.w, way.h < space.h);
+        self.stages.is_none_or(|most| stages <= most)
     }
 
     // Whether any piece that is left may be cut of a space.
     fn fits(&self, left: &[u32], space: &Space) -> bool {
+        if space.w < self.least_w || space.h < self.least_h {
+            return false;
+        }
         self.ways.iter().any(|way| {
             left.get(way.piece).is_some_and(|count| *count > 0) && self.takes(way, space)
         })
