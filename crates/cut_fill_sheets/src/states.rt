@@ -2,7 +2,7 @@
 
 use crate::blocks::{Block, Way};
 use crate::guide::Guide;
-use crate::space::Space;
+use crate::space::{Space, Trail};
 use cut_measure::Axis;
 use std::alloc::{AllocError, Global};
 
@@ -74,13 +74,24 @@ impl Rules<'_> {
         if self.stages.is_none() {
             return sides;
         }
-        let axis = match space.last {
+        let axis = match space.trail.last {
             None => 0,
             Some(Axis::X) => 1,
             Some(Axis::Y) => 2,
         };
-        let cuts = u64::from(space.stages).wrapping_mul(3).wrapping_add(axis);
+        let cuts = u64::from(space.trail.stages)
+            .wrapping_mul(3)
+            .wrapping_add(axis);
         mix(sides.wrapping_add(cuts))
+    }
+
+    /// Whether there may be cuts along the width, along the height or along both at the end of a trail.
+    #[inline]
+    pub(crate) fn allows(&self, trail: Trail, along_width: bool, along_height: bool) -> bool {
+        match self.stages {
+            Some(most) => trail.stages_of(along_width, along_height) <= most,
+            None => true,
+        }
     }
 
     // Whether a piece laid so may be cut of a space.
@@ -88,8 +99,7 @@ impl Rules<'_> {
         if !space.holds(way.w, way.h) {
             return false;
         }
-        let stages = space.stages_of(way.w < space.w, way.h < space.h);
-        self.stages.is_none_or(|most| stages <= most)
+        self.allows(space.trail, way.w < space.w, way.h < space.h)
     }
 
     // Whether any piece that is left may be cut of a space.
