@@ -17,7 +17,7 @@ const MOST_BEAM: usize = 100;
 const TRIED: usize = 3;
 
 /// Once so many ways and blocks were looked at, the beam has one state alone.
-const MOST_LOOKED: u64 = 3_000_000;
+const MOST_LOOKED: u64 = 1_000_000;
 
 /// A space that a block is placed in. Each of the trails leads to a block's own rectangle, and the tables are those of what is over.
 #[derive(Clone, Copy)]
