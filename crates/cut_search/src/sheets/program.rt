@@ -89,7 +89,7 @@ impl Program {
         for (count, left) in counts.iter_mut().zip(&self.left) {
             *count = (*count).min(*left);
         }
-        let known = self.master.plans().iter();
+        let mut known = self.master.plans().iter();
         let is_known = known.any(|other| other.counts.as_slice() == counts.as_slice());
         if times_within(&counts, &self.left) > 0 && !is_known {
             let tag = self.plans.len();
