@@ -6,7 +6,7 @@ use crate::relax::{empty_master, offered_sizes};
 use crate::sheets::job::Job;
 use crate::sheets::table::Table;
 use crate::sheets::units::Plan;
-use crate::sheets::worker::Worker;
+use crate::sheets::worker::{MOST_WORK, Worker};
 use cut_master::column::Plan as Column;
 use cut_master::fixed::ONE;
 use cut_master::master::{End, LEAST_GAIN, Master};
@@ -108,6 +108,11 @@ impl Ceilings {
             ceilings.offer(plan.size, Vec::from_slice(alloc, &plan.counts)?)?;
         }
         Ok(Some(ceilings))
+    }
+
+    /// Whether one table takes more than a call may.
+    pub fn is_too_large(&self) -> bool {
+        self.table.work() > 2 * MOST_WORK
     }
 
     /// Rates these worths first.
@@ -224,17 +229,17 @@ impl Ceilings {
         let order = &worker.job.order;
         let is_first = self.first.is_some();
         self.prices = self.master.want_prices(alloc, order.left.len())?;
-        let worths = match self.first.take() {
+        let mut worths = match self.first.take() {
             Some(worths) => worths,
             None => order.scaled(alloc, &self.prices, &order.left)?,
         };
-        self.table.make(alloc, &worker.job, &worths)?;
+        self.table.make(alloc, &worker.job, &mut worths)?;
         self.tables = self.tables.saturating_sub(1);
         let bests = self.table.bests(alloc, &worker.job)?;
         let added = self.read(alloc, &worker.job, &bests)?;
         self.rate(&worker.job, worths, bests);
         let met = self.least >= enough || self.least >= self.most_bound(&worker.job.order);
-        worker.count_table(self.table.points());
+        worker.count_work(self.table.work());
         Ok(!is_first && (met || !added) || self.tables == 0)
     }
 

@@ -2,6 +2,7 @@
 //! prices, a dive, units given up, and a large rest. A course uses one size alone, or all that it
 //! may.
 
+use crate::order::Rated;
 use crate::sheets::best::Best;
 use crate::sheets::ceilings::Ceilings;
 use crate::sheets::dive::Dive;
@@ -36,13 +37,14 @@ const FINE_TABLES: u32 = 150;
 
 /// The same over several sizes.
 const MIXED_COARSE_TABLES: u32 = 250;
-const MIXED_FINE_TABLES: u32 = 40;
+const MIXED_FINE_TABLES: u32 = 1;
 
 /// So many fillings give units up before the finer bound.
 const FIRST_GAINS: u64 = 1500;
 
-/// So many are made in all, before the large rest is looked for.
+/// So many are made in all, before the large rest is looked for, of one size and of several.
 const MOST_FILLINGS: u64 = 15_000;
+const MIXED_FILLINGS: u64 = 4000;
 
 /// So many look for the large rest.
 const REST_FILLINGS: u64 = 400;
@@ -339,6 +341,10 @@ impl Flow {
             self.end_bound();
             return Ok(());
         };
+        if is_fine && ceilings.is_too_large() {
+            self.end_bound();
+            return Ok(());
+        }
         if is_fine && self.round == 0 {
             ceilings.begin_with(Vec::from_slice(alloc, &self.worths)?);
         }
@@ -399,8 +405,10 @@ impl Flow {
     fn is_enough(&self, worker: &Worker) -> bool {
         let most = if self.stage == Stage::Gains {
             self.begun.saturating_add(FIRST_GAINS)
-        } else {
+        } else if self.only.is_some() {
             MOST_FILLINGS
+        } else {
+            MIXED_FILLINGS
         };
         self.is_met(worker) || self.fillings >= most || self.attempts >= MOST_ATTEMPTS
     }
@@ -473,33 +481,59 @@ impl Flow {
         }
     }
 
+    /// Whether there are units that may be given up.
+    fn has_start(&self) -> bool {
+        match &self.start {
+            Some(start) => start.batches.len() < MOST_BATCHES / 2,
+            None => false,
+        }
+    }
+
+    /// Packs the emptiest unit of a plan that is new.
+    fn pack_fresh(&mut self, alloc: Global, worker: &Worker) -> Result<(), AllocError> {
+        self.is_fresh = false;
+        if let Some(best) = &self.best.units {
+            self.packed = emptiest(alloc, worker, best, 1)?;
+        }
+        self.begin_pack(alloc, worker)
+    }
+
+    /// Begins a plan from nothing that units are given up of.
+    fn begin_anew(&mut self, alloc: Global, worker: &mut Worker) -> Result<(), AllocError> {
+        let mut values = Vec::new(alloc);
+        for worth in &self.attempt_worths(alloc, &worker.hints)? {
+            values.push(worker.dice.noisy(*worth, NOISE))?;
+        }
+        let greedy = Greedy::new(alloc, worker, &self.free, &values, BEAM, NOISE)?;
+        self.task = Task::Greedy(greedy);
+        Ok(())
+    }
+
+    /// The units that are given up of.
+    fn start_copy(&self, alloc: Global) -> Result<Option<Units>, AllocError> {
+        match &self.start {
+            Some(start) => Ok(Some(start.copy(alloc)?)),
+            None => Ok(None),
+        }
+    }
+
     /// Begins the next attempt to give units up.
     fn begin_gains(&mut self, alloc: Global, worker: &mut Worker) -> Result<(), AllocError> {
-        let Some(start) = &self.start else {
-            self.turn(Stage::Packs);
-            return Ok(());
-        };
-        if self.is_enough(worker) || start.batches.len() >= MOST_BATCHES / 2 {
+        if !self.has_start() || self.is_enough(worker) {
             self.end_gains(worker);
             return Ok(());
         }
         if self.is_fresh {
-            self.is_fresh = false;
-            self.packed = emptiest(alloc, worker, start, 1)?;
-            return self.begin_pack(alloc, worker);
+            return self.pack_fresh(alloc, worker);
         }
         let is_new = self.only.is_none() && self.best.missing == 0;
         if is_new && self.attempts.checked_rem(3) == Some(2) {
-            let mut values = Vec::new(alloc);
-            for worth in &self.attempt_worths(alloc, &worker.hints)? {
-                values.push(worker.dice.noisy(*worth, NOISE))?;
-            }
-            let greedy = Greedy::new(alloc, worker, &self.free, &values, BEAM, NOISE)?;
-            self.task = Task::Greedy(greedy);
-            return Ok(());
+            return self.begin_anew(alloc, worker);
         }
-        let from = start.copy(alloc)?;
-        self.give_up(alloc, worker, from)
+        match self.start_copy(alloc)? {
+            Some(from) => self.give_up(alloc, worker, from),
+            None => Ok(()),
+        }
     }
 
     /// Packs the next of the units that are to be packed.
@@ -599,17 +633,29 @@ impl Flow {
         Ok(())
     }
 
+    /// Gives units up of a plan from nothing; of the best one where it leaves something out.
+    fn give_up_new(
+        &mut self,
+        alloc: Global,
+        worker: &mut Worker,
+        units: Units,
+    ) -> Result<(), AllocError> {
+        if units.missing_pieces() == 0 {
+            return self.give_up(alloc, worker, units);
+        }
+        match self.start_copy(alloc)? {
+            Some(from) => self.give_up(alloc, worker, from),
+            None => Ok(()),
+        }
+    }
+
     /// Ends a plan from nothing.
     fn end_greedy(&mut self, alloc: Global, worker: &mut Worker, greedy: Greedy) -> Result<Told, AllocError> {
         self.round = self.round.saturating_add(1);
         match (self.stage, self.only) {
             (Stage::Quick, _) => self.offer(alloc, worker, &greedy.units),
             (Stage::Gains | Stage::More, _) => {
-                let from = match &self.start {
-                    Some(start) if greedy.units.missing_pieces() > 0 => start.copy(alloc)?,
-                    _ => greedy.units,
-                };
-                self.give_up(alloc, worker, from)?;
+                self.give_up_new(alloc, worker, greedy.units)?;
                 Ok(Told::Nothing)
             }
             (_, Some(_)) => {
@@ -642,30 +688,46 @@ impl Flow {
         Ok(Told::Nothing)
     }
 
+    /// Keeps the worths of the greatest bound.
+    fn keep_worths(&mut self, rated: Option<Rated>) {
+        if let Some(rated) = rated {
+            self.worths = rated.worths;
+            self.points = if self.stage == Stage::Fine { FINE } else { COARSE };
+        }
+    }
+
     /// Ends the bound's program.
-    fn end_ceilings(&mut self, alloc: Global, worker: &mut Worker, ceilings: Ceilings) -> Result<Told, AllocError> {
-        let is_better = ceilings.least > worker.hints.bound || self.worths.is_empty();
-        if ceilings.least >= worker.hints.bound || self.worths.is_empty() {
-            worker.hints.take_bound(alloc, &worker.job, &ceilings)?;
-            self.value = ceilings.value(&worker.job.order);
+    fn end_ceilings(
+        &mut self,
+        alloc: Global,
+        worker: &mut Worker,
+        ceilings: Ceilings,
+    ) -> Result<Told, AllocError> {
+        let mut ended = ceilings;
+        let is_better = ended.least > worker.hints.bound || self.worths.is_empty();
+        if ended.least >= worker.hints.bound || self.worths.is_empty() {
+            worker.hints.take_bound(alloc, &worker.job, &ended)?;
+            self.value = ended.value(&worker.job.order);
         }
-        let failed = ceilings.has_failed && self.round == 0;
-        if let Some(rated) = ceilings.rated {
-            if is_better {
-                self.worths = rated.worths;
-                self.points = if self.stage == Stage::Fine { FINE } else { COARSE };
-            }
+        let rated = ended.rated.take();
+        if is_better {
+            self.keep_worths(rated);
         }
-        if failed {
+        if ended.has_failed && self.round == 0 {
             self.round = 1;
         } else {
             self.end_bound();
         }
-        Ok(if is_better { Told::Prices } else { Told::Nothing })
+        Ok(if is_better {
+            Told::Prices
+        } else {
+            Told::Nothing
+        })
     }
 
     /// Takes another plan of as many units to begin with, where one unit holds what is left out.
-    fn begin_elsewhere(&mut self, alloc: Global, worker: &mut Worker, units: Units) -> Result<(), AllocError> {
+    fn begin_elsewhere(&mut self, alloc: Global, worker: &mut Worker, next: GiveUp) -> Result<(), AllocError> {
+        let mut units = next.units;
         let Some(size) = self.only else {
             return Ok(());
         };
@@ -675,12 +737,26 @@ impl Flow {
         let values = Vec::from_slice(alloc, &worker.hints.cells)?;
         let filled = worker.fill(alloc, size, &units.missing, &values, WIDE_BEAM)?;
         if filled.plan.counts.as_slice() == units.missing.as_slice() {
-            let mut start = units;
             let plan = Rc::new(alloc, filled.plan)?;
-            start.add(&worker.job, plan, 1)?;
-            self.start = Some(start);
+            units.add(&worker.job, plan, 1)?;
+            self.start = Some(units);
         }
         Ok(())
+    }
+
+    /// Goes on where the goal is reached.
+    fn after_reached(
+        &mut self,
+        alloc: Global,
+        worker: &Worker,
+        next: GiveUp,
+    ) -> Result<Told, AllocError> {
+        let units = next.units;
+        if self.only.is_some() {
+            return self.offer(alloc, worker, &units);
+        }
+        self.settle(alloc, worker, units)?;
+        Ok(Told::Nothing)
     }
 
     /// Goes on behind a try to give units up.
@@ -690,18 +766,12 @@ impl Flow {
         }
         let is_full = next.units.batches.len() >= MOST_BATCHES;
         match given {
-            Given::Reached if self.only.is_none() => {
-                let mut units = next.units;
-                units.tidy();
-                self.settle(alloc, worker, units)?;
-                Ok(Told::Nothing)
-            }
-            Given::Reached => self.offer(alloc, worker, &next.units),
+            Given::Reached => self.after_reached(alloc, worker, next),
             Given::Tired => {
-                self.begin_elsewhere(alloc, worker, next.units)?;
+                self.begin_elsewhere(alloc, worker, next)?;
                 Ok(Told::Nothing)
             }
-            _ => {
+            Given::More | Given::Less => {
                 let is_over = is_full || self.is_enough(worker);
                 self.task = if is_over { Task::Nothing } else { Task::GiveUp(next) };
                 Ok(Told::Nothing)

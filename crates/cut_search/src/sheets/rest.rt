@@ -87,14 +87,15 @@ impl Pack {
         self.tries = TRIES;
     }
 
-    /// The stages that are left behind a cut of the unit's side; None where no such cut is allowed.
-    fn stages_within(&self, job: &Job, side: u32) -> Option<Option<u32>> {
-        match job.stages {
-            None => Some(None),
-            Some(stages) if self.at >= side => Some(Some(stages)),
-            Some(stages) if stages > 2 => Some(Some(stages.saturating_sub(1))),
-            Some(_) => None,
-        }
+    /// Whether a cut of the unit's side may stand before the others: it may be a stage of its own.
+    fn is_allowed(&self, job: &Job, side: u32) -> bool {
+        self.at >= side || job.stages.map_or(true, |stages| stages > 2)
+    }
+
+    /// The stages that are left behind that cut.
+    fn stages_within(&self, job: &Job, side: u32) -> Option<u32> {
+        let taken = u32::from(self.at < side);
+        job.stages.map(|stages| stages.saturating_sub(taken))
     }
 
     /// Keeps a plan, if its rest is the largest.
@@ -114,22 +115,23 @@ impl Pack {
 
     /// Fills the part of the unit that is tried. Whether it holds all.
     fn fill(&mut self, alloc: Global, worker: &mut Worker, side: u32) -> Result<bool, AllocError> {
-        let Some(stages) = self.stages_within(&worker.job, side) else {
+        if !self.is_allowed(&worker.job, side) {
             return Ok(false);
-        };
+        }
         let (w, h) = worker.job.sides_of(self.size);
         let part = match self.axis {
             Axis::X => (self.at, h),
             Axis::Y => (w, self.at),
         };
         let mut effort = worker.effort(WIDE_BEAM);
-        effort.stages = stages;
+        effort.stages = self.stages_within(&worker.job, side);
         let filled =
             worker.fill_part(alloc, self.size, part, &self.counts, &self.values, effort)?;
-        if filled.plan.counts.as_slice() != self.counts.as_slice() {
+        let plan = filled.plan;
+        if plan.counts.as_slice() != self.counts.as_slice() {
             return Ok(false);
         }
-        let shape = filled.plan.shape.cut_off(self.axis, self.at, side)?;
+        let shape = plan.shape.cut_off(self.axis, self.at, side)?;
         self.offer(alloc, &worker.job, shape)?;
         Ok(true)
     }

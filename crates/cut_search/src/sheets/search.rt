@@ -63,10 +63,9 @@ fn flows_of(alloc: Global, worker: &Worker) -> Result<Vec<Flow>, AllocError> {
     let mut flows = Vec::new(alloc);
     let endless = useful_sizes(alloc, job, true)?;
     let ending = useful_sizes(alloc, job, false)?;
-    let only = match (endless.as_slice(), ending.as_slice()) {
-        ([size], []) | ([], [size]) => Some(*size),
-        _ => None,
-    };
+    let first = endless.first().copied().or(ending.first().copied());
+    let count = endless.len().saturating_add(ending.len());
+    let only = if count == 1 { first } else { None };
     let all = job.numbers(alloc)?;
     flows.push(Flow::new(alloc, worker, only, all, true)?)?;
     if only.is_none() && (endless.len() > 1 || !ending.is_empty()) {

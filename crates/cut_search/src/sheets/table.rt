@@ -1,8 +1,10 @@
 //! A table of what a unit of each size is worth at most, over classes of sides (`cut_classes`), and
 //! the pieces that it counts.
 
-use crate::sheets::job::Job;
-use cut_classes::{Ceilings, Grid, ceilings, class_of, grid_of, high_of, pairs_of};
+use crate::sheets::job::{Job, fits};
+use cut_classes::{
+    CeilingTable, Grid, ceilings, class_of, grid_of, high_of, is_counted, pairs_of,
+};
 use cut_fill_sheets::Piece;
 use cut_measure::{MOST_KERF, Size};
 use cut_wants::wants::Want;
@@ -11,12 +13,17 @@ use std::alloc::{AllocError, Global};
 /// So many places of a table are looked at for one unit at most.
 const MOST_PLACES: usize = 20_000;
 
+/// A worker's work makes so many places of a table, times the points of both axes together.
+const POINTS_A_WORK: u64 = 1_080_000;
+
 /// A table, once it is made.
 #[derive(Drop)]
 pub struct Table {
     grid: Grid,
+    /// Whether each want is in the table.
+    counted: Vec<bool>,
     worths: Vec<u32>,
-    made: Option<Ceilings>,
+    made: Option<CeilingTable>,
 }
 
 /// The multiples of a step up to a length.
@@ -50,7 +57,7 @@ fn grid_for(alloc: Global, job: &Job, points: usize) -> Result<Grid, AllocError>
 /// The want that is worth so much and has no greater sides.
 fn piece_at(pieces: &[Piece], worths: &[u32], w: u32, h: u32, worth: u64) -> Option<usize> {
     for (want, (piece, value)) in pieces.iter().zip(worths).enumerate() {
-        if *value as u64 == worth && crate::sheets::job::fits(piece, w, h) {
+        if *value as u64 == worth && fits(piece, w, h) {
             return Some(want);
         }
     }
@@ -60,23 +67,44 @@ fn piece_at(pieces: &[Piece], worths: &[u32], w: u32, h: u32, worth: u64) -> Opt
 impl Table {
     /// A table of a job that isn't made yet, with about so many points an axis.
     pub fn new(alloc: Global, job: &Job, points: usize) -> Result<Table, AllocError> {
+        let grid = grid_for(alloc, job, points)?;
+        let kerf = job.kerf.min(MOST_KERF);
+        let mut counted = Vec::new(alloc);
+        for want in &job.wants {
+            counted.push(want.left > 0 && is_counted(kerf, &grid, want))?;
+        }
         Ok(Table {
-            grid: grid_for(alloc, job, points)?,
+            grid,
+            counted,
             worths: Vec::new(alloc),
             made: None,
         })
     }
 
-    /// How many points the longer axis has.
-    pub fn points(&self) -> usize {
-        self.grid.across.len().max(self.grid.down.len())
+    /// The work that a table takes, as a worker counts it: it grows by the points of both axes and
+    /// by their sum.
+    pub fn work(&self) -> u64 {
+        let across = self.grid.across.len() as u64;
+        let down = self.grid.down.len() as u64;
+        let all = across.saturating_mul(down);
+        all.saturating_mul(across.saturating_add(down)) / POINTS_A_WORK
     }
 
-    /// Makes the table by these worths.
-    pub fn make(&mut self, alloc: Global, job: &Job, worths: &[u32]) -> Result<(), AllocError> {
+    /// Makes the table by these worths; those of wants that aren't in it become 0.
+    pub fn make(
+        &mut self,
+        alloc: Global,
+        job: &Job,
+        worths: &mut [u32],
+    ) -> Result<(), AllocError> {
+        for (worth, is_in) in worths.iter_mut().zip(&self.counted) {
+            if !*is_in {
+                *worth = 0;
+            }
+        }
         let mut wants: Vec<Want> = Vec::new(alloc);
-        for (want, worth) in job.wants.iter().zip(worths) {
-            if want.left > 0 && *worth > 0 {
+        for (want, worth) in job.wants.iter().zip(worths.iter()) {
+            if *worth > 0 {
                 let mut one = *want;
                 one.worth = *worth;
                 wants.push(one)?;
@@ -132,13 +160,13 @@ impl Table {
     ) -> Result<Option<((usize, usize), (usize, usize))>, AllocError> {
         let (i, j) = place;
         for pair in &pairs_of(alloc, &self.grid.across, self.grid.most_across, i)? {
-            let (a, b) = ((pair.first, j), (pair.second, j));
+            let (a, b) = ((pair.first as usize, j), (pair.second as usize, j));
             if self.worth(a).saturating_add(self.worth(b)) == worth {
                 return Ok(Some((a, b)));
             }
         }
         for pair in &pairs_of(alloc, &self.grid.down, self.grid.most_down, j)? {
-            let (a, b) = ((i, pair.first), (i, pair.second));
+            let (a, b) = ((i, pair.first as usize), (i, pair.second as usize));
             if self.worth(a).saturating_add(self.worth(b)) == worth {
                 return Ok(Some((a, b)));
             }

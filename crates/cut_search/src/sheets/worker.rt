@@ -22,9 +22,6 @@ const GUIDE_POINTS: usize = 96;
 /// So much work a call does at most, in some 50 microseconds each.
 pub const MOST_WORK: u64 = 500;
 
-/// A table of so many points an axis or fewer is a small one.
-const FEW_POINTS: usize = 400;
-
 /// A filled unit.
 #[derive(Drop)]
 pub struct Filled {
@@ -64,12 +61,6 @@ impl Worker {
         let work = wide.saturating_mul(deep) / 400;
         self.spent = self.spent.saturating_add(work.max(1));
         self.fillings = self.fillings.saturating_add(1);
-    }
-
-    /// Counts a table of so many points an axis.
-    pub fn count_table(&mut self, points: usize) {
-        let work = if points <= FEW_POINTS { 60 } else { 240 };
-        self.spent = self.spent.saturating_add(work);
     }
 
     /// Counts other work.
