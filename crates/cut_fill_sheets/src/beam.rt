@@ -4,7 +4,7 @@
 use crate::blocks::{Block, Blocks, Way};
 use crate::choice::{Child, Choice};
 use crate::guide::Guide;
-use crate::space::Space;
+use crate::space::{Space, Trail};
 use crate::states::{CUTS, Rules, State, Step, cuts_of};
 use cut_measure::Axis;
 use std::alloc::{AllocError, Global};
@@ -16,12 +16,12 @@ const MOST_BEAM: usize = 100;
 /// So many times the states of a beam are tried, as some are alike.
 const TRIED: usize = 3;
 
-/// Once so many children were rated, the beam has one state alone.
-const MOST_RATED: u64 = 3_000_000;
+/// Once so many ways and blocks were looked at, the beam has one state alone.
+const MOST_LOOKED: u64 = 3_000_000;
 
-/// What a child places its block in.
+/// A space that a block is placed in. Each of the trails leads to a block's own rectangle, and the tables are those of what is over.
 #[derive(Clone, Copy)]
-struct Seat {
+struct Seat<'a> {
     /// The place of the state.
     state: usize,
     space: Space,
@@ -33,6 +33,23 @@ struct Seat {
     base: u64,
     /// How many pieces of the way are left.
     left: u32,
+    /// First along the width.
+    columns: Order<'a>,
+    /// First along the height.
+    rows: Order<'a>,
+}
+
+/// An order of the two cuts that part a block from what is over.
+#[derive(Clone, Copy)]
+struct Order<'a> {
+    /// The trail with the first cut.
+    first: Trail,
+    /// The trail with both cuts.
+    both: Trail,
+    /// What is over of the full side may be worth so much.
+    full: &'a [u32],
+    /// What is over beside the block may be worth so much.
+    beside: &'a [u32],
 }
 
 /// States of one level. Those behind the used ones wait for their use.
@@ -60,118 +77,126 @@ pub(crate) struct Found {
 }
 
 impl Rules<'_> {
-    // Rates both ways of parting a space without a limit of stages.
-    fn rate_freely(
+    // The order whose first cut is along an axis, in a space at the end of a trail.
+    fn order(&self, trail: Trail, axis: Axis) -> Order<'_> {
+        let first = trail.with(axis);
+        let both = first.with(match axis {
+            Axis::X => Axis::Y,
+            Axis::Y => Axis::X,
+        });
+        Order {
+            first,
+            both,
+            full: self.guide.table(first, self.stages),
+            beside: self.guide.table(both, self.stages),
+        }
+    }
+
+    // Whether a block's pieces may be cut at the end of a trail.
+    #[inline]
+    fn allows_block(&self, trail: Trail, block: &Block) -> bool {
+        self.allows(trail, block.extent.across > 1, block.extent.down > 1)
+    }
+
+    // Rates a block in a part that is longer or higher, both ways of parting it.
+    #[inline]
+    fn rate_parted(
         &self,
-        seat: &Seat,
+        seat: &Seat<'_>,
         place: usize,
         block: &Block,
         choice: &mut Choice,
     ) -> Result<(), AllocError> {
         let guide = self.guide;
-        let over_w = seat.space.w.saturating_sub(block.w);
-        let over_h = seat.space.h.saturating_sub(block.h);
-        let (across, down) = (guide.across(over_w), guide.down(over_h));
+        let (is_over_w, is_over_h) = (block.w < seat.space.w, block.h < seat.space.h);
+        let across = guide.across(seat.space.w.saturating_sub(block.w));
+        let down = guide.down(seat.space.h.saturating_sub(block.h));
         let base = seat.base.saturating_add(block.value);
-        let rows = guide
-            .free(seat.across, down)
-            .saturating_add(guide.free(across, block.down));
-        let columns = guide
-            .free(across, seat.down)
-            .saturating_add(guide.free(block.across, down));
-        if over_w > 0 && over_h > 0 {
-            choice.offer(Child::new(base.saturating_add(rows), seat.state, place, false))?;
-            return choice.offer(Child::new(base.saturating_add(columns), seat.state, place, true));
+        let rows = &seat.rows;
+        let own = if is_over_w { rows.both } else { rows.first };
+        if is_over_h && self.allows_block(own, block) {
+            let full = guide.rounded(rows.full, seat.across, down);
+            let beside = guide.rounded(rows.beside, across, block.down);
+            let rating = base.saturating_add(guide.worth(full.saturating_add(beside)));
+            choice.offer(Child::new(rating, seat.state, place, false))?;
         }
-        let rating = base.saturating_add(rows.max(columns));
-        choice.offer(Child::new(rating, seat.state, place, over_w > 0))
-    }
-
-    // Rates one way of parting a space, where it keeps the limit of stages.
-    fn rate_staged(
-        &self,
-        seat: &Seat,
-        place: usize,
-        block: &Block,
-        first: Axis,
-        choice: &mut Choice,
-    ) -> Result<(), AllocError> {
-        let parted = seat.space.parted(block.w, block.h, first);
-        let stages = parted
-            .own
-            .stages_inside(block.extent.across, block.extent.down);
-        if self.stages.is_some_and(|most| stages > most) {
-            return Ok(());
+        let columns = &seat.columns;
+        let own = if is_over_h {
+            columns.both
+        } else {
+            columns.first
+        };
+        if is_over_w && self.allows_block(own, block) {
+            let full = guide.rounded(columns.full, across, seat.down);
+            let beside = guide.rounded(columns.beside, block.across, down);
+            let rating = base.saturating_add(guide.worth(full.saturating_add(beside)));
+            choice.offer(Child::new(rating, seat.state, place, true))?;
         }
-        let rating = seat
-            .base
-            .saturating_add(block.value)
-            .saturating_add(self.guide.space(&parted.full, self.stages))
-            .saturating_add(self.guide.space(&parted.beside, self.stages));
-        choice.offer(Child::new(rating, seat.state, place, first == Axis::X))
+        Ok(())
     }
 
     // Rates a block that fits.
+    #[inline]
     fn rate_block(
         &self,
-        seat: &Seat,
+        seat: &Seat<'_>,
         place: usize,
         block: &Block,
         choice: &mut Choice,
     ) -> Result<(), AllocError> {
-        let space = &seat.space;
-        if seat.cuts.saturating_add(cuts_of(space, block)) > CUTS {
+        if seat.cuts.saturating_add(cuts_of(&seat.space, block)) > CUTS {
             return Ok(());
         }
-        if self.stages.is_none() {
-            return self.rate_freely(seat, place, block, choice);
+        if block.w < seat.space.w || block.h < seat.space.h {
+            return self.rate_parted(seat, place, block, choice);
         }
-        let is_over_w = block.w < space.w;
-        let is_over_h = block.h < space.h;
-        if is_over_h || !is_over_w {
-            self.rate_staged(seat, place, block, Axis::Y, choice)?;
+        if !self.allows_block(seat.space.trail, block) {
+            return Ok(());
         }
-        if is_over_w {
-            self.rate_staged(seat, place, block, Axis::X, choice)?;
-        }
-        Ok(())
+        let rating = seat.base.saturating_add(block.value);
+        choice.offer(Child::new(rating, seat.state, place, false))
     }
 
     // Rates the blocks from one place to another, as long as each that follows is larger.
     fn rate_run(
         &self,
-        seat: &Seat,
+        seat: &Seat<'_>,
         from: usize,
         to: usize,
         choice: &mut Choice,
     ) -> Result<u64, AllocError> {
-        let mut rated = 0u64;
+        let mut looked = 0u64;
         let blocks = self.blocks.get(from..to).unwrap_or(&[]);
         for (place, block) in (from..to).zip(blocks) {
             if !seat.holds(block) {
                 break;
             }
             self.rate_block(seat, place, block, choice)?;
-            rated = rated.saturating_add(1);
+            looked = looked.saturating_add(1);
         }
-        Ok(rated)
+        Ok(looked)
     }
 
     // Rates the grids of a way.
-    fn rate_grids(&self, seat: &Seat, way: &Way, choice: &mut Choice) -> Result<u64, AllocError> {
-        let mut rated = 0u64;
+    fn rate_grids(
+        &self,
+        seat: &Seat<'_>,
+        way: &Way,
+        choice: &mut Choice,
+    ) -> Result<u64, AllocError> {
+        let mut looked = 0u64;
         let blocks = self.blocks.get(way.grids..way.end).unwrap_or(&[]);
         for (place, block) in (way.grids..way.end).zip(blocks) {
             if seat.holds(block) {
                 self.rate_block(seat, place, block, choice)?;
             }
-            rated = rated.saturating_add(1);
+            looked = looked.saturating_add(1);
         }
-        Ok(rated)
+        Ok(looked)
     }
 
     // Rates the blocks of a way.
-    fn rate_way(&self, seat: &Seat, way: &Way, choice: &mut Choice) -> Result<u64, AllocError> {
+    fn rate_way(&self, seat: &Seat<'_>, way: &Way, choice: &mut Choice) -> Result<u64, AllocError> {
         let rows = self.rate_run(seat, way.rows, way.columns, choice)?;
         let columns = self.rate_run(seat, way.columns, way.grids, choice)?;
         let grids = self.rate_grids(seat, way, choice)?;
@@ -184,18 +209,18 @@ impl Rules<'_> {
             return Ok(0);
         };
         let mut seat = self.seat(place, state, *space);
-        let mut rated = self.ways.len() as u64;
+        let mut looked = self.ways.len() as u64;
         for way in self.ways {
             seat.left = state.left.get(way.piece).copied().unwrap_or(0);
             if seat.left > 0 && space.holds(way.w, way.h) {
-                rated = rated.saturating_add(self.rate_way(&seat, way, choice)?);
+                looked = looked.saturating_add(self.rate_way(&seat, way, choice)?);
             }
         }
-        Ok(rated)
+        Ok(looked)
     }
 
     // The seat in the next space of a state.
-    fn seat(&self, place: usize, state: &State, space: Space) -> Seat {
+    fn seat(&self, place: usize, state: &State, space: Space) -> Seat<'_> {
         let mut base = state.value;
         for other in state.spaces.iter().rev().skip(1) {
             base = base.saturating_add(self.guide.space(other, self.stages));
@@ -208,11 +233,13 @@ impl Rules<'_> {
             cuts: state.cuts,
             base,
             left: 0,
+            columns: self.order(space.trail, Axis::X),
+            rows: self.order(space.trail, Axis::Y),
         }
     }
 }
 
-impl Seat {
+impl Seat<'_> {
     // Whether a block fits, and its pieces are left.
     #[inline]
     fn holds(&self, block: &Block) -> bool {
@@ -286,7 +313,8 @@ struct Search {
     seen: Vec<u64>,
     choice: Choice,
     beam: usize,
-    rated: u64,
+    /// How many ways and blocks were looked at.
+    looked: u64,
 }
 
 impl Search {
@@ -303,7 +331,7 @@ impl Search {
             seen: Vec::new(alloc),
             choice: Choice::new(alloc, beam.saturating_mul(TRIED)),
             beam,
-            rated: 0,
+            looked: 0,
         }
     }
 
@@ -321,8 +349,8 @@ impl Search {
     fn rate(&mut self, rules: &Rules<'_>) -> Result<(), AllocError> {
         self.choice.clear();
         for (place, state) in self.level.states().iter().enumerate() {
-            let rated = rules.rate(place, state, &mut self.choice)?;
-            self.rated = self.rated.saturating_add(rated);
+            let looked = rules.rate(place, state, &mut self.choice)?;
+            self.looked = self.looked.saturating_add(looked);
         }
         Ok(())
     }
@@ -339,6 +367,7 @@ impl Search {
         let Some(block) = rules.blocks.get(child.block) else {
             return Ok(());
         };
+        self.looked = self.looked.saturating_add(rules.ways.len() as u64);
         state.copy_from(from)?;
         let first = if child.along_width { Axis::X } else { Axis::Y };
         let number = self.record.steps.len().saturating_add(1);
@@ -364,7 +393,7 @@ impl Search {
 
     // Goes on to the next level with the best children.
     fn advance(&mut self, rules: &Rules<'_>) -> Result<(), AllocError> {
-        let beam = if self.rated > MOST_RATED {
+        let beam = if self.looked > MOST_LOOKED {
             1
         } else {
             self.beam
@@ -410,6 +439,8 @@ pub(crate) fn best_found(
         blocks: &blocks.blocks,
         guide,
         stages,
+        least_w: blocks.ways.iter().map(|way| way.w).min().unwrap_or(0),
+        least_h: blocks.ways.iter().map(|way| way.h).min().unwrap_or(0),
     };
     let mut search = Search::new(alloc, beam.clamp(1, MOST_BEAM));
     search.begin(&rules, left, whole)?;

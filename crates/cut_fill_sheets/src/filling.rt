@@ -144,7 +144,7 @@ impl Scribe<'_> {
                 marks.push(Mark::Cut(axis, at))?;
             }
         }
-        self.write_block(block, parted.own.last, marks)?;
+        self.write_block(block, parted.own.trail.last, marks)?;
         Ok((second.2, first.2))
     }
 

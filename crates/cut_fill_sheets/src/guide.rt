@@ -3,7 +3,7 @@
 
 use crate::blocks::Way;
 use crate::places::{Cuts, Pair, Places};
-use crate::space::Space;
+use crate::space::{Space, Trail};
 use cut_measure::Axis;
 use std::alloc::{AllocError, Global};
 
@@ -111,7 +111,7 @@ fn cut_width(worths: &mut [u32], before: &[u32], pairs: &[Pair]) {
 }
 
 /// The worth rounded down by so many bits.
-fn rounded(worth: u64, shift: u32) -> u32 {
+fn rounded_down(worth: u64, shift: u32) -> u32 {
     let rounded = worth.checked_shr(shift).unwrap_or(0);
     u32::try_from(rounded).unwrap_or(u32::MAX)
 }
@@ -174,7 +174,7 @@ impl Grid {
         for way in ways {
             let cell = self.cell(self.across.of(way.w), self.down.of(way.h));
             if let Some(worth) = worths.get_mut(cell) {
-                *worth = rounded(way.value, shift).max(*worth);
+                *worth = rounded_down(way.value, shift).max(*worth);
             }
         }
         Ok(worths)
@@ -288,37 +288,42 @@ impl Guide {
         self.grid.down.of(h)
     }
 
-    // A worth of a table.
-    #[inline]
-    fn worth(&self, worths: &[u32], across: usize, down: usize) -> u64 {
-        let cell = across.wrapping_mul(self.height).wrapping_add(down);
-        let worth = worths.get(cell).copied().unwrap_or(0);
-        u64::from(worth).checked_shl(self.shift).unwrap_or(0)
+    /// The table of rectangles at the end of a trail, with at most so many stages in all; without any worth where the trail has
+    /// more.
+    pub(crate) fn table(&self, trail: Trail, most_stages: Option<u32>) -> &[u32] {
+        let Some(most) = most_stages else {
+            return &self.free;
+        };
+        let Some(to_come) = most.checked_sub(trail.stages) else {
+            return &[];
+        };
+        let Some(staged) = self.staged.get(to_come as usize) else {
+            return &self.free;
+        };
+        match trail.last {
+            Some(Axis::X) => &staged.across,
+            Some(Axis::Y) => &staged.down,
+            None => &staged.uncut,
+        }
     }
 
-    /// What a rectangle with these places may be worth without a limit of stages.
+    /// What a rectangle with these places may be worth by a table, rounded down by some bits.
     #[inline]
-    pub(crate) fn free(&self, across: usize, down: usize) -> u64 {
-        self.worth(&self.free, across, down)
+    pub(crate) fn rounded(&self, worths: &[u32], across: usize, down: usize) -> u64 {
+        let cell = across.wrapping_mul(self.height).wrapping_add(down);
+        u64::from(worths.get(cell).copied().unwrap_or(0))
+    }
+
+    /// What a rounded worth stands for.
+    #[inline]
+    pub(crate) fn worth(&self, rounded: u64) -> u64 {
+        rounded.checked_shl(self.shift).unwrap_or(0)
     }
 
     /// What a space may be worth, with at most so many stages in all.
     pub(crate) fn space(&self, space: &Space, most_stages: Option<u32>) -> u64 {
-        let (across, down) = (self.across(space.w), self.down(space.h));
-        let Some(most) = most_stages else {
-            return self.free(across, down);
-        };
-        let Some(to_come) = most.checked_sub(space.stages) else {
-            return 0;
-        };
-        let Some(staged) = self.staged.get(to_come as usize) else {
-            return self.free(across, down);
-        };
-        let worths = match space.last {
-            Some(Axis::X) => &staged.across,
-            Some(Axis::Y) => &staged.down,
-            None => &staged.uncut,
-        };
-        self.worth(worths, across, down)
+        let worths = self.table(space.trail, most_stages);
+        let rounded = self.rounded(worths, self.across(space.w), self.down(space.h));
+        self.worth(rounded)
     }
 }

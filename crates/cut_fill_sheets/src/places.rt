@@ -171,6 +171,9 @@ impl Places {
         longest.fill(0);
         for length in lengths {
             let over = point.saturating_sub(*length);
+            if over == 0 {
+                break;
+            }
             let (a, b) = (self.of(*length), self.of(over));
             if let Some(long) = longest.get_mut(a.min(b)) {
                 *long = a.max(b).max(*long);

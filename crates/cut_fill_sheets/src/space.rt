@@ -2,15 +2,20 @@
 
 use cut_measure::Axis;
 
+/// The cuts on the way to a rectangle, as far as stages are counted: a stage is a run of parallel cuts.
+#[derive(Clone, Copy)]
+pub(crate) struct Trail {
+    /// The axis of the last cut.
+    pub last: Option<Axis>,
+    pub stages: u32,
+}
+
 /// A rectangle that is free: its sides, in tenths of a millimetre, the kerf added.
 #[derive(Clone, Copy)]
 pub(crate) struct Space {
     pub w: u32,
     pub h: u32,
-    /// The axis of the last cut on the way to it.
-    pub last: Option<Axis>,
-    /// How many stages that way has: a stage is a run of parallel cuts.
-    pub stages: u32,
+    pub trail: Trail,
     /// The number of the step that left it free.
     pub step: usize,
     /// Whether it has the full side there, and isn't the one beside the block.
@@ -28,14 +33,43 @@ pub(crate) struct Parted {
     pub beside: Space,
 }
 
+impl Trail {
+    /// The trail with one more cut along an axis.
+    pub(crate) fn with(self, axis: Axis) -> Trail {
+        let is_more = self.last != Some(axis);
+        Trail {
+            last: Some(axis),
+            stages: self.stages.saturating_add(u32::from(is_more)),
+        }
+    }
+
+    /// How many stages there are with cuts along the width, along the height or along both, in the order that gives fewest.
+    #[inline]
+    pub(crate) fn stages_of(self, along_width: bool, along_height: bool) -> u32 {
+        let axis = match (along_width, along_height) {
+            (false, false) => return self.stages,
+            (true, false) => Axis::X,
+            (false, true) => Axis::Y,
+            // first along the axis of the last cut
+            (true, true) => {
+                let more = if self.last.is_some() { 1 } else { 2 };
+                return self.stages.saturating_add(more);
+            }
+        };
+        self.with(axis).stages
+    }
+}
+
 impl Space {
     /// A whole rectangle, which no cut has made.
     pub(crate) fn whole(w: u32, h: u32) -> Space {
         Space {
             w,
             h,
-            last: None,
-            stages: 0,
+            trail: Trail {
+                last: None,
+                stages: 0,
+            },
             step: 0,
             is_full: true,
         }
@@ -51,18 +85,8 @@ impl Space {
         w <= self.w && h <= self.h
     }
 
-    // How many stages there are with one more cut along an axis.
-    fn stages_with(&self, axis: Axis) -> u32 {
-        if self.last == Some(axis) {
-            self.stages
-        } else {
-            self.stages.saturating_add(1)
-        }
-    }
-
     // The space with another side, behind a cut along that axis.
     fn behind(&self, axis: Axis, side: u32) -> Space {
-        let stages = self.stages_with(axis);
         let (w, h) = match axis {
             Axis::X => (side, self.h),
             Axis::Y => (self.w, side),
@@ -70,8 +94,7 @@ impl Space {
         Space {
             w,
             h,
-            last: Some(axis),
-            stages,
+            trail: self.trail.with(axis),
             step: self.step,
             is_full: self.is_full,
         }
@@ -104,20 +127,6 @@ impl Space {
                 let (own, beside) = row.split(Axis::X, w);
                 Parted { own, full, beside }
             }
-        }
-    }
-
-    /// How many stages a block's pieces have, of which it has so many across and down, where the space is its own rectangle.
-    pub(crate) fn stages_inside(&self, across: u32, down: u32) -> u32 {
-        match (across > 1, down > 1) {
-            (false, false) => self.stages,
-            (true, false) => self.stages_with(Axis::X),
-            (false, true) => self.stages_with(Axis::Y),
-            // first along the axis of the last cut
-            (true, true) => match self.last {
-                Some(_) => self.stages.saturating_add(1),
-                None => 2,
-            },
         }
     }
 }

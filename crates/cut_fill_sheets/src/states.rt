@@ -2,7 +2,7 @@
 
 use crate::blocks::{Block, Way};
 use crate::guide::Guide;
-use crate::space::Space;
+use crate::space::{Space, Trail};
 use cut_measure::Axis;
 use std::alloc::{AllocError, Global};
 
@@ -17,6 +17,10 @@ pub(crate) struct Rules<'a> {
     pub guide: &'a Guide,
     /// The most stages on the way to a piece.
     pub stages: Option<u32>,
+    /// No way is less wide.
+    pub least_w: u32,
+    /// No way is less high.
+    pub least_h: u32,
 }
 
 /// A block that was placed.
@@ -70,13 +74,24 @@ impl Rules<'_> {
         if self.stages.is_none() {
             return sides;
         }
-        let axis = match space.last {
+        let axis = match space.trail.last {
             None => 0,
             Some(Axis::X) => 1,
             Some(Axis::Y) => 2,
         };
-        let cuts = u64::from(space.stages).wrapping_mul(3).wrapping_add(axis);
+        let cuts = u64::from(space.trail.stages)
+            .wrapping_mul(3)
+            .wrapping_add(axis);
         mix(sides.wrapping_add(cuts))
+    }
+
+    /// Whether there may be cuts along the width, along the height or along both at the end of a trail.
+    #[inline]
+    pub(crate) fn allows(&self, trail: Trail, along_width: bool, along_height: bool) -> bool {
+        match self.stages {
+            Some(most) => trail.stages_of(along_width, along_height) <= most,
+            None => true,
+        }
     }
 
     // Whether a piece laid so may be cut of a space.
@@ -84,16 +99,14 @@ impl Rules<'_> {
         if !space.holds(way.w, way.h) {
             return false;
         }
-        let Some(most) = self.stages else {
-            return true;
-        };
-        let across = space.parted(way.w, way.h, Axis::X);
-        let down = space.parted(way.w, way.h, Axis::Y);
-        across.own.stages.min(down.own.stages) <= most
+        self.allows(space.trail, way.w < space.w, way.h < space.h)
     }
 
     // Whether any piece that is left may be cut of a space.
     fn fits(&self, left: &[u32], space: &Space) -> bool {
+        if space.w < self.least_w || space.h < self.least_h {
+            return false;
+        }
         self.ways.iter().any(|way| {
             left.get(way.piece).is_some_and(|count| *count > 0) && self.takes(way, space)
         })
