@@ -17,25 +17,29 @@ use Rattle.cut_sheets.specs.Bound.{worth_left}
 use Rattle.cut_sheets.specs.Rounded.{IsStep}
 use Rattle.cut_plan.specs.declared.faults.PlanFault.{PlanFault}
 use Rattle.cut_plan.specs.declared.faults.PlanFault.TheVariants.{NothingFits}
-use Rattle.cut_plan.specs.Faults.{are_bad_wants, is_bad_step, is_fitting, is_large, is_short}
+use Rattle.cut_plan.specs.Faults.{are_bad_wants, is_fitting, is_short}
 use Rattle.cut_plan.proofs.Faultless as sound
+use Rattle.cut_classes.specs.Classes.{Classes}
+use Rattle.cut_classes.specs.Grids.{AreUsable}
+use Rattle.cut_classes.proofs.LegalTrees.{ceiling_bounds}
 use Rattle.cut_bound.specs.declared.limits.TheConstants.{MOST_ORDER_WANTS}
 use Rattle.cut_bound.specs.declared.stock.StockSize.{StockSize}
 use Rattle.cut_bound.specs.declared.stock.RatedSize.{RatedSize}
 use Rattle.cut_bound.specs.Cuttings.{IsCostBound}
 use Rattle.cut_bound.specs.Bounds.{AreRated, IsGreatestCost, IsMost, SetsPrice, cost_at, sizes_of}
-use Rattle.cut_bound.specs.Ratings.{AreRatable, IsRating}
-use Rattle.cut_bound.specs.Prices.{is_below_step, priced}
-use Rattle.cut_bound.specs.Orders.{IsCommonDivisor, IsPricedBound, IsRatedBound, told_cost, cost_fault, fault_by, is_no_step, order_fault}
+use Rattle.cut_bound.specs.Ratings.{AreRatable, IsRating, is_large, rated_wants}
+use Rattle.cut_bound.specs.Prices.{is_below_step, priced, step_of}
+use Rattle.cut_bound.specs.Orders.{IsCommonDivisor, IsPricedBound, IsRatedBound, told_cost, cost_fault, fault_by, is_bad_step, is_no_step, order_fault}
 use Rattle.cut_bound.proofs.BarRatings.{bar_most}
 use Rattle.cut_bound.proofs.Multiples.{multiple_bound}
 use Rattle.cut_bound.proofs.PaidWorths.{bound_holds}
+use Rattle.cut_bound.proofs.ClassRatings.{far, far_classes, far_some, far_usable, inside_far, rated_none, rated_own, rated_picked, unrated_classes}
 use Rattle.cut_bound.proofs.PickedWants.{picked_bound}
 use Rattle.cut_bound.proofs.PricedWants.{each_priced, is_price, priced_few, priced_none, priced_own, priced_picked}
 
 -- ---- no fault
 
-pub record IsFaultless (bad_step : Bool) (kind : Kind) (k s : ℕ) (sizes : List StockSize) (wants : List Want) : Type 0 where
+pub record IsFaultless (bad_step : Bool) (kind : Kind) (k : ℕ) (s : Option ℕ) (sizes : List StockSize) (wants : List Want) : Type 0 where
   pub in_range : are_bad_wants MOST_ORDER_WANTS kind wants ≡ false
   pub stepped : bad_step ≡ false
   pub small : list_any (λ z. is_large kind z.size k s) sizes ≡ false
@@ -50,7 +54,7 @@ chosen : (b : Bool) → (if b then None else Some NothingFits) ≡ None → b �
 chosen true e = refl
 chosen false e = absurd (cc)
 
-pub faultless : (bad_step : Bool) (kind : Kind) (k s : ℕ) (sizes : List StockSize) (wants : List Want) → fault_by bad_step kind k s sizes wants ≡ None → IsFaultless bad_step kind k s sizes wants
+pub faultless : (bad_step : Bool) (kind : Kind) (k : ℕ) (s : Option ℕ) (sizes : List StockSize) (wants : List Want) → fault_by bad_step kind k s sizes wants ≡ None → IsFaultless bad_step kind k s sizes wants
 faultless bad_step kind k s sizes wants e =
     let a = past (are_bad_wants MOST_ORDER_WANTS kind wants) _ _ e in
     let b = past bad_step _ _ a.1 in
@@ -58,22 +62,23 @@ faultless bad_step kind k s sizes wants e =
     record { in_range = a.0; stepped = b.0; small = c.0; fits = chosen _ c.1 }
 
 -- a step that no want is shorter than is one
-some_step : (kind : Kind) (k s : ℕ) (wants : List Want) → is_bad_step kind k s wants ≡ false → is_no_step kind s ≡ false
+some_step : (kind : Kind) (k : ℕ) (s : Option ℕ) (wants : List Want) → is_bad_step kind k s wants ≡ false → is_no_step kind s ≡ false
 some_step Bar k s wants e = refl
-some_step Sheet k s wants e = neither_first _ _ e
+some_step Sheet k None wants e = refl
+some_step Sheet k (Some s) wants e = neither_first _ _ e
   where
     neither_first : (a b : Bool) → (a || b) ≡ false → a ≡ false
     neither_first true b e = absurd (false≢true (sym e))
     neither_first false b e = refl
 
-pub cost_faultless : (kind : Kind) (k s : ℕ) (sizes : List StockSize) (wants : List Want) → cost_fault kind k s sizes wants ≡ None → order_fault kind k s sizes wants ≡ None
+pub cost_faultless : (kind : Kind) (k : ℕ) (s : Option ℕ) (sizes : List StockSize) (wants : List Want) → cost_fault kind k s sizes wants ≡ None → order_fault kind k s sizes wants ≡ None
 cost_faultless kind k s sizes wants e =
     let f = faultless (is_bad_step kind k s wants) kind k s sizes wants e in
     rw (f.in_range, some_step kind k s wants f.stepped, f.small, f.fits) refl
 
 -- ---- what the tables need
 
-none_large : (kind : Kind) (k s : ℕ) (zs : List StockSize) → list_any (λ z. is_large kind z.size k s) zs ≡ false → All (λ z. is_large kind z.size k s ≡ false) zs
+none_large : (kind : Kind) (k : ℕ) (s : Option ℕ) (zs : List StockSize) → list_any (λ z. is_large kind z.size k s) zs ≡ false → All (λ z. is_large kind z.size k s ≡ false) zs
 none_large kind k s [] e = All-nil (λ (z : StockSize). is_large kind z.size k s ≡ false)
 none_large kind k s (z ∷ zs) e =
     let n = parts (is_large kind z.size k s) (list_any (λ (y : StockSize). is_large kind y.size k s) zs) e in
@@ -83,21 +88,24 @@ none_large kind k s (z ∷ zs) e =
     parts true b e = absurd (false≢true (sym e))
     parts false b e = (refl, e)
 
-pub ratable : (kind : Kind) (k s : ℕ) (sizes : List StockSize) (wants : List Want) (ns : List ℕ) → order_fault kind k s sizes wants ≡ None
-    → AreRatable kind k s sizes (priced kind k s wants ns)
-ratable kind k s sizes wants ns e =
+pub ratable : (kind : Kind) (k : ℕ) (o : Option ℕ) (sizes : List StockSize) (wants : List Want) (ns : List ℕ) → order_fault kind k o sizes wants ≡ None
+    → AreRatable kind k o sizes (priced kind k (step_of o) wants ns)
+ratable kind k o sizes wants ns e =
     record {
       own = priced_own kind k s wants ns (sound.own _ kind wants f.in_range);
       modest = λ x has. record { worth = omega (arith, (in_range x has).worth); left = omega (arith, (in_range x has).left) };
       worthy = λ x has. omega (arith, (in_range x has).worth);
       total = omega (arith, sound.left_small (priced kind k s wants ns) in_range, priced_few kind k s wants ns, sound.few _ kind wants f.in_range);
       flat = flat kind refl;
-      stepped = stepped kind refl;
-      small = none_large kind k s sizes f.small;
+      stepped = stepped;
+      small = none_large kind k o sizes f.small;
     }
   where
-    f : IsFaultless (is_no_step kind s) kind k s sizes wants
-    f = faultless (is_no_step kind s) kind k s sizes wants e
+    s : ℕ
+    s = step_of o
+
+    f : IsFaultless (is_no_step kind o) kind k o sizes wants
+    f = faultless (is_no_step kind o) kind k o sizes wants e
 
     in_range : (x : Want) → Contains (priced kind k s wants ns) x → sound.IsInRange x
     in_range x has =
@@ -114,19 +122,21 @@ ratable kind k s sizes wants ns e =
         let old = all p.picked.want p.picked.there in
         record { flat = ap (λ (z : Want). z.size.h) p.picked.same ∙ old.flat; upright = ap (λ (z : Want). z.may_turn) p.picked.same ∙ old.upright }
 
-    stepped : (some : Kind) → kind ≡ some → some ≡ Sheet → IsStep k s (priced kind k s wants ns)
-    stepped some same sheet =
-        let step : (s == 0) ≡ false = subst (λ (q : Kind). is_no_step q s ≡ false) (same ∙ sheet) f.stepped in
-        let other = eqb-false s 0 step in
+    stepped : kind ≡ Sheet → (n : ℕ) → o ≡ Some n → IsStep k n (priced kind k s wants ns)
+    stepped sheet n is =
+        let step : (n == 0) ≡ false =
+        subst (λ (q : Kind). is_no_step q (Some n) ≡ false) sheet (subst (λ (p : Option ℕ). is_no_step kind p ≡ false) is f.stepped) in
+        let other = eqb-false n 0 step in
         record {
           some = omega (arith, other);
           within = λ x has.
               let p = each_priced kind k s wants ns x has in
               let price = is_price kind k s p.picked.want x.worth p.price in
-              let above : is_short k s p.picked.want ≡ false = subst (λ (q : Kind). is_below_step q k s p.picked.want ≡ false) (same ∙ sheet) price.stepped in
-              let n = parts (nat_lt (p.picked.want.size.w + k) s) (nat_lt (p.picked.want.size.h + k) s) above in
-              let w : s ≤ p.picked.want.size.w + k = ltb-false (p.picked.want.size.w + k) s n.0 in
-              let h : s ≤ p.picked.want.size.h + k = ltb-false (p.picked.want.size.h + k) s n.1 in
+              let above : is_short k n p.picked.want ≡ false =
+              subst (λ (q : Kind). is_below_step q k n p.picked.want ≡ false) sheet (subst (λ (r : Option ℕ). is_below_step kind k (step_of r) p.picked.want ≡ false) is price.stepped) in
+              let m = parts (nat_lt (p.picked.want.size.w + k) n) (nat_lt (p.picked.want.size.h + k) n) above in
+              let w : n ≤ p.picked.want.size.w + k = ltb-false (p.picked.want.size.w + k) n m.0 in
+              let h : n ≤ p.picked.want.size.h + k = ltb-false (p.picked.want.size.h + k) n m.1 in
               (omega (arith, w, ap (λ (z : Want). z.size.w) p.picked.same), omega (arith, h, ap (λ (z : Want). z.size.h) p.picked.same));
         }
       where
@@ -158,16 +168,28 @@ greatest_holds wants k sizes rated cost own most same g =
       | inr (i, t, lt, at, (sets, e)) ↦ omega (arith, bound_holds wants k rated t own most sets us is all)
     ])
 
-rating_most : (kind : Kind) (k s : ℕ) (sizes : List StockSize) (wants : List Want) (r : RatedSize) → AreRatable kind k s sizes wants → (kind ≡ Bar → r.stock.size.h ≡ 1)
-    → IsRating kind k s wants r.stock.size r.best → IsMost wants k r.stock.size r.best
-rating_most Bar k s sizes wants r good flat rate = bar_most wants k r.stock.size r.best good.own (good.flat refl) (flat refl) rate
-rating_most Sheet k s sizes wants r good flat rate = λ t legal within. ceiling_holds wants k s r.stock.size.w r.stock.size.h r.best (good.stepped refl) rate t legal
+rating_most : (kind : Kind) (k : ℕ) (step : Option ℕ) (xs ys : Classes) (sizes : List StockSize) (wants : List Want) (r : RatedSize) → AreRatable kind k step sizes wants
+    → (kind ≡ Sheet → step ≡ None → AreUsable xs × AreUsable ys) → (kind ≡ Bar → r.stock.size.h ≡ 1) → IsRating kind k step xs ys (rated_wants kind k step xs ys wants) r.stock.size r.best
+    → IsMost (rated_wants kind k step xs ys wants) k r.stock.size r.best
+rating_most Bar k step xs ys sizes wants r good usable flat rate = bar_most wants k r.stock.size r.best good.own (good.flat refl) (flat refl) rate
+rating_most Sheet k (Some s) xs ys sizes wants r good usable flat rate = λ t legal within. ceiling_holds wants k s r.stock.size.w r.stock.size.h r.best (good.stepped refl s refl) rate t legal
+rating_most Sheet k None xs ys sizes wants r good usable flat rate = λ t legal within.
+    let u = usable refl refl in
+    let most =
+    ceiling_bounds (rated_wants Sheet k None xs ys wants) k xs ys rate.table r.stock.size.w r.stock.size.h rate.worth.i rate.worth.j t (rated_own Sheet k None xs ys wants good.own)
+    (record { some = omega (arith, u.0.some); none = u.0.none }) (record { some = omega (arith, u.1.some); none = u.1.none }) rate.least.ceiling rate.worth.in_across rate.worth.in_down legal in
+    omega (arith, most, rate.worth.read)
 
-pub rated_holds : (kind : Kind) (k s : ℕ) (sizes : List StockSize) (wants : List Want) (bound : ℕ) → AreRatable kind k s sizes wants → (kind ≡ Bar → All (λ z. z.size.h ≡ 1) sizes)
-    → IsRatedBound kind k s sizes wants bound → IsCostBound wants k sizes bound
-rated_holds kind k s sizes wants bound good flat b =
-    subst (IsCostBound wants k sizes) (sym b.told) (multiple_bound wants k sizes b.cost b.divisor b.common (greatest_holds wants k sizes b.rated b.cost good.own most b.all_rated b.greatest))
+pub rated_holds : (kind : Kind) (k : ℕ) (step : Option ℕ) (sizes : List StockSize) (wants : List Want) (bound : ℕ) → AreRatable kind k step sizes wants → (kind ≡ Bar → All (λ z. z.size.h ≡ 1) sizes)
+    → IsRatedBound kind k step sizes wants bound → IsCostBound wants k sizes bound
+rated_holds kind k step sizes wants bound good flat b =
+    picked_bound wants rated k sizes bound good.own (rated_picked kind k step b.across b.down wants)
+    (subst (IsCostBound rated k sizes) (sym b.told)
+    (multiple_bound rated k sizes b.cost b.divisor b.common (greatest_holds rated k sizes b.rated b.cost (rated_own kind k step b.across b.down wants good.own) most b.all_rated b.greatest)))
   where
+    rated : List Want
+    rated = rated_wants kind k step b.across b.down wants
+
     high : (i : ℕ) (d : RatedSize) → i < length b.rated → kind ≡ Bar → (get_or b.rated i d).stock.size.h ≡ 1
     high i d lt bar =
         let all = subst (λ zs. All (λ (z : StockSize). z.size.h ≡ 1) zs) (sym b.all_rated) (flat bar) in
@@ -178,18 +200,18 @@ rated_holds kind k s sizes wants bound good flat b =
         flat_at (r ∷ rs) zero d lt all = All-head (λ (z : StockSize). z.size.h ≡ 1) r.stock (sizes_of rs) all
         flat_at (r ∷ rs) (suc i) d lt all = flat_at rs i d (omega arith) (All-tail (λ (z : StockSize). z.size.h ≡ 1) r.stock (sizes_of rs) all)
 
-    most : AreRated wants k b.rated
-    most = λ i d lt. rating_most kind k s sizes wants (get_or b.rated i d) good (high i d lt) (b.ratings i d lt)
+    most : AreRated rated k b.rated
+    most = λ i d lt. rating_most kind k step b.across b.down sizes wants (get_or b.rated i d) good b.usable (high i d lt) (b.ratings i d lt)
 
-pub priced_holds : (kind : Kind) (k s : ℕ) (sizes : List StockSize) (wants : List Want) (ns : List ℕ) (bound : ℕ) → order_fault kind k s sizes wants ≡ None
-    → (kind ≡ Bar → All (λ z. z.size.h ≡ 1) sizes) → IsRatedBound kind k s sizes (priced kind k s wants ns) bound → IsPricedBound kind k s sizes wants ns bound
-priced_holds kind k s sizes wants ns bound e flat b =
-    let f = faultless (is_no_step kind s) kind k s sizes wants e in
+pub priced_holds : (kind : Kind) (k : ℕ) (step : Option ℕ) (sizes : List StockSize) (wants : List Want) (ns : List ℕ) (bound : ℕ) → order_fault kind k step sizes wants ≡ None
+    → (kind ≡ Bar → All (λ z. z.size.h ≡ 1) sizes) → IsRatedBound kind k step sizes (priced kind k (step_of step) wants ns) bound → IsPricedBound kind k step sizes wants ns bound
+priced_holds kind k step sizes wants ns bound e flat b =
+    let f = faultless (is_no_step kind step) kind k step sizes wants e in
     record {
       exact = b;
       least =
-          picked_bound wants (priced kind k s wants ns) k sizes bound (sound.own _ kind wants f.in_range) (priced_picked kind k s wants ns)
-          (rated_holds kind k s sizes (priced kind k s wants ns) bound (ratable kind k s sizes wants ns e) flat b);
+          picked_bound wants (priced kind k (step_of step) wants ns) k sizes bound (sound.own _ kind wants f.in_range) (priced_picked kind k (step_of step) wants ns)
+          (rated_holds kind k step sizes (priced kind k (step_of step) wants ns) bound (ratable kind k step sizes wants ns e) flat b);
     }
 
 -- ---- no prices
@@ -200,13 +222,14 @@ worthless (Piece d turned) = refl
 worthless (Trim axis a t) = worthless t
 worthless (Cut axis a t u) = omega (arith, worthless t, worthless u)
 
-no_rating : (kind : Kind) (k s : ℕ) (size : Extent) → IsRating kind k s [] size 0
-no_rating Bar k s size = record {
+no_rating : (kind : Kind) (k : ℕ) (step : Option ℕ) (most : ℕ) (size : Extent) → size.w + k < most → size.h + k < most → IsRating kind k step (far_classes most) (far_classes most) [] size 0
+no_rating Bar k step most size wide high = record {
   counts = [];
   best_counts = record { within = tt; fit = omega arith; most = λ others few fit. omega arith };
   worth = refl;
 }
-no_rating Sheet k s size = record { found = (Rest, tt, refl); most = λ t legal. omega (arith, worthless t) }
+no_rating Sheet k (Some s) most size wide high = record { found = (Rest, tt, refl); most = λ t legal. omega (arith, worthless t) }
+no_rating Sheet k None most size wide high = unrated_classes k most size wide high
 
 unrated : StockSize → RatedSize
 unrated s = record { stock = s; best = 0 }
@@ -216,22 +239,27 @@ unfolding unrated
 all_unrated [] = refl
 all_unrated (z ∷ zs) = ap (λ ys. z ∷ ys) (all_unrated zs)
 
-pub unpriced : (kind : Kind) (k s : ℕ) (sizes : List StockSize) (wants : List Want) (divisor bound : ℕ) → IsCommonDivisor sizes divisor → bound ≡ told_cost divisor 0
-    → IsPricedBound kind k s sizes wants [] bound
+pub unpriced : (kind : Kind) (k : ℕ) (step : Option ℕ) (sizes : List StockSize) (wants : List Want) (divisor bound : ℕ) → IsCommonDivisor sizes divisor → bound ≡ told_cost divisor 0
+    → IsPricedBound kind k step sizes wants [] bound
 unfolding unrated
-unpriced kind k s sizes wants divisor bound common told =
+unpriced kind k step sizes wants divisor bound common told =
     record {
       exact = record {
+        across = xs;
+        down = xs;
+        usable = λ sheet none. (far_usable (far k sizes) (far_some k sizes), far_usable (far k sizes) (far_some k sizes));
         rated = map unrated sizes;
         all_rated = all_unrated sizes;
         ratings =
-            All-map (λ (r : RatedSize). IsRating kind k s (priced kind k s wants []) r.stock.size r.best) unrated sizes
-            (λ i d lt. subst (λ (ws : List Want). IsRating kind k s ws (get_or sizes i d).size 0) (sym (priced_none kind k s wants)) (no_rating kind k s (get_or sizes i d).size));
+            All-map (λ (r : RatedSize). IsRating kind k step xs xs (rated_wants kind k step xs xs (priced kind k (step_of step) wants [])) r.stock.size r.best) unrated sizes
+            (λ i d lt.
+            let inside = inside_far k sizes i d lt in
+            subst (λ (ws : List Want). IsRating kind k step xs xs ws (get_or sizes i d).size 0) (sym none) (no_rating kind k step (far k sizes) (get_or sizes i d).size inside.0 inside.1));
         cost = 0;
         greatest = record {
           reached = inl refl;
           most =
-              All-map (λ (t : RatedSize). SetsPrice t (map unrated sizes) → cost_at t (map unrated sizes) (worth_left (priced kind k s wants [])) ≤ 0) unrated sizes
+              All-map (λ (t : RatedSize). SetsPrice t (map unrated sizes) → cost_at t (map unrated sizes) (worth_left (rated_wants kind k step xs xs (priced kind k (step_of step) wants []))) ≤ 0) unrated sizes
               (λ i d lt sets. absurd (omega (arith, sets.some)));
         };
         divisor = divisor;
@@ -240,3 +268,9 @@ unpriced kind k s sizes wants divisor bound common told =
       };
       least = subst (IsCostBound wants k sizes) (sym told) (multiple_bound wants k sizes 0 divisor common (λ us is makes. omega arith));
     }
+  where
+    xs : Classes
+    xs = far_classes (far k sizes)
+
+    none : rated_wants kind k step xs xs (priced kind k (step_of step) wants []) ≡ []
+    none = ap (λ ws. rated_wants kind k step xs xs ws) (priced_none kind k (step_of step) wants) ∙ rated_none kind k step xs xs

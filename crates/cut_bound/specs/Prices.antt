@@ -1,5 +1,5 @@
 -- Wants at prices, which are a list of numbers beside them.
-use Rattle.std.specs.Prelude.{◌≡◌, ℕ, ◌&&◌, not, nat_le, nat_lt, Bool, false, List, [], ◌∷◌, Contains, if◌then◌else◌}
+use Rattle.std.specs.Prelude.{◌≡◌, ℕ, ◌&&◌, not, nat_le, nat_lt, Bool, false, List, [], ◌∷◌, Contains, Option, if◌then◌else◌, unwrap_or}
 use Rattle.cut_measure.specs.declared.ranges.TheConstants.{MOST_WORTH}
 use Rattle.cut_measure.specs.declared.sizes.Kind.{Kind}
 use Rattle.cut_measure.specs.declared.sizes.Kind.TheVariants.{Bar, Sheet}
@@ -7,7 +7,11 @@ use Rattle.cut_wants.specs.declared.wants.Want.{Want}
 use Rattle.cut_plan.specs.Faults.{is_short}
 use Rattle.cut_bound.specs.declared.prices.Price.{Price}
 
--- a side of a sheet's want and a kerf are shorter than the step, so that rounded down they would be nothing
+-- the step, or 0 where there is none
+abbrev pub step_of : Option ℕ → ℕ
+step_of step = unwrap_or step 0
+
+-- a side of a sheet's want and a kerf are shorter than the step, so that rounded down they would be nothing; of 0 none is
 abbrev pub is_below_step : Kind → (kerf step : ℕ) → Want → Bool
 is_below_step Bar k s x = false
 is_below_step Sheet k s x = is_short k s x

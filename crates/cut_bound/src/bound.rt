@@ -1,12 +1,15 @@
 //! What it costs at least to make all that is left of an order, from units of several sizes.
 
-ghost use Rattle.std.specs.Prelude.{◌≡◌, ◌≤◌, ◌⊎◌, All, IfErr, IfOk, IfSome, ℕ, List, [], map, None, Some};
+ghost use Rattle.std.specs.Prelude.{◌≡◌, ◌≤◌, ◌<◌, ◌^◌, ◌⊎◌, All, IfErr, IfOk, IfSome, ℕ, List, [], map, None, Option, Some};
 ghost use Rattle.cut_measure.specs.declared.sizes.Kind.{Kind};
-ghost use Rattle.cut_measure.specs.declared.sizes.Kind.TheVariants.{Bar};
+ghost use Rattle.cut_measure.specs.declared.sizes.Kind.TheVariants.{Bar, Sheet};
 ghost use Rattle.cut_wants.specs.declared.wants.Want.{Want};
 ghost use Rattle.cut_plan.specs.declared.faults.PlanFault.TheVariants.{NoMemory};
 ghost use Rattle.cut_bound.specs.Bounds.{sizes_of};
-ghost use Rattle.cut_bound.specs.Ratings.{AreRatable, IsRating};
+ghost use Rattle.cut_bound.specs.Ratings.{AreRatable, IsBarRating};
+ghost use Rattle.cut_sheets.specs.Bound.{worth_left};
+ghost use Rattle.cut_sheets.specs.Rounded.{IsStep, steps_down, wants_down};
+ghost use Rattle.cut_wants.specs.Best.{IsBestOf};
 ghost use Rattle.cut_bound.specs.Orders as orders;
 ghost use Rattle.cut_bound.specs.Orders.{IsPricedBound, IsRatedBound};
 
@@ -15,33 +18,13 @@ use crate::faults::cost_fault;
 use crate::limits::MOST_BOUND;
 use crate::price::greatest_cost;
 use crate::prices::priced;
-use crate::ratings::{rated_bars, rated_sheets};
+use crate::ratings::{rated_bars, rated_classes, rated_sheets, stock_grid};
 use crate::stock::{RatedSize, StockSize};
+use cut_classes::counted_wants;
 use cut_measure::{Kind, MOST_KERF};
 use cut_plan::{PlanFault, Want};
 use cut_sheets::bound::total_left;
 use std::alloc::{AllocError, Global};
-
-// Each size with what a unit of it is worth at most, at the prices of some of the wants.
-fn rated_sizes(
-    alloc: Global,
-    kind: Kind,
-    kerf: u32,
-    step: u32,
-    sizes: &[StockSize],
-    priced: &[Want],
-) -> Result<Vec<RatedSize>, AllocError>
-    requires kerf { kerf ≤ MOST_KERF }
-    requires ratable { AreRatable kind kerf step sizes.now priced.now }
-    ensures sizes { IfOk result (λ rated. sizes_of rated.items ≡ sizes.now) }
-    ensures ratings { IfOk result
-        (λ rated. All (λ r. IsRating kind kerf step priced.now r.stock.size r.best) rated.items) }
-{
-    match kind {
-        Kind::Bar => rated_bars(alloc, kerf, sizes, priced),
-        Kind::Sheet => rated_sheets(alloc, kerf, step, sizes, priced),
-    }
-}
 
 // The least multiple of a divisor that is no less than a cost, or 10^18 where that is less.
 fn told_cost(divisor: u64, cost: u128) -> u64
@@ -58,12 +41,66 @@ fn told_cost(divisor: u64, cost: u128) -> u64
     }
 }
 
+// The bound of bars, at the prices of some of the wants.
+fn bars_bound(
+    alloc: Global,
+    kerf: u32,
+    sizes: &[StockSize],
+    priced: &[Want],
+) -> Result<u64, AllocError>
+    requires kerf { kerf ≤ MOST_KERF }
+    requires ratable { (step : Option ℕ) × AreRatable Bar kerf step sizes.now priced.now }
+    ensures { IfOk result (λ bound. (step : Option ℕ)
+        → IsRatedBound Bar kerf step sizes.now priced.now bound) }
+{
+    let rated = rated_bars(alloc, kerf, sizes, priced)?;
+    let cost = greatest_cost(&rated, total_left(priced));
+    Ok(told_cost(divisor_of(sizes), cost))
+}
+
+// The bound of sheets in steps, at the prices of some of the wants.
+fn steps_bound(
+    alloc: Global,
+    kerf: u32,
+    step: u32,
+    sizes: &[StockSize],
+    priced: &[Want],
+) -> Result<u64, AllocError>
+    requires kerf { kerf ≤ MOST_KERF }
+    requires ratable { AreRatable Sheet kerf (Some step) sizes.now priced.now }
+    ensures { IfOk result (IsRatedBound Sheet kerf (Some step) sizes.now priced.now) }
+{
+    let rated = rated_sheets(alloc, kerf, step, sizes, priced)?;
+    let cost = greatest_cost(&rated, total_left(priced));
+    Ok(told_cost(divisor_of(sizes), cost))
+}
+
+// The bound of sheets without a step, at the prices of some of the wants.
+fn classes_bound(
+    alloc: Global,
+    kerf: u32,
+    points: usize,
+    sizes: &[StockSize],
+    priced: &[Want],
+) -> Result<u64, AllocError>
+    requires kerf { kerf ≤ MOST_KERF }
+    requires total { worth_left priced.now < 2 ^ 64 }
+    ensures { IfOk result (IsRatedBound Sheet kerf None sizes.now priced.now) }
+{
+    let grid = stock_grid(alloc, kerf, points, sizes, priced)?;
+    let counted = counted_wants(alloc, kerf, &grid, priced)?;
+    let rated = rated_classes(alloc, kerf, &grid, sizes, priced)?;
+    let cost = greatest_cost(&rated, total_left(&counted));
+    Ok(told_cost(divisor_of(sizes), cost))
+}
+
 // The bound at the prices of some of the wants.
 fn rated_bound(
     alloc: Global,
     kind: Kind,
     kerf: u32,
-    step: u32,
+    step: Option<u32>,
+    points: usize,
     sizes: &[StockSize],
     priced: &[Want],
 ) -> Result<u64, AllocError>
@@ -71,9 +108,13 @@ fn rated_bound(
     requires ratable { AreRatable kind kerf step sizes.now priced.now }
     ensures { IfOk result (IsRatedBound kind kerf step sizes.now priced.now) }
 {
-    let rated = rated_sizes(alloc, kind, kerf, step, sizes, priced)?;
-    let cost = greatest_cost(&rated, total_left(priced));
-    Ok(told_cost(divisor_of(sizes), cost))
+    match kind {
+        Kind::Bar => bars_bound(alloc, kerf, sizes, priced),
+        Kind::Sheet => match step {
+            None => classes_bound(alloc, kerf, points, sizes, priced),
+            Some(step) => steps_bound(alloc, kerf, step, sizes, priced),
+        },
+    }
 }
 
 /// What it costs at least to make all that is left of the wants, or more, from units of the sizes
@@ -81,14 +122,16 @@ fn rated_bound(
 /// (weak duality of linear programming; Gilmore and Gomory 1961), as a multiple of what divides all
 /// costs, and 10^18 at most. The numbers are the wants' prices, in their order, whatever their
 /// worths are: a number outside 1..=1000000000 is none, and a sheet's want whose side and kerf are
-/// shorter than the step has none. One table is made, with this step; a bar ignores the step. A
-/// bound that is more than all units at hand cost tells that they don't suffice
+/// shorter than the step has none. One table is made: with this step, or where sheets have none
+/// over classes of their sides that begin at about so many points of each axis. A bar ignores both.
+/// A bound that is more than all units at hand cost tells that they don't suffice
 /// (`stock_falls_short`).
 pub fn priced_cost(
     alloc: Global,
     kind: Kind,
     kerf: u32,
-    step: u32,
+    step: Option<u32>,
+    points: usize,
     sizes: &[StockSize],
     wants: &[Want],
     numbers: &[u32],
@@ -99,13 +142,13 @@ pub fn priced_cost(
     ensures { IfOk result (IsPricedBound kind kerf step sizes.now wants.now numbers.now) }
 {
     let priced = priced(alloc, kind, kerf, step, wants, numbers)?;
-    let bound = rated_bound(alloc, kind, kerf, step, sizes, &priced)?;
+    let bound = rated_bound(alloc, kind, kerf, step, points, sizes, &priced)?;
     Ok(bound)
 }
 
 /// The bound at no prices: 0. It takes no table.
 pub fn unpriced_cost(sizes: &[StockSize]) -> u64
-    ensures { (kind : Kind) (kerf step : ℕ) (wants : List Want)
+    ensures { (kind : Kind) (kerf : ℕ) (step : Option ℕ) (wants : List Want)
         → IsPricedBound kind kerf step sizes.now wants [] result }
 {
     told_cost(divisor_of(sizes), 0)
@@ -129,12 +172,12 @@ fn faultless_cost(
 ) -> Result<u64, AllocError>
     requires kerf { kerf ≤ MOST_KERF }
     requires flat { kind ≡ Bar → All (λ z. z.size.h ≡ 1) sizes.now }
-    requires faultless { orders.cost_fault kind kerf step sizes.now wants.now ≡ None }
+    requires faultless { orders.cost_fault kind kerf (Some step) sizes.now wants.now ≡ None }
     ensures { IfOk result
-        (IsPricedBound kind kerf step sizes.now wants.now (map (λ x. x.worth) wants.now)) }
+        (IsPricedBound kind kerf (Some step) sizes.now wants.now (map (λ x. x.worth) wants.now)) }
 {
     let worths = worths_of(alloc, wants)?;
-    let bound = priced_cost(alloc, kind, kerf, step, sizes, wants, &worths)?;
+    let bound = priced_cost(alloc, kind, kerf, Some(step), 0, sizes, wants, &worths)?;
     Ok(bound)
 }
 
@@ -153,13 +196,13 @@ pub fn least_cost(
     requires kerf { kerf ≤ MOST_KERF }
     requires flat { kind ≡ Bar → All (λ z. z.size.h ≡ 1) sizes.now }
     ensures ok { IfOk result
-        (IsPricedBound kind kerf step sizes.now wants.now (map (λ x. x.worth) wants.now)) }
-    ensures faulty { IfSome (orders.cost_fault kind kerf step sizes.now wants.now)
+        (IsPricedBound kind kerf (Some step) sizes.now wants.now (map (λ x. x.worth) wants.now)) }
+    ensures faulty { IfSome (orders.cost_fault kind kerf (Some step) sizes.now wants.now)
         (λ fault. result ≡ Err fault) }
     ensures err { IfErr result (λ fault. (fault ≡ NoMemory)
-        ⊎ (orders.cost_fault kind kerf step sizes.now wants.now ≡ Some fault)) }
+        ⊎ (orders.cost_fault kind kerf (Some step) sizes.now wants.now ≡ Some fault)) }
 {
-    match cost_fault(kind, kerf, step, sizes, wants) {
+    match cost_fault(kind, kerf, Some(step), sizes, wants) {
         Some(fault) => Err(fault),
         None => match faultless_cost(alloc, kind, kerf, step, sizes, wants) {
             Ok(bound) => Ok(bound),

@@ -16,7 +16,7 @@ pub struct Price {
     pub worth: u32,
 }
 
-// Whether a side of a sheet's want and a kerf are shorter than the step.
+// Whether a side of a sheet's want and a kerf are shorter than the step; than 0 none is.
 fn is_below_step(kind: Kind, kerf: u32, step: u32, want: &Want) -> bool
     requires { kerf ≤ MOST_KERF }
     ensures { result ≡ prices.is_below_step kind kerf step want.now }
@@ -27,11 +27,13 @@ fn is_below_step(kind: Kind, kerf: u32, step: u32, want: &Want) -> bool
     }
 }
 
-/// Whether a number is a price of a want.
-pub fn has_price(kind: Kind, kerf: u32, step: u32, want: &Want, number: u32) -> bool
+/// Whether a number is a price of a want: 1 to 1000000000, where no side of a sheet's want and a
+/// kerf are shorter than the step, if there is one.
+pub fn has_price(kind: Kind, kerf: u32, step: Option<u32>, want: &Want, number: u32) -> bool
     requires { kerf ≤ MOST_KERF }
-    ensures { result ≡ prices.has_price kind kerf step want.now number }
+    ensures { result ≡ prices.has_price kind kerf (prices.step_of step) want.now number }
 {
+    let step = step.unwrap_or(0);
     0 < number && number <= MOST_WORTH && !is_below_step(kind, kerf, step, want)
 }
 
@@ -40,13 +42,13 @@ pub fn priced(
     alloc: Global,
     kind: Kind,
     kerf: u32,
-    step: u32,
+    step: Option<u32>,
     wants: &[Want],
     numbers: &[u32],
 ) -> Result<Vec<Want>, AllocError>
     requires { kerf ≤ MOST_KERF }
     ensures { IfOk result (λ priced. priced.items
-        ≡ prices.priced kind kerf step wants.now numbers.now) }
+        ≡ prices.priced kind kerf (prices.step_of step) wants.now numbers.now) }
 {
     let mut priced = Vec::new(alloc);
     for i in 0..wants.len().min(numbers.len()) {

@@ -1,17 +1,21 @@
 //! What a unit of each size is worth at most, read from one table that is made for all of them.
 
-ghost use Rattle.std.specs.Prelude.{◌≡◌, ◌≤◌, ◌<◌, ℕ, All, IfOk};
+ghost use Rattle.std.specs.Prelude.{◌≡◌, ◌+◌, ◌≤◌, ◌<◌, ℕ, All, IfOk, map};
 ghost use Rattle.cut_wants.specs.Legal.{HaveOwnDemands};
 ghost use Rattle.cut_wants.specs.Best.{IsBestOf};
 ghost use Rattle.cut_bars.specs.Counts.{HaveBoundedWorthsAndLefts};
 ghost use Rattle.cut_sheets.specs.Rounded.{IsStep, steps_down, wants_down};
 ghost use Rattle.cut_sheets.specs.Table.{HaveBoundedWorths, IsTable, heights};
 ghost use Rattle.cut_bound.specs.Bounds.{IsGreatest, sizes_of};
-ghost use Rattle.cut_bound.specs.Ratings.{IsBarRating};
+ghost use Rattle.cut_classes.specs.Classes.{IsLeastCeiling};
+ghost use Rattle.cut_classes.specs.Filling.{worth_in};
+ghost use Rattle.cut_classes.specs.Grids.{IsUsableGrid, across_of, counted, down_of};
+ghost use Rattle.cut_bound.specs.Ratings.{IsBarRating, IsClassRating};
 
 use crate::stock::{RatedSize, StockSize};
 use cut_bars::bar::{Entry, LONGEST_BAR, reach};
-use cut_measure::MOST_KERF;
+use cut_classes::{CeilingTable, Grid, ceiling_of, ceilings, counted_wants, grid_of};
+use cut_measure::{MOST_KERF, Size};
 use cut_sheets::bound::all_down;
 use cut_sheets::read::worth_at;
 use cut_sheets::sheet::{MOST_STEPS, Table, best_table};
@@ -161,4 +165,82 @@ pub fn rated_sheets(
     let rounded = all_down(alloc, wants, kerf, step)?;
     let table = best_table(alloc, &rounded, across, down)?;
     read_sheets(alloc, kerf, step, sizes, &rounded, &table, across + 1)
+}
+
+// The sides of some sizes.
+fn extents_of(alloc: Global, sizes: &[StockSize]) -> Result<Vec<Size>, AllocError>
+    ensures { IfOk result (λ extents. extents.items ≡ map (λ z. z.size) sizes.now) }
+{
+    sizes.iter().map(|stock| stock.size).collect(alloc)
+}
+
+/// Points of both axes for some sheets and wants, about so many along each.
+pub(crate) fn stock_grid(
+    alloc: Global,
+    kerf: u32,
+    points: usize,
+    sizes: &[StockSize],
+    wants: &[Want],
+) -> Result<Grid, AllocError>
+    requires kerf { kerf ≤ MOST_KERF }
+    ensures usable { IfOk result IsUsableGrid }
+    ensures wide { IfOk result (λ grid. All (λ z. z.size.w + kerf ≤ grid.most_across) sizes.now) }
+    ensures tall { IfOk result (λ grid. All (λ z. z.size.h + kerf ≤ grid.most_down) sizes.now) }
+{
+    let extents = extents_of(alloc, sizes)?;
+    let grid = grid_of(alloc, kerf, &extents, wants, points)?;
+    Ok(grid)
+}
+
+// Each of some sheets with the worth of a table at the classes of its sides.
+fn read_classes(
+    alloc: Global,
+    kerf: u32,
+    grid: &Grid,
+    sizes: &[StockSize],
+    wants: &[Want],
+    table: &CeilingTable,
+) -> Result<Vec<RatedSize>, AllocError>
+    requires kerf { kerf ≤ MOST_KERF }
+    requires usable { IsUsableGrid grid.now }
+    requires wide { All (λ z. z.size.w + kerf ≤ grid.now.most_across) sizes.now }
+    requires tall { All (λ z. z.size.h + kerf ≤ grid.now.most_down) sizes.now }
+    requires table { IsLeastCeiling wants.now kerf (across_of grid.now) (down_of grid.now)
+        (worth_in table.now) }
+    ensures sizes { IfOk result (λ rated. sizes_of rated.items ≡ sizes.now) }
+    ensures ratings { IfOk result (λ rated. All (λ r. IsClassRating wants.now kerf
+        (across_of grid.now) (down_of grid.now) r.stock.size r.best) rated.items) }
+{
+    let mut rated = Vec::new(alloc);
+    for stock in sizes {
+        let best = ceiling_of(table, grid, kerf, stock.size);
+        let size = RatedSize {
+            stock: *stock,
+            best,
+        };
+        rated.push(size)?;
+    }
+    Ok(rated)
+}
+
+/// Each of some sheets with its ceiling, from the table over the classes of a grid.
+pub(crate) fn rated_classes(
+    alloc: Global,
+    kerf: u32,
+    grid: &Grid,
+    sizes: &[StockSize],
+    wants: &[Want],
+) -> Result<Vec<RatedSize>, AllocError>
+    requires kerf { kerf ≤ MOST_KERF }
+    requires usable { IsUsableGrid grid.now }
+    requires wide { All (λ z. z.size.w + kerf ≤ grid.now.most_across) sizes.now }
+    requires tall { All (λ z. z.size.h + kerf ≤ grid.now.most_down) sizes.now }
+    ensures sizes { IfOk result (λ rated. sizes_of rated.items ≡ sizes.now) }
+    ensures ratings { IfOk result (λ rated. All (λ r. IsClassRating
+        (counted kerf (across_of grid.now) (down_of grid.now) wants.now) kerf
+        (across_of grid.now) (down_of grid.now) r.stock.size r.best) rated.items) }
+{
+    let table = ceilings(alloc, kerf, grid, wants)?;
+    let counted = counted_wants(alloc, kerf, grid, wants)?;
+    read_classes(alloc, kerf, grid, sizes, &counted, &table)
 }

@@ -1,0 +1,39 @@
+use Rattle.std.proofs.Common.{◌≡◌, ◌≤◌, List, false, subst}
+use Rattle.std.proofs.lemmas.List.Elements.{All-weaker}
+use Rattle.cut_measure.specs.declared.sizes.Kind.TheVariants.{Bar}
+use Rattle.cut_bars.specs.declared.bar.TheConstants.{LONGEST_BAR}
+use Rattle.cut_plan.proofs.Faultless as sound
+use Rattle.cut_bound.specs.declared.stock.StockSize.{StockSize}
+use Rattle.cut_bound.specs.declared.stock.RatedSize.{RatedSize}
+use Rattle.cut_bound.specs.Bounds.{IsGreatestCost}
+use Rattle.cut_bound.specs.Ratings.{is_large}
+use Rattle.cut_bound.proofs.ClassRatings.{far_classes}
+use Rattle.cut_bound.proofs.bound.bars_bound.Goals as goal
+
+pub rated_bars-requires-clause-modest : goal.rated_bars-requires-clause-modest
+rated_bars-requires-clause-modest c = c.requires.ratable.1.modest
+
+pub rated_bars-requires-clause-short : goal.rated_bars-requires-clause-short
+rated_bars-requires-clause-short c =
+    All-weaker (λ (z : StockSize). is_large Bar z.size c.args.kerf c.requires.ratable.0 ≡ false) (λ (z : StockSize). z.size.w ≤ LONGEST_BAR) (λ z e. sound.short z.size c.args.kerf 0 e)
+    c.args.sizes.now c.requires.ratable.1.small
+
+pub total_left-requires : goal.total_left-requires
+total_left-requires c = c.requires.ratable.1.total
+
+pub returns : goal.returns
+returns c = λ step. record {
+  across = far_classes 1;
+  down = far_classes 1;
+  usable = λ sheet none. absurd (cc);
+  rated = c.in_ok-rated.rated.items;
+  all_rated = c.in_ok-rated.ensures.sizes;
+  ratings = c.in_ok-rated.ensures.ratings;
+  cost = c.greatest_cost-cost.result;
+  greatest =
+      subst (λ n. IsGreatestCost c.in_ok-rated.rated.items n c.greatest_cost-cost.result) c.total_left.ensures
+      (subst (λ (rs : List RatedSize). IsGreatestCost rs c.total_left.result c.greatest_cost-cost.result) c.deref.ensures.value c.greatest_cost-cost.ensures);
+  divisor = c.divisor_of.result;
+  common = c.divisor_of.ensures;
+  told = c.told_cost.ensures;
+}

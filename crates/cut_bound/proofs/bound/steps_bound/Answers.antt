@@ -1,0 +1,42 @@
+use Rattle.std.proofs.Common.{◌≡◌, ◌≤◌, List, Some, false, refl, subst}
+use Rattle.std.proofs.lemmas.List.Elements.{All-weaker}
+use Rattle.cut_measure.specs.declared.sizes.Kind.TheVariants.{Sheet}
+use Rattle.cut_sheets.specs.declared.sheet.TheConstants.{MOST_STEPS}
+use Rattle.cut_sheets.specs.Rounded.{steps_down}
+use Rattle.cut_plan.proofs.Faultless as sound
+use Rattle.cut_bound.specs.declared.stock.StockSize.{StockSize}
+use Rattle.cut_bound.specs.declared.stock.RatedSize.{RatedSize}
+use Rattle.cut_bound.specs.Bounds.{IsGreatestCost}
+use Rattle.cut_bound.specs.Ratings.{is_large}
+use Rattle.cut_bound.proofs.ClassRatings.{far_classes}
+use Rattle.cut_bound.proofs.bound.steps_bound.Goals as goal
+
+pub rated_sheets-requires-clause-step : goal.rated_sheets-requires-clause-step
+rated_sheets-requires-clause-step c = c.requires.ratable.stepped refl c.args.step refl
+
+pub rated_sheets-requires-clause-wide : goal.rated_sheets-requires-clause-wide
+rated_sheets-requires-clause-wide c =
+    All-weaker (λ (z : StockSize). is_large Sheet z.size c.args.kerf (Some c.args.step) ≡ false) (λ (z : StockSize). steps_down c.args.kerf c.args.step z.size.w ≤ MOST_STEPS)
+    (λ z e. (sound.few_steps z.size c.args.kerf c.args.step e).0) c.args.sizes.now c.requires.ratable.small
+
+pub rated_sheets-requires-clause-tall : goal.rated_sheets-requires-clause-tall
+rated_sheets-requires-clause-tall c =
+    All-weaker (λ (z : StockSize). is_large Sheet z.size c.args.kerf (Some c.args.step) ≡ false) (λ (z : StockSize). steps_down c.args.kerf c.args.step z.size.h ≤ MOST_STEPS)
+    (λ z e. (sound.few_steps z.size c.args.kerf c.args.step e).1) c.args.sizes.now c.requires.ratable.small
+
+pub returns : goal.returns
+returns c = record {
+  across = far_classes 1;
+  down = far_classes 1;
+  usable = λ sheet none. absurd (cc);
+  rated = c.in_ok-rated.rated.items;
+  all_rated = c.in_ok-rated.ensures.sizes;
+  ratings = c.in_ok-rated.ensures.ratings;
+  cost = c.greatest_cost-cost.result;
+  greatest =
+      subst (λ n. IsGreatestCost c.in_ok-rated.rated.items n c.greatest_cost-cost.result) c.total_left.ensures
+      (subst (λ (rs : List RatedSize). IsGreatestCost rs c.total_left.result c.greatest_cost-cost.result) c.deref.ensures.value c.greatest_cost-cost.ensures);
+  divisor = c.divisor_of.result;
+  common = c.divisor_of.ensures;
+  told = c.told_cost.ensures;
+}
