@@ -4,8 +4,7 @@
 
 use crate::draft::{Draft, have_some, times_within};
 use crate::order::{Order, Rated};
-use crate::planner::Planner;
-use cut_fill_bars::bars::Priced;
+use cut_fill_bars::bars::{Bars, Priced};
 use cut_master::fixed::ONE;
 use std::alloc::{AllocError, Global};
 
@@ -37,7 +36,7 @@ const LEAST_POWER: u64 = 20;
 /// How much it is at most.
 const MOST_POWER: u64 = 99;
 
-/// What was asked of the planner.
+/// What was asked for.
 #[derive(Clone, Copy, PartialEq, Eq)]
 enum Asked {
     Nothing,
@@ -113,17 +112,18 @@ fn raised(cells: u64, most: u64, power: u64) -> u64 {
 
 /// Values and room of a round's unit.
 #[derive(Clone, Copy)]
-struct Loss {
-    most: u64,
-    unit: u64,
-    used: u64,
-    weight: u64,
-    power: u64,
+pub struct Loss {
+    /// The room of the largest unit.
+    pub most: u64,
+    pub unit: u64,
+    pub used: u64,
+    pub weight: u64,
+    pub power: u64,
 }
 
 /// A piece's new value: the old one and what it would cost by the loss, by how often it is in the
 /// unit and is left.
-fn corrected(value: u64, cells: u64, count: u32, often: u64, loss: &Loss) -> u64 {
+pub fn corrected(value: u64, cells: u64, count: u32, often: u64, loss: &Loss) -> u64 {
     let target = (raised(cells, loss.most, loss.power) as u128 * loss.unit as u128)
         .checked_div(loss.used as u128)
         .unwrap_or(0);
@@ -209,20 +209,20 @@ impl Correct {
         found
     }
 
-    /// Asks the planner for the next unit.
+    /// Asks for the next unit.
     fn ask(
         &mut self,
         alloc: Global,
         order: &Order,
-        planner: &mut Planner,
+        bars: &mut Bars,
     ) -> Result<(), AllocError> {
         let worths = order.scaled(alloc, &self.values, &self.draft.left)?;
         if let Some(size) = self.only_size() {
             self.asked = Asked::Unit(size);
-            return planner.begin_unit(alloc, size, &worths, &self.draft.left);
+            return bars.begin_unit(alloc, size, &worths, &self.draft.left);
         }
         self.asked = Asked::Sizes;
-        planner.begin_ceilings(alloc, &worths, &self.draft.left)
+        bars.begin_columns(alloc, &worths, &self.draft.left)
     }
 
     /// The cheapest size that holds all that is left, if there is one; else the size that is worth
@@ -299,12 +299,12 @@ impl Correct {
         &mut self,
         alloc: Global,
         order: &Order,
-        planner: &mut Planner,
+        bars: &mut Bars,
     ) -> Result<Progress, AllocError> {
         match self.asked {
             Asked::Nothing => Ok(Progress::More),
             Asked::Unit(size) => {
-                let Some(filled) = planner.go_on_unit(alloc)? else {
+                let Some(filled) = bars.go_on_unit(alloc)? else {
                     return Ok(Progress::More);
                 };
                 let added = self.add(alloc, order, size, &filled.counts, filled.plan)?;
@@ -315,31 +315,24 @@ impl Correct {
                 })
             }
             Asked::Sizes => {
-                let Some(priced) = planner.go_on_columns(alloc)? else {
+                let Some(priced) = bars.go_on_columns(alloc)? else {
                     return Ok(Progress::More);
                 };
-                self.choose(alloc, order, planner, &priced)
+                self.choose(alloc, order, &priced)
             }
         }
     }
 
-    /// Adds a unit of the best size; of sheets asks for one first.
+    /// Adds a unit of the best size.
     fn choose(
         &mut self,
         alloc: Global,
         order: &Order,
-        planner: &mut Planner,
         priced: &[Priced],
     ) -> Result<Progress, AllocError> {
         let Some(size) = self.best_size(order, priced) else {
             return Ok(Progress::Filled);
         };
-        if !planner.is_of_bars() {
-            let worths = order.scaled(alloc, &self.values, &self.draft.left)?;
-            self.asked = Asked::Unit(size);
-            planner.begin_unit(alloc, size, &worths, &self.draft.left)?;
-            return Ok(Progress::More);
-        }
         let Some(one) = priced.get(size) else {
             return Ok(Progress::Filled);
         };
@@ -356,7 +349,7 @@ impl Correct {
         &mut self,
         alloc: Global,
         order: &Order,
-        planner: &mut Planner,
+        bars: &mut Bars,
         rated: Option<&Rated>,
         goal: u64,
     ) -> Result<Progress, AllocError> {
@@ -368,8 +361,8 @@ impl Correct {
             if self.draft.cost.saturating_add(least) >= goal {
                 return Ok(Progress::Hopeless);
             }
-            self.ask(alloc, order, planner)?;
+            self.ask(alloc, order, bars)?;
         }
-        self.answered(alloc, order, planner)
+        self.answered(alloc, order, bars)
     }
 }

@@ -4,10 +4,10 @@
 use crate::correct::Progress;
 use crate::draft::{Draft, have_some};
 use crate::order::Order;
-use crate::planner::Planner;
 use crate::quick::fill_up;
 use crate::relax::Relax;
 use crate::round::{round_down, take_greatest};
+use cut_fill_bars::bars::Bars;
 use cut_master::column::Plan;
 use cut_master::master::Taken;
 use std::alloc::{AllocError, Global};
@@ -64,7 +64,7 @@ impl Dive {
         plans: &[Plan],
     ) -> Result<bool, AllocError> {
         let left = &self.draft.left;
-        let next = Relax::new(alloc, order, left, &self.draft.free, true, TABLES)?;
+        let next = Relax::new(alloc, order, left, &self.draft.free, TABLES)?;
         let Some(mut relax) = next else {
             return Ok(false);
         };
@@ -97,7 +97,7 @@ impl Dive {
         &mut self,
         alloc: Global,
         order: &Order,
-        planner: &mut Planner,
+        bars: &mut Bars,
         first: &Relax,
         goal: u64,
     ) -> Result<Progress, AllocError> {
@@ -105,7 +105,7 @@ impl Dive {
             return self.turn(alloc, order, first, goal);
         };
         let enough = goal.saturating_sub(self.draft.cost);
-        if !relax.go_on(alloc, order, planner, enough)? {
+        if !relax.go_on(alloc, order, bars, enough)? {
             self.relax = Some(relax);
             return Ok(Progress::More);
         }

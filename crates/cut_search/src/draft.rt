@@ -9,7 +9,7 @@ pub struct Batch {
     pub size: usize,
     /// Pieces of each want.
     pub counts: Vec<u32>,
-    /// The planner's number of the plan.
+    /// The number of the plan, for who keeps plans.
     pub tag: usize,
     /// How many units they are.
     pub times: u32,

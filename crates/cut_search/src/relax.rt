@@ -1,11 +1,10 @@
-//! Column generation (Gilmore and Gomory 1961): the master program's prices ask the planner for
-//! plans, and its plans are offered to the program, until none gains. Each table is a bound of the
+//! Column generation (Gilmore and Gomory 1961): the master program's prices ask for plans of
+//! one bar, and its plans are offered to the program, until none gains. Each table is a bound of the
 //! cost as well.
 
 use crate::draft::times_within;
 use crate::order::{Order, Rated, rounded_up};
-use crate::planner::Planner;
-use cut_fill_bars::bars::Priced;
+use cut_fill_bars::bars::{Bars, Priced};
 use cut_master::column::Plan;
 use cut_master::fixed::{ONE, ratio};
 use cut_master::master::{End, LEAST_GAIN, Master, Size, Taken};
@@ -16,6 +15,9 @@ const PIVOTS: u32 = 200;
 
 /// So many limited sizes have a row of the program at most, so that its tables stay small.
 const MOST_LIMITED: usize = 100;
+
+/// So many further columns are taken from a table.
+const MORE_COLUMNS: usize = 12;
 
 /// Plans of so many sizes are taken from a table.
 const MOST_SIZES: usize = 3;
@@ -28,13 +30,9 @@ pub struct Relax {
     free: Vec<Option<u32>>,
     /// Whether plans of a size are offered.
     offered: Vec<bool>,
-    /// Whether the columns are those of ceilings, that bound.
-    ceilings: bool,
     /// So many tables are left to it.
     tables: u32,
     begun: bool,
-    /// Whether strips are asked for.
-    strips: bool,
     asked: Vec<u32>,
     /// The prices of the program, in its fixed point.
     pub prices: Vec<u64>,
@@ -46,7 +44,7 @@ pub struct Relax {
 
 /// Which sizes are offered: all that are free, but only some of those that are limited where they
 /// are many.
-fn offered_sizes(alloc: Global, free: &[Option<u32>]) -> Result<Vec<bool>, AllocError> {
+pub fn offered_sizes(alloc: Global, free: &[Option<u32>]) -> Result<Vec<bool>, AllocError> {
     let mut limited = 0usize;
     for number in free {
         if number.is_some() && *number != Some(0) {
@@ -70,7 +68,7 @@ fn offered_sizes(alloc: Global, free: &[Option<u32>]) -> Result<Vec<bool>, Alloc
 }
 
 /// The program of what is left, without a plan.
-fn empty_master(
+pub fn empty_master(
     alloc: Global,
     order: &Order,
     left: &[u32],
@@ -99,7 +97,6 @@ impl Relax {
         order: &Order,
         left: &[u32],
         free: &[Option<u32>],
-        ceilings: bool,
         tables: u32,
     ) -> Result<Option<Relax>, AllocError> {
         let offered = offered_sizes(alloc, free)?;
@@ -111,10 +108,8 @@ impl Relax {
             left: Vec::from_slice(alloc, left)?,
             free: Vec::from_slice(alloc, free)?,
             offered,
-            ceilings,
             tables,
             begun: false,
-            strips: false,
             asked: Vec::new(alloc),
             prices: Vec::new(alloc),
             least: 0,
@@ -170,29 +165,21 @@ impl Relax {
         rounded_up(cost.div_ceil(ONE as u128), order.grain)
     }
 
-    /// Asks the planner by the program's prices.
+    /// Asks for plans by the program's prices.
     fn begin(
         &mut self,
         alloc: Global,
         order: &Order,
-        planner: &mut Planner,
+        bars: &mut Bars,
     ) -> Result<(), AllocError> {
         self.prices = self.master.want_prices(alloc, self.left.len())?;
         self.asked = order.scaled(alloc, &self.prices, &self.left)?;
         self.begun = true;
-        self.strips = false;
-        if self.ceilings {
-            planner.begin_ceilings(alloc, &self.asked, &self.left)
-        } else {
-            planner.begin_columns(alloc, &self.asked, &self.left)
-        }
+        bars.begin_columns(alloc, &self.asked, &self.left)
     }
 
-    /// Keeps the bound of a table of ceilings, if it is the best.
+    /// Keeps the bound of a table, if it is the best.
     fn rate(&mut self, alloc: Global, order: &Order, priced: &[Priced]) -> Result<(), AllocError> {
-        if !self.ceilings {
-            return Ok(());
-        }
         let mut bests = Vec::new(alloc);
         for one in priced {
             bests.push(one.best)?;
@@ -227,12 +214,12 @@ impl Relax {
     fn add_more(
         &mut self,
         alloc: Global,
-        planner: &Planner,
+        bars: &Bars,
         first: &Plan,
     ) -> Result<(), AllocError> {
         let mut plans: Vec<Plan> = Vec::new(alloc);
         plans.push(first.copy(alloc)?)?;
-        for counts in planner.more_columns(alloc, first.size)? {
+        for counts in bars.more_columns(alloc, first.size, MORE_COLUMNS)? {
             let plan = Plan {
                 size: first.size,
                 counts,
@@ -252,24 +239,11 @@ impl Relax {
         Ok(())
     }
 
-    /// Lets the plans go that aren't offered.
-    fn forget_others(&self, planner: &mut Planner, plans: &[Plan], gains: &[(i128, usize)]) {
-        if self.ceilings {
-            return;
-        }
-        for (place, plan) in plans.iter().enumerate() {
-            let mut taken = gains.iter().take(MOST_SIZES);
-            if !taken.any(|(_, other)| *other == place) {
-                planner.forget(plan.tag);
-            }
-        }
-    }
-
     /// Offers the plans of a table that gain. Whether there was one.
     fn add(
         &mut self,
         alloc: Global,
-        planner: &mut Planner,
+        bars: &Bars,
         priced: Vec<Priced>,
     ) -> Result<bool, AllocError> {
         let mut plans = Vec::new(alloc);
@@ -283,10 +257,9 @@ impl Relax {
         let gains = self.gaining(alloc, &plans)?;
         for (_, place) in gains.iter().take(MOST_SIZES) {
             if let Some(plan) = plans.get(*place) {
-                self.add_more(alloc, planner, plan)?;
+                self.add_more(alloc, bars, plan)?;
             }
         }
-        self.forget_others(planner, &plans, &gains);
         Ok(!gains.is_empty())
     }
 
@@ -308,17 +281,17 @@ impl Relax {
         &mut self,
         alloc: Global,
         order: &Order,
-        planner: &mut Planner,
+        bars: &mut Bars,
         enough: u64,
     ) -> Result<bool, AllocError> {
         if !self.begun {
             match self.master.improve(PIVOTS) {
-                End::Best => self.begin(alloc, order, planner)?,
+                End::Best => self.begin(alloc, order, bars)?,
                 End::Spent => return Ok(false),
                 End::Failed => return Ok(true),
             }
         }
-        let Some(priced) = planner.go_on_columns(alloc)? else {
+        let Some(priced) = bars.go_on_columns(alloc)? else {
             return Ok(false);
         };
         self.begun = false;
@@ -327,12 +300,7 @@ impl Relax {
         if self.least >= enough || self.least >= self.most_bound(order) {
             return Ok(true);
         }
-        let added = self.add(alloc, planner, priced)?;
-        if !added && !self.ceilings && !self.strips {
-            self.strips = planner.begin_strips(alloc, &self.asked, &self.left)?;
-            self.begun = self.strips;
-            return Ok(!self.strips);
-        }
+        let added = self.add(alloc, bars, priced)?;
         Ok(!added || self.tables == 0)
     }
 }

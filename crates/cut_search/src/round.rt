@@ -10,7 +10,7 @@ use std::alloc::{AllocError, Global};
 const NEARLY: i128 = 16_777_216;
 
 /// The places of what is taken, those with the greatest amounts first.
-fn greatest_first(alloc: Global, taken: &[Taken]) -> Result<Vec<(i128, usize)>, AllocError> {
+pub fn greatest_first(alloc: Global, taken: &[Taken]) -> Result<Vec<(i128, usize)>, AllocError> {
     let mut places = Vec::new(alloc);
     for (place, one) in taken.iter().enumerate() {
         places.push((one.amount.saturating_neg(), place))?;
@@ -20,7 +20,7 @@ fn greatest_first(alloc: Global, taken: &[Taken]) -> Result<Vec<(i128, usize)>, 
 }
 
 /// How many whole units an amount has: a little below one counts as one.
-fn whole_units(amount: i128) -> u32 {
+pub fn whole_units(amount: i128) -> u32 {
     u32::try_from(amount.saturating_add(NEARLY) / ONE).unwrap_or(0)
 }
 
