@@ -90,8 +90,9 @@ function chooseMeaning(key, code) {
 }
 
 // A cell is mended. (Drawn once the focus is where it goes.)
-function mendCell(key, text) {
-  csv.chosen.mended = {...csv.chosen.mended, [key]: text};
+function mendCell(at, name, text) {
+  const {mended = {}} = csv.chosen;
+  csv.chosen.mended = {...mended, [at]: {...mended[at], [name]: text}};
   csv.file = readOrderFile(csv.text, csv.chosen);
   setTimeout(showCsvFile);
 }
@@ -275,17 +276,17 @@ function csvRows(row) {
 
 // A cell: what is read, and what the file has where that is another text. A bad cell, and one that was mended, is a field.
 function csvCell({at, fields, cells, texts, faults}, name, i) {
-  const fault = faults[name], cell = cells[i], key = `${at} ${name}`, isMended = csv.chosen.mended?.[key] !== undefined;
+  const fault = faults[name], cell = cells[i], isMended = csv.chosen.mended?.[at]?.[name] !== undefined;
   const was = cell === cell?.trim() ? shortened(cell) : quoted(cell ?? ""), isOther = cell !== null && texts[i] !== cell;
   if (!fault && !isMended)
     return el("td", {text: shortened(texts[i])}, isOther ? el("span", {class: "turned", text: was ? `← ${was}` : tr`← empty`}) : null);
   const field = el("input", {
     value: cell ?? "",
-    "data-key": `csv ${key}`,
+    "data-key": `csv ${at} ${name}`,
     "aria-label": tr`${fieldWords(name)}, line ${at} of the file`,
     "aria-invalid": String(Boolean(fault)),
     "aria-describedby": `csv-${at}`,
-    on: {change: () => mendCell(key, field.value)}
+    on: {change: () => mendCell(at, name, field.value)}
   });
   return el("td", {class: fault ? "badfield" : "", text: fault ? "✗ " : isOther ? `${shortened(texts[i])} ← ` : ""}, field);
 }

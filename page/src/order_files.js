@@ -1,7 +1,7 @@
 // ---- Orders from files: from a table to the lines of orders, and to the messages that order them.
 
 // A file of so many bytes is no order, in whatever form: it isn't read. So many lines are ordered by one file.
-const MAX_FILE = 4 * MAX_TEXT, MAX_FILE_LINES = 20 * MAX_LINES;
+const MAX_FILE = 4 * MAX_TEXT, MAX_FILE_LINES = 10 * MAX_LINES;
 
 // What a file may leave out, and what is taken where it does. The rest of the fields have to be in it.
 const TAKEN = {
@@ -89,13 +89,11 @@ function sortRows(how, without) {
 
 // The cells of a row by field, as they were mended; null where the file has no column. A cell with two sides has both.
 function cellsOf({at, fields}, {columns, mended}) {
-  const cells = FIELDS.map(name => typeof columns[name] === "number" ? fields[columns[name]] ?? "" : null);
-  FIELDS.forEach((name, i) => {
-    cells[i] = mended[`${at} ${name}`] ?? cells[i];
-  });
-  const isBoth = columns.width === columns.length, sides = cells[2] === null ? null : sidesOfCell(plainCell(cells[2]));
-  if (sides) [cells[2], cells[3]] = [sides[0], (!isBoth && cells[3]?.trim()) || (mended[`${at} width`] ?? sides[1])];
-  else if (isBoth) cells[3] = mended[`${at} width`] ?? "";
+  const own = mended[at] || {}, isBoth = columns.width === columns.length;
+  const cells = FIELDS.map(name => own[name] ?? (typeof columns[name] === "number" ? fields[columns[name]] ?? "" : null));
+  const sides = cells[2] === null ? null : sidesOfCell(plainCell(cells[2]));
+  if (sides) [cells[2], cells[3]] = [sides[0], (!isBoth && cells[3]?.trim()) || (own.width ?? sides[1])];
+  else if (isBoth) cells[3] = own.width ?? "";
   return cells;
 }
 
