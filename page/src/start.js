@@ -55,6 +55,7 @@ function listenToOrders() {
       $(id).value = "";
     });
   $("csvFile").addEventListener("change", showCsv);
+  $("fileCode").addEventListener("input", showCodes);
   $("problemFile").addEventListener("change", showProblem);
   $("problemMaterial").addEventListener("change", showProblemFile);
   $("findForm").addEventListener("submit", findOrder);

@@ -63,7 +63,7 @@ const NO_MATERIAL = tr`The shop has no material yet: write it into the shop file
 function lengthFault(text, high) {
   if (!/^\d+([.,]\d)?$/.test(text)) return tr`${quoted(text)}: write millimetres with at most one decimal, like 1250.5`;
   const value = readMm(text);
-  return value >= 1 && value <= high ? "" : tr`${text} mm: write 0.1 to ${mm(high)} mm`;
+  return value >= 1 && value <= high ? "" : tr`${shortened(text)} mm: write 0.1 to ${mm(high)} mm`;
 }
 
 function wholeFault(text, high) {
@@ -73,12 +73,15 @@ function wholeFault(text, high) {
 
 function codeFault(code) {
   const other = /[^A-Z0-9-]/u.exec(code);
-  if (other) return tr`“${code}” has “${other[0]}”: write A–Z, 0–9 and - alone`;
-  if (code.length > 16) return tr`“${code}” has ${code.length} characters: write at most 16`;
+  if (other) return tr`“${shortened(code)}” has “${other[0]}”: write A–Z, 0–9 and - alone`;
+  if (code.length > 16) return tr`“${shortened(code)}” has ${code.length} characters: write at most 16`;
   return code ? "" : tr`is empty: write 1 to 16 of A–Z, 0–9 and -`;
 }
 
 // Where a list of a material's rows would stand: that there is no material, or that it isn't read yet.
 function noMaterial() { return shop.isKnown && !shop.materials.length ? NO_MATERIAL : "…"; }
 
-function quoted(text) { return text ? tr`“${text}”` : tr`is empty`; }
+function quoted(text) { return text ? tr`“${shortened(text)}”` : tr`is empty`; }
+
+// A text that may be long, as it is told.
+function shortened(text) { return text?.length > 60 ? `${text.slice(0, 59)}…` : text; }

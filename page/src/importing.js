@@ -1,0 +1,367 @@
+// ---- The import's view: a file is picked, what has to be said of it is asked, its bad cells are mended, and it is sent.
+
+// A picked file's text. Where it is too large, or can't be read, the holder tells so, and there is none.
+async function readText(file, holder) {
+  const read = file.size > MAX_FILE ? null : await file.arrayBuffer().catch(() => null);
+  if (read) return textOf(new Uint8Array(read));
+  const fault = file.size > MAX_FILE ? longWords(MAX_FILE) : tr`The file can't be read. Pick it again.`;
+  holder.replaceChildren(el("p", {class: "fault", text: fault}));
+  return null;
+}
+
+// last: the last demand's number when a file was picked, where it is known; before: the same of the orders that were sent.
+const imports = {
+  last: null,
+  before: new Map()
+};
+
+// Demands are numbered without gaps, so the last one is found by doubling steps from one that is known.
+async function readLastDemand() {
+  imports.last = null;
+  let known = [...shop.lines.keys()].reduce((a, b) => Math.max(a, b), 0), step = 1;
+  try {
+    if (known && !await readDemand(known)) known = 0;
+    for (; await readDemand(known + step); step *= 2) known += step;
+    for (; step > 1; step /= 2)
+      if (await readDemand(known + step / 2)) known += step / 2;
+    imports.last = known;
+  } catch (error) {
+    if (!(error instanceof NoAnswer || error instanceof Refused)) console.error(error);
+  }
+}
+
+// A demand, or null where there is none.
+function readDemand(number) {
+  return ask(`/demand/${number}`, {patience: 3000}).catch(error => {
+    if (error.reply?.refused !== 42) throw error;
+    return null;
+  });
+}
+
+// Whether the reply's demands were there before the file was picked, so that the shop gave an earlier reply.
+function isOldImport({order}, {first}) { return imports.before.has(order) && first <= imports.before.get(order); }
+
+// The picked file as it was read, its text, and what was chosen for it; orders: how many it becomes; named: the code that its
+// name gave; drawn: how often it was drawn; timer: until it is asked which orders are there.
+const csv = {
+  text: "",
+  chosen: {},
+  file: null,
+  orders: 1,
+  named: "",
+  drawn: 0,
+  timer: 0
+};
+
+// What the texts of materials mean is kept, for the next file.
+const MEANT = "cutshop.materials", MAX_MEANT = 500;
+
+async function showCsv() {
+  const picked = $("csvFile").files[0];
+  if (!picked) return $("csvPreview").replaceChildren();
+  readLastDemand();
+  const text = await readText(picked, $("csvPreview"));
+  if (text === null) return;
+  Object.assign(csv, {text, chosen: {materials: storage.read(MEANT, {})}});
+  showCsvFile();
+  nameCode(picked.name);
+}
+
+// Fills in the code that a file's name gives, unless a person wrote one.
+function nameCode(name) {
+  const typed = $("fileCode").value;
+  if (!typed || typed === csv.named) $("fileCode").value = csv.named = codeOfName(name, csv.orders);
+  if ($("fileCode").value) markField($("fileCode"), "");
+  showCodes();
+}
+
+function chooseForCsv(given) {
+  Object.assign(csv.chosen, given);
+  showCsvFile();
+}
+
+// What a text of a material means: for this file, and the next ones.
+function chooseMeaning(key, code) {
+  const kept = Object.entries({...storage.read(MEANT, {}), [key]: code}).slice(-MAX_MEANT);
+  try {
+    storage.write(MEANT, Object.fromEntries(kept));
+  } catch { tell(tr`This browser can't keep what the materials are.`, "refused"); }
+  chooseForCsv({materials: {...csv.chosen.materials, [key]: code}});
+}
+
+// A cell is mended. (Drawn once the focus is where it goes.)
+function mendCell(at, name, text) {
+  const {mended = {}} = csv.chosen;
+  csv.chosen.mended = {...mended, [at]: {...mended[at], [name]: text}};
+  csv.file = readOrderFile(csv.text, csv.chosen);
+  setTimeout(showCsvFile);
+}
+
+function showCsvFile() {
+  const file = csv.file = readOrderFile(csv.text, csv.chosen), {rows, bad} = file;
+  csv.orders = file.texts?.length || 1;
+  if (file.isTooLarge) return $("csvPreview").replaceChildren(el("p", {class: "fault", text: file.fault}));
+  fill($("csvPreview"), ++csv.drawn, () => drawCsvFile(file));
+  say(tr`${count(rows.length, "line")} read${bad.length ? tr`, ${bad.length} of them bad` : ""}`);
+  showCodes();
+}
+
+function drawCsvFile(file) {
+  const lines = count(file.rows.length, "line"), orders = file.texts.length;
+  const names = FIELDS.map(name => SIDES.includes(name) ? `${fieldWords(name)} mm` : fieldWords(name));
+  const head = [tr`line of\u00a0the\u00a0file`, ...names];
+  return [
+    el("p", file.fault ? {class: "fault", text: file.fault} : {text: readWords(file)}), csvColumns(file), unitQuestion(file),
+    csvQuestion(file), materialQuestion(file), roundQuestion(file), ...leftRows(file),
+    file.bad.length ? el("p", {class: "fault", text: badWords(file)}) : "",
+    el("div", {class: "scroll", tabindex: "0", role: "region", "aria-label": tr`Rows of the file`},
+      el("table", {}, el("thead", {}, el("tr", {}, ...head.map(text => el("th", {text})))),
+        el("tbody", {}, ...file.rows.flatMap(csvRows)))),
+    el("div", {class: "buttons"}, el("button", {
+      class: "act",
+      id: "sendCsv",
+      text: orders > 1 ? tr`Order ${lines} as ${orders} orders` : tr`Order ${lines}${""}`,
+      disabled: Boolean(file.fault) || file.bad.length > 0,
+      on: {click: sendCsv}
+    }))
+  ];
+}
+
+// Which column each field is, to be changed, or what all lines have; and whether the first row is a line.
+function csvColumns({columns, heads, headless, wide, rows}) {
+  const names = Array.from({length: wide}, (_, i) => columnWords(heads[i]?.text, i + 1));
+  const left = names.filter((_, i) => !FIELDS.some(name => columns[name] === i));
+  return el("details", {
+    id: "csvColumns",
+    open: csv.chosen.isOpen ?? !isAsWritten(heads),
+    on: {toggle: event => Object.assign(csv.chosen, {isOpen: event.target.open})}
+  },
+    el("summary", {text: tr`Which column is what`, "data-key": "csv columns"}),
+    el("div", {class: "fields"}, ...FIELDS.map(name => columnChoice(name, columns[name], names))),
+    left.length ? el("p", {id: "csvLeftOut", text: tr`Left out: ${left.join("; ")}.`}) : null,
+    rows.length || headless ? headlessChoice(headless) : null);
+}
+
+function columnWords(head, number) { return head ? tr`${quoted(head)}, column ${number}` : tr`column ${number}`; }
+
+// Which column a field is, or what is taken for it where it is none.
+function columnChoice(name, chosen, names) {
+  const now = typeof chosen === "number" ? `column ${chosen}` : chosen ?? "";
+  const choose = chosen === null ? [["", tr`choose…`]] : [];
+  const options = [...choose, ...names.map((text, i) => [`column ${i}`, text]), ...TAKEN[name]?.() || []];
+  return csvSelect(fieldWords(name), name, now, options,
+    value => chooseForCsv({columns: {...csv.chosen.columns, [name]: columnSaid(value)}}));
+}
+
+// A list to choose from: pairs of a value and its words.
+function csvSelect(words, name, now, options, choose) {
+  return el("label", {class: "field"}, words, el("select", {
+    "data-key": `csv ${name}`,
+    "data-column": name,
+    on: {change: ({target: {value}}) => choose(value)}
+  },
+    ...options.map(([value, text]) => el("option", {value, text, selected: value === now}))));
+}
+
+function headlessChoice(headless) {
+  return el("label", {class: "check"}, el("input", {
+    type: "checkbox",
+    "data-key": "csv headless",
+    checked: headless,
+    on: {change: event => chooseForCsv({headless: event.target.checked, columns: {}})}
+  }),
+    tr`the first row is a line, and no heads`);
+}
+
+function columnSaid(value) { return value.startsWith("column ") ? Number(value.split(" ")[1]) : value; }
+
+// What a person has to say of lengths like 1.200.
+function csvQuestion({unclear, thousands}) {
+  if (!unclear.length) return "";
+  const [{at, text, unit}] = unclear, [plain] = splitUnit(text);
+  return el("fieldset", {class: "choice", id: "csvQuestion"},
+    el("legend", {text: tr`Line ${at} of the file has “${text}”${othersWords(unclear)}: it is`}),
+    csvChoice("thousands", true, thousands, `${plain.replace(/[.,]/, "")} ${unit}`),
+    csvChoice("thousands", false, thousands, `${inMm(digitsOf(plain, false), 0).text.replace(".", POINT)} ${unit}`));
+}
+
+function othersWords({length}) { return length > 1 ? tr`, and ${length - 1} more are like it` : ""; }
+
+// What a person has to say of lengths without a unit that may be centimetres.
+function unitQuestion({unitless, unit}) {
+  if (!unitless.length) return "";
+  const size = text => inMm(digitsOf(text, false), 3).text.padStart(9, "0");
+  const largest = unitless.reduce((a, b) => size(b) > size(a) ? b : a);
+  return el("fieldset", {class: "choice", id: "csvUnit"},
+    el("legend", {text: tr`The lengths have no unit, and none of them is 100 or more. The largest is`}),
+    ...Object.keys(PLACES).map(name => csvChoice("unit", name, unit, `${largest} ${name}`)));
+}
+
+// What the materials are that the shop doesn't know by their texts, and of a file without any what all is made of.
+function materialQuestion({columns, foreign}) {
+  const codes = shop.materials.map(row => [row.material, row.material]), choose = [["", tr`choose…`]];
+  if (columns.material === null)
+    foreign = [{key: "", code: "", words: tr`all lines`, say: code => chooseForCsv({columns: {...csv.chosen.columns, material: code}})}];
+  if (!foreign.length) return "";
+  return el("fieldset", {class: "fields", id: "csvMaterials"}, el("legend", {text: tr`Which material is it?`}),
+    ...foreign.map(({key, code, text, rows, words, say = chosen => chooseMeaning(key, chosen)}) =>
+      csvSelect(words ?? `${text ? quoted(text) : tr`an empty cell`} (${count(rows, "line")})`, `material ${key}`, code,
+        code ? codes : [...choose, ...codes], say)));
+}
+
+// That lengths are rounded, which a person has to say once.
+function roundQuestion({fine, isRounded}) {
+  if (!fine.length) return "";
+  const [{at, text, turned}] = fine;
+  return el("fieldset", {class: "choice", id: "csvRound"},
+    el("legend", {text: tr`Line ${at} of the file has “${text}”${othersWords(fine)}, finer than a tenth of a millimetre`}),
+    csvChoice("isRounded", true, isRounded, tr`round: ${turned.replace(".", POINT)} mm`));
+}
+
+// One answer to a question of a file.
+function csvChoice(name, value, chosen, words) {
+  return el("label", {}, el("input", {
+    type: "radio",
+    name: `csv ${name}`,
+    "data-key": `csv ${value}`,
+    checked: chosen === value,
+    on: {change: () => chooseForCsv({[name]: value})}
+  }),
+    words);
+}
+
+// So many rows that are left out are shown.
+const MAX_LEFT = 20;
+
+// The rows that are left out, each with why, and sums that aren't those of the pieces.
+function leftRows({left, sums}) {
+  const why = {title: tr`title`, heads: tr`heads again`, sum: tr`sum`, "by hand": tr`left out by hand`};
+  const words = row => tr`line ${row.at}, ${why[row.why]}: ${quoted(row.fields.map(field => field.trim()).filter(Boolean).join(" · "))}`;
+  const more = left.length - MAX_LEFT, shown = left.slice(0, MAX_LEFT).map(words);
+  return [
+    left.length ? el("ul", {id: "csvRowsLeft", class: "quiet"}, tr`Left out of the file:`, ...shown.map(text => el("li", {text})),
+      more > 0 ? el("li", {text: tr`and ${more} more`}) : null) : "",
+    ...sums.map(({at, said, has}) =>
+      el("p", {class: "fault", text: tr`Line ${at} of the file says ${grouped(said)} pieces, and the lines above it have ${grouped(has)}.`}))
+  ];
+}
+
+function readWords({isTurned, empty, told, bad}) {
+  if (!isTurned) return bad.length ? "" : tr`The shop reads the file as it stands:`;
+  const words = [tr`Turned into what the shop reads; ← tells what the file has.`];
+  if (empty) words.push(tr`${count(empty, "empty row")} left out.`);
+  if (told) words.push(tr`The line sep=${told[1]} isn't counted.`);
+  return words.join(" ");
+}
+
+function badWords({bad}) {
+  const names = bad.slice(0, 8).map(row => row.at).join(", "), more = bad.length > 8 ? tr` and ${bad.length - 8} more` : "";
+  return tr`Line${bad.length > 1 ? "s" : ""} ${names}${more} of the file can't be ordered: mend what is marked, or leave it out.`;
+}
+
+// A row of the file, and below it what is wrong with its fields. What no column has is told above the rows.
+function csvRows(row) {
+  const {at, faults} = row, words = Object.entries(faults).map(([name, fault]) => `${fieldWords(name)} ${fault}`);
+  const shown = el("tr", {}, el("th", {text: String(at)}), ...FIELDS.map((name, i) => csvCell(row, name, i)));
+  const leave = el("button", {
+    class: "small",
+    text: tr`Leave out`,
+    "data-key": `csv ${at}`,
+    "aria-label": tr`Leave out line ${at} of the file`,
+    on: {click: () => chooseForCsv({without: [...csv.chosen.without || [], at]})}
+  });
+  return words.length ? [shown, el("tr", {}, el("td", {class: "rowfaults", id: `csv-${at}`, colspan: String(1 + FIELDS.length)},
+    ...words.map(text => el("div", {class: "fault", text})), leave))] : [shown];
+}
+
+// A cell: what is read, and what the file has where that is another text. A bad cell, and one that was mended, is a field.
+function csvCell({at, fields, cells, texts, faults}, name, i) {
+  const fault = faults[name], cell = cells[i], isMended = csv.chosen.mended?.[at]?.[name] !== undefined;
+  const was = cell === cell?.trim() ? shortened(cell) : quoted(cell ?? ""), isOther = cell !== null && texts[i] !== cell;
+  if (!fault && !isMended)
+    return el("td", {text: shortened(texts[i])}, isOther ? el("span", {class: "turned", text: was ? `← ${was}` : tr`← empty`}) : null);
+  const field = el("input", {
+    value: cell ?? "",
+    "data-key": `csv ${at} ${name}`,
+    "aria-label": tr`${fieldWords(name)}, line ${at} of the file`,
+    "aria-invalid": String(Boolean(fault)),
+    "aria-describedby": `csv-${at}`,
+    on: {change: () => mendCell(at, name, field.value)}
+  });
+  return el("td", {class: fault ? "badfield" : "", text: fault ? "✗ " : isOther ? `${shortened(texts[i])} ← ` : ""}, field);
+}
+
+// Which orders a file becomes, and a moment later which of them are there already.
+function showCodes() {
+  const code = readCode("fileCode"), codes = codesOf(code, csv.orders);
+  const isPicked = $("csvPreview").firstChild || $("problemPreview").firstChild;
+  const words = isPicked && csv.orders > 1 && code ? [tr`Orders ${codes[0]} to ${codes.at(-1)}, of at most ${MAX_LINES} lines.`] : [];
+  fill($("fileCodes"), words, () => words.map(quiet));
+  clearTimeout(csv.timer);
+  if (isPicked && !codeFault(codes.at(-1))) csv.timer = setTimeout(() => showThere(code, codes, words), 250);
+}
+
+async function showThere(code, codes, words) {
+  const there = [];
+  for (const order of codes) {
+    if (await ask(`/order/${order}`).catch(() => null)) there.push(order);
+    if (readCode("fileCode") !== code) return;
+  }
+  const told = there.length ? tr`There already: ${there.join(", ")}. The same file does nothing again; another one is refused.` : "";
+  fill($("fileCodes"), [...words, told], () => [...words.map(quiet), told ? el("p", {class: "fault", text: told}) : ""]);
+}
+
+// What a file is ordered as, marked where it can't be.
+function readFileCode(orders) {
+  const code = readCode("fileCode"), fault = codeFault(code) || codeFault(codesOf(code, orders).at(-1));
+  markField($("fileCode"), fault);
+  if (fault) $("fileCode").focus();
+  return fault ? "" : code;
+}
+
+// Orders the picked file: one order, or several by one press.
+function sendCsv() {
+  const {file} = csv, code = file.fault || file.bad.length ? "" : readFileCode(file.texts.length);
+  if (code) sendImports(code, importsOf(file, code), "csv");
+}
+
+function sendProblemFile() {
+  const order = readFileCode(1), {text} = problem, material = $("problemMaterial").value;
+  if (order) sendImports(order, [{do: "import", form: "cgcut", material, order, text}], "cgcut");
+}
+
+function sendImports(code, commands, form) {
+  const what = tr`Order ${code} from a file`, typed = [$("fileCode").value, form, {...csv}, {...problem}];
+  const isEmpty = () => !$("fileCode").value && !$("csvPreview").firstChild && !$("problemPreview").firstChild;
+  const refused = givenBack(isEmpty, () => fillFile(...typed)), accepted = ({order}) => imports.before.delete(order);
+  for (const {order} of commands) if (!imports.before.has(order)) imports.before.set(order, imports.last ?? 0);
+  const over = told => {
+    if (told.refused.length && isEmpty()) refused();
+  };
+  const isSent = commands.length === 1
+    ? send(commands[0], what, accepted, refused)
+    : sendMany(what, commands.map(command => [command.order, command]), (_, reply) => accepted(reply), over);
+  if (isSent) clearFile();
+}
+
+function clearFile() {
+  for (const id of ["csvFile", "problemFile", "fileCode"]) $(id).value = "";
+  for (const id of ["csvPreview", "problemPreview"]) $(id).replaceChildren();
+  held.waiting.delete($("csvPreview"));
+  problem.text = null;
+  Object.assign(csv, {file: null, named: "", orders: 1});
+  showCodes();
+}
+
+// Shows a file again that was sent.
+function fillFile(code, form, sheet, pieces) {
+  clearFile();
+  $("fileCode").value = code;
+  if (form === "csv") {
+    Object.assign(csv, sheet, {drawn: csv.drawn});
+    showCsvFile();
+  } else {
+    Object.assign(problem, pieces);
+    showProblemFile();
+  }
+}
