@@ -19,9 +19,6 @@ use cut_plan::{PlanFault, Want};
 use cut_search::search::{Found, FoundUnit, Search};
 use std::alloc::{AllocError, Global};
 
-/// So many points an axis of a table has about.
-const POINTS: usize = 250;
-
 // Prices that are still to be rated.
 #[derive(Drop)]
 struct Pending {
@@ -164,8 +161,7 @@ impl OrderSearch {
         match found {
             Found::Nothing => Ok(true),
             Found::Ended => Ok(false),
-            Found::Prices(numbers) => {
-                let points = POINTS;
+            Found::Prices { numbers, points } => {
                 self.pending = Some(Pending { numbers, points });
                 Ok(true)
             }
