@@ -1,6 +1,6 @@
 //! What a sheet is worth at most, by the classes of its sides.
 
-ghost use Rattle.std.specs.Prelude.{◌≡◌, ℕ, ◌+◌, ◌*◌, ◌^◌, ◌≤◌, ◌<◌, length, IfOk, IsTrue};
+ghost use Rattle.std.specs.Prelude.{◌≡◌, ◌+◌, ◌*◌, ◌^◌, ◌≤◌, ◌<◌, IfOk};
 ghost use Rattle.cut_classes.specs.Classes.{IsCeilingOf, IsLeastCeiling};
 ghost use Rattle.cut_classes.specs.Grids as grids;
 ghost use Rattle.cut_classes.specs.Grids.{AreCounted, IsUsableGrid, across_of, down_of};

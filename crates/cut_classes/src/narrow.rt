@@ -1,8 +1,7 @@
 //! Whether the worths of a table are below 2^32.
 
-ghost use Rattle.std.specs.Prelude.{◌≡◌, ℕ, Bool, ◌+◌, ◌*◌, ◌^◌, ◌≤◌, ◌<◌, length, slice_index, Contains, IfSome, IsTrue};
+ghost use Rattle.std.specs.Prelude.{ℕ, Bool, ◌+◌, ◌*◌, ◌^◌, ◌≤◌, ◌<◌, length, Contains, IfSome, IsTrue};
 ghost use Rattle.cut_wants.specs.declared.wants.Want.{Want};
-ghost use Rattle.cut_classes.specs.Classes as specs;
 ghost use Rattle.cut_classes.specs.Grids.{AreCounted, AreUsable, IsUsableGrid, across_of, classes, down_of};
 ghost use Rattle.cut_classes.specs.Filling.{HasCeilingBelow};
 ghost use Rattle.cut_classes.specs.Rates.{IsRatedAt, IsRatedWant, IsRoomAt, IsSlack};

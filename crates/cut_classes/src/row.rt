@@ -5,7 +5,7 @@ ghost use Rattle.cut_wants.specs.declared.wants.Want.{Want};
 ghost use Rattle.cut_classes.specs.declared.pairs.Pair.{Pair};
 ghost use Rattle.cut_classes.specs.Classes.{count};
 ghost use Rattle.cut_classes.specs.Classes as specs;
-ghost use Rattle.cut_classes.specs.Grids.{AreUsable, IsUsableGrid, across_of, down_of};
+ghost use Rattle.cut_classes.specs.Grids.{IsUsableGrid, across_of, down_of};
 ghost use Rattle.cut_classes.specs.Filling.{AreFilledRows, CoverParts, CoversParts, HasCeilingBelow, IsFilledRow, IsOfferedTo, IsOverParts, IsOverSums, IsPieceRow, IsRaised, rows_of, worth_at};
 
 use crate::grid::Grid;
