@@ -36,7 +36,7 @@ impl<S: Storage> LedgerBook<S> {
         BookFault::Store
     }
 
-    // The fault of rows that no history makes: the store failed, or, where none can, memory is wanting.
+    // The fault for rows that no history leads to: the store failed or, if no store can fail, memory ran out.
     fn out_of_range(&mut self) -> BookFault
         ensures memory { S.MAY_FAIL ≡ false → result ≡ NoMemory }
         ensures ledger { self.new.ledger ≡ self.old.ledger }

@@ -4,9 +4,9 @@ use crate::posted::LedgerBook;
 use shop_book::{Ledger, MemStorage};
 use std::alloc::{AllocError, Global};
 
-/// A book in memory, which is gone when the program ends. No store can fail under it: only memory can run out, and it tells
-/// so of a number or a sum that is out of range, and of two lines of an order with the same number, too, none of which a
-/// shop's history leads to.
+/// A book in memory, which ends with the program. No store can fail under it, so each of its faults means that memory ran out.
+/// It says so, too, of a number or a sum that is out of range and of two lines of an order with the same number, none of which
+/// a shop's history leads to.
 pub type MemBook = LedgerBook<MemStorage>;
 
 impl MemBook {
