@@ -190,13 +190,13 @@ is_rate wants k xs ys c s s' ux uy rated x true has i j il jl room =
 
 pub rated_below : (limit : ℕ) (wants : List Want) (k : ℕ) (xs ys : Classes) (c s s' : ℕ) → AreUsable xs → AreUsable ys → IsSlack s xs → IsSlack s' ys
     → ((x : Want) (turned : Bool) → Contains wants x → IsRatedWant s s' xs ys k x turned c) → ((x : Want) → Contains wants x → x.worth < limit) → c * (xs.most * ys.most) < limit
-    → HasCeilingBelow limit wants k xs ys
+    → HasCeilingBelow limit wants k ys xs
 rated_below limit wants k xs ys c s s' ux uy slack slack' rated small below = record {
   worths = small;
   worth = areas c s s' xs ys;
   ceiling = areas_ceiling wants k xs ys c s s' ux uy slack slack' (is_rate wants k xs ys c s s' ux uy rated);
   below = λ i j il jl.
-      let most = areas_small c s s' xs.most ys.most xs ys ux uy (le_refl xs.most) (le_refl ys.most) i j il jl in
+      let most = areas_small c s s' xs.most ys.most xs ys ux uy (le_refl xs.most) (le_refl ys.most) j i jl il in
       omega (arith, most, below);
 }
 

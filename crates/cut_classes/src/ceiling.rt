@@ -15,7 +15,7 @@ use cut_measure::{MOST_KERF, Size};
 use cut_wants::wants::Want;
 use std::alloc::{AllocError, Global};
 
-/// A worth for each class of widths and each of heights: a row for each class of heights, in
+/// A worth for each class of widths and each of heights: a row for each class of widths, in
 /// narrow numbers where they do.
 #[derive(Drop)]
 pub enum CeilingTable {
@@ -31,16 +31,16 @@ impl CeilingTable {
         ensures { result ≡ worth_in self.now across down }
     {
         match self {
-            CeilingTable::Narrow(rows) => match rows.get(down) {
+            CeilingTable::Narrow(rows) => match rows.get(across) {
                 None => 0,
-                Some(row) => match row.get(across) {
+                Some(row) => match row.get(down) {
                     None => 0,
                     Some(worth) => *worth as u64,
                 },
             },
-            CeilingTable::Wide(rows) => match rows.get(down) {
+            CeilingTable::Wide(rows) => match rows.get(across) {
                 None => 0,
-                Some(row) => match row.get(across) {
+                Some(row) => match row.get(down) {
                     None => 0,
                     Some(worth) => *worth,
                 },
@@ -59,7 +59,7 @@ fn narrow_ceilings(
     requires kerf { kerf ≤ MOST_KERF }
     requires usable { IsUsableGrid grid.now }
     requires counted { AreCounted wants.now kerf (across_of grid.now) (down_of grid.now) }
-    requires fits { HasCeilingBelow (2 ^ 32) wants.now kerf (across_of grid.now) (down_of grid.now) }
+    requires fits { HasCeilingBelow (2 ^ 32) wants.now kerf (down_of grid.now) (across_of grid.now) }
     ensures { IfOk result (λ table. IsLeastCeiling wants.now kerf (across_of grid.now)
         (down_of grid.now) (worth_in table)) }
 {

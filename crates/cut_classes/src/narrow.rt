@@ -118,8 +118,8 @@ pub(crate) fn is_narrow(kerf: u32, grid: &Grid, wants: &[Want]) -> bool
     requires kerf { kerf ≤ MOST_KERF }
     requires usable { IsUsableGrid grid.now }
     requires counted { AreCounted wants.now kerf (across_of grid.now) (down_of grid.now) }
-    ensures { IsTrue result → HasCeilingBelow (2 ^ 32) wants.now kerf (across_of grid.now)
-        (down_of grid.now) }
+    ensures { IsTrue result → HasCeilingBelow (2 ^ 32) wants.now kerf (down_of grid.now)
+        (across_of grid.now) }
 {
     let slack_across = slack_of(&grid.across, grid.most_across);
     let slack_down = slack_of(&grid.down, grid.most_down);

@@ -20,12 +20,12 @@ filled_rows-requires-clause-fits c =
       worth = scaled MOST_WORTH xs ys;
       ceiling = scaled_ceiling c.args.wants.now c.args.kerf xs ys u.across u.down c.requires.counted MOST_WORTH (worths_small c.args.wants.now c.args.kerf xs ys c.requires.counted);
       below = λ i j il jl.
-          let most = areas_small MOST_WORTH (low_of xs 1 - 1) (low_of ys 1 - 1) (MOST_WIDTH + MOST_KERF) (MOST_HEIGHT + MOST_KERF) xs ys u.across u.down u.wide u.high i j il jl in
+          let most = areas_small MOST_WORTH (low_of xs 1 - 1) (low_of ys 1 - 1) (MOST_WIDTH + MOST_KERF) (MOST_HEIGHT + MOST_KERF) xs ys u.across u.down u.wide u.high j i jl il in
           omega (arith, most, all);
     }
 
 pub returns : goal.returns
 returns c =
     let rows = c.in_ok-rows.rows.items in
-    filled_least c.args.wants.now c.args.kerf (across_of c.args.grid.now) (down_of c.args.grid.now) (rows_of (λ v. v) rows) c.requires.usable.across c.requires.usable.down c.requires.counted
+    filled_least c.args.wants.now c.args.kerf (down_of c.args.grid.now) (across_of c.args.grid.now) (rows_of (λ v. v) rows) c.requires.usable.down c.requires.usable.across c.requires.counted
     (omega (arith, count_rows (λ v. v) rows, c.in_ok-rows.ensures.len)) c.in_ok-rows.ensures.rows
