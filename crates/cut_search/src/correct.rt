@@ -210,12 +210,7 @@ impl Correct {
     }
 
     /// Asks for the next unit.
-    fn ask(
-        &mut self,
-        alloc: Global,
-        order: &Order,
-        bars: &mut Bars,
-    ) -> Result<(), AllocError> {
+    fn ask(&mut self, alloc: Global, order: &Order, bars: &mut Bars) -> Result<(), AllocError> {
         let worths = order.scaled(alloc, &self.values, &self.draft.left)?;
         if let Some(size) = self.only_size() {
             self.asked = Asked::Unit(size);

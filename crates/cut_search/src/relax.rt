@@ -166,12 +166,7 @@ impl Relax {
     }
 
     /// Asks for plans by the program's prices.
-    fn begin(
-        &mut self,
-        alloc: Global,
-        order: &Order,
-        bars: &mut Bars,
-    ) -> Result<(), AllocError> {
+    fn begin(&mut self, alloc: Global, order: &Order, bars: &mut Bars) -> Result<(), AllocError> {
         self.prices = self.master.want_prices(alloc, self.left.len())?;
         self.asked = order.scaled(alloc, &self.prices, &self.left)?;
         self.begun = true;
@@ -211,12 +206,7 @@ impl Relax {
     }
 
     /// Offers further plans of a size that gain.
-    fn add_more(
-        &mut self,
-        alloc: Global,
-        bars: &Bars,
-        first: &Plan,
-    ) -> Result<(), AllocError> {
+    fn add_more(&mut self, alloc: Global, bars: &Bars, first: &Plan) -> Result<(), AllocError> {
         let mut plans: Vec<Plan> = Vec::new(alloc);
         plans.push(first.copy(alloc)?)?;
         for counts in bars.more_columns(alloc, first.size, MORE_COLUMNS)? {
@@ -240,12 +230,7 @@ impl Relax {
     }
 
     /// Offers the plans of a table that gain. Whether there was one.
-    fn add(
-        &mut self,
-        alloc: Global,
-        bars: &Bars,
-        priced: Vec<Priced>,
-    ) -> Result<bool, AllocError> {
+    fn add(&mut self, alloc: Global, bars: &Bars, priced: Vec<Priced>) -> Result<bool, AllocError> {
         let mut plans = Vec::new(alloc);
         for (size, one) in priced.into_iter().enumerate() {
             plans.push(Plan {

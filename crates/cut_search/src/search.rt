@@ -1,13 +1,12 @@
 //! The search for plans of a whole order, of bars or of sheets.
 
 use crate::bars::BarSearch;
+pub use crate::found::{Found, FoundUnit};
 use crate::sheets::search::SheetSearch;
 use crate::stock::SearchSize;
 use cut_measure::Kind;
 use cut_wants::wants::Want;
 use std::alloc::{AllocError, Global};
-
-pub use crate::found::{Found, FoundUnit};
 
 /// A search.
 #[derive(Drop)]

@@ -72,7 +72,12 @@ impl Best {
     }
 
     /// Keeps units that are as good with a larger rest. Whether they are.
-    pub fn offer_rest(&mut self, alloc: Global, job: &Job, units: &Units) -> Result<bool, AllocError> {
+    pub fn offer_rest(
+        &mut self,
+        alloc: Global,
+        job: &Job,
+        units: &Units,
+    ) -> Result<bool, AllocError> {
         if units.missing_pieces() != self.missing || units.cost != self.cost {
             return self.offer(alloc, job, units);
         }

@@ -158,8 +158,11 @@ impl Ceilings {
         bests: &[u64],
     ) -> Result<Vec<usize>, AllocError> {
         let mut rates = Vec::new(alloc);
-        for (size, ((best, cost), is_offered)) in
-            bests.iter().zip(&order.costs).zip(&self.offered).enumerate()
+        for (size, ((best, cost), is_offered)) in bests
+            .iter()
+            .zip(&order.costs)
+            .zip(&self.offered)
+            .enumerate()
         {
             if *is_offered && *best > 0 {
                 let rate = (*best as u128 * 1_000_000_000).div_ceil((*cost as u128).max(1));
@@ -211,7 +214,9 @@ impl Ceilings {
 
     /// Makes some pivots. Whether the program is of no more use.
     fn pivot(&mut self, worker: &mut Worker) -> bool {
-        let rows = (worker.job.order.left.len() as u64).saturating_add(self.free.len() as u64).min(200);
+        let rows = (worker.job.order.left.len() as u64)
+            .saturating_add(self.free.len() as u64)
+            .min(200);
         let columns = self.master.plans().len() as u64;
         let all = rows.saturating_add(columns).saturating_mul(rows) / 10_000;
         worker.count_work(all.saturating_add(1).saturating_mul(PIVOTS as u64));

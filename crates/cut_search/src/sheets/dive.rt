@@ -132,7 +132,9 @@ impl Dive {
         }
         worker.count_work(4);
         let least = worker.job.least_by_room(&self.units.missing);
-        if !have_some(&self.units.missing) || self.units.cost.saturating_add(least) > self.most_cost {
+        if !have_some(&self.units.missing)
+            || self.units.cost.saturating_add(least) > self.most_cost
+        {
             return Ok(true);
         }
         Ok(!self.descend(alloc)?)

@@ -13,7 +13,7 @@ use crate::sheets::job::sum_of;
 use crate::sheets::program::{MOST_COLUMNS, Program};
 use crate::sheets::rest::Pack;
 use crate::sheets::settle::Settle;
-use crate::sheets::units::{Plan, Units};
+use crate::sheets::units::{MOST_UNITS, Plan, Units};
 use crate::sheets::worker::{BEAM, PLAIN_BEAM, WIDE_BEAM, Worker};
 use std::alloc::{AllocError, Global};
 use std::rc::Rc;
@@ -29,21 +29,25 @@ const COLUMNS: u32 = 300;
 
 /// Points an axis of the bound's tables, at first and where more may help.
 pub const COARSE: usize = 250;
+
 pub const FINE: usize = 600;
 
 /// Tables of a bound's program, at first and where more may help.
 const COARSE_TABLES: u32 = 400;
+
 const FINE_TABLES: u32 = 150;
 
 /// The same over several sizes.
 const MIXED_COARSE_TABLES: u32 = 250;
+
 const MIXED_FINE_TABLES: u32 = 1;
 
 /// So many fillings give units up before the finer bound.
 const FIRST_GAINS: u64 = 1500;
 
 /// So many are made in all, before the large rest is looked for, of one size and of several.
-const MOST_FILLINGS: u64 = 15_000;
+const MOST_FILLINGS: u64 = 12_000;
+
 const MIXED_FILLINGS: u64 = 4000;
 
 /// So many look for the large rest.
@@ -54,6 +58,7 @@ const MOST_ATTEMPTS: u32 = 2000;
 
 /// So many tries without a gain begin anew, of one size and of several.
 const PATIENCE: u32 = 300;
+
 const MIXED_PATIENCE: u32 = 120;
 
 /// The noise of a plan from nothing that units are given up of, in 1000ths.
@@ -117,6 +122,8 @@ enum Task {
     Dive(Dive),
     GiveUp(GiveUp),
     Pack(Pack),
+    /// What is left out of units is put into one more.
+    Last(GiveUp, Pack),
 }
 
 /// A course.
@@ -156,7 +163,12 @@ pub struct Flow {
 }
 
 /// The batches with the most room that isn't filled, the emptiest last.
-fn emptiest(alloc: Global, worker: &Worker, units: &Units, most: usize) -> Result<Vec<usize>, AllocError> {
+fn emptiest(
+    alloc: Global,
+    worker: &Worker,
+    units: &Units,
+    most: usize,
+) -> Result<Vec<usize>, AllocError> {
     let mut list = Vec::new(alloc);
     for (place, batch) in units.batches.iter().enumerate() {
         let plan = &batch.plan;
@@ -175,7 +187,13 @@ fn emptiest(alloc: Global, worker: &Worker, units: &Units, most: usize) -> Resul
 
 impl Flow {
     /// A course that has made nothing yet, over what is free of the stock.
-    pub fn new(alloc: Global, worker: &Worker, only: Option<usize>, free: Vec<u32>, has_bound: bool) -> Result<Flow, AllocError> {
+    pub fn new(
+        alloc: Global,
+        worker: &Worker,
+        only: Option<usize>,
+        free: Vec<u32>,
+        has_bound: bool,
+    ) -> Result<Flow, AllocError> {
         Ok(Flow {
             only,
             free,
@@ -285,14 +303,23 @@ impl Flow {
     }
 
     /// Begins a round of value correction.
-    fn begin_round(&mut self, alloc: Global, worker: &mut Worker, next: Stage) -> Result<(), AllocError> {
+    fn begin_round(
+        &mut self,
+        alloc: Global,
+        worker: &mut Worker,
+        next: Stage,
+    ) -> Result<(), AllocError> {
         if self.round >= ROUNDS || self.is_met(worker) {
             self.turn(next);
             return Ok(());
         }
         if self.round == 0 {
             let is_priced = self.stage == Stage::Priced;
-            let values = if is_priced { &worker.hints.priced } else { &worker.hints.cells };
+            let values = if is_priced {
+                &worker.hints.priced
+            } else {
+                &worker.hints.cells
+            };
             self.values = Vec::from_slice(alloc, values)?;
         }
         let one = match self.only {
@@ -307,7 +334,12 @@ impl Flow {
     }
 
     /// Begins the program of plans.
-    fn begin_plans(&mut self, alloc: Global, worker: &Worker, size: usize) -> Result<(), AllocError> {
+    fn begin_plans(
+        &mut self,
+        alloc: Global,
+        worker: &Worker,
+        size: usize,
+    ) -> Result<(), AllocError> {
         let number = match self.free.get(size) {
             Some(&u32::MAX) => None,
             Some(free) => Some(*free as u64),
@@ -453,7 +485,12 @@ impl Flow {
     }
 
     /// Gives units up of a plan.
-    fn give_up(&mut self, alloc: Global, worker: &mut Worker, from: Units) -> Result<(), AllocError> {
+    fn give_up(
+        &mut self,
+        alloc: Global,
+        worker: &mut Worker,
+        from: Units,
+    ) -> Result<(), AllocError> {
         let worths = self.attempt_worths(alloc, &worker.hints)?;
         let is_far = self.only.is_none() && self.attempts.checked_rem(3) == Some(0);
         let most = self.most_cost(worker, is_far);
@@ -465,7 +502,11 @@ impl Flow {
         let mut units = cheapened(alloc, &worker.job, &from, &worths, most)?;
         self.limit(&mut units, &worker.job.order.limits);
         worker.count_work(2);
-        let patience = if self.only.is_some() { PATIENCE } else { MIXED_PATIENCE };
+        let patience = if self.only.is_some() {
+            PATIENCE
+        } else {
+            MIXED_PATIENCE
+        };
         let rates = Vec::from_slice(alloc, &worker.hints.rates)?;
         let next = GiveUp::new(alloc, worker, units, &worths, &rates, most, goal, patience)?;
         self.task = Task::GiveUp(next);
@@ -484,7 +525,9 @@ impl Flow {
     /// Whether there are units that may be given up.
     fn has_start(&self) -> bool {
         match &self.start {
-            Some(start) => start.batches.len() < MOST_BATCHES / 2,
+            Some(start) => {
+                start.batches.len() < MOST_BATCHES / 2 && start.count() < MOST_UNITS / 2
+            }
             None => false,
         }
     }
@@ -650,7 +693,12 @@ impl Flow {
     }
 
     /// Ends a plan from nothing.
-    fn end_greedy(&mut self, alloc: Global, worker: &mut Worker, greedy: Greedy) -> Result<Told, AllocError> {
+    fn end_greedy(
+        &mut self,
+        alloc: Global,
+        worker: &mut Worker,
+        greedy: Greedy,
+    ) -> Result<Told, AllocError> {
         self.round = self.round.saturating_add(1);
         match (self.stage, self.only) {
             (Stage::Quick, _) => self.offer(alloc, worker, &greedy.units),
@@ -674,9 +722,19 @@ impl Flow {
     }
 
     /// Ends the program of plans.
-    fn end_program(&mut self, alloc: Global, worker: &mut Worker, program: Program) -> Result<Told, AllocError> {
+    fn end_program(
+        &mut self,
+        alloc: Global,
+        worker: &mut Worker,
+        program: Program,
+    ) -> Result<Told, AllocError> {
         if !self.has_bound {
-            let priced = mixed(alloc, &worker.job.order, &worker.hints.cells, &program.prices)?;
+            let priced = mixed(
+                alloc,
+                &worker.job.order,
+                &worker.hints.cells,
+                &program.prices,
+            )?;
             self.values = priced;
         }
         self.plans = Vec::new(alloc);
@@ -692,7 +750,11 @@ impl Flow {
     fn keep_worths(&mut self, rated: Option<Rated>) {
         if let Some(rated) = rated {
             self.worths = rated.worths;
-            self.points = if self.stage == Stage::Fine { FINE } else { COARSE };
+            self.points = if self.stage == Stage::Fine {
+                FINE
+            } else {
+                COARSE
+            };
         }
     }
 
@@ -726,7 +788,12 @@ impl Flow {
     }
 
     /// Takes another plan of as many units to begin with, where one unit holds what is left out.
-    fn begin_elsewhere(&mut self, alloc: Global, worker: &mut Worker, next: GiveUp) -> Result<(), AllocError> {
+    fn begin_elsewhere(
+        &mut self,
+        alloc: Global,
+        worker: &mut Worker,
+        next: GiveUp,
+    ) -> Result<(), AllocError> {
         let mut units = next.units;
         let Some(size) = self.only else {
             return Ok(());
@@ -760,7 +827,13 @@ impl Flow {
     }
 
     /// Goes on behind a try to give units up.
-    fn after_try(&mut self, alloc: Global, worker: &mut Worker, next: GiveUp, given: Given) -> Result<Told, AllocError> {
+    fn after_try(
+        &mut self,
+        alloc: Global,
+        worker: &mut Worker,
+        next: GiveUp,
+        given: Given,
+    ) -> Result<Told, AllocError> {
         if self.stage == Stage::Rest {
             return self.after_rest(alloc, worker, next, given);
         }
@@ -773,7 +846,11 @@ impl Flow {
             }
             Given::More | Given::Less => {
                 let is_over = is_full || self.is_enough(worker);
-                self.task = if is_over { Task::Nothing } else { Task::GiveUp(next) };
+                self.task = if is_over {
+                    Task::Nothing
+                } else {
+                    Task::GiveUp(next)
+                };
                 Ok(Told::Nothing)
             }
         }
@@ -781,7 +858,13 @@ impl Flow {
 
     /// Goes on behind a try for a large rest: where less is left out than ever, it is put into one
     /// unit.
-    fn after_rest(&mut self, alloc: Global, worker: &mut Worker, next: GiveUp, given: Given) -> Result<Told, AllocError> {
+    fn after_rest(
+        &mut self,
+        alloc: Global,
+        worker: &mut Worker,
+        next: GiveUp,
+        given: Given,
+    ) -> Result<Told, AllocError> {
         let is_over = self.fillings >= self.begun.saturating_add(REST_FILLINGS);
         if is_over || given == Given::Tired {
             self.turn(Stage::Ended);
@@ -792,25 +875,39 @@ impl Flow {
             let room = worker.job.unit_cells(size);
             let used = worker.job.cells_in(&next.units.missing);
             if room.saturating_sub(used) > self.best.rest {
-                return self.pack_rest(alloc, worker, next, size);
+                self.pack_rest(alloc, worker, next, size)?;
+                return Ok(Told::Nothing);
             }
         }
         self.task = Task::GiveUp(next);
         Ok(Told::Nothing)
     }
 
-    /// Puts what is left out into one unit, as narrow or as low as can be, and goes on.
-    fn pack_rest(&mut self, alloc: Global, worker: &mut Worker, next: GiveUp, size: usize) -> Result<Told, AllocError> {
+    /// Begins to put what is left out into one unit, as narrow or as low as can be.
+    fn pack_rest(
+        &mut self,
+        alloc: Global,
+        worker: &Worker,
+        next: GiveUp,
+        size: usize,
+    ) -> Result<(), AllocError> {
         let counts = &next.units.missing;
         let values = &worker.hints.cells;
-        let mut pack = Pack::new(alloc, &worker.job, size, counts, values, self.best.rest)?;
-        for _ in 0..40 {
-            if pack.go_on(alloc, worker)? {
-                break;
-            }
-        }
+        let pack = Pack::new(alloc, &worker.job, size, counts, values, self.best.rest)?;
+        self.task = Task::Last(next, pack);
+        Ok(())
+    }
+
+    /// Ends that, and goes on to fill units again.
+    fn end_last(
+        &mut self,
+        alloc: Global,
+        worker: &Worker,
+        next: GiveUp,
+        pack: Pack,
+    ) -> Result<Told, AllocError> {
         let mut told = Told::Nothing;
-        if let Some(plan) = pack.best.take() {
+        if let Some(plan) = pack.best {
             let mut whole = next.units.copy(alloc)?;
             whole.add(&worker.job, plan, 1)?;
             if self.best.offer_rest(alloc, &worker.job, &whole)? {
@@ -870,7 +967,13 @@ impl Flow {
     }
 
     /// Goes on with the rest of what may be done.
-    fn work_on(&mut self, alloc: Global, worker: &mut Worker, task: Task, goal: u64) -> Result<Told, AllocError> {
+    fn work_on(
+        &mut self,
+        alloc: Global,
+        worker: &mut Worker,
+        task: Task,
+        goal: u64,
+    ) -> Result<Told, AllocError> {
         match task {
             Task::Ceilings(mut ceilings) => {
                 if ceilings.go_on(alloc, worker, goal)? {
@@ -898,13 +1001,24 @@ impl Flow {
                 self.task = Task::Pack(pack);
                 Ok(Told::Nothing)
             }
+            Task::Last(next, mut pack) => {
+                if pack.go_on(alloc, worker)? {
+                    return self.end_last(alloc, worker, next, pack);
+                }
+                self.task = Task::Last(next, pack);
+                Ok(Told::Nothing)
+            }
             _ => Ok(Told::Nothing),
         }
     }
 
-    /// Goes on by one filling, one table or some pivots at most (by some twenty fillings for a
-    /// large rest). `goal` is a cost that is known.
-    pub fn go_on(&mut self, alloc: Global, worker: &mut Worker, goal: u64) -> Result<Told, AllocError> {
+    /// Goes on by one filling, one table or some pivots at most. `goal` is a cost that is known.
+    pub fn go_on(
+        &mut self,
+        alloc: Global,
+        worker: &mut Worker,
+        goal: u64,
+    ) -> Result<Told, AllocError> {
         if self.stage == Stage::Ended {
             return Ok(Told::Ended);
         }

@@ -84,7 +84,12 @@ fn rate_of(job: &Job, plan: &Plan, worths: &[u64]) -> u128 {
 }
 
 /// The rates of the batches.
-fn rates_of(alloc: Global, job: &Job, units: &Units, worths: &[u64]) -> Result<Vec<u128>, AllocError> {
+fn rates_of(
+    alloc: Global,
+    job: &Job,
+    units: &Units,
+    worths: &[u64],
+) -> Result<Vec<u128>, AllocError> {
     let mut rates = Vec::new(alloc);
     for batch in &units.batches {
         rates.push(rate_of(job, &batch.plan, worths))?;
@@ -270,7 +275,11 @@ impl GiveUp {
         };
         let is_better = worker.dice.below(100) < BETTER_SIZE;
         let (first_rate, second_rate) = (self.rates.get(a), self.rates.get(b));
-        Ok(Some(if is_better && first_rate < second_rate { b } else { a }))
+        Ok(Some(if is_better && first_rate < second_rate {
+            b
+        } else {
+            a
+        }))
     }
 
     /// Sizes for new units that cost no more than the room together.

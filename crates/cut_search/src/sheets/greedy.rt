@@ -5,20 +5,23 @@
 use crate::correct::{Loss, corrected};
 use crate::draft::{have_some, times_within};
 use crate::sheets::job::{Job, is_within, sum_of};
-use crate::sheets::units::{Plan, Units};
-use crate::sheets::worker::Worker;
+use crate::sheets::units::{MOST_UNITS, Plan, Units};
+use crate::sheets::worker::{PLAIN_BEAM, Worker};
 use std::alloc::{AllocError, Global};
 use std::rc::Rc;
 
 /// So many sizes are filled for one unit at most, before the best that is known is taken.
 const MOST_TRIES: u32 = 16;
 
+/// The same of a plain plan.
+const PLAIN_TRIES: u32 = 3;
+
 /// So many cheaper sizes are tried for all that is left.
 const MOST_CHEAPER: u32 = 8;
 
 /// So many different units a plan has at most, so that its memory is bounded. What is left then is
 /// missing.
-pub const MOST_BATCHES: usize = 2000;
+pub const MOST_BATCHES: usize = 1500;
 
 /// The old value's weight in a corrected one at least, in 1000ths.
 const LEAST_WEIGHT: u64 = 667;
@@ -173,7 +176,12 @@ impl Greedy {
     }
 
     /// The cheaper sizes that might hold all that is left, the cheapest last.
-    fn cheaper_sizes(&self, alloc: Global, job: &Job, size: usize) -> Result<Vec<usize>, AllocError> {
+    fn cheaper_sizes(
+        &self,
+        alloc: Global,
+        job: &Job,
+        size: usize,
+    ) -> Result<Vec<usize>, AllocError> {
         let mut sizes = Vec::new(alloc);
         let (cost, all) = (job.cost(size), sum_of(&self.units.missing, &self.values));
         for (other, known) in self.known.iter().enumerate() {
@@ -193,7 +201,8 @@ impl Greedy {
 
     /// Looks for the next unit's size, by one filling at most. Whether there is none.
     fn choose(&mut self, alloc: Global, worker: &mut Worker) -> Result<bool, AllocError> {
-        let is_enough = self.tries >= MOST_TRIES;
+        let is_plain = self.beam <= PLAIN_BEAM;
+        let is_enough = self.tries >= if is_plain { PLAIN_TRIES } else { MOST_TRIES };
         let best = self.best_size(&worker.job, is_enough);
         let Some(size) = best.or(self.best_size(&worker.job, false)) else {
             return Ok(true);
@@ -209,7 +218,10 @@ impl Greedy {
 
     /// How often a plan is taken at once: as long as much more is left than one unit holds.
     fn times_of(&self, job: &Job, plan: &Plan) -> u32 {
-        let fit = times_within(&plan.counts, &self.units.missing).min(self.units.free_of(plan.size));
+        let room = MOST_UNITS.saturating_sub(self.units.count());
+        let fit = times_within(&plan.counts, &self.units.missing)
+            .min(self.units.free_of(plan.size))
+            .min(u32::try_from(room).unwrap_or(0));
         if self.is_corrected {
             return fit;
         }
@@ -232,7 +244,12 @@ impl Greedy {
             weight: worker.dice.within(LEAST_WEIGHT, MOST_WEIGHT),
             power: worker.dice.within(LEAST_POWER, MOST_POWER),
         };
-        let pieces = job.order.piece_cells.iter().zip(&plan.counts).zip(&self.units.missing);
+        let pieces = job
+            .order
+            .piece_cells
+            .iter()
+            .zip(&plan.counts)
+            .zip(&self.units.missing);
         for (value, ((cells, count), left)) in self.values.iter_mut().zip(pieces) {
             if *count > 0 {
                 let taken = *count as u64 * times as u64;
@@ -304,7 +321,7 @@ impl Greedy {
 
     /// Goes on by one filling at most. Whether it is at its end.
     pub fn go_on(&mut self, alloc: Global, worker: &mut Worker) -> Result<bool, AllocError> {
-        let is_full = self.units.batches.len() >= MOST_BATCHES;
+        let is_full = self.units.batches.len() >= MOST_BATCHES || self.units.count() >= MOST_UNITS;
         if is_full || !have_some(&self.units.missing) {
             return Ok(true);
         }

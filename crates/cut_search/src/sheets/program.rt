@@ -38,7 +38,11 @@ pub struct Program {
 }
 
 /// The plan of a column: what it has of a kept plan.
-pub fn plan_of(alloc: Global, plans: &[Rc<Plan>], column: &Column) -> Result<Option<Rc<Plan>>, AllocError> {
+pub fn plan_of(
+    alloc: Global,
+    plans: &[Rc<Plan>],
+    column: &Column,
+) -> Result<Option<Rc<Plan>>, AllocError> {
     let Some(plan) = plans.get(column.tag) else {
         return Ok(None);
     };
@@ -47,11 +51,14 @@ pub fn plan_of(alloc: Global, plans: &[Rc<Plan>], column: &Column) -> Result<Opt
     }
     let part: Shape = plan.shape.within(alloc, &column.counts)?;
     let counts = part.counts(alloc, column.counts.len())?;
-    Ok(Some(Rc::new(alloc, Plan {
-        size: plan.size,
-        shape: part,
-        counts,
-    })?))
+    Ok(Some(Rc::new(
+        alloc,
+        Plan {
+            size: plan.size,
+            shape: part,
+            counts,
+        },
+    )?))
 }
 
 impl Program {

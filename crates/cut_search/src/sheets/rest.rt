@@ -81,7 +81,10 @@ impl Pack {
         let (side, across) = self.sides(job);
         let cells = job.cells_in(&self.counts);
         let least = cells.checked_div(across as u64).unwrap_or(0);
-        self.low = u32::try_from(least).unwrap_or(side).min(side).saturating_sub(1);
+        self.low = u32::try_from(least)
+            .unwrap_or(side)
+            .min(side)
+            .saturating_sub(1);
         self.high = side;
         self.at = side;
         self.tries = TRIES;
@@ -125,8 +128,7 @@ impl Pack {
         };
         let mut effort = worker.effort(WIDE_BEAM);
         effort.stages = self.stages_within(&worker.job, side);
-        let filled =
-            worker.fill_part(alloc, self.size, part, &self.counts, &self.values, effort)?;
+        let filled = worker.fill_part(alloc, self.size, part, &self.counts, &self.values, effort)?;
         let plan = filled.plan;
         if plan.counts.as_slice() != self.counts.as_slice() {
             return Ok(false);

@@ -131,7 +131,11 @@ impl SheetSearch {
         };
         for more in 0..count {
             let place = first.saturating_add(more).checked_rem(count).unwrap_or(0);
-            if self.flows.get(place).map_or(false, |flow| !flow.has_ended()) {
+            if self
+                .flows
+                .get(place)
+                .map_or(false, |flow| !flow.has_ended())
+            {
                 return place;
             }
         }
@@ -155,7 +159,12 @@ impl SheetSearch {
     }
 
     /// What a course told.
-    fn found(&mut self, alloc: Global, place: usize, told: Told) -> Result<Option<Found>, AllocError> {
+    fn found(
+        &mut self,
+        alloc: Global,
+        place: usize,
+        told: Told,
+    ) -> Result<Option<Found>, AllocError> {
         match told {
             Told::Nothing | Told::Ended => Ok(None),
             Told::Units => Ok(self.units(alloc, place)?.map(Found::Units)),

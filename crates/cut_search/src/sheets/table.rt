@@ -2,9 +2,7 @@
 //! the pieces that it counts.
 
 use crate::sheets::job::{Job, fits};
-use cut_classes::{
-    CeilingTable, Grid, ceilings, class_of, grid_of, high_of, is_counted, pairs_of,
-};
+use cut_classes::{CeilingTable, Grid, ceilings, class_of, grid_of, high_of, is_counted, pairs_of};
 use cut_fill_sheets::Piece;
 use cut_measure::{MOST_KERF, Size};
 use cut_wants::wants::Want;
@@ -91,12 +89,7 @@ impl Table {
     }
 
     /// Makes the table by these worths; those of wants that aren't in it become 0.
-    pub fn make(
-        &mut self,
-        alloc: Global,
-        job: &Job,
-        worths: &mut [u32],
-    ) -> Result<(), AllocError> {
+    pub fn make(&mut self, alloc: Global, job: &Job, worths: &mut [u32]) -> Result<(), AllocError> {
         for (worth, is_in) in worths.iter_mut().zip(&self.counted) {
             if !*is_in {
                 *worth = 0;

@@ -5,6 +5,9 @@ use cut_fill_sheets::Shape;
 use std::alloc::{AllocError, Global};
 use std::rc::Rc;
 
+/// So many units an answer has at most.
+pub const MOST_UNITS: u64 = 100_000;
+
 /// A plan of one unit.
 #[derive(Drop)]
 pub struct Plan {

@@ -22,6 +22,12 @@ const GUIDE_POINTS: usize = 96;
 /// So much work a call does at most, in some 50 microseconds each.
 pub const MOST_WORK: u64 = 500;
 
+/// So many looks of a filling are a worker's work.
+const LOOKS_A_WORK: u64 = 1600;
+
+/// A filling's guide takes a worker's work for so many kinds.
+const KINDS_A_WORK: u64 = 3;
+
 /// A filled unit.
 #[derive(Drop)]
 pub struct Filled {
@@ -54,12 +60,13 @@ impl Worker {
         }
     }
 
-    /// Counts a filling of so many pieces.
+    /// Counts a filling of so many pieces: its time grows by the beam, by the kinds and by the
+    /// pieces, and its guide takes some too.
     fn count_filling(&mut self, beam: usize, kinds: u64, pieces: u64) {
-        let wide = beam as u64;
-        let deep = pieces.clamp(20, 300).saturating_mul(kinds.clamp(20, 100));
-        let work = wide.saturating_mul(deep) / 400;
-        self.spent = self.spent.saturating_add(work.max(1));
+        let wide = (beam as u64).saturating_mul(kinds.saturating_add(10));
+        let work = wide.saturating_mul(pieces.saturating_add(5)) / LOOKS_A_WORK;
+        let guide = (kinds / KINDS_A_WORK).saturating_add(1);
+        self.spent = self.spent.saturating_add(work).saturating_add(guide);
         self.fillings = self.fillings.saturating_add(1);
     }
 
