@@ -494,7 +494,7 @@ def before_store(trial):
 # What help says of each command, and the words and options that it has.
 COMMANDS = {
     "replay": ("lines of standard input", []),
-    "plan": ("problem file", ["FILE", "--kerf", "--step", "--whole", "--calls", "--shop", "--material", "--size"]),
+    "plan": ("problem file", ["FILE", "--kerf", "--step", "--whole", "--calls", "--stages", "--shop", "--material", "--size"]),
     "orders": ("order file", ["FILE", "--shop", "--order", "--terminal", "--number"]),
     "serve": ("HTTP", ["--port", "--store", "--shop", "--limit", "--page", "--backup", "--existing", "--keep", "--host", "--origin"]),
     "ticket": ("ticket of a job", ["--store", "JOB", "--read-only"]),

@@ -337,6 +337,7 @@ MEANT = {
     "plan": {
         "--whole": "all pieces",
         "--calls": "in tables",
+        "--stages": "how many stages",
         "--kerf": "saw",
         "--step": "rounded",
         "--shop": "shop file of an order file's materials",

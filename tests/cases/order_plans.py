@@ -292,6 +292,8 @@ plan a.csv --whole --shop a.toml --material A --size 1.0 --size = '--size <WxH>'
 plan a.csv --whole --shop a.toml --material --size 1.0 = '--material <CODE>'
 plan a.csv --whole --shop a.toml --material A --material B --size 1.0 = '--material <CODE>'
 plan a.csv --whole --shop a.toml --material A --size 1.0 --calls 5001 = '5001' for '--calls <N>'
+plan a.csv --whole --shop a.toml --material A --size 1.0 --stages 1 = '1' for '--stages <N>'
+plan a.csv --whole --shop a.toml --material A --size 1.0 --stages 256 = '256' for '--stages <N>'
 plan a.csv --whole --shop a.toml --material A --size 1.0 --kerf 201 = '201' for '--kerf <N>'
 plan a.csv --kerf 1 --shop a.toml --material A --size 1.0 = '--whole' is missing
 plan a.csv --whole --kerf 1 --step 1 --shop a.toml --material A --size 1.0 = '--kerf <N>' may not be given with '--shop'
@@ -303,13 +305,15 @@ orders a.csv --size 1.0 = '--size'
 
 @case(
     "words of an order file's plan",
-    "Its words stand in any order; `--calls` may be given, kerf and step not; what lacks and what is there twice is a mistake.",
+    "Its words stand in any order; `--calls` and `--stages` may be given, kerf and step not; what lacks and what is there twice is a mistake.",
 )
 def words(trial):
     wanted = asked(trial, bars((30, 10)), "STEEL", ["10.0"], "--calls", 7).out
     for line in (
         "--size 10.0 --material STEEL --shop shop.toml --whole --calls 7 orders.csv",
         "--whole orders.csv --size=10 --calls=007 --shop=shop.toml --material=STEEL",
+        "--whole orders.csv --stages 2 --size=10 --calls=7 --shop=shop.toml --material=STEEL",
+        "--stages=255 --whole orders.csv --size=10 --calls=7 --shop=shop.toml --material=STEEL",
     ):
         trial.ended(trial.run("plan", *line.split(" ")), 0, wanted, sent=line)
     all_mistaken(trial, MISTAKES)

@@ -367,8 +367,6 @@ def has_steps(it, stuff, part, w, h, wants):
     rows = [row for row in it.ask(f"/demands/0/{stuff.code}")["demands"] if row["demand"] in wants]
     least, exact, most, steps = it.value(f"{JUDGED}({json.dumps([{'w': w, 'h': h}, stuff.kerf, rows])})")
     asked = lambda step: exchange(it.shop, "/plan", {"ask": "plan", "demands": numbers, "part": part, "step": step})
-    question = {"ask": "plans", "calls": 1, "demands": numbers, "material": stuff.code, "parts": [part]}
-    it.trial.equal(least, exchange(it.shop, "/plans", question)["step"], part)
     it.trial.equal(exact, math.gcd(*(side + stuff.kerf for want in wants.values() for side in want[:2])), part)
     it.trial.equal((asked(most)["ok"], asked(most + 1)["refused"], steps[0]), ("plan", 92, least), part)
     if least > 1:
@@ -385,7 +383,7 @@ def has_steps(it, stuff, part, w, h, wants):
 
 @case(
     "steps of sheets by chance at the page",
-    "Of sheets by chance the page's least step is the one that a question for plans tells, and one under it is refused 91; the "
+    "Of sheets by chance the page's least step is taken, and one under it is refused 91; the "
     "greatest is taken, and one over it refused 92; the steps that it tries are taken, and by an exact one, the greatest "
     "common divisor of all sides with the kerf, it counts no trim, and the plan is worth its ceiling unless some are dropped.",
 )

@@ -172,6 +172,8 @@ def question_by_chance(dice, content):
         keys["remnant"] = dice.randint(1, 100)
     if dice.random() < 0.3:
         keys["step"] = dice.randint(1, 3)
+    if dice.random() < 0.3:
+        keys["stages"] = dice.randint(2, 4)
     return question("M", **keys, calls=dice.choice([1, 2, 5, 20, 60]))
 
 
@@ -208,7 +210,7 @@ def bars_by_chance(trial):
     by_chance(trial, "bar", 3, 40 if trial.whole else 12)
 
 
-@case("plans of sheets by chance", "The same of sheets, of whose pieces some may turn, in steps of 1 to 3 and by the least.")
+@case("plans of sheets by chance", "The same of sheets, of whose pieces some may turn, in steps of 1 to 3 and without one, in 2 to 4 stages and without a limit.")
 def sheets_by_chance(trial):
     by_chance(trial, "sheet", 5, 40 if trial.whole else 12)
 
@@ -302,11 +304,11 @@ def long_bars(trial):
 
 
 @case(
-    "the least step of plans",
-    "Without a step that of the largest side of the stock is taken, of a size to be bought too, and told; a bar tells 0 "
-    "whatever it is given. Pieces that it is too long for are planned, and have no price.",
+    "the step of plans",
+    "Without a step 0 is told, however large a side of the stock is, and with one that one; a bar tells 0 whatever it is given. "
+    "A step of 0 is refused 92 of a sheet, and a side of over 500 steps 91.",
 )
-def least_step(trial):
+def step_told(trial):
     yard = Yard()
     yard.material("GLASS", 2, "sheet")
     yard.receive("GLASS", 500, 400)
@@ -315,19 +317,85 @@ def least_step(trial):
     yard.receive("STEEL", 500)
     bars = yard.bars("STEEL", (70, 3))
     shop = yard.replay(trial)
-    rows = [({}, 2), ({"buy": [(2002, 1)]}, 5), ({"buy": [(400, 300)]}, 2)]
-    rows += [({"parts": [], "buy": [it]}, 1) for it in ((498, 300), (300, 498))]
-    rows += [({"parts": [], "buy": [it]}, 2) for it in ((499, 300), (300, 499), (999, 200))]
-    rows += [({"parts": [], "buy": [it]}, 3) for it in ((1000, 200), (200, 1000))]
-    rows += [({"parts": [], "buy": [it]}, step) for it, step in (((2001, 200), 4), ((2002, 200), 5))]
-    for keys, step in rows:
-        sizes = [{"h": h, "w": w} for w, h in keys.get("buy", [])]
-        answer = answered(trial, shop, question("GLASS", **{**keys, "buy": sizes}, calls=3))
-        trial.equal(answer["step"], step, f"{keys}")
-        priced = [it["demand"] for it in answer["prices"]]
-        trial.holds(step < 4 or pieces + 1 not in priced, f"{keys}: {priced}")
+    for buy in ((400, 300), (498, 300), (499, 300), (300, 1000), (2002, 200), (200000, 60000)):
+        for parts in ({}, {"parts": []}):
+            answer = answered(trial, shop, question("GLASS", buy=[{"h": buy[1], "w": buy[0]}], calls=3, **parts))
+            trial.equal((answer["step"], answer["missing"]), (0, []), f"{buy}, {parts}")
+    for step in (2, 3):
+        trial.equal(answered(trial, shop, question("GLASS", calls=3, step=step))["step"], step)
+    for step, keys, reply in (
+        (0, {}, b'{"name":"BadStep","refused":92}'),
+        (4, {}, b'{"name":"BadStep","refused":92}'),
+        (4, {"demands": [pieces]}, None),
+        (1, {}, b'{"name":"TableTooLarge","refused":91}'),
+        (1, {"parts": [], "buy": [{"h": 300, "w": 498}]}, None),
+        (1, {"parts": [], "buy": [{"h": 300, "w": 499}]}, b'{"name":"TableTooLarge","refused":91}'),
+        (1, {"parts": [], "buy": [{"h": 499, "w": 300}]}, b'{"name":"TableTooLarge","refused":91}'),
+    ):
+        asked = question("GLASS", calls=3, step=step, **keys)
+        if reply:
+            trial.equal(shop.reply(compact(asked)), reply, compact(asked))
+        else:
+            trial.equal(answered(trial, shop, asked)["step"], step)
     for keys in ({}, {"step": 0}, {"step": 4294967295}):
         trial.equal(answered(trial, shop, question("STEEL", demands=[bars], **keys))["step"], 0)
+
+
+@case(
+    "stages of plans",
+    "Two stages cut one piece of each sheet or strips alone, three and four more; no plan has more stages than were asked "
+    "for, and all is planned all the same. A bar's plan has one, and any limit from 2 to 255 may be given. 1 and 256 are "
+    "refused 10, of a bar too.",
+)
+def stages(trial):
+    yard = Yard()
+    yard.material("GLASS", 1, "sheet")
+    # a wheel of four pieces can't be cut across, so its pieces are shared out
+    yard.order("GLASS", (60, 39, 4, True), (40, 20, 6, True), (35, 50, 3, False), (15, 10, 9, True))
+    yard.material("STEEL", 2)
+    yard.receive("STEEL", 500)
+    yard.bars("STEEL", (70, 3))
+    shop = yard.replay(trial)
+    costs = []
+    for most in (2, 3, 4, 255, None):
+        limit = {} if most is None else {"stages": most}
+        answer = answered(trial, shop, question("GLASS", buy=[{"h": 100, "w": 100}], calls=50, **limit))
+        trial.equal(answer["missing"], [], f"stages {most}")
+        costs.append(answer["cost"])
+    trial.equal(costs[3], costs[4], "255 stages are no limit")
+    bars = [answered(trial, shop, question("STEEL", **keys)) for keys in ({}, {"stages": 2}, {"stages": 255})]
+    trial.holds(bars[0] == bars[1] == bars[2], f"{bars}")
+    for material in ("GLASS", "STEEL"):
+        for most in (0, 1, 256, 4294967295):
+            line = compact(question(material, stages=most))
+            trial.equal(shop.reply(line), b'{"name":"BadMessage","refused":10}', line)
+
+
+@case(
+    "the largest rest of plans",
+    "A rest is told where it is kept, at least as long and as wide as the material's limits, however it lies; a tenth less "
+    "and it is scrap, and 0 is told; so where no rest is left, and where nothing is planned.",
+)
+def rests(trial):
+    # a piece of 60 by 100 on a sheet of 100 by 100, the kerf 1: what is left is 39 by 100
+    for long, short, rest in ((100, 39, 3900), (39, 39, 3900), (101, 39, 0), (100, 40, 0)):
+        yard = Yard()
+        yard.material("GLASS", 1, "sheet", long, short)
+        yard.receive("GLASS", 100, 100)
+        whole = yard.order("GLASS", (60, 100, 1, False), (100, 100, 1, False))
+        shop = yard.replay(trial)
+        answer = answered(trial, shop, question("GLASS", demands=[whole]))
+        trial.equal((answer["rest"], answer["missing"]), (rest, []), f"limits of {long} and {short}")
+        answer = answered(trial, shop, question("GLASS", demands=[whole + 1]))
+        trial.equal((answer["rest"], answer["missing"]), (0, []), "the whole sheet")
+    # bars of 100, pieces of 30, the kerf 3: a rest of 1, of 34, of 67
+    for left, long, rest in ((3, 1, 1), (3, 2, 0), (2, 34, 34), (2, 35, 0), (1, 67, 67), (1, 68, 0)):
+        yard = Yard()
+        yard.material("STEEL", 3, "bar", long, 1)
+        yard.receive("STEEL", 100)
+        yard.bars("STEEL", (30, left))
+        answer = answered(trial, yard.replay(trial), question("STEEL"))
+        trial.equal((answer["rest"], answer["missing"]), (rest, []), f"{left} pieces, from {long} on")
 
 
 @case(
@@ -358,6 +426,8 @@ CONTENT = Content(
     3,
     {4: Demand(30, 1, False, 6), 7: Demand(40, 1, False, 1), 9: Demand(30, 1, False, 0)},
     {"1/0": Part(100, 1, False), "1/1": Part(100, 1, False), "2/0": Part(100, 1, True), "10/0": Part(40, 1, True)},
+    10,
+    1,
 )
 QUESTION = question("STEEL", buy=[{"h": 1, "w": 50}])
 # Prices of 3 and 4: a bar of 100 holds 9 at most, one of 50 or 40 holds 4. At the rate of a bar in stock, 10000 for 9, the
@@ -368,14 +438,14 @@ GOOD = (
     '{"buy":0,"h":1,"parts":["10/0"],"tree":"p7","w":40},'
     '{"buy":1,"h":1,"parts":[],"tree":"x17 r p4","w":50},'
     '{"buy":2,"h":1,"parts":[],"tree":"x30 p4 r","w":50}],'
-    '"prices":[{"demand":4,"worth":3},{"demand":7,"worth":4}],"proved":false,"short":false,"step":0}'
+    '"prices":[{"demand":4,"worth":3},{"demand":7,"worth":4}],"proved":false,"rest":17,"short":false,"step":0}'
 )
 BEST = (
     '{"bound":22600,"cost":22600,"missing":[],"ok":"plans","plans":['
     '{"buy":0,"h":1,"parts":["1/1"],"tree":"x30 p4 x30 p4 x30 p4 r","w":100},'
     '{"buy":0,"h":1,"parts":["2/0"],"tree":"x30 p4 x30 p4 x30 p4 r","w":100},'
     '{"buy":0,"h":1,"parts":["10/0"],"tree":"p7","w":40}],'
-    '"prices":[{"demand":4,"worth":3},{"demand":7,"worth":4}],"proved":true,"short":false,"step":0}'
+    '"prices":[{"demand":4,"worth":3},{"demand":7,"worth":4}],"proved":true,"rest":0,"short":false,"step":0}'
 )
 
 # Changes of the two, each of which makes a wrong answer.
@@ -388,6 +458,9 @@ WRONG = {
         ('"short":false', '"short":true'),
         ('"short":false', '"short":0'),
         ('"step":0', '"step":1'),
+        ('"rest":17', '"rest":1'),
+        ('"rest":17', '"rest":18'),
+        ('"rest":17,', ''),
         ('"ok":"plans"', '"ok":"plan"'),
         ('"missing":[]', '"missing":[{"demand":4,"pieces":1}]'),
         ('"missing":[]', '"missing":[{"demand":9,"pieces":1}]'),

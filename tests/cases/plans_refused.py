@@ -167,6 +167,7 @@ def forms(trial):
         "buy": lists + ['[{"w":1}]', '[{"h":1}]', '[{"h":1,"w":1,"count":1}]', "[[1,1]]"],
         "remnant": [*numbers, "0", "101"],
         "calls": [*numbers, "0", "5001"],
+        "stages": [*numbers, "0", "1", "256"],
         "step": numbers,
     }
     values["buy"] += [f'[{{"h":{it},"w":1}}]' for it in numbers]
@@ -176,7 +177,7 @@ def forms(trial):
         if key != "material":
             bad += [f'{{"ask":"plans","{key}":{good},{rest}"{key}":{texts[0]}}}' for good in ("5", "[]")]
     unknown = refused(20, "NoMaterial")
-    good = {"remnant": ["1", "100"], "calls": ["1", "5000"], "step": ["0", "1", "4294967295"]}
+    good = {"remnant": ["1", "100"], "calls": ["1", "5000"], "step": ["0", "1", "4294967295"], "stages": ["2", "255"]}
     fine = [f'{{"ask":"plans","material":"WOOD","{key}":{it}}}' for key, its in good.items() for it in its]
     fine += ['{"ask":"plans","calls":0,"material":"wood","material":"WOOD","calls":7}', ' {"material":"WOOD","ask":"plans"}\t']
     fine += ['{"ask":"plans","material":"WOOD","demands":[0,4294967295],"parts":[],"buy":[]}']

@@ -53,7 +53,6 @@ DEPTHS = {
     "shop_planning/src/posing.rt sizes_refusal": (10, "the sizes to be bought"),
     "shop_problems/src/steps.rt shortest": (200, "the pieces of a problem"),
     "shop_problems/src/stock.rt has_twice": (10, "the sizes of an order file's plan"),
-    "shop_problems/src/stock.rt least_step": (10, "the sizes of an order file's plan"),
     "shop_request/src/fields.rt values_named": (64, "the fields of a head"),
     "shop_request/src/addresses.rt put_hosts": (10, "the names that a server is given"),
     "shop_request/src/addresses.rt put_origins_hosts": (10, "the origins that a server is given"),

@@ -9,7 +9,7 @@ from cases.command_line import all_mistaken, over
 from cases.memory import sweep
 from kit.case import Failed, case
 from kit.faults import Faults
-from kit.plans import MOST_UNITS, Problem, checked
+from kit.plans import MOST_UNITS, Problem, checked, stages_of
 
 LONGEST_BAR = 150000
 
@@ -262,20 +262,44 @@ def steps(trial):
 
 @case(
     "a whole order of sheets without a step",
-    "Without `--step` the least one is taken, that of the longer side: the same bytes are printed as with it. Pieces that it is "
-    "too long for are planned all the same, and alone have no bound; with it they are refused 92.",
+    "Without `--step` no side is rounded: pieces whose sides with the kerf just fit are planned and proved, of sheets of any "
+    "sides; so are pieces however small, which a step that takes the sheet's sides refuses, 92.",
 )
-def least(trial):
-    for (w, h), kerf, step in (((1003, 700), 2, 3), ((700, 1003), 2, 3), ((500, 500), 0, 1), ((501, 9), 0, 2), ((500, 9), 1, 2)):
-        problem = sheet(w, h, (w // 3, h // 2, 7), (w // 5, h // 3, 4))
-        text, _ = planned(trial, problem, kerf, "--calls", 4)
-        trial.equal(planned(trial, problem, kerf, "--calls", 4, "--step", step)[0], text, f"{problem} kerf {kerf}")
+def without_step(trial):
+    # two by two pieces take a sheet exactly, and one a tenth wider or higher has no place beside another
+    for (w, h), kerf in (((1003, 701), 3), ((701, 1003), 3), ((200000, 60000), 0), ((199999, 59999), 199)):
+        side, high = (w - kerf) // 2, (h - kerf) // 2
+        told(trial, sheet(w, h, (side, high, 8)), kerf, (2, 2, "yes", 0))
+        told(trial, sheet(w, h, (side + 1, high, 4)), kerf, (2, 2, "yes", 0))
+        told(trial, sheet(w, h, (side + 1, high + 1, 4)), kerf, (4, 4, "yes", 0))
     small = sheet(3000, 20, (1, 1, 5))
     _, answer = planned(trial, small)
-    trial.equal((answer.bound, answer.proved), (0, False), small)
+    trial.holds(answer.units == 1 and answer.bound <= 1, answer)
     refused(trial, small, 0, "refused 92 BadStep", "--step", 6)
     both = sheet(3000, 20, (5, 20, 1), (6, 20, 1), (3000, 20, 2))
-    trial.holds(1 <= planned(trial, both)[1].bound <= 3, both)
+    _, answer = planned(trial, both)
+    trial.holds(answer.units == 3 and 2 <= answer.bound <= 3, answer)
+
+
+@case(
+    "stages of a whole order",
+    "Plans have at most so many stages as `--stages` says, 2 to 255, and all is planned all the same; of bars and with 255 the "
+    "bytes are those without a limit.",
+)
+def stages(trial):
+    problem = sheet(100, 100, (60, 39, 4), (40, 20, 6), (35, 50, 3), (15, 10, 9))
+    free, _ = planned(trial, problem, 1, "--calls", 20)
+    for most in (2, 3, 4, 255):
+        text, answer = planned(trial, problem, 1, "--calls", 20, "--stages", most)
+        trial.equal(answer.missing, 0, f"stages {most}")
+        for _, tree in answer.plans:
+            trial.holds(stages_of(100, 100, 1, tree) <= most, f"stages {most}: {tree}")
+        trial.holds(most < 255 or text == free, f"{text} and {free}")
+    # one piece in the corner takes two stages, whatever its sides
+    told(trial, sheet(100, 100, (51, 51, 3)), 1, (3, 3, "yes", 0), "--stages", 2)
+    text, _ = planned(trial, bar(501, (250, 5)), 1)
+    for most in (2, 255):
+        trial.equal(planned(trial, bar(501, (250, 5)), 1, "--stages", most)[0], text, f"stages {most}")
 
 
 @case(
@@ -362,11 +386,20 @@ plan a.txt --whole --kerf 1 --calls x = 'x' for '--calls <N>'
 plan a.txt --whole --kerf 1 --calls -1 = '-1'
 plan a.txt --whole --kerf 1 --calls = '--calls <N>'
 plan a.txt --whole --kerf 1 --calls 2 --calls 3 = '--calls <N>'
+plan a.txt --whole --kerf 1 --stages 0 = '0' for '--stages <N>'
+plan a.txt --whole --kerf 1 --stages 1 = '1' for '--stages <N>'
+plan a.txt --whole --kerf 1 --stages 256 = '256' for '--stages <N>'
+plan a.txt --whole --kerf 1 --stages 4294967298 = '4294967298' for '--stages <N>'
+plan a.txt --whole --kerf 1 --stages x = 'x' for '--stages <N>'
+plan a.txt --whole --kerf 1 --stages -1 = '-1'
+plan a.txt --whole --kerf 1 --stages = '--stages <N>'
+plan a.txt --whole --kerf 1 --stages 2 --stages 3 = '--stages <N>'
 plan a.txt --whole --kerf 1 --turn = '--turn'
 plan a.txt b.txt --whole --kerf 1 = 'b.txt'
 plan a.txt --kerf 1 = '--step <N>' is missing: it may be left out only with '--whole'
 plan a.txt --kerf 1 --calls 5 = '--step <N>' is missing
 plan a.txt --kerf 1 --step 1 --calls 5 = '--calls <N>' may be given only with '--whole'
+plan a.txt --kerf 1 --step 1 --stages 5 = '--stages <N>' may be given only with '--whole'
 plan a.txt --kerf 1 --step 1 --whole=no = '--whole'
 orders a.csv --whole = '--whole'
 replay --whole = '--whole'
@@ -377,7 +410,8 @@ ticket --store a.db 1 --whole = '--whole'
 @case(
     "words of a whole order",
     "The words of `plan --whole` stand in any order, numbers with a plus, zeros or an equals sign; help names `--whole` and "
-    "`--calls`; a number out of its range, a word twice, one without its value and `--calls` alone are mistakes, whose text names them.",
+    "`--calls`; a number out of its range, a word twice, one without its value, and `--calls` and `--stages` without `--whole` are "
+    "mistakes, whose text names them.",
 )
 def words(trial):
     path, problem = trial.write("order.txt", bar(100, (30, 10)).text()), bar(100, (30, 10))
@@ -396,13 +430,15 @@ def words(trial):
         ("--calls", "0", "0 is not in 1..=5000"),
         ("--calls", "x", "invalid digit found in string"),
         ("--step", "200001", "200001 is not in 0..=200000"),
+        ("--stages", "1", "1 is not in 2..=255"),
+        ("--stages", "256", "256 is not in 2..=255"),
     ):
         ran = trial.run("plan", path, "--whole", "--kerf", "3", option, value)
         wanted = f"error: invalid value '{value}' for '{option} <N>': {why}\n"
         trial.equal(ran.err.decode()[: len(wanted)], wanted, f"{option} {value}")
     for asked_by in (["plan", "--help"], ["help", "plan"]):
         ran = trial.run(*asked_by)
-        trial.equal([it for it in ("--whole", "--calls", "5000") if it not in ran.out.decode()], [], asked_by)
+        trial.equal([it for it in ("--whole", "--calls", "5000", "--stages", "255") if it not in ran.out.decode()], [], asked_by)
 
 
 @case(

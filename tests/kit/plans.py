@@ -4,6 +4,7 @@ prints are what the formats say of them. (Answers to the question `plans` are re
 import re
 from collections import Counter
 from dataclasses import dataclass
+from itertools import groupby
 
 from kit.case import Failed, short
 
@@ -81,6 +82,36 @@ def cut_from(w, h, kerf, demands, tree):
     if cuts > MOST_CUTS:
         wrong(f"{cuts} cuts: {tree}")
     return counts
+
+
+def leaves_of(w, h, kerf, tree):
+    """Of each leaf of a legal tree on these sides its word, its sides, and the axes of the cuts above it, the root's first."""
+    leaves, parts = [], [(w, h, "")]
+    for word in tree.split(" "):
+        w, h, above = parts.pop()
+        if word[0] not in "xy":
+            leaves.append((word, w, h, above))
+            continue
+        at, above = int(word[1:]), above + word[0]
+        behind = (w if word[0] == "x" else h) - at - kerf
+        if behind > 0:
+            parts.append((behind, h, above) if word[0] == "x" else (w, behind, above))
+        parts.append((at, h, above) if word[0] == "x" else (w, at, above))
+    return leaves
+
+
+def stages_of(w, h, kerf, tree):
+    """The stages of a legal tree: the most runs of parallel cuts above one of its pieces."""
+    return max(
+        (len(list(groupby(above))) for word, _, _, above in leaves_of(w, h, kerf, tree) if word != "r"),
+        default=0,
+    )
+
+
+def largest_rest(w, h, kerf, tree, long, short):
+    """The cells of the largest rest of a legal tree whose sides are at least these, 0 where there is none."""
+    rests = [(w, h) for word, w, h, _ in leaves_of(w, h, kerf, tree) if word == "r"]
+    return max((w * h for w, h in rests if max(w, h) >= long and min(w, h) >= short), default=0)
 
 
 def piece_of(demands, number, is_turned, w, h, tree):

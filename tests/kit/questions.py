@@ -9,16 +9,17 @@ from collections import Counter
 from dataclasses import dataclass
 from operator import add
 
-from kit.plans import MOST_UNITS, cut_from, wrong
+from kit.plans import MOST_UNITS, cut_from, largest_rest, stages_of, wrong
 
 MOST_DEMANDS, MOST_PARTS = 100, 1000
 LONGEST_BAR = 150000
-MOST_STEPS = 500
+# As many places as a table over every length may have here.
+MOST_PLACES = 40000
 MOST_WORTH = 10**9
 MOST_BOUND = 10**18
 
 # Keys of an answer and of its parts, and what stands there.
-NUMBERS = ("bound", "cost", "step")
+NUMBERS = ("bound", "cost", "rest", "step")
 FLAGS = ("proved", "short")
 LISTS = {
     "missing": {"demand": int, "pieces": int},
@@ -57,12 +58,14 @@ class Part:
 @dataclass
 class Content:
     """What a shop has of a material: whether it is cut as bars, its kerf, its demands that aren't all made by their numbers,
-    and its standing parts by their names, both rising."""
+    and its standing parts by their names, both rising; and the least sides of a rest that is kept."""
 
     is_bar: bool
     kerf: int
     demands: dict
     parts: dict
+    min_long: int = 1
+    min_short: int = 1
 
 
 def rows_of(ask, word, key, after, **keys):
@@ -87,13 +90,13 @@ def content_of(ask, material):
         for it in rows_of(ask, "parts", "part", "", material=material)
         if it["state"] == "standing"
     }
-    return Content(found["kind"] == "bar", found["kerf"], demands, parts)
+    return Content(found["kind"] == "bar", found["kerf"], demands, parts, found["min_long"], found["min_short"])
 
 
 @dataclass
 class Asked:
     """What a question asks of a content: the wants by their numbers, in its order; the parts by their names, in its order; the
-    sizes to buy as (w, h); and the step."""
+    sizes to buy as (w, h); the step, 0 where no side is rounded; and the most stages, if there is a limit."""
 
     content: Content
     wants: dict
@@ -101,6 +104,7 @@ class Asked:
     buy: list
     remnant: int
     step: int
+    stages: int | None = None
 
     @classmethod
     def of(cls, content, question):
@@ -110,18 +114,12 @@ class Asked:
         names = [it for it, part in content.parts.items() if not content.is_bar or part.w <= LONGEST_BAR]
         parts = {it: content.parts[it] for it in question.get("parts", names[:MOST_PARTS])}
         buy = [(it["w"], it["h"]) for it in question.get("buy", [])]
-        asked = cls(content, wants, parts, buy, question.get("remnant", 90), 0)
-        if not content.is_bar:
-            asked.step = question.get("step", asked.least_step())
-        return asked
+        step = 0 if content.is_bar else question.get("step", 0)
+        return cls(content, wants, parts, buy, question.get("remnant", 90), step, question.get("stages"))
 
     def sides(self):
         """The sides of the stock."""
         return [(it.w, it.h) for it in self.parts.values()] + self.buy
-
-    def least_step(self):
-        longest = max((max(it) for it in self.sides()), default=0)
-        return (longest + self.content.kerf) // (MOST_STEPS + 1) + 1 if self.sides() else 1
 
     def cost_of_part(self, part):
         return part.w * part.h * (self.remnant if part.is_remnant else 100)
@@ -132,8 +130,12 @@ class Asked:
         return {**counts, **{(w, h, 100 * w * h): None for w, h in self.buy}}
 
     def steps_of(self, side):
-        """A side and a kerf in steps, rounded down."""
-        return (side + self.content.kerf) // self.step
+        """A side and a kerf in steps, rounded down; in tenths where no side is rounded."""
+        return (side + self.content.kerf) // (self.step or 1)
+
+    def is_exact(self):
+        """Whether the bound that the prices give is the one that is told: no table over classes of sides was taken."""
+        return self.content.is_bar or self.step > 0
 
 
 # The bound, from prices.
@@ -192,6 +194,8 @@ class Sheets:
             pieces += [(w, h, price)] + [(h, w, price)] * want.turn
         columns = sums_of({it[0] for it in pieces}, max(asked.steps_of(w) for w, _ in asked.sides()))
         rows = sums_of({it[1] for it in pieces}, max(asked.steps_of(h) for _, h in asked.sides()))
+        if not asked.is_exact() and len(columns) * len(rows) > MOST_PLACES:
+            return None
         sheets, beside, below = cls(columns, rows, [[] for _ in rows]), partners_of(columns), partners_of(rows)
         for x, w in enumerate(columns):
             column, narrow = [], [(ph, price) for pw, ph, price in pieces if pw <= w]
@@ -212,14 +216,22 @@ def best_worths(asked, prices):
         worths = bar_worths(asked, prices)
         return {(w, h): worths[w + asked.content.kerf] for w, h in asked.sides()}
     sheets = Sheets.of(asked, prices)
+    if sheets is None:
+        return None
     return {(w, h): sheets.best(asked.steps_of(w), asked.steps_of(h)) for w, h in asked.sides()}
 
 
 def bound_of(asked, prices):
-    """The greatest bound for these prices, over each size that may set the rate."""
+    """The greatest bound for these prices, over each size that may set the rate. Without a step, where any number is a bound
+    because there is no whole cutting, or the table over every length is too large to be made here: None."""
     best, sizes = best_worths(asked, prices), asked.sizes()
+    if best is None:
+        return None
     worth = sum(price * asked.wants[number].left for number, price in prices.items())
     rated = [(cost, best[w, h], number) for (w, h, cost), number in sizes.items()]
+    if not asked.is_exact() and worth > sum(its * (number or 0) for _, its, number in rated):
+        if not any(its for _, its, number in rated if number is None):
+            return None
     divisor, greatest = math.gcd(*[cost for cost, _, _ in rated]), 0
     for rate, of, _ in rated:
         above = [(max(0, rate * its - of * cost), number) for cost, its, number in rated]
@@ -261,11 +273,13 @@ def check_prices(asked, told):
         wrong(f"prices of {[it['demand'] for it in told['prices']]}, wants {list(asked.wants)}")
     for number, worth in prices.items():
         want = asked.wants[number]
-        is_small = not asked.content.is_bar and not min(asked.steps_of(want.w), asked.steps_of(want.h))
+        is_small = asked.step > 0 and not min(asked.steps_of(want.w), asked.steps_of(want.h))
         if not 1 <= worth <= MOST_WORTH or is_small:
             wrong(f"a price of {worth} of demand {number}: {want}, step {asked.step}")
     bound = bound_of(asked, prices)
-    if told["bound"] != bound:
+    if bound is None:
+        return
+    if told["bound"] > bound or asked.is_exact() and told["bound"] < bound:
         wrong(f"the bound is {told['bound']}, and the prices give {bound}")
 
 
@@ -338,13 +352,17 @@ def checked_answer(content, question, text):
     """The answer that a text has, of which everything holds that may be asked of it whatever was found."""
     asked, told = Asked.of(content, question), read_told(text)
     demands = {number: (it.w, it.h, it.turn) for number, it in asked.wants.items()}
-    planned, cost, units = Counter(), 0, 0
+    planned, cost, units, rest = Counter(), 0, 0, 0
     for entry in told["plans"]:
         times = len(entry["parts"]) or entry["buy"]
         cost += times * check_entry(asked, entry)
         pieces = cut_from(entry["w"], entry["h"], content.kerf, demands, entry["tree"])
         if not pieces:
             wrong(f"a plan without a piece: {entry}")
+        if asked.stages is not None and stages_of(entry["w"], entry["h"], content.kerf, entry["tree"]) > asked.stages:
+            wrong(f"more than {asked.stages} stages: {entry}")
+        sides = content.min_long, content.min_short
+        rest = max(rest, largest_rest(entry["w"], entry["h"], content.kerf, entry["tree"], *sides))
         units += times
         planned.update({number: times * count for number, count in pieces.items()})
     check_order(asked, told["plans"])
@@ -352,6 +370,8 @@ def checked_answer(content, question, text):
     check_prices(asked, told)
     if (cost, asked.step) != (told["cost"], told["step"]) or units > MOST_UNITS:
         wrong(f"{units} units of cost {cost}, {told['cost']} told; step {told['step']}, {asked.step} asked")
+    if told["rest"] != rest:
+        wrong(f"a rest of {rest}, {told['rest']} told: {text}")
     if not told["missing"] and told["bound"] > cost:
         wrong(f"a cost of {cost}, below the bound {told['bound']}")
     if told["proved"] != (not told["missing"] and told["bound"] == cost):

@@ -19,9 +19,9 @@ class Yard:
     def send(self, **command):
         self.lines.append(compact({"terminal": self.terminal, "number": len(self.lines) + 1, **command}))
 
-    def material(self, code, kerf=0, kind="bar"):
-        """Every rest of it is kept."""
-        self.send(do="material", material=code, kind=kind, kerf=kerf, min_long=1, min_short=1)
+    def material(self, code, kerf=0, kind="bar", long=1, short=1):
+        """Every rest of it is kept, or those with such sides."""
+        self.send(do="material", material=code, kind=kind, kerf=kerf, min_long=long, min_short=short)
 
     def receive(self, code, w, h=1, count=1):
         """Receives units, and gives the name of the first."""

@@ -5,3 +5,5 @@ pub mod StockFacts
 pub mod EntryLists
 pub mod NamedOnce
 pub mod Told
+-- the largest rest that is kept
+pub mod LargestRests

@@ -1,5 +1,5 @@
 -- What is answered to a question.
-use Rattle.std.specs.Prelude.{◌≡◌, ℕ, ◌==◌, List, [], ◌∷◌, map, if◌then◌else◌}
+use Rattle.std.specs.Prelude.{◌≡◌, ℕ, ◌==◌, List, [], ◌∷◌, map, if◌then◌else◌, unwrap_or}
 use Rattle.std.specs.List.Sorted.{IsPermutation, IsNonDecreasingBy}
 use Rattle.cut_wants.specs.declared.wants.Want.{Want}
 use Rattle.cut_bound.specs.declared.prices.Price.{Price}
@@ -11,10 +11,11 @@ use Rattle.shop_plans.specs.declared.answers.PlansReply.{PlansReply}
 use Rattle.shop_plans.specs.Told.{plans_text}
 use Rattle.shop_planning.specs.declared.posed.Posed.{Posed}
 use Rattle.shop_planning.specs.Entries.{AreToldPlans}
+use Rattle.shop_planning.specs.Rests.{IsLargestRest}
 
 -- a plan of the order that is asked for
 abbrev pub IsPlanOf : Posed → OrderPlan → Type 0
-IsPlanOf posed plan = IsAnswerOf posed.kind posed.kerf posed.step posed.sizes.items posed.wants.items plan
+IsPlanOf posed plan = IsAnswerOf posed.kind posed.kerf posed.step posed.stages posed.sizes.items posed.wants.items plan
 
 -- how many pieces are missing, of each want of which any is
 abbrev pub missing_rows : List Want → (missing : List ℕ) → List MissingPieces
@@ -31,7 +32,7 @@ abbrev pub told_price : Price → DemandPrice
 told_price p = record { demand = p.demand; worth = p.worth }
 
 -- The answer tells a plan of the order: its units with the parts that are cut, what is missing, its cost and its bound with
--- the prices, whether it is proved best, and whether all parts fall short.
+-- the prices, whether it is proved best, the largest rest that is kept, and whether all parts fall short.
 pub record IsPlansReply (posed : Posed) (reply : PlansReply) : Type 0 where
   pub plan : OrderPlan
   pub answers : IsPlanOf posed plan
@@ -41,8 +42,9 @@ pub record IsPlansReply (posed : Posed) (reply : PlansReply) : Type 0 where
   pub cost : reply.cost ≡ plan.cost
   pub bound : reply.bound ≡ plan.bound
   pub proved : reply.proved ≡ plan.proved
+  pub rest : IsLargestRest posed.limits plan.units.items reply.rest
   pub short : reply.short ≡ plan.short
-  pub step : reply.step ≡ posed.step
+  pub step : reply.step ≡ unwrap_or posed.step 0
 
 -- the text of an answer
 pub record IsPlansText (posed : Posed) (text : List ℕ) : Type 0 where

@@ -5,6 +5,7 @@ pub mod Faults
 pub mod Shares
 pub mod Entries
 pub mod Naming
+pub mod Rests
 pub mod Answers
 pub mod Questions
 pub mod Thoughts

@@ -3,14 +3,15 @@ use Rattle.std.specs.Prelude.{ℕ, ◌==◌, ◌&&◌, ◌||◌, Bool, false, na
 use Rattle.std.specs.List.{list_any}
 use Rattle.cut_measure.specs.Names.{Name}
 use Rattle.cut_bound.specs.declared.limits.TheConstants.{MOST_BOUGHT_SIZES, MOST_CALLS, MOST_ORDER_WANTS, MOST_PARTS}
+use Rattle.cut_order.specs.Stocks.{is_stage_limit}
 use Rattle.shop_records.specs.Same.{same_name}
 use Rattle.shop_plans.specs.declared.limits.TheConstants.{UNIT_COST}
 use Rattle.shop_plans.specs.declared.questions.BuySize.{BuySize}
 use Rattle.shop_plans.specs.declared.questions.PlansQuery.{PlansQuery}
 
--- a remnant's cell costs 1 to 100, and the search makes 1 to 5000 tables
+-- a remnant's cell costs 1 to 100, the search makes 1 to 5000 tables, and stages have a limit of 2 to 255 or none
 abbrev pub is_in_range : PlansQuery → Bool
-is_in_range q = nat_le 1 q.remnant && nat_le q.remnant UNIT_COST && nat_le 1 q.calls && nat_le q.calls MOST_CALLS
+is_in_range q = nat_le 1 q.remnant && nat_le q.remnant UNIT_COST && nat_le 1 q.calls && nat_le q.calls MOST_CALLS && is_stage_limit q.stages
 
 -- something stands twice
 abbrev pub has_twice : {A : Type 0} → (A → A → Bool) → List A → Bool

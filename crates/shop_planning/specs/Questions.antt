@@ -48,14 +48,14 @@ abbrev pub rows_refusal : PlansQuery → Kind → List FoundDemand → List (Opt
 rows_refusal q kind demands parts = option_or (found_refusal q.material demands) (option_or (parts_refusal q.material parts) (sizes_refusal kind q.buy))
 
 -- the first fault of the planner; a step that is given is judged as for one part
-abbrev pub planner_fault : Kind → (kerf : ℕ) → (given : Option ℕ) → (step : ℕ) → List StockSize → List Want → Option PlanFault
+abbrev pub planner_fault : Kind → (kerf : ℕ) → (given step : Option ℕ) → List StockSize → List Want → Option PlanFault
 planner_fault kind k None step sizes wants = order_fault kind k step sizes wants
 planner_fault kind k (Some given) step sizes wants = cost_fault kind k step sizes wants
 
 -- the refusal that tells of it
 abbrev pub stock_refusal : PlansQuery → Material → List StockSize → List Want → Option Refusal
 stock_refusal q material sizes wants =
-    option_map planner_refusal (planner_fault material.kind material.limits.kerf q.step (step_for material.kind material.limits.kerf q.step sizes) sizes wants)
+    option_map planner_refusal (planner_fault material.kind material.limits.kerf q.step (step_for material.kind q.step) sizes wants)
 
 -- the first refusal of the rows, or of the planner
 abbrev pub material_refusal : PlansQuery → Material → List FoundDemand → List (Option Part) → Option Refusal
@@ -87,8 +87,10 @@ pub record IsPosedOn (q : PlansQuery) (material : Material) (stock : Gathered) (
   pub allowed : stock_refusal q material stock.sizes.items stock.wants.items ≡ None
   pub kind : posed.kind ≡ material.kind
   pub kerf : posed.kerf ≡ material.limits.kerf
-  pub step : posed.step ≡ step_for material.kind material.limits.kerf q.step stock.sizes.items
+  pub step : posed.step ≡ step_for material.kind q.step
   pub calls : posed.calls ≡ q.calls
+  pub stages : posed.stages ≡ q.stages
+  pub limits : posed.limits ≡ material.limits
   pub parts : posed.parts.items ≡ stock.parts.items
   pub sizes : posed.sizes.items ≡ stock.sizes.items
   pub wants : posed.wants.items ≡ stock.wants.items
@@ -99,8 +101,10 @@ pub record IsPosedBy (q : PlansQuery) (material : Material) (demands : List Foun
   pub allowed : material_refusal q material demands rows ≡ None
   pub kind : posed.kind ≡ material.kind
   pub kerf : posed.kerf ≡ material.limits.kerf
-  pub step : posed.step ≡ step_for material.kind material.limits.kerf q.step posed.sizes.items
+  pub step : posed.step ≡ step_for material.kind q.step
   pub calls : posed.calls ≡ q.calls
+  pub stages : posed.stages ≡ q.stages
+  pub limits : posed.limits ≡ material.limits
   pub parts : posed.parts.items ≡ stock_parts material.kind q.remnant rows
   pub sizes : posed.sizes.items ≡ sizes_of material.kind posed.parts.items q.buy
   pub wants : posed.wants.items ≡ found_wants demands

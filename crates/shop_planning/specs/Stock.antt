@@ -1,11 +1,10 @@
--- The stock of a question: its parts and what they cost, the sizes, and the step that they take.
-use Rattle.std.specs.Prelude.{◌≡◌, ◌≤◌, ℕ, ◌+◌, ◌*◌, ◌/◌, ◌==◌, ◌&&◌, max, Bool, List, [], ◌∷◌, ◌++◌, count_by, filter_map, fold, map, Option, Some, None, option_map, if◌then◌else◌}
+-- The stock of a question: its parts and what they cost, the sizes, and the step.
+use Rattle.std.specs.Prelude.{◌≡◌, ◌≤◌, ℕ, ◌+◌, ◌*◌, ◌==◌, ◌&&◌, Bool, List, [], ◌∷◌, ◌++◌, count_by, filter_map, map, Option, Some, None, option_map, if◌then◌else◌}
 use Rattle.std.specs.List.{list_any}
 use Rattle.cut_measure.specs.declared.sizes.Kind.{Kind}
 use Rattle.cut_measure.specs.declared.sizes.Kind.TheVariants.{Bar, Sheet}
 use Rattle.cut_measure.specs.Measures.{Extent, size_of}
 use Rattle.cut_bound.specs.declared.stock.StockSize.{StockSize}
-use Rattle.cut_sheets.specs.declared.sheet.TheConstants.{MOST_STEPS}
 use Rattle.cut_order.specs.declared.question.TheConstants.{MOST_COST}
 use Rattle.shop_records.specs.declared.records.Part.{Part}
 use Rattle.shop_records.specs.Columns.{is_whole}
@@ -73,12 +72,7 @@ pub record IsStockSize (kind : Kind) (s : StockSize) : Type 0 where
 
 -- ---- the step
 
--- the least step by which no side of the sizes has over 500 steps
-abbrev pub least_step : (kerf : ℕ) → List StockSize → ℕ
-least_step k sizes = fold (λ step s. max step ((max s.size.w s.size.h + k) / (MOST_STEPS + 1) + 1)) 1 sizes
-
--- none for a bar; else the one that is given, or the least one
-abbrev pub step_for : Kind → (kerf : ℕ) → Option ℕ → List StockSize → ℕ
-step_for Bar k step sizes = 0
-step_for Sheet k None sizes = least_step k sizes
-step_for Sheet k (Some step) sizes = step
+-- none for a bar; else the one that is given, if one is
+abbrev pub step_for : Kind → Option ℕ → Option ℕ
+step_for Bar step = None
+step_for Sheet step = step

@@ -8,6 +8,7 @@ mod lists;
 mod planning;
 mod posed;
 mod posing;
+mod rests;
 mod shares;
 mod stock;
 mod telling;

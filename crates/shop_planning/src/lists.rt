@@ -3,21 +3,25 @@
 ghost use Rattle.std.specs.Prelude.{◌≡◌, ◌≤◌, IsTrue};
 ghost use Rattle.std.specs.Prelude.{false};
 ghost use Rattle.shop_plans.specs.declared.limits.TheConstants.{UNIT_COST};
+ghost use Rattle.cut_order.specs.Stocks.{IsStageLimit};
 ghost use Rattle.shop_planning.specs.Lists as lists;
 
 use cut_bound::{MOST_BOUGHT_SIZES, MOST_CALLS, MOST_ORDER_WANTS, MOST_PARTS};
+use cut_order::is_stage_limit;
 use shop_plans::{NameList, PlansQuery, UNIT_COST};
 use shop_records::NumberList;
 
-/// Whether `remnant` and `calls` are in their ranges.
+/// Whether `remnant`, `calls` and `stages` are in their ranges.
 pub fn is_in_range(query: &PlansQuery) -> bool
     ensures value { result ≡ lists.is_in_range query.now }
     ensures remnant { IsTrue result → query.now.remnant ≤ UNIT_COST }
+    ensures stages { IsTrue result → IsStageLimit query.now.stages }
 {
     1 <= query.remnant
         && query.remnant <= UNIT_COST
         && 1 <= query.calls
         && query.calls <= MOST_CALLS
+        && is_stage_limit(query.stages)
 }
 
 // Whether something stands twice.

@@ -4,7 +4,7 @@ ghost use Rattle.std.specs.Prelude.{◌≡◌, ◌≢◌, ◌≤◌, All, Err, I
 ghost use Rattle.cut_measure.specs.declared.ranges.TheConstants.{MOST_KERF};
 ghost use Rattle.cut_plan.specs.Proposals.{AreDemands};
 ghost use Rattle.cut_bound.specs.declared.limits.TheConstants.{MOST_BOUGHT_SIZES, MOST_PARTS};
-ghost use Rattle.cut_order.specs.Stocks.{IsStock};
+ghost use Rattle.cut_order.specs.Stocks.{IsStageLimit, IsStock};
 ghost use Rattle.shop_records.specs.declared.refusals.Refusal.TheVariants.{NoMemory, StoreFault};
 ghost use Rattle.shop_answers.specs.Planning.{HasNumber};
 ghost use Rattle.shop_book.specs.Kept.{Unchanged, OnContent};
@@ -128,7 +128,7 @@ fn planner_fault(
     kind: Kind,
     kerf: u32,
     given: Option<u32>,
-    step: u32,
+    step: Option<u32>,
     sizes: &[StockSize],
     wants: &[Want],
 ) -> Option<PlanFault>
@@ -143,6 +143,7 @@ fn planner_fault(
 
 // What is asked of a stock, or the planner's fault.
 fn posed_on(query: &PlansQuery, material: &Material, stock: Gathered) -> Result<Posed, Refusal>
+    requires stages { IsStageLimit query.now.stages }
     requires stock { IsStock material.now.kind stock.sizes.items }
     requires demands { AreDemands stock.wants.items }
     ensures ok { IfOk result (question.IsPosedOn query.now material.now stock) }
@@ -150,7 +151,7 @@ fn posed_on(query: &PlansQuery, material: &Material, stock: Gathered) -> Result<
     ensures store { IfErr result (λ refusal. refusal ≢ StoreFault) }
 {
     let (kind, kerf) = (material.kind, material.limits.kerf());
-    let step = step_for(kind, kerf, query.step, &stock.sizes);
+    let step = step_for(kind, query.step);
     match planner_fault(kind, kerf, query.step, step, &stock.sizes, &stock.wants) {
         Some(fault) => Err(planner_refusal(fault)),
         None => Ok(Posed {
@@ -158,6 +159,8 @@ fn posed_on(query: &PlansQuery, material: &Material, stock: Gathered) -> Result<
             kerf,
             step,
             calls: query.calls,
+            stages: query.stages,
+            limits: material.limits,
             parts: stock.parts,
             sizes: stock.sizes,
             wants: stock.wants,
@@ -173,6 +176,7 @@ fn posed_of(
     rows: &AskedRows,
 ) -> Result<Posed, Refusal>
     requires remnant { query.now.remnant ≤ UNIT_COST }
+    requires stages { IsStageLimit query.now.stages }
     requires parts { length rows.now.parts.items ≤ MOST_PARTS }
     requires buy { length query.now.buy ≤ MOST_BOUGHT_SIZES }
     ensures ok { IfOk result (question.IsPosedBy query.now material.now rows.now.demands.items rows.now.parts.items) }
@@ -197,6 +201,7 @@ fn posed_for<B: Book>(
     material: &Material,
 ) -> Result<Posed, Refusal>
     requires remnant { query.now.remnant ≤ UNIT_COST }
+    requires stages { IsStageLimit query.now.stages }
     requires lists { has_bad_list query.now ≡ false }
     ensures ok { OnContent B.Book book.old book.new (λ m. IfOk result (question.IsPosedOf m query.now material.now)) }
     ensures err { OnContent B.Book book.old book.new

@@ -3,7 +3,6 @@
 ghost use Rattle.std.specs.Prelude.{◌≡◌, ◌≤◌, ◌++◌, All, IfOk, IfSome, OnOk, filter_map, length};
 ghost use Rattle.std.specs.List.{list_any};
 ghost use Rattle.cut_bound.specs.declared.limits.TheConstants.{MOST_BOUGHT_SIZES, MOST_PARTS};
-ghost use Rattle.cut_measure.specs.declared.ranges.TheConstants.{MOST_KERF};
 ghost use Rattle.cut_order.specs.Stocks.{IsStock};
 ghost use Rattle.cut_order.specs.declared.question.TheConstants.{MOST_COST};
 ghost use Rattle.shop_plans.specs.declared.limits.TheConstants.{UNIT_COST};
@@ -13,7 +12,6 @@ ghost use Rattle.shop_planning.specs.Stock as spec;
 use crate::posed::StockPart;
 use cut_bound::StockSize;
 use cut_measure::{Kind, Size};
-use cut_sheets::sheet::MOST_STEPS;
 use shop_plans::{BuySize, UNIT_COST};
 use shop_records::Part;
 use std::alloc::{AllocError, Global};
@@ -169,29 +167,12 @@ pub fn sizes_of(
     Ok(sizes)
 }
 
-// The least step by which no side of the sizes has over 500 steps.
-fn least_step(kerf: u32, sizes: &[StockSize]) -> u32
-    requires { kerf ≤ MOST_KERF }
-    ensures { result ≡ spec.least_step kerf sizes.now }
-{
-    let mut step = 1;
-    for stock in sizes {
-        let side = stock.size.w().max(stock.size.h());
-        step = step.max((side + kerf) / (MOST_STEPS + 1) + 1);
-    }
-    step
-}
-
-/// The step of the tables: 0 for a bar; else the one that is given, or the least one that the sizes take.
-pub fn step_for(kind: Kind, kerf: u32, step: Option<u32>, sizes: &[StockSize]) -> u32
-    requires { kerf ≤ MOST_KERF }
-    ensures { result ≡ spec.step_for kind kerf step sizes.now }
+/// The step to which sides are rounded: none for a bar, which is planned to the tenth; else the one that is given, if one is.
+pub fn step_for(kind: Kind, step: Option<u32>) -> Option<u32>
+    ensures { result ≡ spec.step_for kind step }
 {
     match kind {
-        Kind::Bar => 0,
-        Kind::Sheet => match step {
-            Some(step) => step,
-            None => least_step(kerf, sizes),
-        },
+        Kind::Bar => None,
+        Kind::Sheet => step,
     }
 }

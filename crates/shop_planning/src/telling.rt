@@ -9,6 +9,7 @@ ghost use Rattle.shop_planning.specs.Answers as answers;
 ghost use Rattle.shop_planning.specs.Entries as entries;
 
 use crate::posed::{Posed, StockPart};
+use crate::rests::largest_rest;
 use crate::shares::shares_of;
 use cut_bound::{MOST_PARTS, PlannedUnit, Price, StockSize, units_at};
 use cut_order::OrderPlan;
@@ -290,6 +291,7 @@ fn told_reply(alloc: Global, posed: &Posed, plan: &OrderPlan) -> Result<PlansRep
     let missing = told_missing(alloc, &posed.wants, &plan.missing)?;
     let prices = told_prices(alloc, &plan.prices)?;
     let plans = told_plans(alloc, posed, &plan.units)?;
+    let rest = largest_rest(alloc, posed.limits, &plan.units)?;
     Ok(PlansReply {
         bound: plan.bound,
         cost: plan.cost,
@@ -297,8 +299,9 @@ fn told_reply(alloc: Global, posed: &Posed, plan: &OrderPlan) -> Result<PlansRep
         plans,
         prices,
         proved: plan.proved,
+        rest,
         short: plan.short,
-        step: posed.step,
+        step: posed.step.unwrap_or(0),
     })
 }
 

@@ -21,7 +21,7 @@ pub struct Thought {
     search: Option<OrderSearch>,
     left: u32,
     ghost asks: { IfSome search
-        (λ s. Asks posed.kind posed.kerf posed.step posed.sizes.items posed.wants.items (question_of s)) } by { Prim.hlevel props },
+        (λ s. Asks posed.kind posed.kerf posed.step posed.stages posed.sizes.items posed.wants.items (question_of s)) } by { Prim.hlevel props },
 }
 
 // A planner's want of memory, handed on.
@@ -33,7 +33,7 @@ fn want_of_memory(_fault: PlanFault) -> AllocError
 
 // A search for what is asked.
 fn search_for(alloc: Global, posed: &Posed) -> Result<OrderSearch, AllocError>
-    ensures { IfOk result (λ search. Asks posed.now.kind posed.now.kerf posed.now.step
+    ensures { IfOk result (λ search. Asks posed.now.kind posed.now.kerf posed.now.step posed.now.stages
         posed.now.sizes.items posed.now.wants.items (question_of search)) }
 {
     match OrderSearch::new(
@@ -41,6 +41,7 @@ fn search_for(alloc: Global, posed: &Posed) -> Result<OrderSearch, AllocError>
         posed.kind,
         posed.kerf,
         posed.step,
+        posed.stages,
         &posed.sizes,
         &posed.wants,
     ) {

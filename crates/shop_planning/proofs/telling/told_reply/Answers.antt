@@ -1,6 +1,7 @@
 use Rattle.std.proofs.Common.{◌∙◌, ap, map, refl, subst}
 use Rattle.shop_planning.specs.Answers.{AreToldMissing, told_price}
 use Rattle.shop_planning.specs.Entries.{AreToldPlans}
+use Rattle.shop_planning.specs.Rests.{IsLargestRest}
 use Rattle.shop_planning.proofs.telling.told_reply.Goals as goal
 
 pub returns : goal.returns
@@ -15,6 +16,7 @@ returns c =
       cost = refl;
       bound = refl;
       proved = refl;
+      rest = subst (λ us. IsLargestRest c.args.posed.now.limits us c.in_ok-rest.rest) c.deref-5.ensures.value c.in_ok-rest.ensures;
       short = refl;
-      step = refl;
+      step = c.unwrap_or.ensures;
     }
