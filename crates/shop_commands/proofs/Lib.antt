@@ -9,3 +9,4 @@ pub mod OrderLines
 pub mod StepAdvice
 pub mod JudgedFiles
 pub mod PlannedFiles
+pub mod StageLimits

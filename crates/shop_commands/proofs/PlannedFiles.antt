@@ -16,18 +16,18 @@ use Rattle.shop_commands.specs.Stored.{IsShopRead}
 
 -- with the texts of the sizes that were asked for
 pub taken_ok : (lines : List OrderLine) (entries : List MaterialEntry) (asked : OrderPlan) (slice : List (Bor (List ℕ))) (text : List ℕ)
-    → slice ≡ asked.sizes.items → IsLinesText lines entries asked.material.now (map (λ t. t.now) slice) text
-    → IsLinesText lines entries asked.material.now (sizes_asked asked) text
+    → slice ≡ asked.sizes.items → IsLinesText lines entries asked.material.now (map (λ t. t.now) slice) asked.stages text
+    → IsLinesText lines entries asked.material.now (sizes_asked asked) asked.stages text
 taken_ok lines entries asked slice text is told =
-    subst (λ sizes. IsLinesText lines entries asked.material.now (map (λ t. t.now) sizes) text) is told
+    subst (λ sizes. IsLinesText lines entries asked.material.now (map (λ t. t.now) sizes) asked.stages text) is told
 
 module _ {X : Type 0} (bytes : X → List ℕ) (asked : OrderPlan) (result : Result X Fault) where
   pub from_shop : (lines : List OrderLine) (entries slice : List MaterialEntry) → IsShopRead entries → slice ≡ entries
-      → IfOk result (λ text. (first_bad_entry slice ≡ None) × IsLinesText lines slice asked.material.now (sizes_asked asked) (bytes text))
+      → IfOk result (λ text. (first_bad_entry slice ≡ None) × IsLinesText lines slice asked.material.now (sizes_asked asked) asked.stages (bytes text))
       → IfOk result (λ text. IsShopLines lines asked (bytes text))
   from_shop lines entries slice read is = made result
     where
-      made : (r : Result X Fault) → IfOk r (λ text. (first_bad_entry slice ≡ None) × IsLinesText lines slice asked.material.now (sizes_asked asked) (bytes text))
+      made : (r : Result X Fault) → IfOk r (λ text. (first_bad_entry slice ≡ None) × IsLinesText lines slice asked.material.now (sizes_asked asked) asked.stages (bytes text))
           → IfOk r (λ text. IsShopLines lines asked (bytes text))
       made (Ok text) told = record { entries = slice; read = subst IsShopRead (sym is) read; taken = told.0; told = told.1 }
       made (Err fault) told = tt

@@ -5,7 +5,7 @@ use Rattle.cut_tree.specs.declared.token.TheConstants.{MOST_CUTS}
 use Rattle.cut_bars.specs.declared.bar.TheConstants.{LONGEST_BAR}
 use Rattle.cut_sheets.specs.declared.sheet.TheConstants.{MOST_STEPS}
 use Rattle.cut_plan.specs.declared.faults.TheConstants.{MOST_WANTS}
-use Rattle.cut_order.specs.declared.question.TheConstants.{MOST_COST}
+use Rattle.cut_order.specs.declared.question.TheConstants as orders
 use Rattle.shop_files.specs.declared.limits.TheConstants.{LONGEST_TEXT, MOST_PIECES, MOST_LINES, MOST_ENTRIES}
 use Rattle.shop_answers.specs.declared.listing.TheConstants.{MOST_TOLD}
 use Rattle.shop_records.specs.declared.records.TheConstants.{MOST_RECEIVED}
@@ -18,7 +18,7 @@ use Rattle.shop_wire.specs.Streams.{most_reads}
 use Rattle.shop_serve.specs.declared.clients.TheConstants as connections
 use Rattle.shop_serve.specs.declared.thinking.TheConstants as questions
 use Rattle.shop_serve.specs.declared.serving.TheConstants.{MOST_SERVED}
-use Rattle.shop_words.specs.declared.words.TheConstants.{LONGEST_STEP, MOST_CALLS, LAST_PORT, MOST_CONNECTIONS, MOST_KEPT, MOST_NAMES, MOST_PAIR, MOST_SIZES, VERSION}
+use Rattle.shop_words.specs.declared.words.TheConstants.{LEAST_STAGES, LONGEST_STEP, MOST_CALLS, MOST_STAGES, LAST_PORT, MOST_CONNECTIONS, MOST_KEPT, MOST_NAMES, MOST_PAIR, MOST_SIZES, VERSION}
 use Rattle.shop_problems.specs.declared.steps.TheConstants.{LONGEST_GIVEN}
 use Rattle.shop_commands.specs.declared.files.TheConstants.{LONGEST_PAGE}
 
@@ -29,13 +29,16 @@ pub record AreMeasures : Type 0 where
   pub kerf : MOST_KERF ≡ 200
   pub code : LONGEST_CODE ≡ 16
 
--- cuts of a tree, wants of a plan or a bound, a bar for the planner, steps of a sheet's side, and what a unit of an order costs
+-- cuts of a tree, wants of a plan or a bound, a bar for the planner, steps of a sheet's side, what a unit of an order costs, and
+-- the limits of a plan's stages
 pub record ArePlans : Type 0 where
   pub cuts : MOST_CUTS ≡ 255
   pub wants : MOST_WANTS ≡ 40
   pub bar : LONGEST_BAR ≡ 150000
   pub steps : MOST_STEPS ≡ 500
-  pub cost : MOST_COST ≡ 4000000000000
+  pub cost : orders.MOST_COST ≡ 4000000000000
+  pub least_stages : orders.LEAST_STAGES ≡ 2
+  pub stages : orders.MOST_STAGES ≡ 255
 
 -- bytes of a problem, order or shop text, pieces of a problem, lines of an order, entries of a shop, and bytes of a page
 pub record AreFiles : Type 0 where
@@ -73,13 +76,15 @@ pub record AreConnections : Type 0 where
   pub fair : questions.FAIR_CALLS ≡ 200
   pub served : MOST_SERVED ≡ 18446744073709551615
 
--- of the command line: a step, and the longest that is told, steps of a search, a port, connections, backups that stay, names of a server, sizes
+-- of the command line: a step, and the longest that is told, steps of a search, the limits of a plan's stages, a port, connections, backups that stay, names of a server, sizes
 -- of a plan, the terminal and the number of a
 -- message, and the version
 pub record AreWords : Type 0 where
   pub step : LONGEST_STEP ≡ 200000
   pub told_step : LONGEST_GIVEN ≡ 200000
   pub calls : MOST_CALLS ≡ 5000
+  pub least_stages : LEAST_STAGES ≡ 2
+  pub stages : MOST_STAGES ≡ 255
   pub port : LAST_PORT ≡ 65535
   pub connections : MOST_CONNECTIONS ≡ 1000000
   pub kept : MOST_KEPT ≡ 10000

@@ -79,7 +79,7 @@ module _ {B A : Type 0} (book : Ghosts B) (apart : Ghosts A) (gives : List ℕ �
   abbrev pub IsDone : Request → (input : SourceChange) → (out : SinkChange) → Type 0
   IsDone Replay input out = IsReplayDone input out
   IsDone (Plan file kerf step) input out = IsPlanDone (λ bytes. IsFilePlan bytes kerf step) out
-  IsDone (PlanOrder file kerf step calls) input out = IsPlanDone (λ bytes. IsFileWhole bytes kerf step) out
+  IsDone (PlanOrder file kerf step calls stages) input out = IsPlanDone (λ bytes. IsFileWhole bytes kerf step stages) out
   IsDone (Serve s) input out =
       (address : Address) × IsAddressOf s address × IsServeDone book (gives s.store.now) address s.limit (option_map (λ p. p.now) s.page) (option_map (λ p. p.now) s.backup) out
   IsDone (PlanLines asked) input out = IsPlanDone (λ bytes. IsFileLines bytes asked) out
@@ -93,8 +93,8 @@ module _ {B A : Type 0} (book : Ghosts B) (apart : Ghosts A) (gives : List ℕ �
   abbrev pub IsStopped : Request → Fault → (input : SourceChange) → (out : SinkChange) → Type 0
   IsStopped Replay fault input out = IsReplayStopped fault input out
   IsStopped (Plan file kerf step) fault input out = IsPlanStopped (λ bytes. IsFilePlan bytes kerf step) (λ bytes. IsFileFault bytes kerf step) fault out
-  IsStopped (PlanOrder file kerf step calls) fault input out =
-      IsPlanStopped (λ bytes. IsFileWhole bytes kerf step) (λ bytes. IsFileWholeFault bytes kerf step) fault out
+  IsStopped (PlanOrder file kerf step calls stages) fault input out =
+      IsPlanStopped (λ bytes. IsFileWhole bytes kerf step stages) (λ bytes. IsFileWholeFault bytes kerf step) fault out
   IsStopped (Serve s) fault input out =
       (address : Address) × IsAddressOf s address × IsServeStopped book (gives s.store.now) address s.limit (option_map (λ p. p.now) s.page) (option_map (λ p. p.now) s.backup) fault out
   IsStopped (PlanLines asked) fault input out = IsMadeStopped (λ bytes. IsFileLines bytes asked) (λ bytes. IsFileLinesFault bytes asked) fault out

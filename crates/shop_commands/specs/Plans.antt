@@ -61,8 +61,8 @@ IsFileFault bytes kerf step (Text fault) = IsProblemFault bytes fault.offset fau
 IsFileFault bytes kerf step fault = (fault ≡ NoMemory) ⊎ ((size : Extent) × (pieces : List Piece) × IsProblem bytes size pieces × IsPlanless size pieces kerf step fault)
 
 -- a file's bytes spell a problem, and these are the lines of the plans of all its pieces
-abbrev pub IsFileWhole : List ℕ → (kerf : ℕ) → (step : Option ℕ) → List ℕ → Type 0
-IsFileWhole bytes kerf step lines = (size : Extent) × (pieces : List Piece) × IsProblem bytes size pieces × IsWholeText size pieces kerf step lines
+abbrev pub IsFileWhole : List ℕ → (kerf : ℕ) → (step stages : Option ℕ) → List ℕ → Type 0
+IsFileWhole bytes kerf step stages lines = (size : Extent) × (pieces : List Piece) × IsProblem bytes size pieces × IsWholeText size pieces kerf step stages lines
 
 -- all pieces can't be planned, and that is told by its number and name
 abbrev pub IsWholeless : Extent → List Piece → (kerf : ℕ) → (step : Option ℕ) → Fault → Type 0
@@ -88,7 +88,7 @@ pub record IsShopLines (lines : List OrderLine) (asked : OrderPlan) (text : List
   pub entries : List MaterialEntry
   pub read : IsShopRead entries
   pub taken : first_bad_entry entries ≡ None
-  pub told : IsLinesText lines entries asked.material.now (sizes_asked asked) text
+  pub told : IsLinesText lines entries asked.material.now (sizes_asked asked) asked.stages text
 
 -- bytes spell good lines, and these are the lines of their plans
 pub record IsFileLines (bytes : List ℕ) (asked : OrderPlan) (text : List ℕ) : Type 0 where

@@ -5,7 +5,8 @@ ghost use Rattle.cut_measure.specs.declared.ranges.TheConstants.{MOST_KERF};
 ghost use Rattle.clap.specs.Words.{kind_of};
 ghost use Rattle.clap.specs.declared.error.kind.ErrorKind.TheVariants as kind;
 ghost use Rattle.shop_wire.specs.Streams.{most_reads};
-ghost use Rattle.shop_words.specs.CommandLine.{HasKerf};
+ghost use Rattle.cut_order.specs.Stocks.{IsStageLimit};
+ghost use Rattle.shop_words.specs.CommandLine.{HasMeasures};
 ghost use Rattle.shop_commands.specs.Advice.{IsAdviceOf};
 ghost use Rattle.shop_commands.specs.Performs as spec;
 ghost use Rattle.shop_commands.specs.Performs.{Concludes, IsDone, IsHelped, IsMadeStopped, IsMistakeTold, IsPerformed, IsPlanDone, IsPlanStopped, IsStopped, IsTold, TellsFault};
@@ -89,17 +90,25 @@ fn plan_order<R: Files, W: Sink>(
     kerf: u32,
     step: Option<u32>,
     calls: Option<u32>,
+    stages: Option<u32>,
     sink: &mut W,
 ) -> Result<(), Fault>
-    requires { kerf ≤ MOST_KERF }
-    ensures ok { OnOk result (IsPlanDone (λ bytes. IsFileWhole bytes kerf step)
+    requires kerf { kerf ≤ MOST_KERF }
+    requires limit { IsStageLimit stages }
+    ensures ok { OnOk result (IsPlanDone (λ bytes. IsFileWhole bytes kerf step stages)
         (change_of W.Sink sink.old sink.new)) }
-    ensures err { IfErr result (λ f. IsPlanStopped (λ bytes. IsFileWhole bytes kerf step)
+    ensures err { IfErr result (λ f. IsPlanStopped (λ bytes. IsFileWhole bytes kerf step stages)
         (λ bytes. IsFileWholeFault bytes kerf step) f (change_of W.Sink sink.old sink.new)) }
 {
     let calls = calls.unwrap_or(USUAL_CALLS);
     let bytes = read_file(rt, alloc, file)?;
-    let lines = plan_whole_file(alloc, &bytes, WholePlan { kerf, step, calls })?;
+    let how = WholePlan {
+        kerf,
+        step,
+        calls,
+        stages,
+    };
+    let lines = plan_whole_file(alloc, &bytes, how)?;
     write_text(sink, lines.as_str())
 }
 
@@ -121,6 +130,7 @@ fn plan_lines<R: Files, W: Sink>(
     asked: &OrderPlan<'_>,
     sink: &mut W,
 ) -> Result<(), Fault>
+    requires { IsStageLimit asked.now.stages }
     ensures ok { OnOk result (IsPlanDone (λ bytes. IsFileLines bytes asked.now)
         (change_of W.Sink sink.old sink.new)) }
     ensures err { IfErr result (λ f. IsMadeStopped (λ bytes. IsFileLines bytes asked.now)
@@ -149,7 +159,7 @@ fn do_request<
     source: &mut S,
     sink: &mut W,
 ) -> Result<(), Fault>
-    requires { HasKerf request.now }
+    requires { HasMeasures request.now }
     ensures ok { OnOk result
         (IsDone B.Book A.Book (O.gives stores) (P.gives apart) request.now (source_change S.Source source.old source.new)
         (change_of W.Sink sink.old sink.new)) }
@@ -166,7 +176,8 @@ fn do_request<
             kerf,
             step,
             calls,
-        } => plan_order(rt, alloc, file, *kerf, *step, *calls, sink),
+            stages,
+        } => plan_order(rt, alloc, file, *kerf, *step, *calls, *stages, sink),
         Request::PlanLines(asked) => plan_lines(rt, alloc, asked, sink),
         Request::Orders { file, shop, told } => check_orders(rt, alloc, file, *shop, *told, sink),
         Request::Serve(serving) => serve(

@@ -2,6 +2,7 @@
 
 ghost use Rattle.std.specs.Prelude.{◌≡◌, ◌≤◌, None, IfOk, IfErr, OnOk, length, string_bytes};
 ghost use Rattle.cut_measure.specs.declared.ranges.TheConstants.{MOST_KERF};
+ghost use Rattle.cut_order.specs.Stocks.{IsStageLimit};
 ghost use Rattle.shop_files.specs.Problems.{ArePieces};
 ghost use Rattle.shop_files.specs.declared.limits.TheConstants.{MOST_LINES};
 ghost use Rattle.shop_problems.specs.Judged.{AreSized};
@@ -68,8 +69,9 @@ pub fn plan_file(alloc: Global, bytes: &[u8], kerf: u32, step: u32) -> Result<St
 fn plan_whole_problem(alloc: Global, problem: &Problem, how: WholePlan) -> Result<String, Fault>
     requires pieces { ArePieces problem.now.pieces }
     requires kerf { how.kerf ≤ MOST_KERF }
+    requires limit { IsStageLimit how.stages }
     ensures ok { IfOk result (λ text. IsWholeText problem.now.size problem.now.pieces how.kerf
-        how.step (string_bytes text)) }
+        how.step how.stages (string_bytes text)) }
     ensures err { IfErr result
         (spec.IsWholeless problem.now.size problem.now.pieces how.kerf how.step) }
 {
@@ -83,9 +85,10 @@ fn plan_whole_problem(alloc: Global, problem: &Problem, how: WholePlan) -> Resul
 /// The text's first fault, or the order's; a problem of over 100 pieces is a `BadWant`. Want of memory may come at any
 /// point. The kerf is at most 200.
 pub fn plan_whole_file(alloc: Global, bytes: &[u8], how: WholePlan) -> Result<String, Fault>
-    requires { how.kerf ≤ MOST_KERF }
+    requires kerf { how.kerf ≤ MOST_KERF }
+    requires limit { IsStageLimit how.stages }
     ensures ok { IfOk result
-        (λ text. spec.IsFileWhole bytes.now how.kerf how.step (string_bytes text)) }
+        (λ text. spec.IsFileWhole bytes.now how.kerf how.step how.stages (string_bytes text)) }
     ensures err { IfErr result (spec.IsFileWholeFault bytes.now how.kerf how.step) }
 {
     let problem = read_cgcut(alloc, bytes)?;
@@ -113,9 +116,10 @@ fn plan_from(
 ) -> Result<String, Fault>
     requires few { length lines.now ≤ MOST_LINES }
     requires sized { AreSized lines.now }
+    requires limit { IsStageLimit asked.now.stages }
     ensures ok { IfOk result (λ text. (first_bad_entry entries.now ≡ None)
         × IsLinesText lines.now entries.now asked.now.material.now (spec.sizes_asked asked.now)
-        (string_bytes text)) }
+        asked.now.stages (string_bytes text)) }
     ensures err { IfErr result (spec.IsPlanFaultBy lines.now entries.now asked.now) }
 {
     judge_entries(entries)?;
@@ -124,6 +128,7 @@ fn plan_from(
         material: asked.material,
         sizes: asked.sizes.as_slice(),
         calls: asked.calls.unwrap_or(USUAL_CALLS),
+        stages: asked.stages,
     };
     match lines_planned(alloc, lines, stock) {
         Ok(text) => Ok(text),
@@ -141,6 +146,7 @@ fn plan_good_lines<R: Files>(
 ) -> Result<String, Fault>
     requires few { length lines.now ≤ MOST_LINES }
     requires sized { AreSized lines.now }
+    requires limit { IsStageLimit asked.now.stages }
     ensures ok { IfOk result (λ text. spec.IsShopLines lines.now asked.now (string_bytes text)) }
     ensures err { IfErr result (spec.IsShopLinesFault lines.now asked.now) }
 {
@@ -159,6 +165,7 @@ pub fn plan_order_file<R: Files>(
     bytes: &[u8],
     asked: &OrderPlan<'_>,
 ) -> Result<String, Fault>
+    requires { IsStageLimit asked.now.stages }
     ensures ok { IfOk result (λ text. spec.IsFileLines bytes.now asked.now (string_bytes text)) }
     ensures err { IfErr result (spec.IsFileLinesFault bytes.now asked.now) }
 {

@@ -18,7 +18,7 @@ use Rattle.shop_files.specs.declared.shops.MaterialEntry.{MaterialEntry}
 use Rattle.shop_problems.specs.declared.orders.LinesFault.{LinesFault}
 use Rattle.shop_problems.specs.declared.orders.LinesFault.TheVariants as fault
 use Rattle.shop_problems.specs.declared.stock.StockMaterial.{StockMaterial}
-use Rattle.shop_problems.specs.Stock.{AreSizes, HasBadSize, has_twice, least_step, material_in, size_text, stock_of}
+use Rattle.shop_problems.specs.Stock.{AreSizes, HasBadSize, has_twice, material_in, size_text, stock_of}
 use Rattle.shop_problems.specs.Wholes.{missing_of}
 
 abbrev pub want_of : ℕ → OrderLine → Want
@@ -44,12 +44,12 @@ wants_in material lines = wants_from 1 (lines_of material lines)
 abbrev pub plan_fault : StockMaterial → List Extent → List Want → Option PlanFault
 plan_fault m sizes wants =
     if nat_lt MOST_BOUGHT_SIZES (length sizes) || has_twice sizes then Some BadWant
-    else order_fault m.kind m.limits.kerf (least_step m.limits.kerf sizes) (stock_of sizes) wants
+    else order_fault m.kind m.limits.kerf None (stock_of sizes) wants
 
--- an answer to the order of these wants, from units of these sizes
-pub record IsPlanned (m : StockMaterial) (sizes : List Extent) (wants : List Want) (plan : OrderPlan) : Type 0 where
+-- an answer to the order of these wants, from units of these sizes, of at most so many stages
+pub record IsPlanned (m : StockMaterial) (sizes : List Extent) (stages : Option ℕ) (wants : List Want) (plan : OrderPlan) : Type 0 where
   pub few : length sizes ≤ MOST_BOUGHT_SIZES
-  pub answers : IsAnswerOf m.kind m.limits.kerf (least_step m.limits.kerf sizes) (stock_of sizes) wants plan
+  pub answers : IsAnswerOf m.kind m.limits.kerf None stages (stock_of sizes) wants plan
 
 -- ---- what is told of it
 
@@ -67,18 +67,18 @@ ArePlanLines kind sizes plan text =
     ⊎ (((length sizes ≡ 1) → ⊥) × AreSizesLines (summary_of plan) plan.cost (map (size_text kind) sizes) plan.units.items text)
 
 -- the lines that tell a plan of a material's lines from units of these sizes
-pub record IsTextFrom (lines : List OrderLine) (code : List ℕ) (material : StockMaterial) (sizes : List Extent) (text : List ℕ) : Type 0 where
+pub record IsTextFrom (lines : List OrderLine) (code : List ℕ) (material : StockMaterial) (sizes : List Extent) (stages : Option ℕ) (text : List ℕ) : Type 0 where
   pub plan : OrderPlan
-  pub planned : IsPlanned material sizes (wants_in code lines) plan
+  pub planned : IsPlanned material sizes stages (wants_in code lines) plan
   pub told : ArePlanLines material.kind sizes plan text
 
 -- of lines, a shop file's entries, a material's code and texts of sizes: the lines that tell a plan
-pub record IsLinesText (lines : List OrderLine) (entries : List MaterialEntry) (code : List ℕ) (texts : List (List ℕ)) (text : List ℕ) : Type 0 where
+pub record IsLinesText (lines : List OrderLine) (entries : List MaterialEntry) (code : List ℕ) (texts : List (List ℕ)) (stages : Option ℕ) (text : List ℕ) : Type 0 where
   pub material : StockMaterial
   pub known : material_in entries code ≡ Some material
   pub sizes : List Extent
   pub said : AreSizes material.kind texts sizes
-  pub from : IsTextFrom lines code material sizes text
+  pub from : IsTextFrom lines code material sizes stages text
 
 -- why they aren't planned
 abbrev pub IsLinesFault : List OrderLine → List MaterialEntry → (code : List ℕ) → (texts : List (List ℕ)) → LinesFault → Type 0

@@ -8,7 +8,7 @@ use Rattle.shop_problems.specs.declared.steps.TheConstants.{LONGEST_GIVEN}
 use Rattle.shop_problems.specs.declared.steps.StepHelp.{StepHelp}
 use Rattle.shop_problems.specs.declared.steps.StepHelp.TheVariants as help
 use Rattle.shop_problems.specs.declared.steps.Steps.{Steps}
-use Rattle.shop_problems.specs.Wholes.{kind_of, step_for}
+use Rattle.shop_problems.specs.Wholes.{kind_of, least_for}
 
 -- the shortest side of pieces, at most the longest step
 abbrev pub shortest : List Piece → ℕ
@@ -17,7 +17,7 @@ shortest (p ∷ ps) = min (min p.w p.h) (shortest ps)
 
 -- From the least step by which no side has over 500 steps to the longest that is over no piece's side and a kerf, and may be given.
 abbrev pub steps_of : Extent → List Piece → (kerf : ℕ) → Steps
-steps_of size pieces k = record { least = step_for size k None; most = min (shortest pieces + k) LONGEST_GIVEN }
+steps_of size pieces k = record { least = least_for size k; most = min (shortest pieces + k) LONGEST_GIVEN }
 
 -- this step serves, or none does
 abbrev pub help_beside : Steps → Option ℕ → StepHelp

@@ -1,12 +1,11 @@
 -- The material and the sizes from which the lines of an order file are planned.
-use Rattle.std.specs.Prelude.{◌≡◌, ℕ, suc, ◌+◌, ◌*◌, ◌<◌, ◌/◌, ◌⊎◌, ◌==◌, ◌&&◌, ◌||◌, ◌++◌, not, Bool, false, true, List, [], ◌∷◌, codes, if◌then◌else◌, is_some, length, map, max, take, Option, Some, None}
+use Rattle.std.specs.Prelude.{◌≡◌, ℕ, suc, ◌*◌, ◌<◌, ◌⊎◌, ◌==◌, ◌&&◌, ◌||◌, ◌++◌, not, Bool, false, true, List, [], ◌∷◌, codes, if◌then◌else◌, is_some, length, map, take, Option, Some, None}
 use Rattle.std.specs.List.{after_first, before_first, find, list_any, position_or_len}
 use Rattle.std.specs.Str.{bytes_eq}
 use Rattle.cut_measure.specs.Lengths.{IsLengthText, mm_text}
 use Rattle.cut_measure.specs.Measures.{Extent, Rule, rule_of, size_of}
 use Rattle.cut_measure.specs.declared.sizes.Kind.{Kind}
 use Rattle.cut_measure.specs.declared.sizes.Kind.TheVariants.{Bar, Sheet}
-use Rattle.cut_sheets.specs.declared.sheet.TheConstants.{MOST_STEPS}
 use Rattle.cut_bound.specs.declared.stock.StockSize.{StockSize}
 use Rattle.shop_files.specs.declared.shops.MaterialEntry.{MaterialEntry}
 use Rattle.shop_problems.specs.declared.stock.BadEntry.{BadEntry}
@@ -122,15 +121,6 @@ stock_at single sizes = map (λ (size : Extent). record { size = size; cost = co
 
 abbrev pub stock_of : List Extent → List StockSize
 stock_of sizes = stock_at (length sizes == 1) sizes
-
--- the least step by which a size has at most 500 steps on each side
-abbrev pub step_of : (kerf : ℕ) → Extent → ℕ
-step_of k size = (max size.w size.h + k) / (MOST_STEPS + 1) + 1
-
--- the least by which each of them has
-abbrev pub least_step : (kerf : ℕ) → List Extent → ℕ
-least_step k [] = 1
-least_step k (size ∷ sizes) = max (step_of k size) (least_step k sizes)
 
 -- a bar's length, or a sheet's sides
 abbrev pub size_text : Kind → Extent → List ℕ

@@ -23,10 +23,9 @@ use Rattle.shop_problems.specs.Wants.{wants_of}
 abbrev pub kind_of : Extent → List Piece → Kind
 kind_of size pieces = if size.h == 1 && list_all (λ p. p.h == 1) pieces then Bar else Sheet
 
--- the step that is given, or the least one by which no side has over 500 steps
-abbrev pub step_for : Extent → (kerf : ℕ) → Option ℕ → ℕ
-step_for size k None = (max size.w size.h + k) / (MOST_STEPS + 1) + 1
-step_for size k (Some step) = step
+-- the least step by which no side has over 500 steps
+abbrev pub least_for : Extent → (kerf : ℕ) → ℕ
+least_for size k = (max size.w size.h + k) / (MOST_STEPS + 1) + 1
 
 -- the rectangle, as often as is wanted; each costs 1, so that costs are numbers of rectangles
 abbrev pub stock_of : Extent → List StockSize
@@ -44,12 +43,12 @@ fault_or (Some f) other = Some f
 
 -- that fault, or the first of the order
 abbrev pub whole_fault : Kind → Extent → (kerf : ℕ) → Option ℕ → List Want → Option PlanFault
-whole_fault kind size k step wants = fault_or (step_fault kind k step wants) (order_fault kind k (step_for size k step) (stock_of size) wants)
+whole_fault kind size k step wants = fault_or (step_fault kind k step wants) (order_fault kind k step (stock_of size) wants)
 
--- an answer to the order of these wants, from rectangles of this size
-abbrev pub IsWholePlan : Kind → Extent → (kerf : ℕ) → Option ℕ → List Want → OrderPlan → Type 0
-IsWholePlan kind size k step wants plan =
-    (step_fault kind k step wants ≡ None) × IsAnswerOf kind k (step_for size k step) (stock_of size) wants plan
+-- an answer to the order of these wants, from rectangles of this size, of at most so many stages
+abbrev pub IsWholePlan : Kind → Extent → (kerf : ℕ) → (step stages : Option ℕ) → List Want → OrderPlan → Type 0
+IsWholePlan kind size k step stages wants plan =
+    (step_fault kind k step wants ≡ None) × IsAnswerOf kind k step stages (stock_of size) wants plan
 
 -- how many pieces are missing
 abbrev pub missing_of : OrderPlan → ℕ
@@ -60,9 +59,9 @@ abbrev pub summary_of : OrderPlan → OrderSummary
 summary_of plan = record { units = plan.cost; bound = plan.bound; proved = plan.proved; missing = missing_of plan }
 
 -- an answer to the order of all pieces, and the lines that tell it
-pub record IsWholeText (size : Extent) (pieces : List Piece) (kerf : ℕ) (step : Option ℕ) (text : List ℕ) : Type 0 where
+pub record IsWholeText (size : Extent) (pieces : List Piece) (kerf : ℕ) (step stages : Option ℕ) (text : List ℕ) : Type 0 where
   pub plan : OrderPlan
-  pub answers : IsWholePlan (kind_of size pieces) size kerf step (wants_of pieces) plan
+  pub answers : IsWholePlan (kind_of size pieces) size kerf step stages (wants_of pieces) plan
   pub told : AreOrderLines (summary_of plan) plan.units.items text
 
 -- memory ran out, or the order has this fault

@@ -6,13 +6,14 @@ ghost use Rattle.cut_measure.specs.declared.sizes.Kind.TheVariants.{Bar, Sheet};
 ghost use Rattle.cut_bound.specs.declared.limits.TheConstants.{MOST_BOUGHT_SIZES, MOST_UNITS};
 ghost use Rattle.cut_plan.specs.Proposals.{AreDemands};
 ghost use Rattle.cut_plan.specs.declared.faults.PlanFault.TheVariants.{NoMemory};
+ghost use Rattle.cut_order.specs.Stocks.{IsStageLimit};
 ghost use Rattle.shop_files.specs.declared.limits.TheConstants.{MOST_LINES};
 ghost use Rattle.shop_problems.specs.Judged.{AreSized};
 ghost use Rattle.shop_problems.specs.Stock.{size_text};
 ghost use Rattle.shop_problems.specs.Orders as spec;
 
 use crate::stock::{
-    StockFault, StockMaterial, has_twice, least_step, material_in, size_text, sizes_in, stock_of,
+    StockFault, StockMaterial, has_twice, material_in, size_text, sizes_in, stock_of,
 };
 use crate::wholes::missing_of;
 use cut_bound::{MOST_BOUGHT_SIZES, PlannedUnit};
@@ -34,6 +35,15 @@ pub struct LinesAsked<'a> {
     pub sizes: &'a [&'a str],
     /// So many tables the search makes at most.
     pub calls: u32,
+    /// Each plan has at most so many stages, 2 to 255, if there is a limit.
+    pub stages: Option<u32>,
+}
+
+// How plans are searched for.
+#[derive(Clone, Copy)]
+struct LinesSearch {
+    calls: u32,
+    stages: Option<u32>,
 }
 
 /// Why lines aren't planned.
@@ -87,11 +97,12 @@ fn planned(
     material: &StockMaterial,
     sizes: &[Size],
     wants: &[Want],
-    calls: u32,
+    search: LinesSearch,
 ) -> Result<OrderPlan, PlanFault>
+    requires limit { IsStageLimit search.stages }
     requires flat { material.now.kind ≡ Bar → All (λ size. size.h ≡ 1) sizes.now }
     requires demands { AreDemands wants.now }
-    ensures ok { IfOk result (spec.IsPlanned material.now sizes.now wants.now) }
+    ensures ok { IfOk result (spec.IsPlanned material.now sizes.now search.stages wants.now) }
     ensures err { IfErr result (λ f. (f ≡ NoMemory)
         ⊎ (spec.plan_fault material.now sizes.now wants.now ≡ Some f)) }
 {
@@ -106,10 +117,11 @@ fn planned(
         alloc,
         material.kind,
         kerf,
-        least_step(kerf, sizes),
+        None,
+        search.stages,
         &stock,
         wants,
-        calls,
+        search.calls,
     )
 }
 
@@ -174,20 +186,21 @@ fn text_from(
     code: &str,
     material: &StockMaterial,
     sizes: &[Size],
-    calls: u32,
+    search: LinesSearch,
 ) -> Result<String, PlanFault>
+    requires limit { IsStageLimit search.stages }
     requires few { length lines.now ≤ MOST_LINES }
     requires sized { AreSized lines.now }
     requires flat { material.now.kind ≡ Bar → All (λ size. size.h ≡ 1) sizes.now }
     ensures ok { IfOk result (λ text.
-        spec.IsTextFrom lines.now code.now material.now sizes.now (string_bytes text)) }
+        spec.IsTextFrom lines.now code.now material.now sizes.now search.stages (string_bytes text)) }
     ensures err { IfErr result (λ f. (f ≡ NoMemory)
         ⊎ (spec.plan_fault material.now sizes.now (spec.wants_in code.now lines.now) ≡ Some f)) }
 {
     let Ok(wants) = wants_in(alloc, code, lines) else {
         return Err(PlanFault::NoMemory);
     };
-    let plan = planned(alloc, material, sizes, &wants, calls)?;
+    let plan = planned(alloc, material, sizes, &wants, search)?;
     match lines_of(alloc, material.kind, sizes, &plan) {
         Ok(text) => Ok(text),
         Err(_) => Err(PlanFault::NoMemory),
@@ -209,9 +222,10 @@ pub fn plan_lines(
 ) -> Result<String, LinesFault>
     requires few { length lines.now ≤ MOST_LINES }
     requires sized { AreSized lines.now }
+    requires limit { IsStageLimit asked.stages }
     ensures ok { IfOk result (λ text. spec.IsLinesText lines.now
         asked.entry.entries.now asked.entry.material.now
-        (map (λ t. t.now) asked.entry.sizes.now) (string_bytes text)) }
+        (map (λ t. t.now) asked.entry.sizes.now) asked.entry.stages (string_bytes text)) }
     ensures err { IfErr result (spec.IsLinesFault lines.now asked.entry.entries.now
         asked.entry.material.now (map (λ t. t.now) asked.entry.sizes.now)) }
 {
@@ -220,7 +234,11 @@ pub fn plan_lines(
     };
     match sizes_in(alloc, material.kind, asked.sizes) {
         Ok(sizes) => {
-            match text_from(alloc, lines, asked.material, &material, &sizes, asked.calls) {
+            let search = LinesSearch {
+                calls: asked.calls,
+                stages: asked.stages,
+            };
+            match text_from(alloc, lines, asked.material, &material, &sizes, search) {
                 Ok(text) => Ok(text),
                 Err(fault) => Err(LinesFault::Plan(fault)),
             }

@@ -3,12 +3,10 @@
 ghost use Rattle.std.specs.Prelude.{◌≡◌, ◌≤◌, ◌⊎◌, All, IfErr, IfOk, MatchOption, map, option_map, string_bytes};
 ghost use Rattle.std.specs.List.{list_any};
 ghost use Rattle.cut_measure.specs.Measures.{Extent};
-ghost use Rattle.cut_measure.specs.declared.ranges.TheConstants.{MOST_KERF};
 ghost use Rattle.cut_order.specs.declared.question.TheConstants.{MOST_COST};
 ghost use Rattle.shop_problems.specs.Stock as spec;
 ghost use Rattle.shop_problems.specs.declared.stock.StockFault.TheVariants as fault;
 
-use crate::wholes::least_for;
 use cut_bound::StockSize;
 use cut_measure::{Kind, Limits, Size, read_mm, write_mm};
 use shop_files::MaterialEntry;
@@ -225,18 +223,6 @@ pub fn stock_of(alloc: Global, sizes: &[Size]) -> Result<Vec<StockSize>, AllocEr
     }
     Ok(stock)
 }
-
-/// The least step by which no side of the sizes has over 500 steps, 1 for a bar.
-pub fn least_step(kerf: u32, sizes: &[Size]) -> u32
-    requires { kerf ≤ MOST_KERF }
-    ensures { result ≡ spec.least_step kerf sizes.now }
-{
-    let [size, more @ ..] = sizes else {
-        return 1;
-    };
-    least_for(*size, kerf).max(least_step(kerf, more))
-}
-
 /// How the program writes a size: the length of a bar, or both sides of a sheet with an `x` between them.
 pub fn size_text(alloc: Global, kind: Kind, size: Size) -> Result<String, AllocError>
     ensures { IfOk result (λ text. string_bytes text ≡ spec.size_text kind size) }

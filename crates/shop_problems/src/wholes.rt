@@ -1,10 +1,11 @@
 //! The plans of all pieces of a problem, from as many of its rectangles as it takes.
 
-ghost use Rattle.std.specs.Prelude.{◌≡◌, ◌≤◌, ◌==◌, ◌⊎◌, IfErr, IfOk, None, Some, string_bytes};
+ghost use Rattle.std.specs.Prelude.{◌≡◌, ◌≤◌, ◌==◌, ◌⊎◌, IfErr, IfOk, Some, string_bytes};
 ghost use Rattle.std.specs.List.{list_all};
 ghost use Rattle.cut_measure.specs.declared.sizes.Kind.TheVariants.{Bar};
 ghost use Rattle.cut_plan.specs.Proposals.{AreDemands};
 ghost use Rattle.cut_plan.specs.declared.faults.PlanFault.TheVariants.{NoMemory};
+ghost use Rattle.cut_order.specs.Stocks.{IsStageLimit};
 ghost use Rattle.cut_lines.specs.Lines.{AreOrderLines};
 ghost use Rattle.shop_files.specs.Problems.{ArePieces};
 ghost use Rattle.shop_problems.specs.Wholes as spec;
@@ -27,10 +28,12 @@ pub const USUAL_CALLS: u32 = 500;
 pub struct WholePlan {
     /// In tenths of a millimetre: 0 to 200.
     pub kerf: u32,
-    /// In tenths of a millimetre. None: the least one that the rectangle takes.
+    /// In tenths of a millimetre. None: sides aren't rounded.
     pub step: Option<u32>,
     /// So many tables the search makes at most.
     pub calls: u32,
+    /// Each plan has at most so many stages, 2 to 255, if there is a limit.
+    pub stages: Option<u32>,
 }
 
 // Whether all pieces have height 1.
@@ -55,20 +58,9 @@ pub(crate) fn kind_of(size: Size, pieces: &[Piece]) -> Kind
 // The least step by which no side has over 500 steps.
 pub(crate) fn least_for(size: Size, kerf: u32) -> u32
     requires { kerf ≤ MOST_KERF }
-    ensures { result ≡ spec.step_for size kerf None }
+    ensures { result ≡ spec.least_for size kerf }
 {
     (size.w().max(size.h()) + kerf) / (MOST_STEPS + 1) + 1
-}
-
-// The step that is given, or the least one by which no side has over 500 steps.
-fn step_for(size: Size, how: WholePlan) -> u32
-    requires { how.kerf ≤ MOST_KERF }
-    ensures { result ≡ spec.step_for size how.kerf how.step }
-{
-    match how.step {
-        Some(step) => step,
-        None => least_for(size, how.kerf),
-    }
 }
 
 // What is wrong with the wants and the step, where one is given.
@@ -95,9 +87,10 @@ fn planned(
     wants: &[Want],
 ) -> Result<OrderPlan, PlanFault>
     requires kerf { how.kerf ≤ MOST_KERF }
+    requires limit { IsStageLimit how.stages }
     requires flat { kind ≡ Bar → size.h ≡ 1 }
     requires demands { AreDemands wants.now }
-    ensures ok { IfOk result (spec.IsWholePlan kind size how.kerf how.step wants.now) }
+    ensures ok { IfOk result (spec.IsWholePlan kind size how.kerf how.step how.stages wants.now) }
     ensures err { IfErr result (λ f. (f ≡ NoMemory)
         ⊎ (spec.whole_fault kind size how.kerf how.step wants.now ≡ Some f)) }
 {
@@ -110,13 +103,7 @@ fn planned(
         limit: None,
     }];
     plan_order(
-        alloc,
-        kind,
-        how.kerf,
-        step_for(size, how),
-        &stock,
-        wants,
-        how.calls,
+        alloc, kind, how.kerf, how.step, how.stages, &stock, wants, how.calls,
     )
 }
 
@@ -149,14 +136,15 @@ fn lines_of(alloc: Global, plan: &OrderPlan) -> Result<String, AllocError>
 /// how many whoever cuts all pieces takes at least; whether both are equal and nothing is missing; how many pieces aren't
 /// planned; and each different plan with how many rectangles it cuts. A rectangle of height 1 whose pieces all have height
 /// 1 is a bar. The demand of the first piece is 1; none is turned.
+/// Each plan has at most so many stages, 2 to 255, if there is a limit.
 ///
-/// Faults in the order of `PlanFault`, with 100 wants at most; a step that is given is judged as for one rectangle, the
-/// least one takes also wants below it. Want of memory may come at any point. The kerf is at most 200.
+/// Faults in the order of `PlanFault`, with 100 wants at most; a step that is given is judged as for one rectangle. Want of memory may come at any point. The kerf is at most 200.
 pub fn plan_whole(alloc: Global, problem: &Problem, how: WholePlan) -> Result<String, PlanFault>
     requires pieces { ArePieces problem.now.pieces }
     requires kerf { how.kerf ≤ MOST_KERF }
+    requires limit { IsStageLimit how.stages }
     ensures ok { IfOk result (λ text. spec.IsWholeText problem.now.size problem.now.pieces how.kerf
-        how.step (string_bytes text)) }
+        how.step how.stages (string_bytes text)) }
     ensures err { IfErr result
         (spec.IsWholeFault problem.now.size problem.now.pieces how.kerf how.step) }
 {

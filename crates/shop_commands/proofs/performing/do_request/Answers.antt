@@ -1,8 +1,15 @@
 use Rattle.std.proofs.lemmas.Result.{IfErr-weaker, on_ok_weaker}
+use Rattle.shop_commands.proofs.StageLimits.{stage_limit}
 use Rattle.shop_commands.proofs.performing.do_request.Goals as goal
 
 pub returns-in-Plan-clause-err : goal.returns-in-Plan-clause-err
 returns-in-Plan-clause-err g c = rw c.in-Plan.is c.plan.ensures.err
+
+pub plan_order-requires-clause-limit : goal.plan_order-requires-clause-limit
+plan_order-requires-clause-limit g c = stage_limit _ (rw c.in-PlanOrder.is at c.requires).1
+
+pub plan_lines-requires : goal.plan_lines-requires
+plan_lines-requires g c = stage_limit _ (rw c.in-PlanLines.is at c.requires)
 
 pub returns-in-PlanOrder-clause-ok : goal.returns-in-PlanOrder-clause-ok
 returns-in-PlanOrder-clause-ok g c = rw c.in-PlanOrder.is c.plan_order.ensures.ok

@@ -8,13 +8,13 @@ use Rattle.shop_commands.proofs.performing.plan_order.Goals as goal
 pub returns-clause-err : goal.returns-clause-err
 returns-clause-err g c =
     let out = change_of g.W.Sink c.args.sink.now c.write_text.new.sink in
-    let made = λ (bytes : List ℕ). IsFileWhole bytes c.args.kerf c.args.step in
+    let made = λ (bytes : List ℕ). IsFileWhole bytes c.args.kerf c.args.step c.args.stages in
     let stops = λ (bytes : List ℕ). IsFileWholeFault bytes c.args.kerf c.args.step in
     unwritten made stops _ _ out c.in_ok-lines.ensures.ok (subst (AddsPrefix out) c.as_str.ensures.value c.write_text.ensures.prefix) c.write_text.result c.write_text.ensures.err
 
 pub returns-clause-ok : goal.returns-clause-ok
 returns-clause-ok g c =
     let out = change_of g.W.Sink c.args.sink.now c.write_text.new.sink in
-    let made = λ (bytes : List ℕ). IsFileWhole bytes c.args.kerf c.args.step in
+    let made = λ (bytes : List ℕ). IsFileWhole bytes c.args.kerf c.args.step c.args.stages in
     written made _ _ out c.in_ok-lines.ensures.ok c.write_text.result
     (subst (λ (text : List ℕ). OnOk c.write_text.result (Adds out text)) c.as_str.ensures.value c.write_text.ensures.ok)
