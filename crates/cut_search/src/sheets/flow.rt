@@ -143,6 +143,8 @@ pub struct Flow {
     task: Task,
     /// Values that are corrected from round to round.
     values: Vec<u64>,
+    /// What pieces are worth by the prices of its own program, where it looks for no bound.
+    own: Option<Vec<u64>>,
     /// Plans for the programs.
     plans: Vec<Rc<Plan>>,
     program: Option<Program>,
@@ -204,6 +206,7 @@ impl Flow {
             round: 0,
             task: Task::Nothing,
             values: Vec::from_slice(alloc, &worker.hints.cells)?,
+            own: None,
             plans: Vec::new(alloc),
             program: None,
             worths: Vec::new(alloc),
@@ -215,6 +218,27 @@ impl Flow {
             packed: Vec::new(alloc),
             is_fresh: false,
         })
+    }
+
+    /// How far it is: 0 before its quick plan, 1 before the program of plans, 2 before units are
+    /// given up, 3 then.
+    pub fn level(&self) -> usize {
+        match self.stage {
+            Stage::Quick => 0,
+            Stage::Rounds => 1,
+            Stage::Plans | Stage::Bound | Stage::Priced | Stage::Dive => 2,
+            Stage::Gains | Stage::Fine | Stage::More | Stage::Packs | Stage::Rest | Stage::Ended =>
+                3,
+        }
+    }
+
+    /// What pieces are worth by prices.
+    fn priced(&self, alloc: Global, hints: &Hints) -> Result<Vec<u64>, AllocError> {
+        let priced = match &self.own {
+            Some(own) => Vec::from_slice(alloc, own)?,
+            None => Vec::from_slice(alloc, &hints.priced)?,
+        };
+        Ok(priced)
     }
 
     /// Whether no more will be found.
@@ -314,13 +338,11 @@ impl Flow {
             return Ok(());
         }
         if self.round == 0 {
-            let is_priced = self.stage == Stage::Priced;
-            let values = if is_priced {
-                &worker.hints.priced
+            self.values = if self.stage == Stage::Priced {
+                self.priced(alloc, &worker.hints)?
             } else {
-                &worker.hints.cells
+                Vec::from_slice(alloc, &worker.hints.cells)?
             };
-            self.values = Vec::from_slice(alloc, values)?;
         }
         let one = match self.only {
             Some(size) => worker.job.cost(size),
@@ -480,8 +502,11 @@ impl Flow {
             }
             return Ok(worths);
         }
-        let worths = if is_even { &hints.cells } else { &hints.priced };
-        Vec::from_slice(alloc, worths).map_err(AllocError::from)
+        if is_even {
+            let cells = Vec::from_slice(alloc, &hints.cells)?;
+            return Ok(cells);
+        }
+        self.priced(alloc, hints)
     }
 
     /// Gives units up of a plan.
@@ -735,7 +760,7 @@ impl Flow {
                 &worker.hints.cells,
                 &program.prices,
             )?;
-            self.values = priced;
+            self.own = Some(priced);
         }
         self.plans = Vec::new(alloc);
         for plan in &program.plans {
@@ -906,8 +931,10 @@ impl Flow {
         next: GiveUp,
         pack: Pack,
     ) -> Result<Told, AllocError> {
+        let mut packed = pack;
+        let found = packed.best.take();
         let mut told = Told::Nothing;
-        if let Some(plan) = pack.best {
+        if let Some(plan) = found {
             let mut whole = next.units.copy(alloc)?;
             whole.add(&worker.job, plan, 1)?;
             if self.best.offer_rest(alloc, &worker.job, &whole)? {
