@@ -16,8 +16,9 @@ const MOST_BEAM: usize = 100;
 /// So many times the states of a beam are tried, as some are alike.
 const TRIED: usize = 3;
 
-/// Once so many ways and blocks were looked at, the beam has one state alone.
-const MOST_LOOKED: u64 = 3_000_000;
+/// A search looks at about so many ways and blocks at most. Once it has looked at half of them, the beam grows narrower, down to
+/// one state.
+const MOST_LOOKED: u64 = 2_000_000;
 
 /// A space that a block is placed in. Each of the trails leads to a block's own rectangle, and the tables are those of what is over.
 #[derive(Clone, Copy)]
@@ -74,6 +75,14 @@ pub(crate) struct Found {
     /// Each with its number.
     pub path: Vec<(usize, Step)>,
     pub value: u64,
+}
+
+/// A beam that is narrower, the more was looked at.
+fn narrowed(beam: usize, looked: u64) -> usize {
+    let half = MOST_LOOKED / 2;
+    let left = MOST_LOOKED.saturating_sub(looked).min(half);
+    let states = (beam as u64).saturating_mul(left) / half;
+    usize::try_from(states).unwrap_or(beam).max(1)
 }
 
 impl Rules<'_> {
@@ -393,11 +402,7 @@ impl Search {
 
     // Goes on to the next level with the best children.
     fn advance(&mut self, rules: &Rules<'_>) -> Result<(), AllocError> {
-        let beam = if self.looked > MOST_LOOKED {
-            1
-        } else {
-            self.beam
-        };
+        let beam = narrowed(self.beam, self.looked);
         let children = Vec::from_slice(self.alloc, self.choice.best())?;
         self.next.used = 0;
         self.seen.clear();

@@ -10,9 +10,11 @@ const MOST_PIECES: u32 = 255;
 /// A grid of several rows and several columns has so many pieces at most.
 const MOST_IN_GRID: u32 = 12;
 
-/// There are so many blocks at most, and [`MOST_IN_GRID`] more for each way. Of more, rows and columns of all lengths are left
-/// out evenly.
+/// There are about so many rows and columns at most. Of more, lengths are left out evenly.
 const MOST_BLOCKS: u32 = 6000;
+
+/// Where rows of fewer lengths than these are taken, no grids are: there are so many ways.
+const FEWEST_LENGTHS: u32 = 8;
 
 /// One way of laying pieces of a kind, turned or not, and where its blocks stand in the list.
 #[derive(Clone, Copy)]
@@ -236,7 +238,9 @@ impl Blocks {
         let columns = self.blocks.len();
         self.push_columns(place, &way, lengths)?;
         let grids = self.blocks.len();
-        self.push_grids(place, &way, left)?;
+        if lengths >= FEWEST_LENGTHS {
+            self.push_grids(place, &way, left)?;
+        }
         let end = self.blocks.len();
         if let Some(way) = self.ways.get_mut(place) {
             way.rows = rows;

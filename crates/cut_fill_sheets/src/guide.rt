@@ -85,11 +85,13 @@ fn best_cut(worths: &[u32], pairs: &[Pair]) -> u32 {
     best
 }
 
-/// Raises the worths of a width by cuts along the height.
-fn cut_heights(worths: &mut [u32], rows: &Cuts) {
-    for place in 1..worths.len() {
-        let best = best_cut(worths, rows.of(place)).max(worths[place - 1]);
-        worths[place] = worths[place].max(best);
+/// Raises the worths of a width by cuts along the height, from a place on. Those before it are raised already.
+fn cut_heights(worths: &mut [u32], rows: &Cuts, first: usize) {
+    let mut last = 0;
+    for place in first..worths.len() {
+        let best = best_cut(worths, rows.of(place)).max(last);
+        last = worths[place].max(best);
+        worths[place] = last;
     }
 }
 
@@ -98,7 +100,7 @@ fn worths_from(worths: &[u32], start: usize) -> &[u32] {
     worths.get(start..).unwrap_or(&[])
 }
 
-/// Raises the worths of a width by those of the width before it, and by cuts along the width.
+/// Raises the worths of a width by those of the width before it, the last one of those before, and by cuts along the width.
 fn cut_width(worths: &mut [u32], before: &[u32], pairs: &[Pair]) {
     let height = worths.len();
     let last = worths_from(before, before.len().saturating_sub(height));
@@ -108,6 +110,18 @@ fn cut_width(worths: &mut [u32], before: &[u32], pairs: &[Pair]) {
         let long = worths_from(before, pair.long.wrapping_mul(height));
         raise_to_sums(worths, short, long);
     }
+}
+
+/// The first place of a width whose worth isn't that of the width before it. What is worth no more than there gains nothing by
+/// cuts along the height.
+fn first_change(worths: &[u32], before: &[u32]) -> usize {
+    let last = worths_from(before, before.len().saturating_sub(worths.len()));
+    for (place, (worth, other)) in worths.iter().zip(last).enumerate() {
+        if *worth != *other {
+            return place;
+        }
+    }
+    worths.len()
 }
 
 /// The worth rounded down by so many bits.
@@ -191,11 +205,13 @@ impl Grid {
             let Some(row) = rest.get_mut(..height) else {
                 return;
             };
+            let mut first = 0;
             if along_width {
                 cut_width(row, before, self.columns.of(place));
+                first = first_change(row, before);
             }
             if along_height {
-                cut_heights(row, &self.rows);
+                cut_heights(row, &self.rows, first);
             }
         }
     }

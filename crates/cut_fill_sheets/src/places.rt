@@ -167,29 +167,32 @@ impl Places {
     }
 
     // For each shorter part of a cut of a point the longest other part, both by places; 0 where there is none.
-    fn longest_parts(&self, lengths: &[u32], point: u32, longest: &mut [usize]) {
+    fn longest_parts(&self, lengths: &[(u32, usize)], point: u32, longest: &mut [usize]) {
         longest.fill(0);
-        for length in lengths {
-            let over = point.saturating_sub(*length);
-            if over == 0 {
+        for (length, place) in lengths {
+            if *length >= point {
                 break;
             }
-            let (a, b) = (self.of(*length), self.of(over));
-            if let Some(long) = longest.get_mut(a.min(b)) {
-                *long = a.max(b).max(*long);
+            let over = self.of(point.saturating_sub(*length));
+            if let Some(long) = longest.get_mut(over.min(*place)) {
+                *long = over.max(*place).max(*long);
             }
         }
     }
 
-    /// The cuts of each point. Those are left out whose parts are both no longer than those of another cut.
+    /// The cuts of each point by lengths that rise. Those are left out whose parts are both no longer than those of another cut.
     pub(crate) fn cuts(&self, alloc: Global, lengths: &[u32]) -> Result<Cuts, AllocError> {
         let mut cuts = Cuts {
             pairs: Vec::new(alloc),
             ends: Vec::new(alloc),
         };
+        let mut placed = Vec::new(alloc);
+        for length in lengths {
+            placed.push((*length, self.of(*length)))?;
+        }
         let mut longest = vec![in alloc; 0usize; self.len()]?;
         for point in &self.points {
-            self.longest_parts(lengths, *point, &mut longest);
+            self.longest_parts(&placed, *point, &mut longest);
             cuts.push(&longest)?;
         }
         Ok(cuts)
