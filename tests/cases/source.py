@@ -368,6 +368,9 @@ HINTING = {"cut_search", "cut_master", "cut_fill_bars", "cut_fill_sheets", "shop
 
 # The number of each other constant that no law has, the functions that use it, and what it would change that no clause says.
 LAWLESS = {
+    "cut_classes choice LEAST_POINTS": ("4", "points_along", "the fewest points of an axis that are asked for: fewer give a higher bound of what a sheet is worth"),
+    "cut_classes choice MOST_NARROW": ("500", "points_along", "a side that an axis has room for more often, and more often than it has points, is not counted: that lowers a bound of costs"),
+    "cut_classes pairs MOST_POINTS": ("65536", "is_usable_grid pairs_of usable_points", "the definition `IsUsableGrid` has the number"),
     "cut_tree read MOST_WORDS": ("512", "words_of", "one word more than a tree of 255 cuts has: the contract has the first fault at one of these"),
     "shop_backup backing MOST_BACKUPS": ("1000000", "begin_behind number_of", "the greatest number of a backup, as the formats have it"),
     "shop_backup backing BUFFER_SIZE": ("65536", "copy_piece", "how much of a file is in memory at once"),

@@ -5,11 +5,8 @@ ghost use Rattle.cut_measure.specs.declared.sizes.Kind.{Kind};
 ghost use Rattle.cut_measure.specs.declared.sizes.Kind.TheVariants.{Bar, Sheet};
 ghost use Rattle.cut_wants.specs.declared.wants.Want.{Want};
 ghost use Rattle.cut_plan.specs.declared.faults.PlanFault.TheVariants.{NoMemory};
-ghost use Rattle.cut_bound.specs.Bounds.{sizes_of};
-ghost use Rattle.cut_bound.specs.Ratings.{AreRatable, IsBarRating};
+ghost use Rattle.cut_bound.specs.Ratings.{AreRatable};
 ghost use Rattle.cut_sheets.specs.Bound.{worth_left};
-ghost use Rattle.cut_sheets.specs.Rounded.{IsStep, steps_down, wants_down};
-ghost use Rattle.cut_wants.specs.Best.{IsBestOf};
 ghost use Rattle.cut_bound.specs.Orders as orders;
 ghost use Rattle.cut_bound.specs.Orders.{IsPricedBound, IsRatedBound};
 

@@ -1,12 +1,12 @@
 -- What a row has after each step of its filling.
-use Rattle.std.proofs.Common.{◌≡◌, ◌≢◌, ℕ, ◌+◌, ◌-◌, ◌<◌, ◌≤◌, Bool, true, false, List, [], length, take, max, refl, sym, subst, ap, ◌∙◌, inl, inr, arith}
-use Rattle.std.specs.Prelude.{All, Contains, IsTrue, slice_index, slice_index_or}
+use Rattle.std.proofs.Common.{◌≡◌, ◌≢◌, ℕ, ◌+◌, ◌<◌, ◌≤◌, Bool, true, false, List, length, max, sym, subst, inl, inr, arith}
+use Rattle.std.specs.Prelude.{Contains, slice_index}
 use Rattle.std.proofs.lemmas.Bool.{cases_eq, cases_lt}
 use Rattle.cut_wants.specs.declared.wants.Want.{Want}
 use Rattle.cut_classes.specs.declared.pairs.Pair.{Pair}
-use Rattle.cut_classes.specs.Classes.{ArePartsOf, Classes, HasRoom, IsCeiling, IsInClass, count, high_of, low_of}
+use Rattle.cut_classes.specs.Classes.{ArePartsOf, Classes, IsInClass, count, high_of}
 use Rattle.cut_classes.specs.Grids.{AreUsable}
-use Rattle.cut_classes.specs.Filling.{AreFilledRows, CoversParts, DontFall, HasAt, HasCeilingBelow, IsBelowAll, IsOffered, IsOfferedTo, IsOverParts, IsOverSums, IsPieceRow, IsRaised, worth_at}
+use Rattle.cut_classes.specs.Filling.{AreFilledRows, CoversParts, HasAt, HasCeilingBelow, IsBelowAll, IsOffered, IsOfferedTo, IsOverParts, IsOverSums, IsPieceRow, IsRaised, worth_at}
 use Rattle.cut_classes.proofs.FilledTables.{along_row, up_rows}
 
 -- ---- pieces
@@ -40,8 +40,8 @@ pub has_still : (xs : Classes) (l n : ℕ) (old new : List ℕ) → IsRaised old
 has_still xs l n old new raised (i, is, le) = (i, is, omega (arith, le, raised i))
 
 pub offered_still : (xs ys : Classes) (k : ℕ) (x : Want) (turned : Bool) (old new : List ℕ) (j : ℕ) → IsRaised old new → IsOffered xs ys k x turned old j → IsOffered xs ys k x turned new j
-offered_still xs ys k x false old new j raised is = λ in_down wide. has_still xs (x.size.w + k) x.worth old new raised (is in_down wide)
-offered_still xs ys k x true old new j raised is = λ turns in_down wide. has_still xs (x.size.h + k) x.worth old new raised (is turns in_down wide)
+offered_still xs ys k x false old new j raised is = λ in_row wide. has_still xs (x.size.h + k) x.worth old new raised (is in_row wide)
+offered_still xs ys k x true old new j raised is = λ turns in_row wide. has_still xs (x.size.w + k) x.worth old new raised (is turns in_row wide)
 
 pub below_offered : (wants : List Want) (xs ys : Classes) (k : ℕ) (x : Want) (turned : Bool) (j : ℕ) (old new : List ℕ) → Contains wants x → j < count ys → IsOfferedTo xs ys k x turned j old new
     → IsBelowAll wants k xs ys old j → IsBelowAll wants k xs ys new j
@@ -49,7 +49,7 @@ below_offered wants xs ys k x turned j old new has jl is before other ceiling i 
   | inr same ↦ omega (arith, same, before other ceiling i il)
   | inl more ↦
       let f = is.found i more in
-      let most = ceiling.pieces i j x turned f.0 jl has f.1 in
+      let most = ceiling.pieces j i x turned jl f.0 has f.1 in
       omega (arith, most, f.2)
 ]
 
@@ -64,7 +64,7 @@ pub sum_below : (limit : ℕ) (wants : List Want) (k : ℕ) (xs ys : Classes) (r
 sum_below limit wants k xs ys rows n a b len bound r jl al bl parts i il =
     let one = (r a (omega (arith, len, al))).pieces.below bound.worth bound.ceiling i il in
     let two = (r b (omega (arith, len, bl))).pieces.below bound.worth bound.ceiling i il in
-    let sum = bound.ceiling.down_cuts i n a b il jl (omega (arith, al, jl)) (omega (arith, bl, jl)) parts in
+    let sum = bound.ceiling.across_cuts n i a b jl il (omega (arith, al, jl)) (omega (arith, bl, jl)) parts in
     omega (arith, one, two, sum, bound.below i n il jl)
 
 -- a row that is raised to the sums of a pair
@@ -77,7 +77,7 @@ stacked_row wants k xs ys rows n a b old new count_is r jl al bl parts len is be
   below = λ other ceiling i il.
       let one = (r a (omega (arith, count_is, al))).pieces.below other ceiling i il in
       let two = (r b (omega (arith, count_is, bl))).pieces.below other ceiling i il in
-      let sum = ceiling.down_cuts i n a b il jl (omega (arith, al, jl)) (omega (arith, bl, jl)) parts in
+      let sum = ceiling.across_cuts n i a b jl il (omega (arith, al, jl)) (omega (arith, bl, jl)) parts in
       omega (arith, one, two, sum, is i il, before.below other ceiling i il);
 }
   where
@@ -85,8 +85,8 @@ stacked_row wants k xs ys rows n a b old new count_is r jl al bl parts len is be
     at_place l m (i, in_class, le) = (i, in_class, omega (arith, le, is i in_class.there))
 
     moved : (x : Want) (turned : Bool) → IsOffered xs ys k x turned old n → IsOffered xs ys k x turned new n
-    moved x false o = λ in_down wide. at_place (x.size.w + k) x.worth (o in_down wide)
-    moved x true o = λ turns in_down wide. at_place (x.size.h + k) x.worth (o turns in_down wide)
+    moved x false o = λ in_row wide. at_place (x.size.h + k) x.worth (o in_row wide)
+    moved x true o = λ turns in_row wide. at_place (x.size.w + k) x.worth (o turns in_row wide)
 
 pub over_sums : (wants : List Want) (k : ℕ) (xs ys : Classes) (rows : List (List ℕ)) (n : ℕ) (pairs : List Pair) (row : List ℕ) → length rows ≡ n → AreUsable ys → AreFilledRows wants k xs ys rows → n < count ys
     → CoversParts ys n pairs → IsOverPairs xs rows pairs row → IsOverSums xs ys rows row n
@@ -117,7 +117,7 @@ pub pair_below : (limit : ℕ) (wants : List Want) (k : ℕ) (xs ys : Classes) (
 pair_below limit wants k xs ys row j i a b bound below jl il al bl parts =
     let one = below bound.worth bound.ceiling a (omega (arith, al, il)) in
     let two = below bound.worth bound.ceiling b (omega (arith, bl, il)) in
-    let sum = bound.ceiling.across_cuts i j a b il jl (omega (arith, al, il)) (omega (arith, bl, il)) parts in
+    let sum = bound.ceiling.down_cuts j i a b jl il (omega (arith, al, il)) (omega (arith, bl, il)) parts in
     omega (arith, one, two, sum, bound.below i j il jl)
 
 pub joined_next : (wants : List Want) (k : ℕ) (xs ys : Classes) (start old new : List ℕ) (j n : ℕ) (pairs : List Pair) → AreUsable xs → j < count ys → n < count xs → CoversParts xs n pairs
@@ -132,11 +132,11 @@ joined_next wants k xs ys start old new j n pairs ux jl il cover raised others m
   ];
   below = λ other ceiling i lt. elim (cases_eq i n) [
     | inr ne ↦ omega (arith, others i ne, before.below other ceiling i lt)
-    | inl e ↦ subst (λ m. slice_index new m ≤ other m j) (sym e) (least (other n j) (before.below other ceiling n il) (λ p has.
+    | inl e ↦ subst (λ m. slice_index new m ≤ other j m) (sym e) (least (other j n) (before.below other ceiling n il) (λ p has.
         let inside = cover.inside p has in
         let one = before.below other ceiling p.first (omega (arith, inside.0, il)) in
         let two = before.below other ceiling p.second (omega (arith, inside.1, il)) in
-        let sum = ceiling.across_cuts n j p.first p.second il jl (omega (arith, inside.0, il)) (omega (arith, inside.1, il)) (cover.parts p has) in
+        let sum = ceiling.down_cuts j n p.first p.second jl il (omega (arith, inside.0, il)) (omega (arith, inside.1, il)) (cover.parts p has) in
         omega (arith, one, two, sum)))
   ];
   over = λ i a b lt al bl parts. elim (cases_lt i n) [

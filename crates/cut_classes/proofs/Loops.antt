@@ -1,6 +1,6 @@
 -- What loops over wants, pairs and lists of pairs keep.
 use Rattle.std.proofs.Common.{◌≡◌, ◌⊎◌, ℕ, zero, suc, ap, ◌∙◌, ◌+◌, ◌-◌, ◌<◌, ◌≤◌, List, [], ◌∷◌, ◌++◌, length, take, take_all, get_or, refl, sym, subst, inl, inr, arith}
-use Rattle.std.specs.Prelude.{Bool, true, false, Contains, Vec, if◌then◌else◌, nat_lt, slice_index}
+use Rattle.std.specs.Prelude.{Contains, Vec, if◌then◌else◌, nat_lt}
 use Rattle.std.specs.declared.alloc.Global.{Global}
 use Rattle.std.proofs.lemmas.Bool.{cases_lt, le-ltb, lt-ltb}
 use Rattle.std.proofs.lemmas.List.{take_more, get_or_append_left, get_or_push, length_push}

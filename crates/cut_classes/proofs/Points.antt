@@ -1,7 +1,7 @@
 -- Points that rise, and the classes that begin at them.
 use Rattle.std.proofs.Common.{◌≡◌, ℕ, zero, suc, ◌+◌, ◌-◌, ◌<◌, ◌≤◌, sym, subst, inl, inr, arith}
 use Rattle.std.proofs.lemmas.Bool.{cases_lt, lt-ltb, le-ltb}
-use Rattle.cut_classes.specs.Classes.{ArePartsOf, Classes, IsInClass, count, high_of, low_of}
+use Rattle.cut_classes.specs.Classes.{ArePartsOf, Classes, count, high_of, low_of}
 use Rattle.cut_classes.specs.Grids.{AreUsable}
 
 low_rises : (cs : Classes) → AreUsable cs → (a n : ℕ) → a + suc n < count cs → low_of cs a < low_of cs (a + suc n)

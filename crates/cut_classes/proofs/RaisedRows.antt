@@ -1,6 +1,6 @@
 -- Rows that are raised place by place.
 use Rattle.std.proofs.Common.{◌≡◌, ◌≢◌, ℕ, ◌+◌, ◌<◌, ◌≤◌, List, [], ◌++◌, drop, take, length, get_or, map, max, refl, sym, subst, ap, ◌∙◌, inl, inr, arith}
-use Rattle.std.specs.Prelude.{Vec, slice_index, slice_index_or, slice_set}
+use Rattle.std.specs.Prelude.{Vec, slice_index_or, slice_set}
 use Rattle.std.specs.declared.alloc.Global.{Global}
 use Rattle.std.proofs.lemmas.Bool.{cases_eq}
 use Rattle.std.proofs.lemmas.Grind.{common_steps}

@@ -1,5 +1,5 @@
 -- Points of both axes of a sheet, and which wants a table over their classes counts.
-use Rattle.std.specs.Prelude.{◌≡◌, ℕ, ◌+◌, ◌-◌, ◌^◌, ◌≤◌, ◌<◌, ◌&&◌, ◌||◌, not, nat_le, nat_lt, Bool, IsTrue, List, [], ◌∷◌, Contains, if◌then◌else◌, length}
+use Rattle.std.specs.Prelude.{◌≡◌, ℕ, ◌+◌, ◌-◌, ◌^◌, ◌≤◌, ◌<◌, ◌&&◌, ◌||◌, not, nat_le, nat_lt, Bool, IsTrue, List, [], ◌∷◌, Contains, if◌then◌else◌}
 use Rattle.cut_measure.specs.declared.ranges.TheConstants.{MOST_HEIGHT, MOST_KERF, MOST_WIDTH, MOST_WORTH}
 use Rattle.cut_wants.specs.declared.wants.Want.{Want}
 use Rattle.cut_classes.specs.declared.grid.Grid.{Grid}

@@ -1,3 +1,4 @@
 pub mod Classes
 pub mod Filling
 pub mod Grids
+pub mod Rates

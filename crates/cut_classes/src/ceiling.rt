@@ -1,12 +1,13 @@
 //! What a sheet is worth at most, by the classes of its sides.
 
-ghost use Rattle.std.specs.Prelude.{◌≡◌, ℕ, ◌+◌, ◌*◌, ◌^◌, ◌≤◌, ◌<◌, length, IfOk, IsTrue};
+ghost use Rattle.std.specs.Prelude.{◌≡◌, ◌+◌, ◌*◌, ◌^◌, ◌≤◌, ◌<◌, IfOk};
 ghost use Rattle.cut_classes.specs.Classes.{IsCeilingOf, IsLeastCeiling};
 ghost use Rattle.cut_classes.specs.Grids as grids;
 ghost use Rattle.cut_classes.specs.Grids.{AreCounted, IsUsableGrid, across_of, down_of};
 ghost use Rattle.cut_classes.specs.Filling.{HasCeilingBelow, worth_in};
 
 use crate::grid::Grid;
+use crate::narrow::is_narrow;
 use crate::pairs::class_of;
 use crate::table::filled_rows;
 use crate::usable::{counted_wants, is_usable_grid};
@@ -14,7 +15,7 @@ use cut_measure::{MOST_KERF, Size};
 use cut_wants::wants::Want;
 use std::alloc::{AllocError, Global};
 
-/// A worth for each class of widths and each of heights: a row for each class of heights, in
+/// A worth for each class of widths and each of heights: a row for each class of widths, in
 /// narrow numbers where they do.
 #[derive(Drop)]
 pub enum CeilingTable {
@@ -30,22 +31,57 @@ impl CeilingTable {
         ensures { result ≡ worth_in self.now across down }
     {
         match self {
-            CeilingTable::Narrow(rows) => match rows.get(down) {
+            CeilingTable::Narrow(rows) => match rows.get(across) {
                 None => 0,
-                Some(row) => match row.get(across) {
+                Some(row) => match row.get(down) {
                     None => 0,
                     Some(worth) => *worth as u64,
                 },
             },
-            CeilingTable::Wide(rows) => match rows.get(down) {
+            CeilingTable::Wide(rows) => match rows.get(across) {
                 None => 0,
-                Some(row) => match row.get(across) {
+                Some(row) => match row.get(down) {
                     None => 0,
                     Some(worth) => *worth,
                 },
             },
         }
     }
+}
+
+// The table of wants that it counts, in narrow numbers.
+fn narrow_ceilings(
+    alloc: Global,
+    kerf: u32,
+    grid: &Grid,
+    wants: &[Want],
+) -> Result<CeilingTable, AllocError>
+    requires kerf { kerf ≤ MOST_KERF }
+    requires usable { IsUsableGrid grid.now }
+    requires counted { AreCounted wants.now kerf (across_of grid.now) (down_of grid.now) }
+    requires fits { HasCeilingBelow (2 ^ 32) wants.now kerf (down_of grid.now) (across_of grid.now) }
+    ensures { IfOk result (λ table. IsLeastCeiling wants.now kerf (across_of grid.now)
+        (down_of grid.now) (worth_in table)) }
+{
+    let rows = filled_rows(alloc, grid, kerf, wants)?;
+    Ok(CeilingTable::Narrow(rows))
+}
+
+// The table of wants that it counts, in wide numbers.
+fn wide_ceilings(
+    alloc: Global,
+    kerf: u32,
+    grid: &Grid,
+    wants: &[Want],
+) -> Result<CeilingTable, AllocError>
+    requires kerf { kerf ≤ MOST_KERF }
+    requires usable { IsUsableGrid grid.now }
+    requires counted { AreCounted wants.now kerf (across_of grid.now) (down_of grid.now) }
+    ensures { IfOk result (λ table. IsLeastCeiling wants.now kerf (across_of grid.now)
+        (down_of grid.now) (worth_in table)) }
+{
+    let rows = filled_rows(alloc, grid, kerf, wants)?;
+    Ok(CeilingTable::Wide(rows))
 }
 
 // The table of wants that it counts.
@@ -61,8 +97,11 @@ fn counted_ceilings(
     ensures { IfOk result (λ table. IsLeastCeiling wants.now kerf (across_of grid.now)
         (down_of grid.now) (worth_in table)) }
 {
-    let rows = filled_rows(alloc, grid, kerf, wants)?;
-    Ok(CeilingTable::Wide(rows))
+    if is_narrow(kerf, grid, wants) {
+        narrow_ceilings(alloc, kerf, grid, wants)
+    } else {
+        wide_ceilings(alloc, kerf, grid, wants)
+    }
 }
 
 /// The least table over the classes of a grid that no legal plan of a sheet with sides of two

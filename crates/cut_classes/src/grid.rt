@@ -1,6 +1,6 @@
 //! Points of both axes of a sheet.
 
-ghost use Rattle.std.specs.Prelude.{◌≡◌, ◌+◌, ◌≤◌, All, IfOk, length};
+ghost use Rattle.std.specs.Prelude.{◌+◌, ◌≤◌, All, IfOk, length};
 ghost use Rattle.cut_classes.specs.Grids.{AreUsable, IsUsableGrid, classes};
 
 use crate::choice::points_along;

@@ -5,6 +5,7 @@ mod ceiling;
 mod choice;
 mod grid;
 mod laws;
+mod narrow;
 mod pairs;
 mod row;
 mod table;

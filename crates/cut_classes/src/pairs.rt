@@ -1,6 +1,6 @@
 //! Classes of lengths, and which of them have parts of a class.
 
-ghost use Rattle.std.specs.Prelude.{◌≡◌, ℕ, ◌+◌, ◌-◌, ◌^◌, ◌≤◌, ◌<◌, ◌++◌, ◌∷◌, [], nat_lt, if◌then◌else◌, length, slice_index, IfOk, OnOk};
+ghost use Rattle.std.specs.Prelude.{◌≡◌, ℕ, ◌+◌, ◌-◌, ◌≤◌, ◌<◌, ◌++◌, ◌∷◌, [], nat_lt, if◌then◌else◌, length, slice_index, IfOk, OnOk};
 ghost use Rattle.cut_classes.specs.declared.pairs.Pair.{Pair};
 ghost use Rattle.cut_classes.specs.Classes as specs;
 ghost use Rattle.cut_classes.specs.Classes.{IsInClass};

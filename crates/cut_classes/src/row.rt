@@ -5,7 +5,7 @@ ghost use Rattle.cut_wants.specs.declared.wants.Want.{Want};
 ghost use Rattle.cut_classes.specs.declared.pairs.Pair.{Pair};
 ghost use Rattle.cut_classes.specs.Classes.{count};
 ghost use Rattle.cut_classes.specs.Classes as specs;
-ghost use Rattle.cut_classes.specs.Grids.{AreUsable, IsUsableGrid, across_of, down_of};
+ghost use Rattle.cut_classes.specs.Grids.{IsUsableGrid, across_of, down_of};
 ghost use Rattle.cut_classes.specs.Filling.{AreFilledRows, CoverParts, CoversParts, HasCeilingBelow, IsFilledRow, IsOfferedTo, IsOverParts, IsOverSums, IsPieceRow, IsRaised, rows_of, worth_at};
 
 use crate::grid::Grid;
@@ -27,49 +27,49 @@ fn offer<T: Number>(row: &mut [T], at: usize, worth: u64)
     }
 }
 
-// Whether a piece has its height in a class and its width within the greatest.
+// Whether a piece has its width in a class and its height within the greatest.
 fn is_in_row(grid: &Grid, class: usize, w: u32, h: u32) -> bool
-    requires { class < length grid.now.down.items }
-    ensures { IsTrue result ↔ ((slice_index grid.now.down.items class ≤ h)
-        × (h ≤ specs.high_of (down_of grid.now) class) × (w ≤ grid.now.most_across)) }
+    requires { class < length grid.now.across.items }
+    ensures { IsTrue result ↔ ((slice_index grid.now.across.items class ≤ w)
+        × (w ≤ specs.high_of (across_of grid.now) class) × (h ≤ grid.now.most_down)) }
 {
-    grid.down[class] <= h
-        && h <= high_of(&grid.down, grid.most_down, class)
-        && w <= grid.most_across
+    grid.across[class] <= w
+        && w <= high_of(&grid.across, grid.most_across, class)
+        && h <= grid.most_down
 }
 
-// The worth of a want at the class of its width, where its height is in the row's class.
+// The worth of a want at the class of its height, where its width is in the row's class.
 fn offer_upright<T: Number>(row: &mut [T], grid: &Grid, class: usize, kerf: u32, want: &Want)
     requires kerf { kerf ≤ MOST_KERF }
     requires usable { IsUsableGrid grid.now }
-    requires class { class < length grid.now.down.items }
-    requires len { length row.old ≡ length grid.now.across.items }
+    requires class { class < length grid.now.across.items }
+    requires len { length row.old ≡ length grid.now.down.items }
     requires worth { want.now.worth < T.limit }
-    ensures { IsOfferedTo (across_of grid.now) (down_of grid.now) kerf want.now false class
+    ensures { IsOfferedTo (down_of grid.now) (across_of grid.now) kerf want.now false class
         (map T.value row.old) (map T.value row.new) }
 {
     let w = want.size.w() + kerf;
     let h = want.size.h() + kerf;
     if is_in_row(grid, class, w, h) {
-        offer(row, class_of(&grid.across, w), want.worth as u64);
+        offer(row, class_of(&grid.down, h), want.worth as u64);
     }
 }
 
-// The worth of a want at the class of its height, where it may be turned and its width is in the
+// The worth of a want at the class of its width, where it may be turned and its height is in the
 // row's class.
 fn offer_turned<T: Number>(row: &mut [T], grid: &Grid, class: usize, kerf: u32, want: &Want)
     requires kerf { kerf ≤ MOST_KERF }
     requires usable { IsUsableGrid grid.now }
-    requires class { class < length grid.now.down.items }
-    requires len { length row.old ≡ length grid.now.across.items }
+    requires class { class < length grid.now.across.items }
+    requires len { length row.old ≡ length grid.now.down.items }
     requires worth { want.now.worth < T.limit }
-    ensures { IsOfferedTo (across_of grid.now) (down_of grid.now) kerf want.now true class
+    ensures { IsOfferedTo (down_of grid.now) (across_of grid.now) kerf want.now true class
         (map T.value row.old) (map T.value row.new) }
 {
     let w = want.size.h() + kerf;
     let h = want.size.w() + kerf;
     if want.may_turn && is_in_row(grid, class, w, h) {
-        offer(row, class_of(&grid.across, w), want.worth as u64);
+        offer(row, class_of(&grid.down, h), want.worth as u64);
     }
 }
 
@@ -77,11 +77,11 @@ fn offer_turned<T: Number>(row: &mut [T], grid: &Grid, class: usize, kerf: u32, 
 fn offer_wants<T: Number>(row: &mut [T], grid: &Grid, class: usize, kerf: u32, wants: &[Want])
     requires kerf { kerf ≤ MOST_KERF }
     requires usable { IsUsableGrid grid.now }
-    requires class { class < length grid.now.down.items }
-    requires len { length row.old ≡ length grid.now.across.items }
+    requires class { class < length grid.now.across.items }
+    requires len { length row.old ≡ length grid.now.down.items }
     requires worths { (x : Want) → Contains wants.now x → x.worth < T.limit }
     requires zeros { All (λ v. v ≡ 0) (map T.value row.old) }
-    ensures { IsPieceRow wants.now kerf (across_of grid.now) (down_of grid.now) (map T.value row.new)
+    ensures { IsPieceRow wants.now kerf (down_of grid.now) (across_of grid.now) (map T.value row.new)
         class }
 {
     for want in wants {
@@ -131,16 +131,16 @@ fn stack_all<T: Number>(
     pairs: &[Pair],
 )
     requires usable { IsUsableGrid grid.now }
-    requires class { length rows.now < length grid.now.down.items }
-    requires fits { HasCeilingBelow T.limit wants.now kerf (across_of grid.now) (down_of grid.now) }
-    requires rows { AreFilledRows wants.now kerf (across_of grid.now) (down_of grid.now)
+    requires class { length rows.now < length grid.now.across.items }
+    requires fits { HasCeilingBelow T.limit wants.now kerf (down_of grid.now) (across_of grid.now) }
+    requires rows { AreFilledRows wants.now kerf (down_of grid.now) (across_of grid.now)
         (rows_of T.value rows.now) }
-    requires pairs { CoversParts (down_of grid.now) (length rows.now) pairs.now }
-    requires pieces { IsPieceRow wants.now kerf (across_of grid.now) (down_of grid.now)
+    requires pairs { CoversParts (across_of grid.now) (length rows.now) pairs.now }
+    requires pieces { IsPieceRow wants.now kerf (down_of grid.now) (across_of grid.now)
         (map T.value row.old) (length rows.now) }
-    ensures pieces { IsPieceRow wants.now kerf (across_of grid.now) (down_of grid.now)
+    ensures pieces { IsPieceRow wants.now kerf (down_of grid.now) (across_of grid.now)
         (map T.value row.new) (length rows.now) }
-    ensures sums { IsOverSums (across_of grid.now) (down_of grid.now) (rows_of T.value rows.now)
+    ensures sums { IsOverSums (down_of grid.now) (across_of grid.now) (rows_of T.value rows.now)
         (map T.value row.new) (length rows.now) }
 {
     for pair in pairs {
@@ -208,17 +208,17 @@ fn join_row<T: Number>(
     lists: &[Vec<Pair>],
 )
     requires usable { IsUsableGrid grid.now }
-    requires class { class < length grid.now.down.items }
-    requires fits { HasCeilingBelow T.limit wants.now kerf (across_of grid.now) (down_of grid.now) }
+    requires class { class < length grid.now.across.items }
+    requires fits { HasCeilingBelow T.limit wants.now kerf (down_of grid.now) (across_of grid.now) }
     requires len { length lists.now ≡ length row.old }
-    requires lists { CoverParts (across_of grid.now) lists.now }
-    requires pieces { IsPieceRow wants.now kerf (across_of grid.now) (down_of grid.now)
+    requires lists { CoverParts (down_of grid.now) lists.now }
+    requires pieces { IsPieceRow wants.now kerf (down_of grid.now) (across_of grid.now)
         (map T.value row.old) class }
     ensures kept { IsRaised (map T.value row.old) (map T.value row.new) }
-    ensures pieces { IsPieceRow wants.now kerf (across_of grid.now) (down_of grid.now)
+    ensures pieces { IsPieceRow wants.now kerf (down_of grid.now) (across_of grid.now)
         (map T.value row.new) class }
-    ensures parts { IsOverParts (across_of grid.now) (map T.value row.new)
-        (count (across_of grid.now)) }
+    ensures parts { IsOverParts (down_of grid.now) (map T.value row.new)
+        (count (down_of grid.now)) }
 {
     for at in 0..row.len() {
         join_place(row, at, &lists[at]);
@@ -237,16 +237,16 @@ pub(crate) fn fill_row<T: Number>(
 )
     requires kerf { kerf ≤ MOST_KERF }
     requires usable { IsUsableGrid grid.now }
-    requires class { length rows.now < length grid.now.down.items }
-    requires fits { HasCeilingBelow T.limit wants.now kerf (across_of grid.now) (down_of grid.now) }
-    requires rows { AreFilledRows wants.now kerf (across_of grid.now) (down_of grid.now)
+    requires class { length rows.now < length grid.now.across.items }
+    requires fits { HasCeilingBelow T.limit wants.now kerf (down_of grid.now) (across_of grid.now) }
+    requires rows { AreFilledRows wants.now kerf (down_of grid.now) (across_of grid.now)
         (rows_of T.value rows.now) }
-    requires pairs { CoversParts (down_of grid.now) (length rows.now) pairs.now }
-    requires lists { CoverParts (across_of grid.now) lists.now }
+    requires pairs { CoversParts (across_of grid.now) (length rows.now) pairs.now }
+    requires lists { CoverParts (down_of grid.now) lists.now }
     requires len { length lists.now ≡ length row.old }
-    requires wide { length row.old ≡ length grid.now.across.items }
+    requires wide { length row.old ≡ length grid.now.down.items }
     requires zeros { All (λ v. v ≡ 0) (map T.value row.old) }
-    ensures { IsFilledRow wants.now kerf (across_of grid.now) (down_of grid.now)
+    ensures { IsFilledRow wants.now kerf (down_of grid.now) (across_of grid.now)
         (rows_of T.value rows.now) (map T.value row.new) (length rows.now) }
 {
     offer_wants(row, grid, rows.len(), kerf, wants);

@@ -1,6 +1,6 @@
 //! A table over the classes of a grid, filled row by row.
 
-ghost use Rattle.std.specs.Prelude.{◌≡◌, ℕ, ◌≤◌, ◌<◌, length, map, IfOk};
+ghost use Rattle.std.specs.Prelude.{◌≡◌, ◌≤◌, ◌<◌, length, map, IfOk};
 ghost use Rattle.cut_classes.specs.Grids.{IsUsableGrid, across_of, down_of};
 ghost use Rattle.cut_classes.specs.Filling.{AreFilledRows, CoverParts, CoversParts, HasCeilingBelow, IsFilledRow, rows_of};
 
@@ -24,22 +24,23 @@ fn next_row<T: Number>(
 ) -> Result<Vec<T>, AllocError>
     requires kerf { kerf ≤ MOST_KERF }
     requires usable { IsUsableGrid grid.now }
-    requires class { length rows.now < length grid.now.down.items }
-    requires fits { HasCeilingBelow T.limit wants.now kerf (across_of grid.now) (down_of grid.now) }
-    requires rows { AreFilledRows wants.now kerf (across_of grid.now) (down_of grid.now)
+    requires class { length rows.now < length grid.now.across.items }
+    requires fits { HasCeilingBelow T.limit wants.now kerf (down_of grid.now) (across_of grid.now) }
+    requires rows { AreFilledRows wants.now kerf (down_of grid.now) (across_of grid.now)
         (rows_of T.value rows.now) }
-    requires pairs { CoversParts (down_of grid.now) (length rows.now) pairs.now }
-    requires lists { CoverParts (across_of grid.now) lists.now }
-    requires len { length lists.now ≡ length grid.now.across.items }
-    ensures { IfOk result (λ row. IsFilledRow wants.now kerf (across_of grid.now) (down_of grid.now)
+    requires pairs { CoversParts (across_of grid.now) (length rows.now) pairs.now }
+    requires lists { CoverParts (down_of grid.now) lists.now }
+    requires len { length lists.now ≡ length grid.now.down.items }
+    ensures { IfOk result (λ row. IsFilledRow wants.now kerf (down_of grid.now) (across_of grid.now)
         (rows_of T.value rows.now) (map T.value row.items) (length rows.now)) }
 {
-    let mut row = T::zeros(alloc, grid.across.len())?;
+    let mut row = T::zeros(alloc, grid.down.len())?;
     fill_row(&mut row, grid, kerf, wants, rows, pairs, lists);
     Ok(row)
 }
 
-// A row for each class of heights.
+// A row for each class of widths: as most sheets are wider than high, that leaves fewer pairs of
+// places to each row, which take longer than pairs of rows.
 pub(crate) fn filled_rows<T: Number>(
     alloc: Global,
     grid: &Grid,
@@ -48,15 +49,15 @@ pub(crate) fn filled_rows<T: Number>(
 ) -> Result<Vec<Vec<T>>, AllocError>
     requires kerf { kerf ≤ MOST_KERF }
     requires usable { IsUsableGrid grid.now }
-    requires fits { HasCeilingBelow T.limit wants.now kerf (across_of grid.now) (down_of grid.now) }
-    ensures len { IfOk result (λ rows. length rows.items ≡ length grid.now.down.items) }
-    ensures rows { IfOk result (λ rows. AreFilledRows wants.now kerf (across_of grid.now)
-        (down_of grid.now) (rows_of T.value rows.items)) }
+    requires fits { HasCeilingBelow T.limit wants.now kerf (down_of grid.now) (across_of grid.now) }
+    ensures len { IfOk result (λ rows. length rows.items ≡ length grid.now.across.items) }
+    ensures rows { IfOk result (λ rows. AreFilledRows wants.now kerf (down_of grid.now)
+        (across_of grid.now) (rows_of T.value rows.items)) }
 {
-    let lists = all_pairs(alloc, &grid.across, grid.most_across)?;
+    let lists = all_pairs(alloc, &grid.down, grid.most_down)?;
     let mut rows: Vec<Vec<T>> = Vec::new(alloc);
-    for class in 0..grid.down.len() {
-        let pairs = covering_pairs(alloc, &grid.down, grid.most_down, class)?;
+    for class in 0..grid.across.len() {
+        let pairs = covering_pairs(alloc, &grid.across, grid.most_across, class)?;
         let row = next_row(alloc, grid, kerf, wants, &rows, &pairs, &lists)?;
         rows.push(row)?;
     }

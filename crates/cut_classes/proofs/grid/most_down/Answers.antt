@@ -1,4 +1,4 @@
-use Rattle.std.proofs.Common.{◌+◌, ◌≤◌, take, arith}
+use Rattle.std.proofs.Common.{◌+◌, arith}
 use Rattle.cut_measure.specs.Measures.{Extent}
 use Rattle.cut_classes.proofs.Sizes.{most_next, most_all}
 use Rattle.cut_classes.proofs.grid.most_down.Goals as goal

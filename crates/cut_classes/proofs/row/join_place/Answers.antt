@@ -1,4 +1,4 @@
-use Rattle.std.proofs.Common.{◌≡◌, map, slice_index, slice_set, refl, arith}
+use Rattle.std.proofs.Common.{refl, arith}
 use Rattle.cut_wants.proofs.NumberRows.{value_at, value_others, value_set}
 use Rattle.cut_classes.proofs.row.join_place.Goals as goal
 

@@ -1,4 +1,4 @@
-use Rattle.std.proofs.Common.{◌≤◌, Bool, false, true, map, sym, arith}
+use Rattle.std.proofs.Common.{Bool, false, true, map, sym, arith}
 use Rattle.cut_wants.specs.declared.wants.Want.{Want}
 use Rattle.cut_wants.proofs.NumberRows.{same_length}
 use Rattle.cut_classes.specs.Grids.{across_of, down_of}
@@ -17,8 +17,8 @@ pub loop-want-preserved : goal.loop-want-preserved
 loop-want-preserved g c =
     let f = g.T.Number.value in
     let x = c.want-item.result in
-    let xs = across_of c.args.grid.now in
-    let ys = down_of c.args.grid.now in
+    let xs = down_of c.args.grid.now in
+    let ys = across_of c.args.grid.now in
     let old = map f c.loop-want.row in
     let mid = map f c.offer_upright.new.row in
     let new = map f c.offer_turned.new.row in
@@ -34,7 +34,7 @@ loop-want-preserved g c =
 pub returns : goal.returns
 returns g c =
     let f = g.T.Number.value in
-    let xs = across_of c.args.grid.now in
-    let ys = down_of c.args.grid.now in
+    let xs = down_of c.args.grid.now in
+    let ys = across_of c.args.grid.now in
     let all = each_all (λ (y : Want). (turned : Bool) → IsOffered xs ys c.args.kerf y turned (map f c.loop-want.row) c.args.class) c.args.wants.now c.loop-want.want-index (omega arith) c.loop-want.invariant.0 in
     record { len = omega (arith, same_length f c.loop-want.row, c.requires.len); offered = λ x turned has. all x has turned; below = c.loop-want.invariant.1 }

@@ -1,4 +1,4 @@
-use Rattle.std.proofs.Common.{◌≡◌, Bool, length, map, take}
+use Rattle.std.proofs.Common.{Bool, map, take}
 use Rattle.std.specs.Prelude.{Contains}
 use Rattle.cut_wants.specs.declared.wants.Want.{Want}
 use Rattle.cut_classes.specs.Grids.{across_of, down_of}
@@ -7,5 +7,5 @@ use Rattle.cut_classes.proofs.row.offer_wants.Given as goal
 
 abbrev pub invariant-loop-want : goal.invariant-loop-want
 invariant-loop-want g l =
-    ((x : Want) → Contains (take l.want-index l.wants) x → (turned : Bool) → IsOffered (across_of l.grid) (down_of l.grid) l.kerf x turned (map g.T.Number.value l.row) l.class)
-    × IsBelowAll l.wants l.kerf (across_of l.grid) (down_of l.grid) (map g.T.Number.value l.row) l.class
+    ((x : Want) → Contains (take l.want-index l.wants) x → (turned : Bool) → IsOffered (down_of l.grid) (across_of l.grid) l.kerf x turned (map g.T.Number.value l.row) l.class)
+    × IsBelowAll l.wants l.kerf (down_of l.grid) (across_of l.grid) (map g.T.Number.value l.row) l.class

@@ -6,7 +6,7 @@ use Rattle.cut_classes.specs.declared.pairs.Pair.{Pair}
 use Rattle.cut_classes.specs.Classes.{count}
 use Rattle.cut_classes.specs.Grids.{across_of, down_of}
 use Rattle.cut_classes.specs.Filling.{rows_of, worth_at}
-use Rattle.cut_classes.proofs.FilledRows.{IsOverPairs, over_sums, stacked_row, sum_below}
+use Rattle.cut_classes.proofs.FilledRows.{over_sums, stacked_row, sum_below}
 use Rattle.cut_classes.proofs.Loops.{each_all, each_next}
 use Rattle.cut_classes.proofs.RaisedRows.{count_rows}
 use Rattle.cut_classes.proofs.row.stack_all.Goals as goal
@@ -25,14 +25,14 @@ stack_pair-requires-clause-fits g c = λ i lt.
     let f = g.T.Number.value in
     let has = Contains-get_or c.args.pairs.now c.loop-pair.pair-index (record { first = 0; second = 0 }) (omega arith) in
     let inside = c.requires.pairs.inside _ has in
-    sum_below g.T.Number.limit c.args.wants.now c.args.kerf (across_of c.args.grid.now) (down_of c.args.grid.now) (rows_of f c.args.rows.now) (length c.args.rows.now) _ _ (count_rows f c.args.rows.now)
+    sum_below g.T.Number.limit c.args.wants.now c.args.kerf (down_of c.args.grid.now) (across_of c.args.grid.now) (rows_of f c.args.rows.now) (length c.args.rows.now) _ _ (count_rows f c.args.rows.now)
     c.requires.fits c.requires.rows c.requires.class inside.0 inside.1 (c.requires.pairs.parts _ has) i (omega (arith, lt, c.loop-pair.invariant.0.len, same_length f c.loop-pair.row))
 
 pub loop-pair-preserved : goal.loop-pair-preserved
 loop-pair-preserved g c =
     let f = g.T.Number.value in
-    let xs = across_of c.args.grid.now in
-    let ys = down_of c.args.grid.now in
+    let xs = down_of c.args.grid.now in
+    let ys = across_of c.args.grid.now in
     let rows = rows_of f c.args.rows.now in
     let none : Pair = record { first = 0; second = 0 } in
     let p = get_or c.args.pairs.now c.loop-pair.pair-index none in
@@ -52,9 +52,9 @@ loop-pair-preserved g c =
 pub returns-clause-sums : goal.returns-clause-sums
 returns-clause-sums g c =
     let f = g.T.Number.value in
-    let xs = across_of c.args.grid.now in
+    let xs = down_of c.args.grid.now in
     let rows = rows_of f c.args.rows.now in
-    over_sums c.args.wants.now c.args.kerf xs (down_of c.args.grid.now) rows (length c.args.rows.now) c.args.pairs.now (map f c.loop-pair.row) (count_rows f c.args.rows.now) c.requires.usable.down
+    over_sums c.args.wants.now c.args.kerf xs (across_of c.args.grid.now) rows (length c.args.rows.now) c.args.pairs.now (map f c.loop-pair.row) (count_rows f c.args.rows.now) c.requires.usable.across
     c.requires.rows c.requires.class c.requires.pairs
     (each_all (λ (q : Pair). (i : ℕ) → i < count xs → worth_at rows i q.first + worth_at rows i q.second ≤ slice_index (map f c.loop-pair.row) i) c.args.pairs.now c.loop-pair.pair-index (omega arith)
     c.loop-pair.invariant.1)

@@ -1,4 +1,4 @@
-use Rattle.std.proofs.Common.{◌≡◌, length, map, arith}
+use Rattle.std.proofs.Common.{◌≡◌, length, arith}
 use Rattle.cut_classes.proofs.RaisedRows.{whole_write}
 use Rattle.cut_classes.proofs.table.next_row.Goals as goal
 
