@@ -9,7 +9,7 @@ use crate::sheets::dive::Dive;
 use crate::sheets::give_up::{GiveUp, Given, cheapened};
 use crate::sheets::greedy::{Greedy, MOST_BATCHES};
 use crate::sheets::hints::{Hints, mixed};
-use crate::sheets::job::sum_of;
+use crate::sheets::job::{Job, sum_of};
 use crate::sheets::program::{MOST_COLUMNS, Program};
 use crate::sheets::rest::Pack;
 use crate::sheets::settle::Settle;
@@ -246,9 +246,22 @@ impl Flow {
         self.stage == Stage::Ended
     }
 
-    /// Whether its plan costs no more than all costs at least, or than another.
+    /// What all costs at least by its room, where it uses one size alone.
+    pub fn least(&self, job: &Job) -> u64 {
+        match self.only {
+            Some(size) => {
+                let cells = job.cells_in(&job.order.left);
+                let units = cells.div_ceil(job.unit_cells(size).max(1));
+                units.saturating_mul(job.cost(size))
+            }
+            None => 0,
+        }
+    }
+
+    /// Whether its plan costs no more than all costs at least.
     fn is_met(&self, worker: &Worker) -> bool {
-        self.best.missing == 0 && self.best.cost <= worker.hints.bound
+        let least = self.least(&worker.job).max(worker.hints.bound);
+        self.best.missing == 0 && self.best.cost <= least
     }
 
     /// Goes on to a stage.

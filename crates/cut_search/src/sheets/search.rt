@@ -110,12 +110,15 @@ impl SheetSearch {
                 if flow.level() <= self.chosen {
                     return Ok(());
                 }
-                costs.push((flow.best.missing, flow.best.cost, place))?;
+                let least = flow.least(&self.worker.job);
+                let is_vain = self.told.missing == 0 && least >= self.told.cost;
+                let mean = flow.best.cost.saturating_add(least);
+                costs.push((is_vain, flow.best.missing, mean, place))?;
             }
         }
         costs.sort()?;
         self.chosen = self.chosen.saturating_add(1);
-        for (_, _, place) in costs.iter().skip(most) {
+        for (_, _, _, place) in costs.iter().skip(most) {
             if let Some(flow) = self.flows.get_mut(*place) {
                 flow.stop();
             }
