@@ -9,7 +9,7 @@ use crate::sheets::dive::Dive;
 use crate::sheets::give_up::{GiveUp, Given, cheapened};
 use crate::sheets::greedy::{Greedy, MOST_BATCHES};
 use crate::sheets::hints::{Hints, mixed};
-use crate::sheets::job::sum_of;
+use crate::sheets::job::{Job, sum_of};
 use crate::sheets::program::{MOST_COLUMNS, Program};
 use crate::sheets::rest::Pack;
 use crate::sheets::settle::Settle;
@@ -143,6 +143,8 @@ pub struct Flow {
     task: Task,
     /// Values that are corrected from round to round.
     values: Vec<u64>,
+    /// What pieces are worth by the prices of its own program, where it looks for no bound.
+    own: Option<Vec<u64>>,
     /// Plans for the programs.
     plans: Vec<Rc<Plan>>,
     program: Option<Program>,
@@ -204,6 +206,7 @@ impl Flow {
             round: 0,
             task: Task::Nothing,
             values: Vec::from_slice(alloc, &worker.hints.cells)?,
+            own: None,
             plans: Vec::new(alloc),
             program: None,
             worths: Vec::new(alloc),
@@ -217,14 +220,48 @@ impl Flow {
         })
     }
 
+    /// How far it is: 0 before its quick plan, 1 before the program of plans, 2 before units are
+    /// given up, 3 then.
+    pub fn level(&self) -> usize {
+        match self.stage {
+            Stage::Quick => 0,
+            Stage::Rounds => 1,
+            Stage::Plans | Stage::Bound | Stage::Priced | Stage::Dive => 2,
+            Stage::Gains | Stage::Fine | Stage::More | Stage::Packs | Stage::Rest | Stage::Ended =>
+                3,
+        }
+    }
+
+    /// What pieces are worth by prices.
+    fn priced(&self, alloc: Global, hints: &Hints) -> Result<Vec<u64>, AllocError> {
+        let priced = match &self.own {
+            Some(own) => Vec::from_slice(alloc, own)?,
+            None => Vec::from_slice(alloc, &hints.priced)?,
+        };
+        Ok(priced)
+    }
+
     /// Whether no more will be found.
     pub fn has_ended(&self) -> bool {
         self.stage == Stage::Ended
     }
 
-    /// Whether its plan costs no more than all costs at least, or than another.
+    /// What all costs at least by its room, where it uses one size alone.
+    pub fn least(&self, job: &Job) -> u64 {
+        match self.only {
+            Some(size) => {
+                let cells = job.cells_in(&job.order.left);
+                let units = cells.div_ceil(job.unit_cells(size).max(1));
+                units.saturating_mul(job.cost(size))
+            }
+            None => 0,
+        }
+    }
+
+    /// Whether its plan costs no more than all costs at least.
     fn is_met(&self, worker: &Worker) -> bool {
-        self.best.missing == 0 && self.best.cost <= worker.hints.bound
+        let least = self.least(&worker.job).max(worker.hints.bound);
+        self.best.missing == 0 && self.best.cost <= least
     }
 
     /// Goes on to a stage.
@@ -314,13 +351,11 @@ impl Flow {
             return Ok(());
         }
         if self.round == 0 {
-            let is_priced = self.stage == Stage::Priced;
-            let values = if is_priced {
-                &worker.hints.priced
+            self.values = if self.stage == Stage::Priced {
+                self.priced(alloc, &worker.hints)?
             } else {
-                &worker.hints.cells
+                Vec::from_slice(alloc, &worker.hints.cells)?
             };
-            self.values = Vec::from_slice(alloc, values)?;
         }
         let one = match self.only {
             Some(size) => worker.job.cost(size),
@@ -480,8 +515,11 @@ impl Flow {
             }
             return Ok(worths);
         }
-        let worths = if is_even { &hints.cells } else { &hints.priced };
-        Vec::from_slice(alloc, worths).map_err(AllocError::from)
+        if is_even {
+            let cells = Vec::from_slice(alloc, &hints.cells)?;
+            return Ok(cells);
+        }
+        self.priced(alloc, hints)
     }
 
     /// Gives units up of a plan.
@@ -735,7 +773,7 @@ impl Flow {
                 &worker.hints.cells,
                 &program.prices,
             )?;
-            self.values = priced;
+            self.own = Some(priced);
         }
         self.plans = Vec::new(alloc);
         for plan in &program.plans {
@@ -906,8 +944,10 @@ impl Flow {
         next: GiveUp,
         pack: Pack,
     ) -> Result<Told, AllocError> {
+        let mut packed = pack;
+        let found = packed.best.take();
         let mut told = Told::Nothing;
-        if let Some(plan) = pack.best {
+        if let Some(plan) = found {
             let mut whole = next.units.copy(alloc)?;
             whole.add(&worker.job, plan, 1)?;
             if self.best.offer_rest(alloc, &worker.job, &whole)? {

@@ -17,8 +17,9 @@ const SEED: u64 = 88_172_645_463_325_252;
 /// So many steps a call makes at most, however little work each is.
 const STEPS: u32 = 2000;
 
-/// So many of the sizes that may be bought are searched on alone, beside the mix.
-const MOST_ALONE: usize = 2;
+/// So many of the sizes that may be bought are searched on alone, beside the mix: once each has its
+/// quick plan, its first plans, and a plan by prices.
+const MOST_ALONE: [usize; 3] = [6, 3, 2];
 
 /// A search.
 #[derive(Drop)]
@@ -28,8 +29,8 @@ pub struct SheetSearch {
     flows: Vec<Flow>,
     /// Whose turn it is.
     turn: usize,
-    /// Whether the courses that promise nothing were left.
-    is_chosen: bool,
+    /// How often the courses that promise least were left.
+    chosen: usize,
     /// What was told: pieces that are left out, cost, rest.
     told: Best,
 }
@@ -96,23 +97,28 @@ impl SheetSearch {
             worker,
             flows,
             turn: 0,
-            is_chosen: false,
+            chosen: 0,
             told: Best::new(),
         })
     }
 
-    /// Leaves the courses that promise least, once each has its first plan.
-    fn choose(&mut self, alloc: Global) -> Result<(), AllocError> {
+    /// Leaves the courses that promise least, once all are as far as that takes.
+    fn choose(&mut self, alloc: Global, most: usize) -> Result<(), AllocError> {
         let mut costs = Vec::new(alloc);
         for (place, flow) in self.flows.iter().enumerate().skip(1) {
-            if flow.best.missing == u64::MAX {
-                return Ok(());
+            if !flow.has_ended() {
+                if flow.level() <= self.chosen {
+                    return Ok(());
+                }
+                let least = flow.least(&self.worker.job);
+                let is_vain = self.told.missing == 0 && least >= self.told.cost;
+                let mean = flow.best.cost.saturating_add(least);
+                costs.push((is_vain, flow.best.missing, mean, place))?;
             }
-            costs.push((flow.best.missing, flow.best.cost, place))?;
         }
         costs.sort()?;
-        self.is_chosen = true;
-        for (_, _, place) in costs.iter().skip(MOST_ALONE) {
+        self.chosen = self.chosen.saturating_add(1);
+        for (_, _, _, place) in costs.iter().skip(most) {
             if let Some(flow) = self.flows.get_mut(*place) {
                 flow.stop();
             }
@@ -120,14 +126,15 @@ impl SheetSearch {
         Ok(())
     }
 
-    /// The course whose turn it is: the mix has every other one.
+    /// The course whose turn it is: the mix has every other one, and every fourth as long as courses
+    /// are still to be left.
     fn next_flow(&mut self) -> usize {
         self.turn = self.turn.saturating_add(1) & 0xffff;
         let count = self.flows.len();
-        let first = if self.turn & 1 == 0 {
-            0
-        } else {
-            (self.turn / 2).checked_rem(count).unwrap_or(0)
+        let share = if self.chosen < 2 { 4 } else { 2 };
+        let first = match self.turn.checked_rem(share) {
+            Some(0) => 0,
+            _ => (self.turn / 2).checked_rem(count).unwrap_or(0),
         };
         for more in 0..count {
             let place = first.saturating_add(more).checked_rem(count).unwrap_or(0);
@@ -196,8 +203,8 @@ impl SheetSearch {
 
     /// Goes on with the course whose turn it is.
     fn step(&mut self, alloc: Global, goal: u64) -> Result<Option<Found>, AllocError> {
-        if !self.is_chosen {
-            self.choose(alloc)?;
+        if let Some(most) = MOST_ALONE.get(self.chosen) {
+            self.choose(alloc, *most)?;
         }
         let place = self.next_flow();
         let Some(flow) = self.flows.get_mut(place) else {
