@@ -147,17 +147,19 @@ def read_answer(text):
     return Answer(int(units), int(bound), proved == "yes", int(missing), plans)
 
 
-def checked(problem, kerf, text):
+def checked(problem, kerf, text, stages=None):
     """The answer that a text has, of which everything holds that may be asked of it whatever was found: legal plans, each
     with a piece; of each kind no more pieces than are wanted, and with those missing all; a piece is missing only where it
     doesn't fit the unit, or all units of an answer are used; no fewer units than the bound; proved exactly where nothing is
-    missing and both are equal."""
+    missing and both are equal; and no plan with more stages than the limit, if there is one."""
     answer = read_answer(text)
     counts, units = Counter(), 0
     for times, tree in answer.plans:
         pieces = cut_from(problem.w, problem.h, kerf, problem.demands(), tree)
         if not pieces:
             wrong(f"a plan without a piece: {tree}")
+        if stages and stages_of(problem.w, problem.h, kerf, tree) > stages:
+            wrong(f"more than {stages} stages: {tree}")
         units += times
         for kind, count in pieces.items():
             counts[kind] += times * count
