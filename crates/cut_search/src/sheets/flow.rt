@@ -499,11 +499,11 @@ impl Flow {
 
     /// What pieces count in an attempt.
     fn attempt_worths(&self, alloc: Global, hints: &Hints) -> Result<Vec<u64>, AllocError> {
-        let is_even = self.attempts & 1 == 0;
+        if self.attempts & 1 == 0 {
+            let cells = Vec::from_slice(alloc, &hints.cells)?;
+            return Ok(cells);
+        }
         if self.best.missing > 0 && self.best.missing < u64::MAX {
-            if is_even {
-                return Vec::from_slice(alloc, &hints.cells).map_err(AllocError::from);
-            }
             // as many pieces as can be: each counts the same, and a little its room
             let mut most = 1u64;
             for cells in &hints.cells {
@@ -514,10 +514,6 @@ impl Flow {
                 worths.push(most.saturating_add(*cells / 8))?;
             }
             return Ok(worths);
-        }
-        if is_even {
-            let cells = Vec::from_slice(alloc, &hints.cells)?;
-            return Ok(cells);
         }
         self.priced(alloc, hints)
     }
