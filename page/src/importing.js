@@ -111,8 +111,8 @@ function drawCsvFile(file) {
   const names = FIELDS.map(name => SIDES.includes(name) ? `${fieldWords(name)} mm` : fieldWords(name));
   const head = [tr`line of\u00a0the\u00a0file`, ...names];
   return [
-    el("p", file.fault ? {class: "fault", text: file.fault} : {text: readWords(file)}), csvColumns(file), unitQuestion(file),
-    csvQuestion(file), materialQuestion(file), roundQuestion(file), ...leftRows(file),
+    el("p", file.fault ? {class: "fault", text: file.fault} : {text: readWords(file)}), materialQuestion(file), unitQuestion(file),
+    csvQuestion(file), roundQuestion(file), csvColumns(file), ...leftRows(file),
     file.bad.length ? el("p", {class: "fault", text: badWords(file)}) : "",
     el("div", {class: "scroll", tabindex: "0", role: "region", "aria-label": tr`Rows of the file`},
       el("table", {}, el("thead", {}, el("tr", {}, ...head.map(text => el("th", {text})))),

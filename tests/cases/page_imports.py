@@ -163,7 +163,6 @@ def two_sides(trial):
     "their numbers is told. One that is refused is told by its name, and the file comes back.",
 )
 def three_hundred(trial):
-    orders = "[...document.querySelectorAll('#orderList .ordered h3')].map(e => e.firstChild.textContent)"
     with Terminal(trial, open_shop(trial)) as it:
         it.begin(7)
         it.until("shop.materials.length")
@@ -178,7 +177,7 @@ def three_hundred(trial):
         trial.holds(it.clicks - before <= 3, f"{it.clicks - before} clicks")
         wanted = [[it, "STEEL", 6005 + 10 * it, 1, it % 9 + 1] for it in range(1, 301)]
         trial.equal((ordered(it, "HUBER-1"), ordered(it, "HUBER-2")), (wanted[:200], wanted[200:]))
-        it.until(f"{orders}.includes('HUBER-2') && !{by_id('csvPreview')}.firstChild && !{by_id('fileCode')}.value")
+        it.until(f"!{by_id('csvPreview')}.firstChild && !{by_id('fileCode')}.value && {CODES}.length === 0")
         it.order_file("A-CODE-OF-15-LE", "more.csv", sheets.BARS_300.encode("cp1252"))
         it.click(by_id("sendCsv"))
         it.until(f"{by_id('fileCode')}.getAttribute('aria-invalid')")
@@ -189,7 +188,7 @@ def three_hundred(trial):
         it.click(by_id("sendCsv"))
         it.says("Refused: Order K-1 from a file: 1 of 2 done; 1 refused (K-1-2): an order with this code is there already")
         it.until(f"{SHOWN}.length === 300 && {by_id('fileCode')}.value === 'K-1'")
-        trial.equal(it.ask("/terminal/7")["last"], 4)
+        trial.equal(it.ask("/terminal/7")["last"], 3)
         is_quiet(it)
 
 
@@ -372,7 +371,7 @@ def bad_files(trial):
         trial.equal([row[0] for row in it.value(SHOWN)[1::2]], wanted)
         trial.equal(it.value("document.querySelectorAll('#csvPreview img').length"), 0)
         trial.equal(it.value(f"{cell(2, 'length')}.value"), sheets.MARKUP)
-        it.at_widths("orders-bad")
+        it.at_widths("orders-bad-cells")
         picked(it, "markup.csv", f"{sheets.MARKUP}\nLänge;Stück;Material\n600;1;{sheets.MARKUP}\n")
         it.until(f"{LEFT}.length === 1")
         trial.equal(it.value(LEFT), [f"line 1, title: “{sheets.MARKUP}”"])
