@@ -160,7 +160,7 @@ def two_sides(trial):
 @case(
     "a file of 300 lines at the page",
     "It becomes two orders of 200 and 100 lines, in the file's order, in three clicks from another view; a code that leaves no room for "
-    "their numbers is told. One that is refused is told by its name, and the file comes back.",
+    "their numbers is told. One that is refused is told by its name, and its lines come back.",
 )
 def three_hundred(trial):
     with Terminal(trial, open_shop(trial)) as it:
@@ -187,7 +187,8 @@ def three_hundred(trial):
         exchange(it.shop, "/message", {"do": "import", "form": "csv", "number": 1, "order": "K-1-2", "terminal": 8, "text": sheets.HEADER + "1,STEEL,9,0.1,no,1,1\n"})
         it.click(by_id("sendCsv"))
         it.says("Refused: Order K-1 from a file: 1 of 2 done; 1 refused (K-1-2): an order with this code is there already")
-        it.until(f"{SHOWN}.length === 300 && {by_id('fileCode')}.value === 'K-1'")
+        it.until(f"{SHOWN}.length === 100 && {by_id('fileCode')}.value === 'K-1'")
+        trial.equal(it.value(f"{SHOWN}[0]")[:2], ["202", "201"])
         trial.equal(it.ask("/terminal/7")["last"], 3)
         is_quiet(it)
 
