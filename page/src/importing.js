@@ -107,7 +107,12 @@ function showCsvFile() {
   showCodes();
 }
 
+// So many rows of a file are drawn, and of those behind so many bad ones.
+const MAX_DRAWN = 400, MAX_BAD_DRAWN = 50;
+
 function drawCsvFile(file) {
+  const {rows, bad} = file, behind = new Set(rows.slice(MAX_DRAWN));
+  const shown = [...rows.slice(0, MAX_DRAWN), ...bad.filter(row => behind.has(row)).slice(0, MAX_BAD_DRAWN)];
   const lines = count(file.rows.length, "line"), orders = file.texts.length;
   const names = FIELDS.map(name => SIDES.includes(name) ? `${fieldWords(name)} mm` : fieldWords(name));
   const head = [tr`line of\u00a0the\u00a0file`, ...names];
@@ -117,7 +122,8 @@ function drawCsvFile(file) {
     file.bad.length ? el("p", {class: "fault", text: badWords(file)}) : "",
     el("div", {class: "scroll", tabindex: "0", role: "region", "aria-label": tr`Rows of the file`},
       el("table", {}, el("thead", {}, el("tr", {}, ...head.map(text => el("th", {text})))),
-        el("tbody", {}, ...file.rows.flatMap(csvRows)))),
+        el("tbody", {}, ...shown.flatMap(csvRows)))),
+    rows.length > shown.length ? quiet(tr`and ${rows.length - shown.length} more`) : "",
     el("div", {class: "buttons"}, el("button", {
       class: "act",
       id: "sendCsv",

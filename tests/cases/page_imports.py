@@ -379,6 +379,12 @@ def bad_files(trial):
         trial.equal(it.value("document.querySelectorAll('#csvPreview img').length"), 0)
         trial.equal(it.value(f"{cell(2, 'length')}.value"), sheets.MARKUP)
         it.at_widths("orders-bad-cells")
+        # (of many rows the first 400 are drawn, and bad ones behind them)
+        many = ["Länge;Stück;Material", *(f"{600 + it};1;STEEL" for it in range(600))]
+        many[500] = "x;1;STEEL"
+        picked(it, "many.csv", "\n".join(many))
+        it.until(f"{SHOWN}.length === 402 && {cell(501, 'length')}")
+        trial.holds("and 199 more" in it.text("csvPreview"), "it isn't told how many more there are")
         picked(it, "markup.csv", f"{sheets.MARKUP}\nLänge;Stück;Material\n600;1;{sheets.MARKUP}\n")
         it.until(f"{LEFT}.length === 1")
         trial.equal(it.value(LEFT), [f"line 1, title: “{sheets.MARKUP}”"])
