@@ -42,7 +42,7 @@ function readDemand(number) {
 function isOldImport({order}, {first}) { return imports.before.has(order) && first <= imports.before.get(order); }
 
 // The picked file as it was read, its text, and what was chosen for it; orders: how many it becomes; named: the code that its
-// name gave; drawn: how often it was drawn; timer: until it is asked which orders are there.
+// name gave; drawn: how often it was drawn; asked: how often it was asked which orders are there, behind a pause of the timer.
 const csv = {
   text: "",
   chosen: {},
@@ -50,6 +50,7 @@ const csv = {
   orders: 1,
   named: "",
   drawn: 0,
+  asked: 0,
   timer: 0
 };
 
@@ -106,17 +107,23 @@ function showCsvFile() {
   showCodes();
 }
 
+// So many rows of a file are drawn, and of those behind so many bad ones.
+const MAX_DRAWN = 400, MAX_BAD_DRAWN = 50;
+
 function drawCsvFile(file) {
+  const {rows, bad} = file, behind = new Set(rows.slice(MAX_DRAWN));
+  const shown = [...rows.slice(0, MAX_DRAWN), ...bad.filter(row => behind.has(row)).slice(0, MAX_BAD_DRAWN)];
   const lines = count(file.rows.length, "line"), orders = file.texts.length;
   const names = FIELDS.map(name => SIDES.includes(name) ? `${fieldWords(name)} mm` : fieldWords(name));
   const head = [tr`line of\u00a0the\u00a0file`, ...names];
   return [
-    el("p", file.fault ? {class: "fault", text: file.fault} : {text: readWords(file)}), csvColumns(file), unitQuestion(file),
-    csvQuestion(file), materialQuestion(file), roundQuestion(file), ...leftRows(file),
+    el("p", file.fault ? {class: "fault", text: file.fault} : {text: readWords(file)}), materialQuestion(file), unitQuestion(file),
+    csvQuestion(file), roundQuestion(file), csvColumns(file), ...leftRows(file),
     file.bad.length ? el("p", {class: "fault", text: badWords(file)}) : "",
     el("div", {class: "scroll", tabindex: "0", role: "region", "aria-label": tr`Rows of the file`},
       el("table", {}, el("thead", {}, el("tr", {}, ...head.map(text => el("th", {text})))),
-        el("tbody", {}, ...file.rows.flatMap(csvRows)))),
+        el("tbody", {}, ...shown.flatMap(csvRows)))),
+    rows.length > shown.length ? quiet(tr`and ${rows.length - shown.length} more`) : "",
     el("div", {class: "buttons"}, el("button", {
       class: "act",
       id: "sendCsv",
@@ -239,8 +246,8 @@ function leftRows({left, sums}) {
   const words = row => tr`line ${row.at}, ${why[row.why]}: ${quoted(row.fields.map(field => field.trim()).filter(Boolean).join(" · "))}`;
   const more = left.length - MAX_LEFT, shown = left.slice(0, MAX_LEFT).map(words);
   return [
-    left.length ? el("ul", {id: "csvRowsLeft", class: "quiet"}, tr`Left out of the file:`, ...shown.map(text => el("li", {text})),
-      more > 0 ? el("li", {text: tr`and ${more} more`}) : null) : "",
+    left.length ? el("div", {id: "csvRowsLeft", class: "quiet"}, tr`Left out of the file:`,
+      el("ul", {}, ...shown.map(text => el("li", {text})), more > 0 ? el("li", {text: tr`and ${more} more`}) : null)) : "",
     ...sums.map(({at, said, has}) =>
       el("p", {class: "fault", text: tr`Line ${at} of the file says ${grouped(said)} pieces, and the lines above it have ${grouped(has)}.`}))
   ];
@@ -285,7 +292,7 @@ function csvCell({at, fields, cells, texts, faults}, name, i) {
     "data-key": `csv ${at} ${name}`,
     "aria-label": tr`${fieldWords(name)}, line ${at} of the file`,
     "aria-invalid": String(Boolean(fault)),
-    "aria-describedby": `csv-${at}`,
+    "aria-describedby": fault ? `csv-${at}` : "",
     on: {change: () => mendCell(at, name, field.value)}
   });
   return el("td", {class: fault ? "badfield" : "", text: fault ? "✗ " : isOther ? `${shortened(texts[i])} ← ` : ""}, field);
@@ -298,14 +305,15 @@ function showCodes() {
   const words = isPicked && csv.orders > 1 && code ? [tr`Orders ${codes[0]} to ${codes.at(-1)}, of at most ${MAX_LINES} lines.`] : [];
   fill($("fileCodes"), words, () => words.map(quiet));
   clearTimeout(csv.timer);
-  if (isPicked && !codeFault(codes.at(-1))) csv.timer = setTimeout(() => showThere(code, codes, words), 250);
+  csv.asked++;
+  if (isPicked && !codeFault(codes.at(-1))) csv.timer = setTimeout(() => showThere(codes, words), 250);
 }
 
-async function showThere(code, codes, words) {
-  const there = [];
+async function showThere(codes, words) {
+  const there = [], {asked} = csv;
   for (const order of codes) {
     if (await ask(`/order/${order}`).catch(() => null)) there.push(order);
-    if (readCode("fileCode") !== code) return;
+    if (csv.asked !== asked) return;
   }
   const told = there.length ? tr`There already: ${there.join(", ")}. The same file does nothing again; another one is refused.` : "";
   fill($("fileCodes"), [...words, told], () => [...words.map(quiet), told ? el("p", {class: "fault", text: told}) : ""]);
@@ -335,13 +343,19 @@ function sendImports(code, commands, form) {
   const isEmpty = () => !$("fileCode").value && !$("csvPreview").firstChild && !$("problemPreview").firstChild;
   const refused = givenBack(isEmpty, () => fillFile(...typed)), accepted = ({order}) => imports.before.delete(order);
   for (const {order} of commands) if (!imports.before.has(order)) imports.before.set(order, imports.last ?? 0);
-  const over = told => {
-    if (told.refused.length && isEmpty()) refused();
-  };
+  const over = told => takeBack(told, commands, typed, isEmpty);
   const isSent = commands.length === 1
     ? send(commands[0], what, accepted, refused)
     : sendMany(what, commands.map(command => [command.order, command]), (_, reply) => accepted(reply), over);
   if (isSent) clearFile();
+}
+
+// Of a file that became several orders, the lines of those that were refused come back where the form is empty.
+function takeBack({refused}, commands, [code, form, sheet], isEmpty) {
+  if (!refused.length || !isEmpty()) return;
+  const areDone = commands.map(({order}) => refused.every(([name]) => name !== order));
+  const done = ordersOf(sheet.file.rows).filter((_, i) => areDone[i]).flat().map(({at}) => at);
+  fillFile(code, form, {...sheet, chosen: {...sheet.chosen, without: [...sheet.chosen.without || [], ...done]}});
 }
 
 function clearFile() {

@@ -35,7 +35,8 @@ function readOrderFile(text, chosen = {}) {
   if (wide > MAX_COLUMNS) return {fault: manyColumnsWords(wide), isTooLarge: true};
   if (table.rows.length > MAX_FILE_LINES) return {fault: manyRowsWords(table.rows.length), isTooLarge: true};
   const columns = {...takenFor(columnsOf(heads)), ...chosen.columns}, thousands = chosen.thousands ?? null;
-  const units = Object.fromEntries(SIDES.map(name => [name, heads[columns[name]]?.unit || chosen.unit || ""]));
+  const sided = name => typeof columns[name] === "number" ? name : "length";
+  const units = Object.fromEntries(SIDES.map(name => [name, heads[columns[sided(name)]]?.unit || chosen.unit || ""]));
   const how = {...table, columns, thousands, units, materials: chosen.materials || {}, mended: chosen.mended || {}};
   const {lines, left, sums} = sortRows(how, chosen.without || []);
   const areNumbered = !doRise(lines.map(({cells}) => cells[0]));

@@ -66,9 +66,10 @@ function isHeads(fields) {
   return named.size > 1 && (isSized || (named.has("width") && named.has("height")));
 }
 
-// What parts a text's fields: the mark by which its heads name the most, else the first of MARKS that its first rows have.
-function markOf(text) {
-  const first = [...text.slice(0, 1 << 14).matchAll(/[^\r\n]+/g)].slice(0, MAX_TITLES + 1).join("\n");
+// What parts a text's fields: the mark by which its heads name the most, else the first of MARKS that its first rows have. It is
+// looked for in the first 32 KB.
+function markOf(all) {
+  const text = all.slice(0, 1 << 15), first = [...text.matchAll(/[^\r\n]+/g)].slice(0, MAX_TITLES + 1).join("\n");
   let best = MARKS.find(mark => first.includes(mark)) || ",", most = 1;
   for (const mark of MARKS) {
     const heads = readRecords(text, mark, MAX_TITLES + 1).find(({fields}) => isHeads(fields));

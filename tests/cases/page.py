@@ -117,14 +117,14 @@ def day(trial):
     with Terminal(trial, shop) as it:
         it.begin(7)
         stock(it)
-        it.order_file("a-1", "bad.csv", GERMAN.format(bad="20,55").encode("utf-8-sig"))
+        it.order_file("a-1", "bad.csv", GERMAN.format(bad="20,5x").encode("utf-8-sig"))
         it.until("document.querySelector('#csvPreview .badfield')")
         bad = (
             "[...document.querySelectorAll('#csvPreview .badfield')].map(e => [e.parentNode.rowIndex, e.cellIndex, "
             "e.textContent, e.parentNode.nextSibling.textContent])"
         )
-        wanted = "width “20,55”: write millimetres with at most one decimal, like 1250.5"
-        trial.equal(it.value(bad), [[2, 4, "✗ 20,55", wanted]])
+        wanted = "width “20,5x”: write millimetres with at most one decimal, like 1250.5"
+        trial.equal(it.value(bad), [[2, 4, "✗ ", f"{wanted}Leave out"]])
         trial.holds(it.value(f"{by_id('sendCsv')}.disabled"), "a bad file can be sent")
         order(it)
         sheet = cut_sheet(it)
@@ -207,7 +207,7 @@ def widths(trial):
         it.at_widths("terminal")
         it.begin(7)
         stock(it)
-        it.order_file("a-1", "bad.csv", GERMAN.format(bad="20,55"))
+        it.order_file("a-1", "bad.csv", GERMAN.format(bad="20,5x"))
         it.at_widths("orders-bad")
         order(it)
         it.until(f"{by_id('orderList')}.querySelector('form')")

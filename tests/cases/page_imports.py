@@ -5,8 +5,9 @@ import json
 
 from browser.terminal import Terminal, by_id, exchange, open_shop
 from cases.page import is_german, is_quiet
+from cases.page_plans import is_slow
 from kit import sheets
-from kit.case import case
+from kit.case import Skipped, case
 
 # Of a file's name, its bytes and what was said of it: what is asked first, and then what is ordered.
 IMPORT = """(([name, bytes, said]) => {
@@ -56,12 +57,15 @@ def as_offices(trial):
     with Terminal(trial, open_shop(trial)) as it:
         it.begin(7)
         it.until("shop.materials.length")
-        number = 0
+        number, most_lines = 0, 50 if is_slow(it.shop) else 200
         for sheet in sheets.SHEETS:
             given = [sheet.name, base64.b64encode(sheet.content).decode(), sheet.said]
             wanted = {"asked": sheet.asked, "fault": "", "bad": [], "left": sheet.left, "sums": sheet.sums, "messages": sheet.messages()}
             trial.equal(it.value(f"{IMPORT}({json.dumps(given)})"), wanted, sheet.name)
             for message in sheet.messages():
+                # (a program that was built without proofs takes minutes for 200 lines)
+                if message["text"].count("\n") > most_lines + 1:
+                    continue
                 number += 1
                 reply = exchange(it.shop, "/message", {**message, "number": number, "terminal": 8})
                 trial.equal(reply.get("ok"), "import", f"{sheet.name}: {reply}")
@@ -160,11 +164,12 @@ def two_sides(trial):
 @case(
     "a file of 300 lines at the page",
     "It becomes two orders of 200 and 100 lines, in the file's order, in three clicks from another view; a code that leaves no room for "
-    "their numbers is told. One that is refused is told by its name, and the file comes back.",
+    "their numbers is told. One that is refused is told by its name, and its lines come back.",
 )
 def three_hundred(trial):
-    orders = "[...document.querySelectorAll('#orderList .ordered h3')].map(e => e.firstChild.textContent)"
     with Terminal(trial, open_shop(trial)) as it:
+        if is_slow(it.shop):
+            raise Skipped("the program is built without a proof, and too slow for orders of 200 lines")
         it.begin(7)
         it.until("shop.materials.length")
         before = it.clicks
@@ -178,7 +183,7 @@ def three_hundred(trial):
         trial.holds(it.clicks - before <= 3, f"{it.clicks - before} clicks")
         wanted = [[it, "STEEL", 6005 + 10 * it, 1, it % 9 + 1] for it in range(1, 301)]
         trial.equal((ordered(it, "HUBER-1"), ordered(it, "HUBER-2")), (wanted[:200], wanted[200:]))
-        it.until(f"{orders}.includes('HUBER-2') && !{by_id('csvPreview')}.firstChild && !{by_id('fileCode')}.value")
+        it.until(f"!{by_id('csvPreview')}.firstChild && !{by_id('fileCode')}.value && {CODES}.length === 0")
         it.order_file("A-CODE-OF-15-LE", "more.csv", sheets.BARS_300.encode("cp1252"))
         it.click(by_id("sendCsv"))
         it.until(f"{by_id('fileCode')}.getAttribute('aria-invalid')")
@@ -188,8 +193,9 @@ def three_hundred(trial):
         exchange(it.shop, "/message", {"do": "import", "form": "csv", "number": 1, "order": "K-1-2", "terminal": 8, "text": sheets.HEADER + "1,STEEL,9,0.1,no,1,1\n"})
         it.click(by_id("sendCsv"))
         it.says("Refused: Order K-1 from a file: 1 of 2 done; 1 refused (K-1-2): an order with this code is there already")
-        it.until(f"{SHOWN}.length === 300 && {by_id('fileCode')}.value === 'K-1'")
-        trial.equal(it.ask("/terminal/7")["last"], 4)
+        it.until(f"{SHOWN}.length === 100 && {by_id('fileCode')}.value === 'K-1'")
+        trial.equal(it.value(f"{SHOWN}[0]")[:2], ["202", "201"])
+        trial.equal(it.ask("/terminal/7")["last"], 3)
         is_quiet(it)
 
 
@@ -372,7 +378,13 @@ def bad_files(trial):
         trial.equal([row[0] for row in it.value(SHOWN)[1::2]], wanted)
         trial.equal(it.value("document.querySelectorAll('#csvPreview img').length"), 0)
         trial.equal(it.value(f"{cell(2, 'length')}.value"), sheets.MARKUP)
-        it.at_widths("orders-bad")
+        it.at_widths("orders-bad-cells")
+        # (of many rows the first 400 are drawn, and bad ones behind them)
+        many = ["Länge;Stück;Material", *(f"{600 + it};1;STEEL" for it in range(600))]
+        many[500] = "x;1;STEEL"
+        picked(it, "many.csv", "\n".join(many))
+        it.until(f"{SHOWN}.length === 402 && {cell(501, 'length')}")
+        trial.holds("and 199 more" in it.text("csvPreview"), "it isn't told how many more there are")
         picked(it, "markup.csv", f"{sheets.MARKUP}\nLänge;Stück;Material\n600;1;{sheets.MARKUP}\n")
         it.until(f"{LEFT}.length === 1")
         trial.equal(it.value(LEFT), [f"line 1, title: “{sheets.MARKUP}”"])

@@ -35,6 +35,7 @@ TURNED = (
     (HEADER.title() + GOOD, GOOD),
     (HEADER + "1,GLASS,400.5,300.0,no,3,\n", "1,GLASS,400.5,300.0,no,3,120150\n"),
     (HEADER + "1,STEEL,1200.5,,no,3,\n", "1,STEEL,1200.5,0.1,no,3,1201\n"),
+    (HEADER + '""\n' + GOOD + "1,GLASS,1,1,no,1,1\n", "1,GLASS,400.5,300.0,no,3,12015\n2,GLASS,1,1,no,1,1\n"),
     ("sep=,\r\n" + HEADER + GOOD, GOOD),
     ("sep=;\r\n" + (HEADER + GOOD).replace(",", ";"), GOOD),
     (HEADER.replace(",", ";").strip() + ";;\r\n1;GLASS;400,5;300,0;nein;3;12015;;\r\n;;;;;;\r\n", GOOD),
@@ -44,9 +45,6 @@ MILLIMETRES = "write millimetres with at most one decimal, like 1250.5"
 WIDE = "the row has 8 fields and the first row 7: write a {} between each two"
 # (text, line of the file and fault)
 BAD = (
-    (HEADER + '""\n' + GOOD + "1,GLASS,1,1,no,1,1\n", ["4: line 1: line numbers have to rise"]),
-    (HEADER + '1,GLASS,"1,200",1,no,1,1\n', ["2: length “1,200”: say above what it is"]),
-    (HEADER + "1,GLASS,1.25,1,no,1,1\n", [f"2: length “1.25”: {MILLIMETRES}"]),
     (HEADER + "\n1,GLASS,1,1,no,1,1,soon\n", [f"3: {WIDE.format('comma')}, and a point before a tenth"]),
     (HEADER.replace(",", ";") + "1;GLASS;1;1;no;1;1;soon\n", [f"2: {WIDE.format('semicolon')}"]),
     (
@@ -63,14 +61,22 @@ BAD = (
         [
             "2: width 2.0 mm: a bar's is 0.1 mm",
             "2: turn yes: a bar can't turn, write no",
-            "4: line is empty: write a whole number from 1 to 4\u202f294\u202f967\u202f295",
-            "4: material “WOOD”: no such material",
             f"4: length is empty: {MILLIMETRES}",
         ],
     ),
 )
+# (text, what is asked)
+ASKED = (
+    (HEADER + '1,GLASS,"1,200",1,no,1,1\n', "Say what “1,200” is."),
+    (HEADER + "1,GLASS,1.25,1,no,1,1\n", "Say that lengths are rounded to tenths of a millimetre."),
+    (HEADER + "1,WOOD,1,1,no,1,1\n", "Say which materials these are."),
+    ("length,width\n600,400\n", "No column's head says which is the material: choose it."),
+)
+# What is read of a text, all of GLASS where it names no material.
 READ = (
-    "(text => { const file = readOrderFile(text); return { fault: file.fault, text: file.text, bad: file.bad.flatMap(row => "
+    "(text => { const first = readOrderFile(text), glass = { columns: { material: 'GLASS' } }; "
+    "const file = first.columns?.material === null ? readOrderFile(text, glass) : first; "
+    "return { fault: file.fault, text: file.texts?.join(''), bad: file.bad.flatMap(row => "
     "Object.entries(row.faults).map(([name, words]) => `${row.at}: ${name} ${words}`)) }; })"
 )
 
@@ -107,6 +113,8 @@ def letter(trial):
             trial.equal(it.value(f"{READ}({json.dumps(text)})"), {"fault": "", "text": HEADER + sent, "bad": []}, text)
         for text, bad in BAD:
             trial.equal(it.value(f"{READ}({json.dumps(text)})")["bad"], bad)
+        for text, asked in ASKED:
+            trial.equal(it.value(f"readOrderFile({json.dumps(text)}).fault"), asked)
         long = "\n" * 65440 + HEADER + GOOD
         trial.equal(it.value(f"{READ}({json.dumps(long)})"), {"fault": "", "text": HEADER + GOOD, "bad": []})
         texts = [*WHOLE, *(text for text, _ in TURNED), *mutants(HEADER + GOOD + "2,STEEL,7,0.1,no,1,1\n", 150)]
@@ -211,7 +219,7 @@ def twice(trial):
     with Terminal(trial, open_shop(trial)) as it:
         it.begin(7)
         it.order_file("a-1", "bad.csv", text.format("x"))
-        bad = "Line 6 of the file can't be ordered. Mend the file and pick it again."
+        bad = "Line 6 of the file can't be ordered: mend what is marked, or leave it out."
         it.until(f"{by_id('csvPreview')}.textContent.includes({json.dumps(bad)})")
         done = "was ordered already, pieces wanted from no. 1 on: nothing was done"
         for said in ("A-1 from a file: 2 lines ordered, pieces wanted from no. 1 on", done):
@@ -536,7 +544,7 @@ BY_HEADS = (
 def by_heads(trial):
     shown = "[...document.querySelectorAll('#csvPreview tbody tr')].map(row => [...row.cells].map(cell => cell.textContent))"
     column = "document.querySelector('#csvPreview [data-column={}]')"
-    chosen = "[...document.querySelectorAll('#csvPreview select')].map(e => e.selectedOptions[0].textContent)"
+    chosen = "[...document.querySelectorAll('#csvColumns select')].map(e => e.selectedOptions[0].textContent)"
     with Terminal(trial, open_shop(trial)) as it:
         it.begin(7)
         it.until("shop.materials.length")
@@ -551,7 +559,7 @@ def by_heads(trial):
             it.value(chosen),
             [
                 "none: 1, 2, 3, ..",
-                "none: all is GLASS",
+                "choose…",
                 "“Länge”, column 2",
                 "“Breite”, column 3",
                 "none: no",
@@ -561,6 +569,8 @@ def by_heads(trial):
         )
         left = "Left out: “Kunde”, column 1; “Stück je Kiste”, column 5; “Bemerkung”, column 6."
         trial.equal(it.text("csvLeftOut"), left)
+        it.choose(column.format("material"), "GLASS")
+        it.until("document.querySelector('#csvPreview .fault').textContent === 'Say what “1.200” is.'")
         trial.holds(it.value(f"{by_id('sendCsv')}.disabled"), "a length that is unclear can be sent")
         trial.equal(it.value("document.querySelector('#csvQuestion legend').textContent"), "Line 2 of the file has “1.200”: it is")
         it.at_widths("orders-columns")
@@ -614,8 +624,7 @@ IN_UNITS = (
 @case(
     "units and money in a spreadsheet's heads at the page",
     "Lengths are taken in the unit that their head or cell names, cm, m or mm, to the last digit; where none is named and none is 100 "
-    "or more it is asked once. A head with money in it is no count and no worth. `3,0` and `8 Stk` are counts; what is finer than a "
-    "tenth of a millimetre is told.",
+    "or more it is asked once. A head with money in it is no count and no worth. `3,0` and `8 Stk` are counts.",
 )
 def in_units(trial):
     shown = "[...document.querySelectorAll('#csvPreview tbody tr')].map(row => [...row.cells].map(cell => cell.textContent))"
@@ -626,9 +635,8 @@ def in_units(trial):
         for text, sent in IN_UNITS:
             trial.equal(it.value(f"{READ}({json.dumps(text)})"), {"fault": "", "text": HEADER + sent, "bad": []}, text)
         bad = it.value(f"{READ}({json.dumps('Länge (cm);Breite (cm);Stück' + chr(10) + '79,755;59,7;1.000' + chr(10))})")["bad"]
-        wanted = "count “1.000”: write a whole number from 1 to 1\u202f000\u202f000"
-        trial.equal(bad, [f"2: length “797.55”: {MILLIMETRES}", f"2: {wanted}"])
-        text = "Länge;Breite;Stück;Preis/Stück\n79,7;59,7;2;12,50\n99,9;8;1;9\n"
+        trial.equal(bad, ["2: count “1.000”: write a whole number from 1 to 1\u202f000\u202f000"])
+        text = "Länge;Breite;Stück;Preis/Stück;Material\n79,7;59,7;2;12,50;GLASS\n99,9;8;1;9;GLASS\n"
         it.order_file("a-1", "cm.csv", text)
         trial.equal(it.value("document.querySelector('#csvPreview .fault').textContent"), "Say in which unit the lengths are.")
         trial.holds(it.value(f"{by_id('sendCsv')}.disabled"), "lengths without a unit can be ordered")
@@ -644,8 +652,9 @@ def in_units(trial):
         rows = [[row[key] for key in ("w", "h", "wanted")] for row in it.ask("/demands/0")["demands"]]
         trial.equal(rows, [[7970, 5970, 2], [9990, 800, 1]])
         # (no unit is asked for where one length is 100 or more, nor of the shop's own form)
-        for text in ("Länge;Breite\n100;60\n5;6\n", "Länge;Breite\n1.200;60\n", HEADER + "1,GLASS,3.0,4.0,no,1,1\n", "Länge (cm);Werkstoff;Breite\n5;STEEL;0,1\n"):
-            trial.equal(it.value(f"readOrderFile({json.dumps(text)}).fault"), "", text)
+        for text in ("Länge;Breite\n100;60\n5;6\n", HEADER + "1,GLASS,3.0,4.0,no,1,1\n", "Länge (cm);Werkstoff;Breite\n5;STEEL;0,1\n"):
+            trial.equal(it.value(f"{READ}({json.dumps(text)})")["fault"], "", text)
+        trial.equal(it.value(f"{READ}('Länge;Breite\\n1.200;60\\n')")["fault"], "Say what “1.200” is.")
         is_quiet(it)
 
 
@@ -673,7 +682,7 @@ def no_orders(trial):
         for name, content, words in (
             ("long.csv", "Länge;Breite\n" + "600;400\n" * 40000, long),
             ("wide.csv", "a;" * 65 + "\n" + "1;" * 65 + "\n", wide.replace("400\u202f000", "65")),
-            ("rows.csv", "Länge;Breite\n" + "600;400\n" * 30000, "The file has 30000 rows; an order has at most 200."),
+            ("rows.csv", "Länge;Breite\n" + "600;400\n" * 30000, "The file has 30\u202f000 rows; at most 2\u202f000 are ordered at once."),
         ):
             it.value("(window.reads = 0, window.read = Blob.prototype.arrayBuffer, Blob.prototype.arrayBuffer = function () { reads++; return read.call(this); }, 0)")
             it.pick(by_id("csvFile"), trial.write(name, content))
@@ -953,7 +962,7 @@ def lines_by_hand(trial):
 
 @case(
     "limits of files at the page",
-    "200 rows are shown, all of them, and can be ordered, 201 can't; a file in UTF-16 is read; what stands in a file is text and no "
+    "200 rows are shown, all of them, and are one order, 201 are two; a file in UTF-16 is read; what stands in a file is text and no "
     "markup. Of a problem file its unit and pieces are shown, at most 200 are taken, and 65536 bytes.",
 )
 def files_at_limits(trial):
@@ -963,14 +972,12 @@ def files_at_limits(trial):
         it.begin(7)
         it.until("shop.materials.length")
         it.order_file("a-1", "many.csv", rows(201))
-        fault = "document.querySelector('#csvPreview .fault').textContent"
-        trial.equal(it.value(fault), "The file has 201 rows; an order has at most 200.")
-        trial.equal(it.value(f"{by_id('sendCsv')}.disabled"), True)
+        trial.equal((it.text("sendCsv"), it.value(f"{by_id('sendCsv')}.disabled")), ("Order 201 lines as 2 orders", False))
         it.order_file("a-1", "most.csv", rows(200))
-        it.until(f"!{by_id('sendCsv')}.disabled")
+        it.until(f"{by_id('sendCsv')}.textContent === 'Order 200 lines'")
         trial.equal(it.value(f"({shown}).map(row => row[1])"), [str(line) for line in range(1, 201)])
         head = "<img src=x>"
-        text = f"w;Länge;drehbar;Stück;{head}\r\n300;400,5;x;2;<b>1</b>\r\n"
+        text = f"w;Länge;drehbar;Stück;{head};Sorte\r\n300;400,5;x;2;<b>1</b>;GLASS\r\n"
         it.order_file("a-2", "utf16.csv", text.encode("utf-16"))
         it.until(f"{shown}.length === 1")
         trial.equal(it.value(shown), [["2", "1", "GLASS", "400.5← 400,5", "300", "yes← x", "2", "120150"]])
