@@ -46,8 +46,8 @@ def bar(length, *kinds):
 
 
 def sheet(w, h, *kinds):
-    """A problem of sheets: of each kind its width, its height and its number; a piece is worth its cells."""
-    return Problem(w, h, [(*it, it[0] * it[1]) for it in kinds])
+    """A problem of sheets: of each kind its width, its height and its number; a piece is worth its cells, where that is a worth."""
+    return Problem(w, h, [(*it, min(it[0] * it[1], 10**9)) for it in kinds])
 
 
 @case(
