@@ -90,12 +90,14 @@ function chooseMeaning(key, code) {
   chooseForCsv({materials: {...csv.chosen.materials, [key]: code}});
 }
 
-// A cell is mended. (Drawn once the focus is where it goes.)
+// A cell is mended. (Drawn once the focus is where it goes, unless the file was sent by then.)
 function mendCell(at, name, text) {
   const {mended = {}} = csv.chosen;
   csv.chosen.mended = {...mended, [at]: {...mended[at], [name]: text}};
-  csv.file = readOrderFile(csv.text, csv.chosen);
-  setTimeout(showCsvFile);
+  const file = csv.file = readOrderFile(csv.text, csv.chosen);
+  setTimeout(() => {
+    if (csv.file === file) showCsvFile();
+  });
 }
 
 function showCsvFile() {
