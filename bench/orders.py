@@ -1,37 +1,38 @@
 #!/usr/bin/env python3
 """Plans whole orders, class by class, and tells how many units they take over the bound.
 
-    bench/orders.py [CLASS ..] [--count N] [--seed N] [--program PATH] [--calls N] [--runs N] [--keep FOLDER] [--list]
+    bench/orders.py [CLASS ..] [--count N] [--seed N] [--program PATH] [--calls N] [--stages S] [--runs N]
+                    [--keep FOLDER] [--list]
 
-Each class makes its orders from seeds, as problem files. `cutshop plan FILE --whole` plans each of them, some runs an order,
-of which the least time counts; bars get 500 calls, sheets 800. Each output is checked by itself (`tests/kit/plans.py`): legal
-plans, pieces planned and missing that add up, at most 255 cuts, lines in their order, `proved yes` exactly where nothing is
-missing and as many units are planned as the bound says. Where a check fails or the program ends with another status than 0
-that is printed, and the status is 1.
+Each class makes its orders from seeds, as problem files. `cutshop plan FILE --whole` plans each of them with 500 calls, some
+runs an order, of which the least time counts. Each output is checked by itself (`tests/kit/plans.py`): legal plans, pieces
+planned and missing that add up, at most 255 cuts, lines in their order, `proved yes` exactly where nothing is missing and as
+many units are planned as the bound says. Where a check fails or the program ends with another status than 0 that is printed,
+and the status is 1.
 
 Printed: for each class its orders, kinds and pieces on the average, units, bound, the share over the bound, how many are
 proved best, milliseconds on the average and at most, and the most memory of a run. Where a trial of the search in plain Rust
 had the same orders, its units over the bound and what it proved best stand beside them.
 
---count and --seed say which orders: those of the seed from the first on. Two classes at the planners' limits, whose time and
-memory are of interest, are run where they are named. --keep leaves the problem files in a folder, named
-by class, seed and number. --list tells the classes.
+--count and --seed say which orders: those of the seed from the first on. --stages limits the stages of each plan. Two classes
+at the planners' limits, whose time and memory are of interest, are run where they are named. --keep leaves the problem files in
+a folder, named by class, seed and number. --list tells the classes.
 
 The orders of a class that has several sizes and remnants, or pieces that may turn, can't be said in a problem file, which has
 one size and turns nothing. `cutshop replay` gets them as a shop's messages and a question `plans`, all that has no end as sizes
 to buy, a remnant at the cost of its cells; the time is that of the question. Each answer is checked (`tests/kit/questions.py`),
-and what stands for units is the cost: in units, where there is one size, else in metres of bar. Orders that the stock can't
-make are told and not counted. With --keep they are left as the lines that are sent.
+and what stands for units is the cost: in units, where there is one size, else in metres of bar or square metres. Orders that
+the stock can't make are told and not counted. With --keep they are left as the lines that are sent.
 """
 
 import argparse
-import math
 import os
 import subprocess
 import sys
 import tempfile
 import time
-from dataclasses import dataclass
+from collections import Counter
+from dataclasses import dataclass, field
 
 HERE = os.path.dirname(os.path.abspath(__file__))
 PROGRAM = os.path.join(HERE, "..", "crates", "cutshop", "out", "cutshop")
@@ -70,12 +71,12 @@ class Dice:
 @dataclass
 class Order:
     """An order: sizes as (width, height, number), None for as many as are wanted; wants as (width, height, count, whether it
-    may turn); the kerf; and the step, None for the least."""
+    may turn); the kerf; and remnants as (width, height, number)."""
 
     sizes: list
     wants: list
     kerf: int
-    step: int = None
+    rests: list = field(default_factory=list)
 
     def problem(self):
         """The order as a problem, each piece worth its cells."""
@@ -89,16 +90,21 @@ class Order:
         for w, h, number in self.sizes:
             for first in range(0, number or 0, 100):
                 yard.receive(MATERIAL, w, h, min(number - first, 100))
+        for w, h, number in self.rests:
+            for _ in range(number):
+                yard.remnant(MATERIAL, self.kerf, w, h)
         yard.order(MATERIAL, *self.wants)
         return yard
 
-    def question(self, calls):
+    def question(self, calls, stages):
         buy = [{"h": h, "w": w} for w, h, number in self.sizes if number is None]
-        return question(MATERIAL, buy=buy, calls=calls, **({"step": self.step} if self.step else {}))
+        return question(MATERIAL, buy=buy, calls=calls, **({"stages": stages} if stages else {}))
 
     def measure(self):
-        """What a cost is told in: a unit of the one size, or a metre of bar."""
-        return 100 * self.sizes[0][0] * self.sizes[0][1] if len(self.sizes) == 1 else 100 * 10000
+        """What a cost is told in: a unit of the one size, or a metre of bar, or a square metre."""
+        if len(self.sizes) == 1 and not self.rests:
+            return 100 * self.sizes[0][0] * self.sizes[0][1]
+        return 100 * 10000 * (1 if self.sizes[0][1] == 1 else 10000)
 
 
 MATERIAL = "M"
@@ -186,10 +192,30 @@ def sheets(size, grain=10, few=False, turning=False):
             w, h = (dice.range(least, min(most, side)) // grain * grain for side in size)
             pieces.append((w, h, dice.below(2) == 0 and turning))
         wants = [(w, h, dice.range(1, often), turn) for w, h, turn in pieces]
-        exact = math.gcd(*[side + kerf for w, h, _, _ in wants for side in (w, h)])
-        return Order([(*size, None)], wants, kerf, exact if exact > (size[0] + kerf) // 501 else None)
+        return Order([(*size, None)], wants, kerf)
 
     return made
+
+
+def stock(dice, number):
+    """An order of sheets from two to four sizes, one or two of which may be bought, and 5 to 20 remnants."""
+    kerf = dice.range(0, 40)
+    names = [(32100, 22500), (60000, 32100), (25000, 12500), (30000, 15000), (21000, 15000)]
+    whole = [names.pop(dice.below(len(names))) for _ in range(dice.range(2, 4))]
+    low, high = [(2500, 9000), (4000, 12000), (5000, 15000)][dice.below(3)]
+    wants = {}
+    for _ in range(dice.range(10, 30)):
+        sides = dice.range(low, high) // 10 * 10, dice.range(low, min(high, 12000)) // 10 * 10
+        wants[sides] = (dice.range(1, 8), dice.below(2) == 0)
+    bought = 1 if number % 2 else 2
+    sizes = [(*it, None) for it in whole[:bought]] + [(*it, dice.range(1, 3)) for it in whole[bought:]]
+    rests = Counter()
+    for _ in range(dice.range(5, 20)):
+        w, h = whole[dice.below(len(whole))]
+        tall = h if dice.below(2) else dice.range(h // 4, h) // 10 * 10
+        rests[dice.range(w // 5, w * 4 // 5) // 10 * 10, tall] += 1
+    wants = [(*sides, *it) for sides, it in wants.items()]
+    return Order(sizes, wants, kerf, [(*sides, count) for sides, count in sorted(rests.items())])
 
 
 def largest(w, h):
@@ -232,18 +258,20 @@ CLASSES = {
     "triplets60": Class("60 pieces, three to a bar", triplets(60)),
     "mixed": Class("a workshop's bars, several lengths and remnants", mixed(True), 5, 25, is_for_query=True),
     "limited": Class("the same, an end of each length", mixed(False), 5, 25, is_for_query=True),
-    "glass": Class("sheets of 3210 by 2250 mm", sheets(GLASS), 7, 12, 800),
-    "glass50": Class("the same, sides multiples of 50 mm, no kerf", sheets(GLASS, 500), 7, 20, 800),
-    "jumbo": Class("sheets of 6000 by 3210 mm", sheets(JUMBO), 7, 8, 800),
-    "few": Class("sheets of 3210 by 2250 mm, 1 to 3 a kind", sheets(GLASS, few=True), 7, 15, 800),
-    "few-jumbo": Class("sheets of 6000 by 3210 mm, 1 to 3 a kind", sheets(JUMBO, few=True), 7, 8, 800),
-    "largest-bars": Class("bars of 150000, 100 lengths", largest(150000, 1), 1, 3, 500, is_apart=True),
-    "largest-sheets": Class("sheets of 500 by 500 steps, 100 kinds", largest(60000, 60000), 1, 3, 800, is_apart=True),
-    "turning": Class("sheets, half of the kinds may turn", sheets(GLASS, turning=True), 7, 12, 800, True),
-    "few-turning": Class("the same, 1 to 3 a kind", sheets(GLASS, few=True, turning=True), 7, 15, 800, True),
+    "glass": Class("sheets of 3210 by 2250 mm", sheets(GLASS), 7, 12),
+    "glass50": Class("the same, sides multiples of 50 mm, no kerf", sheets(GLASS, 500), 7, 20),
+    "jumbo": Class("sheets of 6000 by 3210 mm", sheets(JUMBO), 7, 8),
+    "few": Class("sheets of 3210 by 2250 mm, 1 to 3 a kind", sheets(GLASS, few=True), 7, 15),
+    "few-jumbo": Class("sheets of 6000 by 3210 mm, 1 to 3 a kind", sheets(JUMBO, few=True), 7, 8),
+    "largest-bars": Class("bars of 150000, 100 lengths", largest(150000, 1), 1, 3, is_apart=True),
+    "largest-sheets": Class("sheets of 6000 by 6000 mm, 100 kinds", largest(60000, 60000), 1, 3, is_apart=True),
+    "stock": Class("sheets, several sizes and remnants", stock, 11, 20, 500, True),
+    "turning": Class("sheets, half of the kinds may turn", sheets(GLASS, turning=True), 7, 12, 500, True),
+    "few-turning": Class("the same, 1 to 3 a kind", sheets(GLASS, few=True, turning=True), 7, 15, 500, True),
 }
 
-# What the trial reached, of the same orders: by class, seed and count its units, the bound, and how many it proved best.
+# What a trial of the search in plain Rust reached, of the same orders: by class, seed and count its units, the bound, and how
+# many it proved best; of sheets in a second an order.
 TRIAL = {
     ("workshop", 1, 40): (4254, 4254, 40),
     ("workshop", 2, 100): (10226, 10226, 100),
@@ -253,11 +281,13 @@ TRIAL = {
     ("uniform120", 1, 20): (969, 969, 20),
     ("uniform250", 1, 10): (1012, 1012, 10),
     ("triplets60", 1, 20): (403, 400, 17),
-    ("glass", 7, 12): (567, 559, 4),
+    ("glass", 7, 12): (562, 562, 12),
     ("glass50", 7, 20): (675, 672, 17),
-    ("jumbo", 7, 8): (155, 149, 2),
-    ("few", 7, 15): (239, 232, 8),
-    ("few-jumbo", 7, 8): (59, 56, 5),
+    ("jumbo", 7, 8): (153, 151, 6),
+    ("few", 7, 15): (236, 234, 13),
+    ("few-jumbo", 7, 8): (56, 56, 8),
+    ("turning", 7, 12): (533, 530, 9),
+    ("few-turning", 7, 15): (219, 218, 14),
 }
 
 
@@ -300,9 +330,9 @@ def timed(words):
         return out.read().decode(), child.returncode, seconds, used.ru_maxrss
 
 
-def words_of(program, path, order, calls):
+def words_of(program, path, order, calls, stages):
     words = [program, "plan", path, "--whole", "--kerf", str(order.kerf), "--calls", str(calls)]
-    return words + (["--step", str(order.step)] if order.step else [])
+    return words + (["--stages", str(stages)] if stages else [])
 
 
 @dataclass
@@ -314,9 +344,9 @@ class Ran:
     memory: int
 
 
-def whole(program, path, order, calls):
+def whole(program, path, order, calls, stages):
     """What `plan --whole` prints for an order's file."""
-    text, status, seconds, memory = timed(words_of(program, path, order, calls))
+    text, status, seconds, memory = timed(words_of(program, path, order, calls, stages))
     if status:
         raise Failed(f"\n  status {status}: {text.strip()}")
     return Ran(text, seconds, memory)
@@ -346,13 +376,13 @@ def asked(program, yard, line):
     return Ran(text, seconds, used.ru_maxrss), content
 
 
-def planned(program, path, order, of, calls, runs, row):
+def planned(path, order, of, calls, given, row):
     """Plans an order some times, checks what is told, and adds it to the row of its class."""
     if of.is_for_query:
-        yard, keys = order.yard(), order.question(calls)
-        ran, contents = zip(*[asked(program, yard, compact(keys)) for _ in range(runs)])
+        yard, keys = order.yard(), order.question(calls, given.stages)
+        ran, contents = zip(*[asked(given.program, yard, compact(keys)) for _ in range(given.runs)])
     else:
-        ran = [whole(program, path, order, calls) for _ in range(runs)]
+        ran = [whole(given.program, path, order, calls, given.stages) for _ in range(given.runs)]
     if len({it.text for it in ran}) > 1:
         raise Failed("\n  two runs tell different plans")
     if of.is_for_query:
@@ -362,17 +392,17 @@ def planned(program, path, order, of, calls, runs, row):
             return
         units, bound, proved = told["cost"] / order.measure(), told["bound"] / order.measure(), told["proved"]
     else:
-        answer = checked(order.problem(), order.kerf, ran[0].text)
+        answer = checked(order.problem(), order.kerf, ran[0].text, given.stages)
         units, bound, proved = answer.units, answer.bound, answer.proved
     row.add(order, units, bound, proved, ran)
 
 
-def kept(folder, name, order, of, calls):
+def kept(folder, name, order, of, calls, stages):
     """The path of an order as a file in a folder."""
     path = os.path.join(folder, f"{name}.txt")
     with open(path, "w") as file:
         if of.is_for_query:
-            file.writelines(f"{it}\n" for it in [*order.yard().lines, compact(order.question(calls))])
+            file.writelines(f"{it}\n" for it in [*order.yard().lines, compact(order.question(calls, stages))])
         else:
             file.write(order.problem().text())
     return path
@@ -400,9 +430,9 @@ def run(name, given, folder):
     for number in range(given.count or of.count):
         order = of.order(Dice(seed, number), number)
         calls = given.calls or of.calls
-        path = kept(folder, f"{name}-{seed}-{number}", order, of, calls)
+        path = kept(folder, f"{name}-{seed}-{number}", order, of, calls, given.stages)
         try:
-            planned(given.program, path, order, of, calls, given.runs, row)
+            planned(path, order, of, calls, given, row)
         except Failed as why:
             print(f"{name}, seed {seed}, order {number}:{why}", flush=True)
             is_well = False
@@ -417,6 +447,7 @@ def main():
     reader.add_argument("--seed", type=int)
     reader.add_argument("--program", default=PROGRAM)
     reader.add_argument("--calls", type=int)
+    reader.add_argument("--stages", type=int)
     reader.add_argument("--runs", type=int, default=3)
     reader.add_argument("--keep")
     reader.add_argument("--list", action="store_true")

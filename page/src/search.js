@@ -91,10 +91,14 @@ function stopPlan() {
   $("stopPlan").disabled = true;
 }
 
+// A glass table or a panel saw cuts sheets in at most so many runs of parallel cuts.
+const MOST_STAGES = 4;
+
 // What is asked: all, or where something is left out what isn't. Parts are named, so that what is found is known to be of these,
 // unless there are more than are known.
 function plansQuestion({part, buy}, calls) {
   const query = {ask: "plans", calls, material: shop.material}, stock = freeParts();
+  if (kindOf(shop.material) !== "bar") query.stages = MOST_STAGES;
   const open = demandsToCut().filter(row => leftOf(row) > 0), chosen = open.filter(row => !isLeftOut(row));
   if (chosen.length < open.length) query.demands = chosen.slice(0, MAX_KINDS).map(row => row.demand);
   if (part) query.parts = [part];
@@ -153,7 +157,8 @@ async function learnPieces({plans, missing}) {
 function takePlans(asked, {reply, of}, calls) {
   const material = materialOf(shop.material), old = of !== null && toCut.found?.of === of ? toCut.found : null;
   const plans = reply.plans.map(plan => foundPlan(plan, material));
-  const isWorse = old && (piecesOf(old.missing) - piecesOf(reply.missing) || old.cost - reply.cost) < 0;
+  const isWorse =
+    old && (piecesOf(old.missing) - piecesOf(reply.missing) || old.cost - reply.cost || reply.rest - old.rest) < 0;
   const bound = Math.max(reply.bound, old?.bound || 0), best = isWorse ? old : {...reply, plans};
   toCut.found = {
     ...best,
