@@ -90,12 +90,14 @@ function chooseMeaning(key, code) {
   chooseForCsv({materials: {...csv.chosen.materials, [key]: code}});
 }
 
-// A cell is mended. (Drawn once the focus is where it goes.)
+// A cell is mended. (Drawn once the focus is where it goes, unless the file was sent by then.)
 function mendCell(at, name, text) {
   const {mended = {}} = csv.chosen;
   csv.chosen.mended = {...mended, [at]: {...mended[at], [name]: text}};
-  csv.file = readOrderFile(csv.text, csv.chosen);
-  setTimeout(showCsvFile);
+  const file = csv.file = readOrderFile(csv.text, csv.chosen);
+  setTimeout(() => {
+    if (csv.file === file) showCsvFile();
+  });
 }
 
 function showCsvFile() {
@@ -117,8 +119,8 @@ function drawCsvFile(file) {
   const names = FIELDS.map(name => SIDES.includes(name) ? `${fieldWords(name)} mm` : fieldWords(name));
   const head = [tr`line of\u00a0the\u00a0file`, ...names];
   return [
-    el("p", file.fault ? {class: "fault", text: file.fault} : {text: readWords(file)}), materialQuestion(file), unitQuestion(file),
-    csvQuestion(file), roundQuestion(file), csvColumns(file), ...leftRows(file),
+    el("p", file.fault ? {class: "fault", text: file.fault} : {text: readWords(file)}), materialQuestion(file),
+    unitQuestion(file), csvQuestion(file), roundQuestion(file), csvColumns(file), ...leftRows(file),
     file.bad.length ? el("p", {class: "fault", text: badWords(file)}) : "",
     el("div", {class: "scroll", tabindex: "0", role: "region", "aria-label": tr`Rows of the file`},
       el("table", {}, el("thead", {}, el("tr", {}, ...head.map(text => el("th", {text})))),
@@ -207,8 +209,8 @@ function unitQuestion({unitless, unit}) {
 // What the materials are that the shop doesn't know by their texts, and of a file without any what all is made of.
 function materialQuestion({columns, foreign}) {
   const codes = shop.materials.map(row => [row.material, row.material]), choose = [["", tr`choose…`]];
-  if (columns.material === null)
-    foreign = [{key: "", code: "", words: tr`all lines`, say: code => chooseForCsv({columns: {...csv.chosen.columns, material: code}})}];
+  const sayAll = material => chooseForCsv({columns: {...csv.chosen.columns, material}});
+  if (columns.material === null) foreign = [{key: "", code: "", words: tr`all lines`, say: sayAll}];
   if (!foreign.length) return "";
   return el("fieldset", {class: "fields", id: "csvMaterials"}, el("legend", {text: tr`Which material is it?`}),
     ...foreign.map(({key, code, text, rows, words, say = chosen => chooseMeaning(key, chosen)}) =>
@@ -243,13 +245,15 @@ const MAX_LEFT = 20;
 // The rows that are left out, each with why, and sums that aren't those of the pieces.
 function leftRows({left, sums}) {
   const why = {title: tr`title`, heads: tr`heads again`, sum: tr`sum`, "by hand": tr`left out by hand`};
-  const words = row => tr`line ${row.at}, ${why[row.why]}: ${quoted(row.fields.map(field => field.trim()).filter(Boolean).join(" · "))}`;
+  const text = ({fields}) => quoted(fields.map(field => field.trim()).filter(Boolean).join(" · "));
+  const words = row => tr`line ${row.at}, ${why[row.why]}: ${text(row)}`;
   const more = left.length - MAX_LEFT, shown = left.slice(0, MAX_LEFT).map(words);
+  const wrong = ({at, said, has}) =>
+    tr`Line ${at} of the file says ${grouped(said)} pieces, and the lines above it have ${grouped(has)}.`;
   return [
     left.length ? el("div", {id: "csvRowsLeft", class: "quiet"}, tr`Left out of the file:`,
-      el("ul", {}, ...shown.map(text => el("li", {text})), more > 0 ? el("li", {text: tr`and ${more} more`}) : null)) : "",
-    ...sums.map(({at, said, has}) =>
-      el("p", {class: "fault", text: tr`Line ${at} of the file says ${grouped(said)} pieces, and the lines above it have ${grouped(has)}.`}))
+      el("ul", {}, ...shown.map(said => el("li", {text: said})), more > 0 ? el("li", {text: tr`and ${more} more`}) : null)) : "",
+    ...sums.map(sum => el("p", {class: "fault", text: wrong(sum)}))
   ];
 }
 
@@ -263,7 +267,8 @@ function readWords({isTurned, empty, told, bad}) {
 
 function badWords({bad}) {
   const names = bad.slice(0, 8).map(row => row.at).join(", "), more = bad.length > 8 ? tr` and ${bad.length - 8} more` : "";
-  return tr`Line${bad.length > 1 ? "s" : ""} ${names}${more} of the file can't be ordered: mend what is marked, or leave it out.`;
+  const s = bad.length > 1 ? "s" : "";
+  return tr`Line${s} ${names}${more} of the file can't be ordered: mend what is marked, or leave it out.`;
 }
 
 // A row of the file, and below it what is wrong with its fields. What no column has is told above the rows.
@@ -285,8 +290,8 @@ function csvRows(row) {
 function csvCell({at, fields, cells, texts, faults}, name, i) {
   const fault = faults[name], cell = cells[i], isMended = csv.chosen.mended?.[at]?.[name] !== undefined;
   const was = cell === cell?.trim() ? shortened(cell) : quoted(cell ?? ""), isOther = cell !== null && texts[i] !== cell;
-  if (!fault && !isMended)
-    return el("td", {text: shortened(texts[i])}, isOther ? el("span", {class: "turned", text: was ? `← ${was}` : tr`← empty`}) : null);
+  const from = () => el("span", {class: "turned", text: was ? `← ${was}` : tr`← empty`});
+  if (!fault && !isMended) return el("td", {text: shortened(texts[i])}, isOther ? from() : null);
   const field = el("input", {
     value: cell ?? "",
     "data-key": `csv ${at} ${name}`,
@@ -302,7 +307,8 @@ function csvCell({at, fields, cells, texts, faults}, name, i) {
 function showCodes() {
   const code = readCode("fileCode"), codes = codesOf(code, csv.orders);
   const isPicked = $("csvPreview").firstChild || $("problemPreview").firstChild;
-  const words = isPicked && csv.orders > 1 && code ? [tr`Orders ${codes[0]} to ${codes.at(-1)}, of at most ${MAX_LINES} lines.`] : [];
+  const words = [];
+  if (isPicked && csv.orders > 1 && code) words.push(tr`Orders ${codes[0]} to ${codes.at(-1)}, of at most ${MAX_LINES} lines.`);
   fill($("fileCodes"), words, () => words.map(quiet));
   clearTimeout(csv.timer);
   csv.asked++;
@@ -315,8 +321,9 @@ async function showThere(codes, words) {
     if (await ask(`/order/${order}`).catch(() => null)) there.push(order);
     if (csv.asked !== asked) return;
   }
-  const told = there.length ? tr`There already: ${there.join(", ")}. The same file does nothing again; another one is refused.` : "";
-  fill($("fileCodes"), [...words, told], () => [...words.map(quiet), told ? el("p", {class: "fault", text: told}) : ""]);
+  if (!there.length) return;
+  const told = tr`There already: ${there.join(", ")}. The same file does nothing again; another one is refused.`;
+  fill($("fileCodes"), [...words, told], () => [...words.map(quiet), el("p", {class: "fault", text: told})]);
 }
 
 // What a file is ordered as, marked where it can't be.

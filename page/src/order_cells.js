@@ -12,7 +12,9 @@ const HEADS = {
     "w x h", "wxh"
   ],
   turn: ["turn", "turns", "drehen", "drehbar", "rotate", "rotation", "may turn"],
-  count: ["count", "qty", "quantity", "anzahl", "anz", "stückzahl", "stück", "stueck", "stk", "menge", "pieces", "pcs", "wanted"],
+  count: [
+    "count", "qty", "quantity", "anzahl", "anz", "stückzahl", "stück", "stueck", "stk", "menge", "pieces", "pcs", "wanted"
+  ],
   worth: ["worth"],
   height: ["height", "höhe", "hoehe", "h"]
 };
@@ -83,8 +85,8 @@ function splitUnit(text) {
 // By how many places a number of a unit is moved to be one of millimetres.
 const PLACES = {mm: 0, cm: 1, m: 3};
 
-// A number's digits before and behind its point, or none: of 1.200,5, 1,200.5 and 1 200,5 these are 1200 and 5. Whether 1.200 is
-// a thousand is told.
+// A number's digits before and behind its point, or none: of 1.200,5, 1,200.5 and 1 200,5 these are 1200 and 5. Whether 1.200
+// is a thousand is told.
 function digitsOf(text, isThousand) {
   const plain = text.length > MAX_CELL ? "" : text.replace(/(?<=\d)[ \u00a0\u202f'’](?=\d{3}(?!\d))/g, "");
   const isPointed = /^\d{1,3}(?:\.\d{3})+,\d+$/.test(plain), isGrouped = /^\d{1,3}(?:,\d{3})+\.\d+$/.test(plain);
@@ -137,4 +139,4 @@ function readTurn(text) { return TURNS.get(text.toLowerCase()) ?? text.toLowerCa
 
 // A row whose first cell begins so is a sum.
 const SUM =
-  /^(?:(?:gesamt|zwischen|end)?summe|(?:ins)?gesamt(?:summe|zahl|anzahl|menge|stückzahl)?|(?:sub|grand )?total|sum)(?![a-zäöüß])/i;
+  /^(?:(?:gesamt|zwischen|end)?summe|(?:ins)?gesamt(?:(?:an|stück)?zahl|menge)?|(?:sub|grand )?total|sum)(?![a-zäöüß])/i;

@@ -34,11 +34,7 @@ function readOrderFile(text, chosen = {}) {
   const table = readTable(text, chosen.headless), {heads, wide} = table;
   if (wide > MAX_COLUMNS) return {fault: manyColumnsWords(wide), isTooLarge: true};
   if (table.rows.length > MAX_FILE_LINES) return {fault: manyRowsWords(table.rows.length), isTooLarge: true};
-  const columns = {...takenFor(columnsOf(heads)), ...chosen.columns}, thousands = chosen.thousands ?? null;
-  const sided = name => typeof columns[name] === "number" ? name : "length";
-  const units = Object.fromEntries(SIDES.map(name => [name, heads[columns[sided(name)]]?.unit || chosen.unit || ""]));
-  const how = {...table, columns, thousands, units, materials: chosen.materials || {}, mended: chosen.mended || {}};
-  const {lines, left, sums} = sortRows(how, chosen.without || []);
+  const how = howOf(table, chosen), {lines, left, sums} = sortRows(how, chosen.without || []);
   const areNumbered = !doRise(lines.map(({cells}) => cells[0]));
   const rows = lines.map((line, i) => readRow(line, areNumbered ? (i % MAX_LINES) + 1 : 0, how));
   const orders = ordersOf(rows), isWhole = table.isPlain && orders.length === 1 && isTextWhole(text, how, rows);
@@ -60,6 +56,15 @@ function readOrderFile(text, chosen = {}) {
   return {...file, fault: fileFault(file)};
 }
 
+// A table with what is known of how it is read: the columns, whether 1.200 is a thousand, the units of the sides (two sides of
+// one cell have one unit), what materials mean, and the mended cells.
+function howOf(table, {columns: given, thousands = null, unit = "", materials = {}, mended = {}}) {
+  const {heads} = table, columns = {...takenFor(columnsOf(heads)), ...given};
+  const at = name => typeof columns[name] === "number" ? columns[name] : columns.length;
+  const units = Object.fromEntries(SIDES.map(name => [name, heads[at(name)]?.unit || unit]));
+  return {...table, columns, thousands, units, materials, mended};
+}
+
 // Whether a text is already what the shop reads.
 function isTextWhole(text, {headless, columns, rows: all}, rows) {
   return !headless && FIELDS.every((name, i) => columns[name] === i) && isShort(text) && rows.length === all.length &&
@@ -73,7 +78,8 @@ function sortRows(how, without) {
   let all = 0, part = 0;
   for (const row of rows) {
     const cells = cellsOf(row, how), why = without.includes(row.at) ? "by hand" : whyLeft(row, cells, how);
-    const said = cells[5] ?? (why ? "" : columns.count ?? ""), number = readWhole(readCount(plainCell(said)), 1, MAX_NUMBER) || 0;
+    const said = cells[5] ?? (why ? "" : columns.count ?? "");
+    const number = readWhole(readCount(plainCell(said)), 1, MAX_NUMBER) || 0;
     if (!why) {
       lines.push({...row, cells});
       all += number;
@@ -124,7 +130,8 @@ function readRow({at, fields, cells}, number, how) {
   const read = FIELDS.map((name, i) => plain[i] === null ? {text: columns[name] ?? ""} : readField(name, plain[i], how));
   if (number) read[0] = {text: String(number)};
   const isWide = fields.slice(wide).some(field => field.trim()), bare = read.map(({text}) => text);
-  const texts = isWide ? bare : fillLine(bare, 0), faults = isWide ? {"the row": wideWords(fields, mark, wide)} : lineFaults(texts, 0);
+  const texts = isWide ? bare : fillLine(bare, 0);
+  const faults = isWide ? {"the row": wideWords(fields, mark, wide)} : lineFaults(texts, 0);
   const unclear = [2, 3].filter(i => plain[i] !== null && isUnclear(plain[i], mark, units[FIELDS[i]]));
   // (these are asked above the rows)
   if (thousands === null) for (const i of unclear) delete faults[FIELDS[i]];
@@ -213,7 +220,9 @@ function longWords(bytes) { return tr`The file is over ${bytes} bytes long.`; }
 
 function manyColumnsWords(columns) { return tr`The file has ${grouped(columns)} columns; at most ${MAX_COLUMNS} are read.`; }
 
-function manyRowsWords(rows) { return tr`The file has ${grouped(rows)} rows; at most ${grouped(MAX_FILE_LINES)} are ordered at once.`; }
+function manyRowsWords(rows) {
+  return tr`The file has ${grouped(rows)} rows; at most ${grouped(MAX_FILE_LINES)} are ordered at once.`;
+}
 
 // Why a file can't be ordered, but for its bad rows: what has to be chosen or answered.
 function fileFault({rows, columns, unitless, unit, unclear, thousands, foreign, fine, isRounded}) {

@@ -66,8 +66,8 @@ function isHeads(fields) {
   return named.size > 1 && (isSized || (named.has("width") && named.has("height")));
 }
 
-// What parts a text's fields: the mark by which its heads name the most, else the first of MARKS that its first rows have. It is
-// looked for in the first 32 KB.
+// What parts a text's fields: the mark by which its heads name the most, else the first of MARKS that its first rows have. It
+// is looked for in the first 32 KB.
 function markOf(all) {
   const text = all.slice(0, 1 << 15), first = [...text.matchAll(/[^\r\n]+/g)].slice(0, MAX_TITLES + 1).join("\n");
   let best = MARKS.find(mark => first.includes(mark)) || ",", most = 1;
@@ -101,7 +101,8 @@ function isSubHeads(fields) {
   return fields.every(field => !field.trim() || meaningOf(field) || /^\W*(mm|cm|m|stk|st|pcs)\W*$/i.test(field.trim()));
 }
 
-// The heads of columns: the text that is shown, what names the column, and its unit. A merged cell's head counts on to its right.
+// The heads of columns: the text that is shown, what names the column, and its unit. A merged cell's head counts on to its
+// right.
 function headsOf(upper, lower, wide) {
   let merged = "";
   return Array.from({length: wide}, (_, i) => {
