@@ -1,3 +1,4 @@
 pub mod Asked
 pub mod InTurn
 pub mod Origins
+pub mod AskedMeasures
