@@ -37,8 +37,6 @@ SHEETS = """
 0 1 149 | 57x32*5 34x38*1 30x24*1 | 17x14t*3 18x17t*3 20x17*3 20x15t*3 20x12*3 20x20t*3 26x32*1 31x21t*1 12x11*1 19x11*1
 1 1 115 | 103x103 | 25x24*1 25x39*3 40x13*7 29x29*2 23x14*8 27x28*6 40x18*10 15x23*2 26x12*5
 1 1 105 | 121x66 | 17x34t*8 28x31t*11 34x25t*9 30x26t*12 38x8t*10 36x24*12 40x13*11 20x13*9 18x13t*3 12x16t*12
-1 1 44 | 67x24 44x38 32x31 | 24x13t*4 24x11*4 11x12*4 12x12t*4 19x19t*4 19x18t*4 11x10*3 11x13t*3 22x24t*3 24x12t*3 19x13*3 19x10t*3 44x38*3
-1 1 139 | 67x24*3 44x38*8 32x31*1 | 24x13t*4 24x11*4 11x12*4 12x12t*4 19x19t*4 19x18t*4 11x10*3 11x13t*3 22x24t*3 24x12t*3 19x13*3 19x10t*3 44x38*3
 0 1 45 | 30x24 | 14x14*2 14x10*2 16x14t*2 10x16t*2 16x12*6 14x12*6
 2 1 30 | 66x44*2 45x43*2 30x47*1 | 19x24t*1 17x19t*1 10x24t*1 24x16t*1 24x13*1 66x44*1
 0 1 35 | 65x36 55x45 52x31 | 45x28t*2 45x27t*2 25x13t*1 25x23*1 13x19t*1 13x17*1 27x26t*1 27x10*1
@@ -51,6 +49,14 @@ SHEETS = """
 3 1 104 | 64x41 | 34x38t*3 34x17t*7 35x34t*11 16x19t*3 38x25t*2 18x17t*9 27x15*4 18x19t*4 21x21t*13 30x33t*10 18x24t*9
 0 1 107 | 84x62 | 47x17*4 20x30*9 30x27t*2 33x21*11 20x17t*3 27x47t*6 39x29*2 29x36*3 40x34t*15 23x21*14 30x21*12 15x49t*15
 """
+
+
+# Orders of sheets from several sizes that are planned, and not best, with what their best plans cost.
+MIXED = """
+1 1 44 | 67x24 44x38 32x31 | 24x13t*4 24x11*4 11x12*4 12x12t*4 19x19t*4 19x18t*4 11x10*3 11x13t*3 22x24t*3 24x12t*3 19x13*3 19x10t*3 44x38*3
+1 1 139 | 67x24*3 44x38*8 32x31*1 | 24x13t*4 24x11*4 11x12*4 12x12t*4 19x19t*4 19x18t*4 11x10*3 11x13t*3 22x24t*3 24x12t*3 19x13*3 19x10t*3 44x38*3
+"""
+LEAST_OF_MIXED = 1652800
 
 
 def sizes_in(words):
@@ -132,6 +138,18 @@ def sheets(trial):
     best(trial, SHEETS)
 
 
+@case(
+    "plans of sheets from several sizes",
+    "Two orders of many small pieces, from three sizes of sheets, cost at most 7 hundredths more than their best plans.",
+)
+def several_sizes(trial):
+    for line in MIXED.strip().split("\n"):
+        order = Order.of(line)
+        told = answered(trial, order.yard().replay(trial), order.question(order.calls))
+        trial.equal((told["missing"], told["bound"] <= LEAST_OF_MIXED), ([], True), line)
+        trial.holds(LEAST_OF_MIXED <= told["cost"] <= 1.07 * LEAST_OF_MIXED, f"{told['cost']}: {line}")
+
+
 def seconds_of(trial, problem, calls, *step):
     """Seconds of the processor's time that the plan of a whole order takes, the least of three runs."""
     path = trial.write("order.txt", problem.text())
@@ -170,30 +188,13 @@ def times(trial):
 
 @case(
     "time of a call of a search for sheets",
-    "A search for sheets of 40 calls, which is not done then, takes at most three times as long as 40 plans of one such sheet, as a "
-    "call makes one table at most.",
+    "A search for sheets of 6000 by 3210 mm from 100 kinds of pieces, which isn't done behind 40 calls, takes at most 50 milliseconds "
+    "of the processor's time a call, and as much again on a slow machine.",
 )
 def a_call(trial):
-    kinds = [(25 * (1 + it % 4) + it % 23, 25 * (1 + 3 * it % 5) + 7 * it % 29, 10 + it % 7) for it in range(1, 41)]
-    problem = sheet(400, 300, *kinds)
+    kinds = [(2500 + 613 * it % 9700, 2500 + 1289 * it % 8300, 3 + it % 7) for it in range(1, 101)]
+    problem = sheet(60000, 32100, *kinds)
     begin = seconds_of_words(trial, "--version")
-    one, search = [
-        seconds_of_words(trial, "plan", trial.write("order.txt", problem.text()), "--kerf", "0", "--step", "1", *words) - begin
-        for words in ((), ("--whole", "--calls", "40"))
-    ]
-    trial.equal(planned(trial, problem, 0, "--calls", 40, "--step", 1)[1].proved, False)
-    trial.holds(search < 3 * 40 * one, f"{search} seconds for 40 calls, {one} for one plan")
-
-
-@case(
-    "time of sheets with even sides",
-    "An order of sheets whose sides are multiples of 25 steps takes at most half the time of one with uneven sides, as cuts at "
-    "which nothing ends are passed over.",
-)
-def even_sides(trial):
-    def seconds(off):
-        kinds = [(25 * (1 + it % 4) + off * it, 25 * (1 + 3 * it % 5) + off * (7 * it % 11), 10 + it % 7) for it in range(1, 13)]
-        return seconds_of(trial, sheet(400, 300, *kinds), 40, "--step", "1")
-
-    even, uneven = seconds(0), seconds(1)
-    trial.holds(even < 0.5 * uneven, f"{even} seconds for even sides, {uneven} for uneven ones")
+    search = seconds_of_words(trial, "plan", trial.write("order.txt", problem.text()), "--kerf", "30", "--whole", "--calls", "40") - begin
+    trial.equal(planned(trial, problem, 30, "--calls", 40)[1].proved, False)
+    trial.holds(search < 40 * 0.1, f"{search} seconds for 40 calls")

@@ -13,7 +13,9 @@ from kit.shop import request_of
 # A question behind others is answered within so many seconds.
 BEHIND = 5
 PLACES = 8
-FEW = 50
+# So many calls a question has, where others wait.
+CALLS = 200
+STEP = 32
 
 
 def asked_behind(trial, shop, asked, seconds, words):
@@ -25,10 +27,10 @@ def asked_behind(trial, shop, asked, seconds, words):
     trial.holds(took < seconds, f"{words}: the answer took {took:.2f} seconds")
 
 
-def time_of(shop, step):
-    """How long a few calls of a large question take."""
+def time_of(shop, calls):
+    """How long so many calls of a large question take."""
     begin = time.monotonic()
-    shop.reply(compact(crowds.large_question(FEW, step)))
+    shop.reply(compact(crowds.large_question(calls, STEP)))
     return time.monotonic() - begin
 
 
@@ -67,11 +69,9 @@ def silent_ones(trial):
     yard, asked = small()
     shop = crowds.large_yard().serve(trial)
     yard.fill(trial, shop)
-    # (a program that is built without proofs is slow, and makes small tables)
-    step = 32 if time_of(shop, 65) < 0.5 else 233
-    large, alone = crowds.large_question(5000, step), PLACES * 200 / FEW * time_of(shop, step)
+    large, alone = crowds.large_question(5000, STEP), PLACES * time_of(shop, CALLS)
     with crowds.thinking(shop, PLACES, large) as held:
-        time.sleep(1.5 * alone)
+        time.sleep(1.2 * alone)
         trial.holds(not is_idle(shop, 1), "nothing is thought about, though no question waits")
         asked_behind(trial, shop, asked, BEHIND, "behind eight that had their calls")
         came = select.select(held, [], [], BEHIND)[0]
