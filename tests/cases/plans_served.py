@@ -51,7 +51,7 @@ def small():
 def eight(trial):
     yard = crowds.large_yard()
     shop, alone = yard.serve(trial), yard.serve(trial, "alone.db")
-    asked = crowds.large_question(150, crowds.fitting_step(shop))
+    asked = crowds.large_question(60, crowds.fitting_step(shop))
     with crowds.thinking(shop, 8, asked) as held:
         work(trial, shop)
         all_answered(trial, shop, held, asked)
