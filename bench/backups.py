@@ -23,8 +23,8 @@ HERE = os.path.dirname(os.path.abspath(__file__))
 sys.path.insert(0, os.path.join(HERE, "..", "tests"))
 sys.dont_write_bytecode = True
 
-from cases.backups import REQUEST, open_shop, told  # noqa: E402
-from cases.terminals import Terminal, at_once  # noqa: E402
+from kit.backups import REQUEST, open_shop, told  # noqa: E402
+from kit.terminals import Terminal, at_once  # noqa: E402
 from kit import aged, crowds, tables  # noqa: E402
 from kit.case import Trial  # noqa: E402
 

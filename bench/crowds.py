@@ -24,8 +24,8 @@ HERE = os.path.dirname(os.path.abspath(__file__))
 sys.path.insert(0, os.path.join(HERE, "..", "tests"))
 sys.dont_write_bytecode = True
 
-from cases.stores import DAY, filled, many_parts  # noqa: E402
-from cases.terminals import Terminal, at_once  # noqa: E402
+from kit.stores import DAY, filled, many_parts  # noqa: E402
+from kit.terminals import Terminal, at_once  # noqa: E402
 from kit import crowds  # noqa: E402
 from kit.case import Trial  # noqa: E402
 from kit.shop import request_of  # noqa: E402

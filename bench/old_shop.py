@@ -41,6 +41,11 @@ QUESTIONS = {
     "orders": {"ask": "orders", "after": ""},
     "terminal": {"ask": "terminal", "terminal": 1},
     "materials": {"ask": "materials"},
+    "shop": {"ask": "shop"},
+    "history": {"ask": "history", "after": 0},
+    "story of an order": {"ask": "story", "after": 0, "order": "A-1"},
+    "story of a job": {"ask": "story", "after": 0, "job": 2},
+    "story of a part": {"ask": "story", "after": 0, "part": "1/0"},
 }
 
 ROUTES = {
@@ -54,6 +59,11 @@ ROUTES = {
     "orders": "/orders",
     "terminal": "/terminal/1",
     "materials": "/materials",
+    "shop": "/shop",
+    "history": "/history/0",
+    "story of an order": "/story/order/A-1/0",
+    "story of a job": "/story/job/2/0",
+    "story of a part": "/story/part/1/0/0",
 }
 
 

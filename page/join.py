@@ -1,6 +1,6 @@
 #!/usr/bin/env python3
 """Joins the files of page/src to page/terminal.html, which the program serves: document.html, in which each line {{NAME}} stands
-for the file of that name, a script's without the lines that are comments."""
+for the file of that name, a script's and a style's without indents, a script's without the lines that are comments."""
 
 import os
 import re
@@ -15,7 +15,9 @@ def source(name):
 
 def part(name):
     text = source(name)
-    return re.sub(r"(?m)^ *//.*\n", "", text) if name.endswith(".js") else text
+    if name.endswith(".js"):
+        text = re.sub(r"(?m)^ *//.*\n", "", text)
+    return re.sub(r"(?m)^ +", "", text) if name.endswith((".js", ".css")) else text
 
 
 def joined():

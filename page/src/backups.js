@@ -30,7 +30,7 @@ function showBackups() {
 
 function backupRows(isMaking, last) {
   const words = isMaking ? tr`A backup is being made…`
-    : last               ? tr`The last one from this browser has the number ${last.number}: ${new Date(last.at).toLocaleString()}.`
+    : last               ? tr`The last one from this browser has the number ${last.number}: ${timeText(last.at)}.`
                          : tr`None was made from this browser yet.`;
   return [
     quiet(tr`A backup is a copy of all that the shop has, in a folder with a number. All others wait while it is made.`),

@@ -32,7 +32,7 @@ function boughtWords(buy, bought) {
 function receiveBought({w, h}, units) {
   $("receiveMaterial").value = shop.material;
   [$("receiveW").value, $("receiveH").value, $("receiveCount").value] = [mm(w), mm(h), String(Math.min(units, MOST_RECEIVED))];
-  location.hash = "stock";
+  go(`stock/${shop.material}`);
   adaptReceive();
 }
 
@@ -41,5 +41,5 @@ function planBuying(event) {
   const isBar = kindOf(shop.material) === "bar", length = $("buyW").value.trim(), width = isBar ? "0.1" : $("buyH").value.trim();
   markFields($("buyForm"), {length: lengthFault(length, isBar ? MAX_BAR : 200000), width: lengthFault(width, 60000)});
   if (goToFault($("buyForm"))) return;
-  planOrder("", {h: readMm(width), w: readMm(length)});
+  planOrder({only: toCut.only, buy: {h: readMm(width), w: readMm(length)}});
 }

@@ -73,12 +73,13 @@ function opener(view, text) {
   return el("button", {
     class: "small",
     text,
-    on: {
-      click: () => {
-        location.hash = view;
-      }
-    }
+    on: {click: () => go(addressOfView(view))}
   });
+}
+
+// A link to an address.
+function linkTo(address, text, words = "") {
+  return el("a", {class: "button small", href: `#${address}`, text, ...words ? {"aria-label": words} : {}});
 }
 
 function figure(value, words) { return el("div", {}, el("b", {text: value}), el("span", {text: words})); }

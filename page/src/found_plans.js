@@ -6,25 +6,25 @@ function showPlans() {
   const plans = shownPlans(), {found, part} = toCut, list = $("planList");
   const told = plans.map(plan => [plan.tree, plan.parts, plan.buy, plan.w, plan.h, plan.parts.map(name => found?.jobs.get(name))]);
   fill(list, [told, list.clientWidth, window.innerHeight], () => plans.length ? planCards(plans) : []);
-  fill($("planFigures"), [told, toCut.picked, toCut.tried.length], () => plans.length && planFigures(plans));
+  fill($("planFigures"), [told], () => plans.length && planFigures(plans));
   const says = found && !part ? [boundSays(found)] : [];
   fill($("boundSays"), [says, Boolean(toCut.planning), found?.calls, Boolean(found?.sent)],
     () => says.map(text => el("p", {}, el("b", {text}), " ", searchOnButton())));
-  fill($("missing"), [found?.missing, part], () => found?.missing.length && !part ? missingRows(found) : []);
-  showTried();
+  fill($("missing"), [found?.missing, part, Boolean(toCut.planning)], () => found?.missing.length && !part ? missingRows(found) : []);
   $("reserve").disabled = !canReserve(plans);
+  $("reserve").hidden = Boolean(staleWords());
+  $("planAgain").hidden = !staleWords();
   $("reserve").textContent = part ? tr`Reserve ${part}` : tr`Reserve all`;
 }
 
 function canReserve(plans) {
-  if (toCut.part) return plans.length > 0 && plans[0].counts.size > 0 && !staleWords(plans[0]);
-  return plans.some(plan => plan.parts.length) && !toCut.found.sent;
+  return plans.some(plan => plan.parts.length && plan.counts.size) && !toCut.found.sent && !staleWords();
 }
 
 // A button that searches longer, where that may find more.
 function searchOnButton() {
   const {found, planning} = toCut;
-  if (planning || found.proved || found.sent || found.calls >= MOST_CALLS) return null;
+  if (planning || found.proved || found.sent || found.calls >= MOST_CALLS || found.goes.length > 1) return null;
   return el("button", {class: "small", text: tr`Search longer`, "data-key": "longer", on: {click: searchOn}});
 }
 
@@ -77,7 +77,7 @@ function jobsWords(parts) {
 }
 
 function planFigures(plans) {
-  const [{material, worth}] = plans, {kind} = material, cells = {piece: 0, kept: 0, kerf: 0, scrap: 0};
+  const [{material}] = plans, {kind} = material, cells = {piece: 0, kept: 0, kerf: 0, scrap: 0};
   let whole = 0, cuts = 0;
   for (const plan of plans) {
     const many = unitsOf(plan), by = cellsByFate(layPlan(plan.root, material));
@@ -93,18 +93,7 @@ function planFigures(plans) {
     figure(percent(cells.piece, whole), tr`in pieces`),
     figure(percent(cells.kept, whole), part ? tr`kept as rests` : tr`kept as rests, ${cellsText(kind, cells.kept)}`),
     figure(percent(cells.kerf + cells.scrap, whole), tr`kerf and scrap`),
-    part || !found ? null : figure(String(plans.length), word(plans.length === 1 ? "different plan" : "different plans")),
-    ...part ? priceFigures(worth) : []
-  ];
-}
-
-// What one part's plan is worth, where plans by steps told a ceiling.
-function priceFigures(worth) {
-  const ceiling = ceilingOf(toCut.tried), {dropped} = chosenPlan();
-  if (!Number.isFinite(ceiling)) return [];
-  return [
-    figure(grouped(worth), tr`price for the planner`), figure(percent(worth, ceiling), tr`of the ceiling ${grouped(ceiling)}`),
-    dropped ? figure(dropped, tr`dropped, not wanted so often`) : null
+    part || !found ? null : figure(String(plans.length), word(plans.length === 1 ? "different plan" : "different plans"))
   ];
 }
 
@@ -114,5 +103,10 @@ function missingRows({missing, material: {kind}}) {
     const row = shop.demands.find(other => other.demand === demand);
     return pieceItem(pieces, row ? sizeText(kind, row.w, row.h) : "", demand);
   });
-  return [el("h3", {text: tr`Not planned, as nothing that stands has room for it`}), el("ul", {}, ...rows)];
+  return [el("h3", {text: toCut.planning ? tr`Not placed yet` : tr`Not planned`}), el("ul", {}, ...rows)];
 }
+
+function plannedWords(box) { return pieceWords(box, shop.lines.get(box.demand)); }
+
+// A piece's demand and order, and whether it is turned.
+function pieceWords(box, line) { return [`${box.demand}${line ? ` · ${line.order}` : ""}${box.turned ? " ↻" : ""}`]; }

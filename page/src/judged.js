@@ -1,5 +1,5 @@
 // ---- What the page judges by itself, as the shop does: how the cuts of a plan lie, which rests are kept, what a halt leaves,
-// what is left of a demand, and which steps the planner takes.
+// and what is left of a demand.
 
 // Plans: the one place that reads a tree's text and lays it.
 
@@ -78,71 +78,8 @@ function cellsByFate(boxes) {
   return cells;
 }
 
-// Cuts that only take off a strip thinner than the step, which rounding up left beside a piece; not those at the far edges.
-function trimsOf(root, step) {
-  return cutsOf(root).filter(cut => {
-    const end = cut.axis === "x" ? cut.x + cut.w === root.w : cut.y + cut.h === root.h;
-    return cut.side - cut.at < step && !end && (!cut.second || cut.second.kind === "rest");
-  });
-}
-
 function leftOf(row) { return row.wanted - row.reserved - row.made; }
 
 function fitsPart(row, part) {
   return (row.w <= part.w && row.h <= part.h) || (row.turn && row.h <= part.w && row.w <= part.h);
-}
-
-// Steps. The planner of sheets counts a unit's sides in whole steps, at most 500, and rounds a piece's side and the
-// kerf up to whole steps; a step may not be over any side and the kerf.
-
-const MAX_STEPS = 500;
-
-// The least step that the planner takes of this part.
-function leastStep(part, kerf) { return Math.floor((Math.max(part.w, part.h) + kerf) / (MAX_STEPS + 1)) + 1; }
-
-function sidesOf(rows, kerf) { return rows.flatMap(row => [row.w + kerf, row.h + kerf]); }
-
-// The greatest step at which all sides and the kerf are whole multiples.
-function exactStep(rows, kerf) {
-  return sidesOf(rows, kerf).reduce((a, b) => {
-    while (b) [a, b] = [b, a % b];
-    return a;
-  });
-}
-
-// How much the side that a step rounds up most is rounded up.
-function roundedUp(step, rows, kerf) {
-  return Math.max(...sidesOf(rows, kerf).map(side => Math.ceil(side / step) * step - side));
-}
-
-// What rounding up adds to all pieces that are left.
-function roundedArea(step, rows, kerf) {
-  const up = side => Math.ceil((side + kerf) / step) * step;
-  return rows.reduce((sum, row) => sum + leftOf(row) * (up(row.w) * up(row.h) - (row.w + kerf) * (row.h + kerf)), 0);
-}
-
-// Up to four steps to plan by, each with why it is tried: the least, the exact one or those that round up least, twice the
-// least.
-function stepsToTry(part, kerf, rows) {
-  const least = leastStep(part, kerf), most = Math.min(...sidesOf(rows, kerf)), exact = exactStep(rows, kerf);
-  const steps = [{step: least, why: exact === least ? tr`least, and exact` : tr`least`}];
-  const isNear = step => steps.some(other => Math.abs(other.step - step) * 20 < other.step);
-  if (exact > least) steps.push({step: exact, why: tr`exact`});
-  if (exact < least) {
-    const wider = Array.from({length: Math.max(0, Math.min(most, 4 * least) - least)}, (_, i) => least + 1 + i);
-    const rated = wider.map(step => [roundedArea(step, rows, kerf), step]).sort((a, b) => a[0] - b[0] || a[1] - b[1]);
-    for (const [, step] of rated)
-      if (steps.length < 3 && !isNear(step)) steps.push({step, why: tr`rounds up least`});
-  }
-  if (2 * least <= most && !isNear(2 * least)) steps.push({step: 2 * least, why: tr`twice the least`});
-  return steps;
-}
-
-// Where a tree had more pieces of a demand than are wanted, their places became rests: others may fill them better without
-// that demand. At most so many are left out in turn.
-const MAX_WITHOUT = 4;
-
-function demandsToLeaveOut({counts, dropped, demands}) {
-  return dropped && demands.length > 1 ? demands.filter(row => counts.get(row.demand) === leftOf(row)).slice(0, MAX_WITHOUT)
-                                       : [];
 }

@@ -90,8 +90,10 @@ function newMark() { return `${Date.now()}.${String(marks++).padStart(6, "0")}.$
 
 function timeOf(mark) { return Number(mark.split(".")[0]); }
 
+// last: the last number that the shop told for a terminal, or that was sent as it, while this tab alone sends.
 const sending = {
   busy: false,
+  last: null,
   timer: 0,
   dropping: new Set()
 };
@@ -100,6 +102,7 @@ async function sendKept() {
   if (sending.busy || !terminal.kept().length) return;
   clearTimeout(sending.timer);
   sending.busy = true;
+  sending.last = null;
   try {
     await alone(async () => {
       while (terminal.kept().length && await sendFirst())
@@ -133,6 +136,7 @@ async function sendFirst() {
     return running.run !== first.run;
   }
   const isDone = reply && status < 500;
+  if (reply?.refused !== undefined) sending.last = null;
   terminal.trouble = isDone ? "" : reply ? await refusalWords(reply) : strangeWords(status);
   if (isDone) await answered(first, reply);
   return isDone;
@@ -142,15 +146,22 @@ async function sendFirst() {
 // last number, so that what another tab sent before gets no second one. Nothing where it waits no more.
 async function numbered(message) {
   if (message.number) return message;
-  const {last} = await ask(`/terminal/${message.terminal}`);
-  const kept = terminal.kept(), waiting = kept.find(other => other.mark === message.mark);
+  const last = await lastNumber(message.terminal), kept = terminal.kept(), waiting = kept.find(other => other.mark === message.mark);
   if (!waiting || waiting.number) return waiting;
   if (waiting.terminal !== message.terminal) return undefined;
   if (sending.dropping.has(waiting.mark)) return forgetUnsent(waiting);
   waiting.number = Math.max(last, ...kept.map(other => other.number)) + 1;
   if (waiting.number > MAX_NUMBER) throw new NumbersSpent();
   terminal.keep(waiting);
+  sending.last = {terminal: waiting.terminal, number: waiting.number};
   return waiting;
+}
+
+// The last number of a terminal: the shop is asked where it isn't known from the message before.
+async function lastNumber(sender) {
+  if (sending.last?.terminal !== sender || !navigator.locks)
+    sending.last = {terminal: sender, number: (await ask(`/terminal/${sender}`)).last};
+  return sending.last.number;
 }
 
 function spentWords(number) {
@@ -351,7 +362,7 @@ function tellMany(many) {
     parts.push(tr`${names.length} refused (${names.join(", ")}): ${words}`);
   }
   tell(`${refused.length ? tr`Refused: ` : ""}${what}: ${parts.join("; ")}`, refused.length ? "refused" : "good",
-    view && done ? {words: tr`To the saw`, go: () => { location.hash = view; }} : null);
+    view && done ? {words: tr`To the saw`, go: () => go(addressOfView(view))} : null);
   whenManyOver.get(many)?.(told);
   whenManyOver.delete(many);
 }

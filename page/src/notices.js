@@ -1,35 +1,66 @@
 // ---- Notices: what was done, what was refused, what waits, and what is asked.
 
-// A notice of a success goes, once there was time to read it, with the next one or another view; a refusal stays until it
-// is closed.
-const READING = 6000, MOST_NOTICES = 5;
+// A notice of a success goes when there was time to read it, but not while the pointer or the focus is on it; a refusal stays
+// until it is closed. Two are shown, the newest and with it the newest refusal, and a button unfolds the others.
+const READING = 8000, LEAVING = 2000, SHOWN_NOTICES = 2;
+
+// isOpen: whether all are unfolded; told: how many notices there were; timer: when it is looked again which were read.
+const inNotices = {
+  isOpen: false,
+  told: 0,
+  timer: 0
+};
 
 function forgetRead() {
+  const now = Date.now(), goes = notice => Number(notice.dataset.goes);
   for (const notice of [...$("successes").children])
-    if (Date.now() - Number(notice.dataset.at) > READING) notice.remove();
+    if (notice.matches(":hover, :focus-within")) notice.dataset.goes = String(Math.max(goes(notice), now + LEAVING));
+    else if (now >= goes(notice)) notice.remove();
+  foldNotices();
+  clearTimeout(inNotices.timer);
+  const left = [...$("successes").children];
+  if (left.length) inNotices.timer = setTimeout(forgetRead, Math.max(200, Math.min(...left.map(goes)) - now));
 }
 
-// The newest comes first; where there are many, the oldest success goes.
+// Which notices are shown, and how many more there are.
+function foldNotices() {
+  const notices = [...$("lastNotice").querySelectorAll(".notice")].sort((a, b) => b.dataset.nth - a.dataset.nth);
+  const refusal = notices.findIndex(notice => notice.classList.contains("refused"));
+  if (refusal > 1) notices.splice(1, 0, ...notices.splice(refusal, 1));
+  const over = Math.max(0, notices.length - SHOWN_NOTICES), isOpen = inNotices.isOpen && over > 0;
+  inNotices.isOpen = isOpen;
+  notices.forEach((notice, i) => {
+    notice.hidden = !isOpen && i >= SHOWN_NOTICES;
+  });
+  const shown = [...$("lastNotice").querySelectorAll(".notice:not([hidden])")];
+  for (const notice of notices) notice.classList.toggle("last", notice === shown[shown.length - 1]);
+  $("lastNotice").classList.toggle("several", !isOpen && notices.length > 1);
+  $("moreNotices").hidden = !over;
+  $("moreNotices").setAttribute("aria-expanded", String(isOpen));
+  $("moreNotices").textContent = !over ? "" : isOpen ? tr`fewer` : tr`${over} more`;
+}
+
 function tell(words, how, link) {
-  const isRefused = how === "refused", holder = $(isRefused ? "refusals" : "successes");
-  if (!isRefused) forgetRead();
-  const button = (text, go) => el("button", {
+  const isRefused = how === "refused", holder = $(isRefused ? "refusals" : "successes"), now = Date.now();
+  const button = (text, go, given) => el("button", {
     class: "small",
-    text,
+    ...given,
     on: {
       click: () => {
         notice.remove();
+        foldNotices();
         go?.();
       }
     }
-  });
-  const notice = el("div", {class: `notice ${how}`, "data-at": String(Date.now())},
-    el("span", {text: `${isRefused ? "✗" : "✓"} ${words}`}), link ? button(link.words, link.go) : null, button(tr`Close`));
+  }, text);
+  const close = button("✕", null, {class: "small close", "aria-label": tr`Close`, title: tr`Close`});
+  const mark = isRefused ? "✗" : "✓";
+  const notice = el("div",
+    {class: `notice ${how}`, "data-nth": String(inNotices.told++), "data-goes": String(now + READING)},
+    el("span", {text: `${mark} ${words}`, title: words}), link ? button(link.words, link.go) : null, close);
   for (const same of [...holder.children].filter(other => other.textContent === notice.textContent)) same.remove();
   holder.prepend(notice);
-  const over = $("lastNotice").querySelectorAll(".notice").length - MOST_NOTICES;
-  const old = [...$("successes").children].filter(other => other !== notice).reverse();
-  for (const other of old.slice(0, Math.max(0, over))) other.remove();
+  forgetRead();
   bringUp(notice);
 }
 

@@ -1,10 +1,11 @@
 // ---- Which orders there are, and how many pieces of their lines are wanted.
 
-// lines: of orders all lines, as they were told last; seen: of open orders the open lines behind which these were read; read:
-// when the open lines were read last; turn: whose lines are read anew though nothing of them is seen to have changed; folds:
-// which orders a person opened or closed; typed: of demands the numbers that were typed; found: the order that was looked for;
+// sums: of open orders the sums over all their lines; lines: of orders that are unfolded all lines, as they were told last; seen: of
+// these the open lines behind which they were read; read: when the open lines were read last; turn: whose lines are read anew though
+// nothing of them is seen to have changed; folds: which orders a person opened or closed; typed: of demands the numbers that were typed; found: the order that was looked for;
 // sought: what is looked for; note: what came of that; isListed: whether the list of all was read.
 const inOrders = {
+  sums: new Map(),
   lines: new Map(),
   seen: new Map(),
   read: 0,
@@ -32,20 +33,44 @@ async function readOrders() {
     if (order && !open.has(order) && !await readIfThere(order)) inOrders.found = "";
 }
 
-// The open orders, each with all of its lines: these are read anew where an open one changed or isn't read, behind a pause, and
-// else in turn.
+// The open orders with their sums; of unfolded ones all lines, which are read anew where an open one changed or isn't read, behind a
+// pause, and else in turn.
 async function readOpenOrders() {
   const now = performance.now();
-  if (now - inOrders.read > 2 * PAUSE) inOrders.seen.clear();
-  const [rows, more] = await readPages("/demands/0", "demands", shop.orderPages, row => `/demands/${row.demand}`);
-  const orders = groupsOf(rows, row => row.order), turn = inOrders.turn++ % (orders.length || 1);
+  if (now - inOrders.read > 2 * LONGEST_PAUSE) inOrders.seen.clear();
+  const [rows, more] = await readPages("/demands/0", "demands", MOST_PAGES, row => `/demands/${row.demand}`);
   learnLines(rows);
-  for (const [i, open] of orders.entries()) {
-    const [{order}] = open, text = JSON.stringify(open), isPart = more && i === orders.length - 1;
-    if (isPart || i === turn || inOrders.seen.get(order) !== text) await readLines(order);
+  const orders = groupsOf(rows, row => row.order);
+  inOrders.sums = await readSums(orders.map(([{order}]) => order));
+  [shop.orders, shop.moreOrders] = [rows, more];
+  const shown = new Set(ordersToShow().filter(([, isOpen]) => isOpen).map(([row]) => row.order));
+  const unfolded = orders.filter(([{order}]) => shown.has(order)), turn = inOrders.turn++ % (unfolded.length || 1);
+  for (const [i, open] of unfolded.entries()) {
+    const [{order}] = open, text = JSON.stringify(open);
+    if (i === turn || inOrders.seen.get(order) !== text) await readLines(order);
     inOrders.seen.set(order, text);
   }
-  [shop.orders, shop.moreOrders, inOrders.read] = [rows, more, now];
+  inOrders.read = now;
+}
+
+// The sums of orders: the list of all is asked behind the greatest code below one that isn't told yet.
+async function readSums(codes) {
+  const sums = new Map();
+  let pages = 0;
+  for (const code of [...codes].sort()) {
+    if (sums.has(code) || pages++ >= MOST_PAGES) continue;
+    const below = codeBelow(code), {orders} = await askCalmly(below ? `/orders/${below}` : "/orders");
+    for (const row of orders) sums.set(row.order, row);
+  }
+  return sums;
+}
+
+const LETTERS = "-0123456789ABCDEFGHIJKLMNOPQRSTUVWXYZ";
+
+// The greatest code below this one.
+function codeBelow(code) {
+  const start = code.slice(0, -1), place = LETTERS.indexOf(code[code.length - 1]);
+  return place > 0 ? `${start}${LETTERS[place - 1]}`.padEnd(16, "Z") : start;
 }
 
 async function readLines(order, read = askCalmly) {
@@ -84,8 +109,8 @@ function showOrders() {
 
 // The orders of the list, and whether each is unfolded: few are at first.
 function ordersToShow() {
-  const open = [...new Set(shop.orders.map(row => row.order))].filter(order => inOrders.lines.has(order));
-  const rows = isFinishedToo() ? shop.allOrders : open.map(order => sumsOf(order, inOrders.lines.get(order)));
+  const open = [...new Set(shop.orders.map(row => row.order))].filter(order => inOrders.sums.has(order));
+  const rows = isFinishedToo() ? shop.allOrders : open.map(order => inOrders.sums.get(order));
   const isFew = !isFinishedToo() && rows.reduce((all, row) => all + row.lines, 0) <= MOST_OPEN;
   return rows.map(row => [row, inOrders.folds.get(row.order) ?? isFew]);
 }
@@ -96,7 +121,7 @@ function orderRows(rows, more) {
   return [
     quiet(tr`How many pieces of a line are wanted can be changed to more or fewer, down to what is made and reserved.`),
     ...rows.map(([row, isOpen]) => orderCard(row, isOpen, orderFold(row.order, isOpen), "")),
-    moreButton(more, isFinishedToo() ? "allOrderPages" : "orderPages")
+    isFinishedToo() ? moreButton(more, "allOrderPages") : andMore(more)
   ];
 }
 
@@ -219,7 +244,7 @@ async function cancel(what, rows) {
   if (!left.length) return tell(tr`${what}: nothing of it is left`, "refused");
   const words = [tr`${what}? ${count(left.reduce((all, row) => all + leftOf(row), 0), "piece")} fewer are wanted then.`];
   if (made + reserved) words.push(tr`${grouped(made)} made and ${grouped(reserved)} reserved stay wanted.`);
-  if (reserved) words.push(tr`To cancel what is reserved too, release its jobs first.`);
+  if (reserved) words.push(tr`To cancel what is reserved too, give its jobs back first.`);
   if (!await confirmed(words.join(" "), what)) return;
   const commands = left.map(({demand, line, made: done, reserved: kept}) =>
     [tr`line ${line}`, {demand, do: "amend", wanted: done + kept}]);
@@ -244,9 +269,15 @@ function findOrder(event) {
   if (!goToFault($("findForm"))) showOrder(text);
 }
 
+function forgetFound() {
+  Object.assign(inOrders, {found: "", sought: "", note: ""});
+  $("findOrder").value = "";
+}
+
 // Shows an order by its code or the number of its pieces wanted, unless another is looked for meanwhile.
 async function showOrder(text) {
   const told = {found: "", note: ""};
+  if ($("findOrder").value.trim().toUpperCase() !== text) $("findOrder").value = text;
   Object.assign(inOrders, {sought: text, found: "", note: "…"});
   showOrders();
   try {
@@ -254,9 +285,10 @@ async function showOrder(text) {
   } catch (error) { told.note = await faultWords(error); }
   if (inOrders.sought !== text) return;
   Object.assign(inOrders, told);
+  if (told.found && viewName() === "orders") go(`order/${told.found}`);
   showOrders();
   if (!told.found && !told.note) markField($("findOrder"), tr`“${text}” is no order's code and no number of pieces wanted`);
-  if (!goToFault($("findForm")) && window.innerWidth <= 1000) $("findForm").scrollIntoView({block: "center"});
+  if (!goToFault($("findForm")) && window.innerWidth < NARROW) $("findForm").scrollIntoView({block: "center"});
 }
 
 // The code of the order that has this code, or of which the pieces of this number are; or nothing.

@@ -21,26 +21,36 @@ function reserve() {
 }
 
 function sendReserve(part, tree, found = null) {
-  return send({do: "reserve", part, tree}, tr`Reserve ${part}`, ({job}) => reserved(part, tree, job, found));
+  return send({do: "reserve", part, tree}, tr`Reserve ${part}`, reply => reserved(part, tree, reply, found));
 }
 
 function sendReserves(parts, found) {
   const commands = parts.map(([part, tree]) => [tr`Reserve ${part}`, {do: "reserve", part, tree}]);
   return sendMany(tr`Reserve all of ${found.material.material}`, commands,
-    ({part, tree}, {job}) => reserved(part, tree, job, found), told => reservesOver(told, found), "saw");
+    ({part, tree}, reply) => reserved(part, tree, reply, found), told => reservesOver(told, found), "saw");
 }
 
-function reserved(part, tree, job, found) {
+function reserved(part, tree, {job, cuts}, found) {
   found?.jobs.set(part, job);
+  noteJob(part, tree, job, cuts);
   noteReserved(part, tree, job);
   showView();
 }
 
+// The plan of a job that was reserved here is known without a question.
+function noteJob(part, tree, job, cuts) {
+  const row = [...known.values()].flatMap(of => of.parts).find(other => other.part === part), material = materialOf(row?.material);
+  if (!material) return;
+  const {w, h} = row, told = {ok: "job", job, part, tree, cuts, state: "waiting", material: material.material, kerf: material.kerf, w, h};
+  toldJobs.set(`/job/${job}`, told);
+}
+
 // Some that were refused are told, and what is left is planned anew by one press.
 function reservesOver({refused}, found) {
+  const it = plansOf(found.material.material);
   found.refused = refused.map(([part]) => part);
-  if (toCut.found !== found || !refused.length) return showView();
-  toCut.note = tr`Not reserved: ${namesOf(found.refused.map(part => ({part})))}. The others are.`;
+  if (it.found !== found || !refused.length) return showView();
+  it.note = tr`Not reserved: ${namesOf(found.refused.map(part => ({part})))}. The others are.`;
   showView();
-  readLists();
+  readLists(it.code);
 }

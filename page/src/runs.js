@@ -40,19 +40,20 @@ function leaveRun() {
 // into the forms stays, and so does what waits.
 function forgetShop() {
   const {lines, totals, open, left, kindOfJob} = shop;
-  for (const known of [lines, totals, open, left, kindOfJob, toldJobs, halts, imports.before, inStock.wanted]) known.clear();
-  for (const known of ["lines", "seen", "typed"]) inOrders[known].clear();
-  Object.assign(shop, {isKnown: false, demands: [], orders: [], allOrders: [], parts: [], partsOf: "", jobs: []});
-  Object.assign(shop, {moreDemands: false, moreOrders: false, moreAllOrders: false, moreParts: false, moreJobs: false});
+  for (const it of [known, lines, totals, open, left, kindOfJob, toldJobs, halts, imports.before, inStock.wanted]) it.clear();
+  for (const it of ["sums", "lines", "seen", "typed"]) inOrders[it].clear();
+  Object.assign(shop, {isKnown: false, orders: [], allOrders: [], jobs: []});
+  Object.assign(shop, {moreOrders: false, moreAllOrders: false, moreJobs: false});
   Object.assign(inOrders, {read: 0, found: "", sought: "", note: "", isListed: false});
   Object.assign(atSaw, {plans: new Map(), told: null, opening: 0, breaking: false, lost: null, canvas: null});
-  for (const id of ["traceWords", "tracePicture"]) $(id).replaceChildren();
-  traced.chain = owner.report = imports.last = held.target = null;
+  forgetTrace();
+  owner.report = imports.last = held.target = null;
   shop.changes++;
   refresh.lost = true;
-  forgetPlans();
+  for (const code of [...plansByMaterial.keys()]) forgetPlans(code);
   drawAllAnew();
   if ($("confirm").open) $("confirmNo").click();
+  followAddress();
   showView();
   refreshNow();
 }
@@ -159,7 +160,7 @@ function doubtRows(messages) {
       ...groups.length > 1 ? doubtButtons("all", messages, tr`Send all`, tr`Throw all away`, "") : []),
     ...groups.map(same => {
       const [{mark, many, what}] = same, words = many ? storage.read(MANY_KEPT + many, {what}).what : what;
-      const typed = tr`${words}, typed ${new Date(timeOf(mark)).toLocaleString()}`;
+      const typed = tr`${words}, typed ${timeText(timeOf(mark))}`;
       return el("div", {class: "waiting"}, el("span", {text: typed}), ...doubtButtons(mark, same, tr`Send`, tr`Throw away`, words));
     })
   ];

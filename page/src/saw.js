@@ -1,7 +1,8 @@
 // ---- At the saw.
 
 // told: the job that is shown, with its plan; opening: the number that was asked for last; plans: of waiting jobs that may be
-// equal, each job's plan.
+// equal, each job's plan; isListed: whether the list of jobs is unfolded where it lies above the ticket; deaf: until when *Done*
+// takes no press.
 const atSaw = {
   plans: new Map(),
   job: 0,
@@ -9,8 +10,13 @@ const atSaw = {
   opening: 0,
   breaking: false,
   lost: null,
-  canvas: null
+  canvas: null,
+  isListed: false,
+  deaf: 0
 };
+
+// Behind *One done* the next job opens, and a second press of the same hand is none of it.
+const DEAF = 1000;
 
 // The halts of broken jobs: what this visit sent, and what traces told.
 const halts = new Map();
@@ -65,41 +71,88 @@ function kindOfPlan(row, tree = atSaw.plans.get(row.job)) {
 }
 
 function showSaw() {
-  const kinds = groupsOf(waitingJobs(), row => kindOfPlan(row));
-  fill($("jobList"), [kinds, atSaw.job, shop.moreJobs, shop.materials],
-    () => [...kinds.flatMap(rows => rows.map((row, i) => jobRow(row, i ? 0 : rows.length))),
-      ...(kinds.length ? [] : [quiet(tr`No job waits.`), opener("tocut", tr`Plan one`)]), moreButton(shop.moreJobs, "jobPages")]);
-  $("printWaiting").disabled = !kinds.length;
+  const rows = waitingJobs(), kinds = groupsOf(rows, row => kindOfPlan(row)).sort((a, b) => byMaterial(a[0], b[0]));
+  const plans = kinds.map(([row]) => planOfJob(row));
+  fill($("jobList"), [kinds, plans, atSaw.job, shop.moreJobs, shop.materials],
+    () => [...kinds.map(jobRow), ...(kinds.length ? [] : [quiet(tr`No job waits.`), opener("tocut", tr`Plan`)]),
+      moreButton(shop.moreJobs, "jobPages")]);
+  $("jobsWords").textContent = `${rows.length}${shop.moreJobs ? "+" : ""}`;
+  $("labelWaiting").disabled = $("printWaiting").disabled = !kinds.length;
+  foldJobs();
   showJob();
 }
 
-// A waiting job; the first of several with the same plan says how many there are.
-function jobRow(row, same) {
-  const isShown = row.job === atSaw.job;
+function byMaterial(a, b) { return a.material < b.material ? -1 : a.material > b.material ? 1 : a.job - b.job; }
+
+// The list lies above the ticket where there is no room beside it: there it is folded while a ticket is shown.
+function foldJobs() {
+  const isNarrow = window.innerWidth < NARROW, isOpen = !isNarrow || !atSaw.told || atSaw.isListed;
+  $("jobsFold").tabIndex = isNarrow ? 0 : -1;
+  $("jobsPanel").classList.toggle("folds", isNarrow);
+  if ($("jobsPanel").open !== isOpen) $("jobsPanel").open = isOpen;
+}
+
+// What is known of a waiting job's plan.
+function planOfJob({job}) { return atSaw.plans.get(job) || toldJobs.get(`/job/${job}`)?.tree || ""; }
+
+// Waiting jobs of one plan, as one row: what it cuts, how often, and which jobs these are.
+function jobRow(rows) {
+  const [row] = rows, isShown = rows.some(({job}) => job === atSaw.job), plan = planWords(row, planOfJob(row));
+  const many = rows.length > 1 ? `${rows.length} × ` : "", jobs = rows.map(({job}) => job);
   return el("button", {
     class: `row${isShown ? " chosen" : ""}`,
     "data-key": `j${row.job}`,
     "aria-pressed": String(isShown),
-    on: {click: () => openJob(row.job)}
+    on: {click: () => openJob(isShown ? atSaw.job : row.job)}
   },
-    el("div", {}, same > 1 ? el("div", {class: "same", text: tr`${same} × the same`}) : null, el("b", {text: tr`Job ${row.job}`}),
-      el("span", {class: "tag", text: count(row.cuts, "cut")}),
-      el("div", {text: row.material}),
-      el("div", {class: "quiet", text: `${row.part}, ${sizeText(kindOf(row.material), row.w, row.h)}`})));
+    el("div", {}, el("b", {text: `${many}${plan}`}),
+      el("div", {class: "quiet", text: `${row.material}, ${jobs.length > 1 ? tr`jobs ${rangesOf(jobs)}` : tr`job ${row.job}`}`})));
+}
+
+// Numbers that rise, those that follow one another as a range.
+function rangesOf(numbers) {
+  const runs = [];
+  for (const number of [...numbers].sort((a, b) => a - b)) {
+    const run = runs[runs.length - 1];
+    if (run && run.last === number - 1) run.last = number;
+    else runs.push({first: number, last: number});
+  }
+  return runs.map(({first, last}) => first === last ? String(first) : tr`${first} to ${last}`).join(", ");
+}
+
+// A plan in a line: of a bar its pieces as they come from the saw, of a sheet how many; without one its cuts.
+function planWords({material, w, h, cuts}, tree) {
+  const kind = kindOf(material), size = sizeText(kind, w, h).replace("\u00a0mm", "");
+  if (!tree) return `${size}: ${count(cuts, "cut")}`;
+  const pieces = nodesOf(readPlan(tree, w, h, materialOf(material)?.kerf || 0)).filter(node => node.kind === "piece");
+  return kind === "bar" ? `${size}: ${pieces.map(node => mm(node.w)).join(" | ")}` : `${size}: ${count(pieces.length, "piece")}`;
+}
+
+// The waiting jobs that have the plan of a job, by rising number.
+function sameJobs(told) {
+  const same = shop.jobs.filter(row => row.job !== told.job && kindOfPlan(row) === kindOfPlan(told, told.tree));
+  return [...same.map(({job}) => job), told.job].sort((a, b) => a - b);
 }
 
 // Opens a job that somebody chose. What is shown stays where there is no such job, or no answer.
 async function openJob(job) {
   atSaw.opening = job;
-  if (location.hash !== "#saw") location.hash = "saw";
+  if (viewName() !== "saw") go(`saw/${job}`);
   let told = null, fault = "";
   try {
     told = await readJob(job, ask);
   } catch (error) { fault = isRefused(error, 70) ? noJobWords(job) : tr`Job ${job}: ${await faultWords(error)}.`; }
   if (atSaw.opening !== job) return;
+  atSaw.opening = 0;
   showFault("jobFault", fault);
-  if (!told) return;
+  if (!told) {
+    atSaw.isListed = true;
+    if (viewName() === "saw") settle(addressOfView("saw"));
+    return showSaw();
+  }
+  atSaw.isListed = false;
   takeJob(told);
+  if (viewName() === "saw") go(`saw/${job}`);
   showSaw();
   faceJob();
   refreshNow();
@@ -109,10 +162,9 @@ function isRefused(error, number) { return error instanceof Refused && error.rep
 
 function noJobWords(job) { return tr`There is no job ${job}.`; }
 
-// Brings the ticket's head in sight, and its row in a list that lies across.
+// Brings the ticket's head in sight.
 function faceJob() {
-  const {top} = $("jobTitle").getBoundingClientRect(), list = $("jobList"), row = list.querySelector(".chosen");
-  if (row) list.scrollLeft += row.getBoundingClientRect().left - list.getBoundingClientRect().left - 40;
+  const {top} = $("jobTitle").getBoundingClientRect();
   $("jobTitle").focus({preventScroll: true});
   if (top < $("top").offsetHeight || top > window.innerHeight / 2) $("jobTitle").scrollIntoView();
 }
@@ -123,11 +175,14 @@ async function readShown() {
   if (!job) return;
   try {
     const told = await readJob(job);
-    if (atSaw.job === shown) takeJob(told);
+    if (atSaw.job !== shown) return;
+    takeJob(told);
+    if (readAddress().word === "saw" && !readAddress().of) settle(`saw/${job}`);
   } catch (error) {
     if (!isRefused(error, 70) || atSaw.job !== shown) throw error;
     Object.assign(atSaw, {job: 0, told: null});
     showFault("jobFault", noJobWords(job));
+    if (readAddress().word === "saw") settle("saw");
   }
   if (atSaw.told?.state !== "broken" || halts.has(keyOf(atSaw.told))) return;
   showView();
@@ -199,13 +254,17 @@ function showJob() {
   $("jobPanel").hidden = !told;
   if (!told) return;
   const work = workOf(told), {isWaiting, halt, made} = work;
+  const same = isWaiting ? sameJobs(told) : [told.job];
   const shown = [
-    keyOf(told), work.state, work.sent, atSaw.breaking, [...made], halt && [halt.lost, [...halt.scrapped || []]],
+    same, keyOf(told), work.state, work.sent, atSaw.breaking, [...made], halt && [halt.lost, [...halt.scrapped || []]],
     $("jobPicture").clientWidth, limitsOf(told)
   ];
   $("jobTitle").textContent = tr`Job ${told.job}${isWaiting ? "" : `, ${stateWords(work)}`}: ${told.material}, part ${told.part}`;
   $("jobWords").textContent = jobWords(work);
   $("jobButtons").hidden = atSaw.breaking;
+  $("done").textContent = same.length > 1 ? tr`One done` : tr`Done`;
+  $("allDone").textContent = tr`All ${same.length} done`;
+  $("allDone").hidden = same.length < 2;
   for (const id of ["done", "release"]) $(id).hidden = !isWaiting;
   $("startBreak").hidden = !isWaiting || !told.root.cuts;
   $("nextJob").hidden = !jobBehind();
@@ -213,7 +272,8 @@ function showJob() {
   $("tickWords").textContent =
     atSaw.breaking || !isWaiting ? "" : tr`Click a cut to tick it off. Ticks stay in this browser.`;
   fill($("jobFigures"), shown, () => jobFigures(work));
-  fill($("jobPieces"), shown, () => jobPieces(work));
+  fill($("nextCut"), shown, () => nextCut(work));
+  fill($("jobPieces"), shown, () => jobPieces(work, same));
   fill($("cutList"), shown, () => cutsOf(told.root).map(cut => el("li", {}, cutRow(cut, work))));
   fill($("jobSheet"), shown, () => jobSheet(work));
   fill($("jobPicture"), shown, () => []);
@@ -246,7 +306,7 @@ const STATES = {
   waiting: tr`waits`,
   done: tr`done`,
   broken: tr`broken off`,
-  released: tr`released`
+  released: tr`given back`
 };
 
 // The state to which a message brings its job.
@@ -260,7 +320,7 @@ function stateWords({state, sent}) { return `${STATES[state]}${sent ? tr`, unans
 
 function jobWords({told, sent, state, isPlan}) {
   if (sent) return tr`The message waits for its answer.`;
-  if (state === "released") return tr`The job was released: nothing was cut, and part ${told.part} was given back as it was.`;
+  if (state === "released") return tr`The job was given back: nothing was cut, and part ${told.part} stands as it was.`;
   if (isPlan) return tr`The work was broken off. What was cut is being asked for; until then this is what was planned.`;
   return state === "broken" ? tr`The work was broken off: this is what was cut, and what was left.` : "";
 }
@@ -275,9 +335,19 @@ function jobFigures(work) {
   ];
 }
 
+// The first cut that isn't ticked, to be ticked where the hand is.
+function nextCut(work) {
+  if (!work.isWaiting || atSaw.breaking || !work.told.root.cuts) return [];
+  const cuts = cutsOf(work.told.root), cut = cuts.find(it => !work.made.has(it.cut));
+  if (!cut) return [quiet(tr`All ${cuts.length} cuts are ticked.`)];
+  const row = cutRow(cut, work);
+  row.dataset.key = "next cut";
+  return [el("h3", {text: tr`Next: cut ${cut.cut + 1} of ${cuts.length}`}), row];
+}
+
 // Whose the pieces are, and which rests are kept under which name.
-function jobPieces({told, boxes}) {
-  return piecesTable(told.kind, boxes, box => tr`kept: label it ${namesIn(told, box)}`);
+function jobPieces({told, boxes}, jobs = told.jobs) {
+  return piecesTable(told.kind, boxes, box => tr`kept: label it ${namesIn({...told, ...jobs ? {jobs} : {}}, box)}`);
 }
 
 function piecesTable(kind, boxes, restWords) {
@@ -408,7 +478,7 @@ function canBreak(made) { return (made.size > 0 || atSaw.lost !== null) && made.
 function breakWords(made) {
   const {told, lost} = atSaw, {root, kind} = told;
   if (made.size === root.cuts) return tr`All cuts are marked as made: the job is done, not broken.`;
-  if (!canBreak(made)) return tr`No cut is marked yet. If none was begun, release the job instead.`;
+  if (!canBreak(made)) return tr`No cut is marked yet. If none was begun, give the job back instead.`;
   const cells = cellsByFate(layPlan(root, limitsOf(told), {made, lost}));
   const wrong = lost === null ? tr`none went wrong` : tr`cut ${lost + 1} went wrong`;
   const left = leftWords(kind, cells.piece, cells.kept, cells.kerf, cells.scrap + cells.lost);
@@ -423,12 +493,29 @@ function setBreaking(isOn) {
 }
 
 async function finish() {
+  if (performance.now() < atSaw.deaf) return;
   const {told} = atSaw, made = ticks.of(told.job).size, all = told.root.cuts;
   const words = made && made < all
     ? tr`Only ${made} of ${count(all, "cut")} are ticked. Were all made? A job that is done stays done.`
     : tr`Job ${told.job}: ${all === 1 ? tr`the cut was` : tr`all ${all} cuts were`} made? A job that is done stays done.`;
   if (await confirmed(words, tr`Done`, made && made < all ? "no" : "yes"))
     endJob(told, {do: "done", job: told.job}, tr`Job ${told.job} done`);
+}
+
+// All waiting jobs of one plan are done, after one question.
+async function finishAll() {
+  const {told} = atSaw, jobs = sameJobs(told), what = tr`Jobs ${rangesOf(jobs)} done`;
+  const words = tr`All ${jobs.length} jobs of this plan, ${rangesOf(jobs)}: were all their cuts made? A job that is done stays done.`;
+  if (!await confirmed(words, tr`All ${jobs.length} done`)) return;
+  const isHere = command => atSaw.told?.job === command.job;
+  sendMany(what, jobs.map(job => [tr`Job ${job} done`, {do: "done", job}]), command => {
+    ticks.forget(command.job);
+    toldJobs.delete(`/job/${command.job}`);
+    if (isHere(command)) atSaw.told = {...atSaw.told, state: "done"};
+    showView();
+  });
+  showView();
+  faceJob();
 }
 
 function sendBreak() {
@@ -438,16 +525,16 @@ function sendBreak() {
 
 async function release() {
   const {told} = atSaw;
-  if (await confirmed(releaseWords(told), tr`Release`))
-    endJob(told, {do: "release", job: told.job}, tr`Release job ${told.job}`);
+  if (await confirmed(releaseWords(told), tr`Give back`))
+    endJob(told, {do: "release", job: told.job}, tr`Give back job ${told.job}`);
 }
 
 function releaseWords({job, part, root}) {
   const made = ticks.of(job).size;
-  if (!made) return tr`Release job ${job}, of which no cut was made? Its part ${part} stands again, as it was.`;
+  if (!made) return tr`Give back job ${job}, of which no cut was made? Its part ${part} stands again, as it was.`;
   const marked = tr`${made} of ${count(root.cuts, "cut")} ${made === 1 ? "is" : "are"} marked as made`;
   const other = made === root.cuts ? tr`Done` : tr`Broken off…`;
-  return tr`${marked}, and “${other}” is for that. Release job ${job} all the same, as if part ${part} was never cut?`;
+  return tr`${marked}, and “${other}” is for that. Give back job ${job} all the same, as if part ${part} was never cut?`;
 }
 
 // Sends what ends a job. From then on nothing on the ticket ends it a second time, unless the shop refuses.
@@ -468,7 +555,9 @@ function endJob(told, command, what) {
 // Opens the next waiting job with the plan of one that was done, where the saw is still looked at.
 function openSame(told) {
   const next = waitingJobs().find(row => row.job !== told.job && kindOfPlan(row) === kindOfPlan(told, told.tree));
-  if (next && viewName() === "saw") openJob(next.job);
+  if (!next || viewName() !== "saw") return;
+  atSaw.deaf = performance.now() + DEAF;
+  openJob(next.job);
 }
 
 function showAnyJob(event) {

@@ -8,82 +8,116 @@ const MAX_KINDS = 100, MAX_PARTS = 1000, MAX_BAR = 150000;
 // A remnant costs so many hundredths of a unit of its size, so that what lies on the rack goes first.
 const REMNANT_COST = 90;
 
-function planAll() { return planOrder(""); }
+function planAll() { return planOrder(); }
 
 function planAlone(part) {
   $("planTitle").focus({preventScroll: true});
-  return planOrder(part);
+  return planOrder({part});
 }
 
-async function planOrder(part, buy = null) {
-  forgetPlans();
-  const planning = toCut.planning = new AbortController(), row = shop.parts.find(other => other.part === part);
-  Object.assign(toCut, {part, like: row ? likenessOf(row) : "", waits: shop.promisedParts.size > 0});
+// Plans one order alone; what is left out or taken in besides stays as it is.
+function planOnly(only) {
+  $("planTitle").focus({preventScroll: true});
+  return planOrder({only});
+}
+
+// Plans what was planned once more, as it is left and stands by now.
+function planAgain() {
+  const {part, only, found} = toCut;
+  return planOrder({part: found?.asked.part || part, only, buy: found?.asked.buy});
+}
+
+async function planOrder({part = "", only = "", buy = null, code = shop.material} = {}) {
+  forgetPlans(code);
+  const it = plansOf(code), planning = it.planning = new AbortController(), row = knownOf(code).parts.find(other => other.part === part);
+  Object.assign(it, {part, only, like: row ? likenessOf(row) : "", waits: shop.promisedParts.size > 0});
   showToCut();
-  if (!await promisesKept(planning)) return;
-  await readLists();
-  if (planning === toCut.planning) await searchPlans(planning, {part, buy}, roundAfter(0), part ? TIME_ALONE : PLAN_TIME);
+  if (!await promisesKept(it, planning)) return;
+  await readLists(code);
+  if (planning === it.planning) await searchPlans(it, planning, {code, part, only, buy}, roundAfter(code, 0), part ? TIME_ALONE : PLAN_TIME);
 }
 
 // What is planned has to be known as it is now; where it can't be read the question itself will tell.
-async function readLists() {
-  for (const read of [readDemands, readParts]) await read().catch(() => {});
+async function readLists(code) {
+  for (const read of [readDemands, readParts]) await read(code).catch(() => {});
   if (viewName() === "tocut") showView();
 }
 
 // Waits for the answers to what was reserved before, on which a plan hangs; false where it is stopped meanwhile.
-async function promisesKept(planning) {
+async function promisesKept(it, planning) {
   while (shop.promisedParts.size && !planning.signal.aborted) {
     await pause(50);
     notePromised();
   }
-  if (planning !== toCut.planning) return false;
-  toCut.waits = false;
-  if (planning.signal.aborted) toCut.planning = null;
+  if (planning !== it.planning) return false;
+  it.waits = false;
+  if (planning.signal.aborted) it.planning = null;
   showToCut();
   return !planning.signal.aborted;
 }
 
-async function searchPlans(planning, asked, calls, time) {
-  const begun = performance.now(), late = Number.isFinite(time) && setTimeout(() => toCut.found && planning.abort(), time);
-  let early = null;
-  while (calls) {
-    const from = performance.now(), told = await askPlans(asked, calls, planning.signal);
-    if (told) await learnPieces(told.reply);
-    if (planning !== toCut.planning) return clearTimeout(late);
-    if (!told) break;
-    const next = roundAfter(calls);
-    early = !toCut.found && isEarly(told.reply) && next ? told : null;
-    if (!early) takePlans(asked, told, calls);
-    showToCut();
-    const isOver = !early && (toCut.found.proved || (asked.part && calls > CALLS_ALONE));
-    calls = isOver ? 0 : early ? next : nextCalls(calls, performance.now() - from, begun + time - performance.now());
-  }
-  clearTimeout(late);
-  if (early) takePlans(asked, early, calls);
-  toCut.planning = null;
-  showToCut();
-  sayPlans();
-  if (window.innerWidth <= 1000 && shownPlans().length) $("planTitle").scrollIntoView();
+// A question names at most MAX_KINDS demands. Of more the next ones get a question of their own, and the parts that are left.
+async function searchPlans(it, planning, asked, calls, time) {
+  const goes = [], chosen = chosenDemands(asked.code, asked.only).map(row => row.demand);
+  do {
+    const from = goes.length * MAX_KINDS, taken = new Set(goes.flatMap(go => go.plans.flatMap(plan => plan.parts)));
+    const named = {...asked, demands: chosen.slice(from, from + MAX_KINDS), taken};
+    if (!await searchGo(it, planning, named, goes, goes.length, calls, time)) break;
+  } while (goes.length * MAX_KINDS < chosen.length && !planning.signal.aborted);
+  if (planning === it.planning) searchOver(it);
 }
 
-function roundAfter(calls) { return ROUNDS[kindOf(shop.material)].find(round => round > calls) || 0; }
+function searchOver(it) {
+  const isShown = it.code === shop.material;
+  it.planning = null;
+  if (it.found?.missing.length && !it.part && isShown) $("buyPanel").open = true;
+  showToCut();
+  if (isShown) sayPlans();
+  if (isShown && window.innerWidth < NARROW && viewName() === "tocut" && shownPlans().length) $("planTitle").scrollIntoView();
+}
+
+// Searches for the plans of one question, and puts what it found at this place; false where it found none or another search began.
+async function searchGo(it, planning, asked, goes, place, calls, time) {
+  const begun = performance.now(), stop = new AbortController(), {code} = asked;
+  planning.signal.addEventListener("abort", () => stop.abort());
+  const late = Number.isFinite(time) && setTimeout(() => goes[place] && stop.abort(), time);
+  let early = null;
+  while (calls && !planning.signal.aborted) {
+    const from = performance.now(), told = await askPlans(it, asked, calls, stop.signal);
+    if (told) await learnPieces(told.reply);
+    if (planning !== it.planning || !told) break;
+    const next = roundAfter(code, calls);
+    early = !goes[place] && isEarly(told.reply) && next ? told : null;
+    if (!early) takePlans(it, asked, goes, place, told, calls);
+    showToCut();
+    const isOver = !early && (goes[place].proved || (asked.part && calls > CALLS_ALONE));
+    calls = isOver ? 0 : early ? next : nextCalls(code, calls, performance.now() - from, begun + time - performance.now());
+  }
+  clearTimeout(late);
+  if (planning !== it.planning) return false;
+  if (early) takePlans(it, asked, goes, place, early, calls);
+  return Boolean(goes[place]);
+}
+
+function roundAfter(code, calls) { return ROUNDS[kindOf(code)].find(round => round > calls) || 0; }
 
 // Whether the search hadn't come to plans of its own yet: what it couldn't leave open fills the units piece by piece.
 function isEarly({bound, missing}) { return bound === 0 && missing.length > 0; }
 
 // How long the next search may be, or 0 where no longer one comes to its end in the time that is left.
-function nextCalls(calls, took, left) {
-  const fit = Math.floor(calls * left * 0.8 / took), next = Math.min(roundAfter(calls), fit);
+function nextCalls(code, calls, took, left) {
+  const fit = Math.floor(calls * left * 0.8 / took), next = Math.min(roundAfter(code, calls), fit);
   return next >= 1.5 * calls ? next : 0;
 }
 
 // Searches on from what was found, as long as it takes, for what is left and stands by now.
 async function searchOn() {
-  const planning = toCut.planning = new AbortController(), {asked} = toCut.found;
+  const it = plansOf(), planning = it.planning = new AbortController(), {asked, goes} = it.found;
   showToCut();
-  await readLists();
-  if (planning === toCut.planning) await searchPlans(planning, asked, MOST_CALLS, Infinity);
+  await readLists(it.code);
+  const demands = chosenDemands(it.code, asked.only).map(row => row.demand);
+  if (planning !== it.planning || !await searchGo(it, planning, {...asked, demands}, goes.slice(), 0, MOST_CALLS, Infinity)) return;
+  searchOver(it);
 }
 
 function stopPlan() {
@@ -91,19 +125,14 @@ function stopPlan() {
   $("stopPlan").disabled = true;
 }
 
-// A glass table or a panel saw cuts sheets in at most so many runs of parallel cuts.
-const MOST_STAGES = 4;
-
-// What is asked: all, or where something is left out what isn't. Parts are named, so that what is found is known to be of these,
-// unless there are more than are known.
-function plansQuestion({part, buy}, calls) {
-  const query = {ask: "plans", calls, material: shop.material}, stock = freeParts();
-  if (kindOf(shop.material) !== "bar") query.stages = MOST_STAGES;
-  const open = demandsToCut().filter(row => leftOf(row) > 0), chosen = open.filter(row => !isLeftOut(row));
-  if (chosen.length < open.length) query.demands = chosen.slice(0, MAX_KINDS).map(row => row.demand);
+// What is asked: the demands and the parts are named, so that what is found is known to be of these; parts aren't where there are
+// more than are known.
+function plansQuestion({code, part, buy, demands, taken = new Set()}, calls) {
+  const query = {ask: "plans", calls, demands, material: code}, stock = freeParts(code), {moreParts} = knownOf(code);
+  if (kindOf(code) !== "bar" && stagesOf(code)) query.stages = stagesOf(code);
   if (part) query.parts = [part];
-  else if (!shop.moreParts || shop.partsGoing.size || stock.some(isPartOut))
-    query.parts = partNames(stock.filter(row => !isPartOut(row)));
+  else if (!moreParts || shop.partsGoing.size || taken.size || stock.some(isPartOut))
+    query.parts = partNames(stock.filter(row => !isPartOut(row) && !taken.has(row.part)));
   if (buy) query.buy = [buy];
   return query;
 }
@@ -120,16 +149,16 @@ function answerOf({parts, buy, material}, {plans, missing}) {
 function partNames(parts) { return parts.slice(0, MAX_PARTS).map(row => row.part); }
 
 // The parts of which plans may be made.
-function freeParts() {
-  const isBar = kindOf(shop.material) === "bar";
-  return shop.parts.filter(row => isFree(row) && !(isBar && row.w > MAX_BAR));
+function freeParts(code = shop.material) {
+  const isBar = kindOf(code) === "bar";
+  return knownOf(code).parts.filter(row => isFree(row) && !(isBar && row.w > MAX_BAR));
 }
 
 // So often a question is asked again, each time without the parts that another terminal took just now.
 const MAX_AGAIN = 5;
 
 // The shop's answer with what it is of, or nothing where it was stopped or refused.
-async function askPlans(asked, calls, signal, again = MAX_AGAIN) {
+async function askPlans(it, asked, calls, signal, again = MAX_AGAIN) {
   const query = plansQuestion(asked, calls);
   try {
     const reply = await ask("/plans", {body: JSON.stringify(query), patience: 600000, signal, beside: true});
@@ -137,10 +166,10 @@ async function askPlans(asked, calls, signal, again = MAX_AGAIN) {
   } catch (error) {
     if (signal.aborted) return null;
     if (again && !asked.part && (isRefused(error, 50) || isRefused(error, 51))) {
-      await readLists();
-      return askPlans(asked, calls, signal, again - 1);
+      await readLists(asked.code);
+      return askPlans(it, asked, calls, signal, again - 1);
     }
-    toCut.fault = tr`No plan came: ${await faultWords(error)}.`;
+    it.fault = tr`No plan came: ${await faultWords(error)}.`;
     return null;
   }
 }
@@ -152,36 +181,30 @@ async function learnPieces({plans, missing}) {
     if (!shop.lines.has(demand)) await ask(`/demand/${demand}`).then(row => learnLines([row]), () => {});
 }
 
-// Takes what was found where it is better than what is shown; a bound holds also beside other plans. What is shown counts only
-// where both are of the same pieces and parts: else it goes.
-function takePlans(asked, {reply, of}, calls) {
-  const material = materialOf(shop.material), old = of !== null && toCut.found?.of === of ? toCut.found : null;
-  const plans = reply.plans.map(plan => foundPlan(plan, material));
+// Takes what was found where it is better than what is shown: plans, bound and what is proved are one answer's own. What is shown
+// counts only where both are of the same pieces and parts: else it goes.
+function takePlans(it, asked, goes, place, {reply, of}, calls) {
+  const material = materialOf(asked.code), old = of !== null && goes[place]?.of === of ? goes[place] : null;
   const isWorse =
     old && (piecesOf(old.missing) - piecesOf(reply.missing) || old.cost - reply.cost || reply.rest - old.rest) < 0;
-  const bound = Math.max(reply.bound, old?.bound || 0), best = isWorse ? old : {...reply, plans};
-  toCut.found = {
-    ...best,
-    asked,
-    of,
-    material,
-    calls,
-    bound,
-    proved: !best.missing.length && best.cost === bound,
-    sizes: sizesOfStock(asked),
-    jobs: new Map(),
-    refused: [],
-    sent: null
-  };
-  if (asked.part) toCut.tried = best.plans.slice(0, 1).map(plan => triedPlan(plan, asked.part, reply.step));
-  if (best.missing.length && !asked.part) $("buyPanel").open = true;
+  const best = isWorse ? old : {...reply, plans: reply.plans.map(plan => foundPlan(plan, material))};
+  goes[place] = {...best, of, calls};
+  it.found = {...foundBy(goes), asked, of, material, goes, calls, sizes: sizesOfStock(asked), jobs: new Map(), refused: [], sent: null};
+}
+
+// What several questions found, one behind another: nothing is known of all together but what they take.
+function foundBy(goes) {
+  if (goes.length === 1) return goes[0];
+  const all = key => goes.flatMap(go => go[key]), sum = key => goes.reduce((so, go) => so + go[key], 0);
+  return {plans: all("plans"), missing: all("missing"), cost: sum("cost"), bound: 0, proved: false, short: goes.some(go => go.short)};
 }
 
 // A plan with its parts: whether they are remnants, and what it is made of.
 function foundPlan(plan, material) {
-  const part = shop.parts.find(row => row.part === plan.parts[0]);
+  const part = knownOf(material.material).parts.find(row => row.part === plan.parts[0]);
   return {
     ...plan,
+    part: plan.parts[0],
     material,
     isRest: Boolean(part && isRemnant(part)),
     root: readPlan(plan.tree, plan.w, plan.h, material.kerf),
@@ -189,18 +212,9 @@ function foundPlan(plan, material) {
   };
 }
 
-// A plan that was found for one part, to stand beside those by steps.
-function triedPlan(plan, part, step) {
-  const {root, counts, material} = plan, demands = chosenDemands().filter(row => fitsPart(row, plan));
-  const worthOf = demand => demands.find(row => row.demand === demand)?.worth || 0;
-  const worth = [...counts].reduce((sum, [demand, pieces]) => sum + worthOf(demand) * pieces, 0);
-  const trims = material.kind === "bar" ? [] : trimsOf(root, step);
-  return {...plan, key: "found", step, why: "", without: 0, dropped: 0, part, demands, worth, trims};
-}
-
 // What the sizes of a question's stock cost, each once: sides, whether of a remnant, cost.
-function sizesOfStock({part, buy}) {
-  const parts = part ? shop.parts.filter(row => row.part === part) : freeParts().filter(row => !isPartOut(row));
+function sizesOfStock({code, part, buy}) {
+  const parts = part ? knownOf(code).parts.filter(row => row.part === part) : freeParts(code).filter(row => !isPartOut(row));
   const sizes = new Map(parts.map(row => [`${row.w} ${row.h} ${isRemnant(row)}`,
     {w: row.w, h: row.h, isRest: isRemnant(row), cost: row.w * row.h * (isRemnant(row) ? REMNANT_COST : 100)}]));
   if (buy) sizes.set(`${buy.w} ${buy.h} false`, {...buy, isRest: false, cost: buy.w * buy.h * 100});
@@ -231,12 +245,15 @@ function boundOf({sizes, cost, bound, material: {kind}}) {
   return {isOne, cost: text(cost), bound: text(bound), hasRests: sizes.some(size => size.isRest)};
 }
 
-// How far the search is: “9 sheets, at least 8”.
-function progressNow(found) {
+// How far the search is: “9 sheets so far, 4 pieces not placed yet”; what it came to is told at its end alone: “9 sheets, at least 8”.
+function progressNow(found, isSearching = false) {
   const {missing, proved, asked} = found, used = usedWords(found), {isOne, cost, bound} = boundOf(found);
-  if (asked.part) return tr`${count(countOf(shownPlans()), "piece")} of this part`;
-  if (missing.length) return tr`${used}, ${count(piecesOf(missing), "piece")} missing`;
+  if (asked.part) return tr`${count(countOf(found.plans), "piece")} of this part`;
+  const pieces = missing.length ? count(piecesOf(missing), "piece") : "";
+  if (isSearching) return pieces ? tr`${used} so far, ${pieces} not placed yet` : tr`${used} so far`;
+  if (pieces) return tr`${used}, ${pieces} missing`;
   if (proved) return tr`${used}: proved best`;
+  if (found.goes.length > 1) return used;
   return isOne ? tr`${used}, at least ${bound}` : tr`${used}: ${cost}, at least ${bound}`;
 }
 
@@ -246,13 +263,13 @@ function countOf(plans) {
   return plans.reduce((sum, plan) => sum + inOne(plan) * unitsOf(plan), 0);
 }
 
-// What the bound says.
+// What the bound says, once the search is over.
 function boundSays(found) {
-  const {missing, proved, short, asked} = found, {isOne, cost, bound, hasRests} = boundOf(found);
-  if (asked.part) return "";
+  const {missing, proved, short, asked, goes} = found, {isOne, cost, bound, hasRests} = boundOf(found);
+  if (asked.part || toCut.planning) return "";
   if (missing.length)
-    return short ? tr`What stands doesn't suffice: no plan cuts all of it.`
-                 : tr`What is missing found no room; it isn't known whether another plan has room for it.`;
+    return short ? tr`The stock doesn't suffice: no plan cuts all of it.` : tr`What is missing found no room: search longer or buy.`;
+  if (goes.length > 1) return tr`Planned in ${goes.length} questions, each of at most ${MAX_KINDS} kinds.`;
   const counted = isOne || !hasRests ? "" : ` ${tr`A remnant counts nine tenths of its size.`}`;
   if (proved) return isOne ? tr`No plan takes fewer.` : `${tr`No plan takes less.`}${counted}`;
   if (isOne) return tr`No plan takes fewer than ${bound}.`;
@@ -267,41 +284,52 @@ function sayPlans() {
   else say(tr`Plan of ${found.material.material}: ${progressNow(found)}`);
 }
 
-// The plans that are shown: of one part the one that was chosen, else all that were found.
-function shownPlans() {
-  if (!toCut.part) return toCut.found?.plans || [];
-  const plan = chosenPlan();
-  return plan ? [plan] : [];
-}
+function shownPlans() { return toCut.found?.plans || []; }
+
+// The plan of the part that is planned alone.
+function chosenPlan() { return toCut.part ? shownPlans()[0] || null : null; }
 
 function showQuestion() {
-  const material = materialOf(shop.material), {part, found} = toCut, row = shop.parts.find(other => other.part === part);
+  const material = materialOf(shop.material), {part, only, found} = toCut, row = shop.parts.find(other => other.part === part);
   const chosen = chosenDemands(), hasStock = freeParts().some(other => !isPartOut(other));
   $("planTitle").textContent = part && row ? tr`Plan of ${part}, ${sizeText(material.kind, row.w, row.h)}`
+    : only                                ? tr`Plan of ${material.material}: order ${only} alone`
     : material                            ? tr`Plan of ${material.material}`
                                           : tr`Plan`;
-  const words = [promisedWords(), toCut.note, part ? questionWords() : questionOfAll(chosen)];
+  const words = [promisedWords(), toCut.note, part ? questionWords(row, chosen) : questionOfAll(chosen)];
   $("planWords").textContent = words.filter(Boolean).join(" ");
-  $("planAll").disabled = !chosen.length || !hasStock;
+  $("planAll").disabled = !chosenDemands(shop.material, "").length || !hasStock;
   $("stopPlan").disabled = !toCut.planning || toCut.planning.signal.aborted;
-  $("printAll").disabled = !found?.sent && !shop.jobs.some(job => job.material === shop.material);
+  $("labelAll").disabled = $("printAll").disabled = !found?.sent && !shop.jobs.some(job => job.material === shop.material);
+  showStages();
   showProgress();
   fill($("nextStep"), nextSteps().map(([words]) => words), () => nextSteps().map(stepButton));
-  showFault("planFault", toCut.fault || (part ? staleWords(chosenPlan()) : takenWords(found)));
+  showFault("planFault", toCut.fault || staleWords());
   adaptBuy(chosen.length);
 }
 
+// What is planned on one part.
+function questionWords(part, chosen) {
+  if (!part) return "";
+  const fitting = chosen.filter(row => fitsPart(row, part)).length, large = chosen.length - fitting;
+  const words = [fitting ? tr`${count(fitting, ...KINDS)} planned.` : tr`Nothing chosen can be planned on this part.`];
+  if (large) words.push(tr`${large} too large for it.`);
+  return words.join(" ");
+}
+
 function showProgress() {
-  const {found, planning, waits} = toCut, bar = $("planBar");
+  const {found, planning, waits} = toCut, bar = $("planBar"), sent = found?.sent && [...found.sent];
+  const open = sent ? sent.filter(part => shop.promisedParts.has(part)).length : 0;
   const words = waits ? tr`Planned once the answer is there to what was reserved…`
-    : found           ? `${progressNow(found)}${planning ? ` · ${tr`searching on…`}` : ""}`
+    : open            ? tr`${sent.length - open} of ${sent.length} answered`
+    : found           ? `${progressNow(found, Boolean(planning))}${planning ? ` · ${tr`searching on…`}` : ""}`
     : planning        ? tr`Planning…`
                       : "";
   if ($("planNow").textContent !== words) $("planNow").textContent = words;
   $("planProgress").classList.toggle("idle", !words);
   bar.classList.toggle("found", Boolean(found));
   if (!found) return bar.removeAttribute("value");
-  [bar.max, bar.value] = nearness(found);
+  [bar.max, bar.value] = open ? [sent.length, sent.length - open] : nearness(found);
 }
 
 // How near what was found is to what is wanted: the bound to the cost, or where pieces are missing those that are planned.
@@ -321,13 +349,15 @@ function promisedWords() {
 
 function questionOfAll(chosen) {
   const pieces = chosen.reduce((sum, row) => sum + leftOf(row), 0), stock = freeParts().filter(row => !isPartOut(row));
-  if (!chosen.length) return shop.material && shop.partsOf ? tr`Nothing chosen is left to cut.` : "";
+  if (!chosen.length) return shop.material && shop.partsOf && demandsToCut().some(row => leftOf(row)) ? tr`Nothing chosen is left to cut.` : "";
   const words = [tr`${count(pieces, "piece")} of ${count(chosen.length, "kind")}, ${count(stock.length, "part")} to cut from.`];
-  if (chosen.length > MAX_KINDS || shop.moreDemands)
-    words.push(tr`At most ${MAX_KINDS} kinds are planned at once, the oldest first.`);
+  if (chosen.length > MAX_KINDS) words.push(tr`They are planned ${MAX_KINDS} kinds at a time, the oldest first.`);
   if (stock.length > MAX_PARTS || shop.moreParts) words.push(tr`At most ${MAX_PARTS} parts are taken at once, the oldest first.`);
   return words.join(" ");
 }
+
+// Why what was found can't be reserved any more.
+function staleWords() { return toCut.planning ? "" : takenWords(toCut.found); }
 
 // What another terminal took of what was found and isn't reserved yet.
 function takenWords(found) {
@@ -350,7 +380,7 @@ function nextSteps() {
   const isLeft = found.refused.length || (!found.missing.length && chosenDemands().length);
   if (isLeft && !$("planAll").disabled) steps.push([tr`Plan what is left`, planAll]);
   if (other) steps.push([tr`Plan all of ${other.material}`, () => planMaterial(other.material)]);
-  steps.push([tr`To the saw`, () => { location.hash = "saw"; }]);
+  steps.push([tr`To the saw`, () => go(addressOfView("saw"))]);
   return steps;
 }
 
@@ -358,6 +388,7 @@ function stepButton([text, act]) { return el("button", {class: "small", text, "d
 
 // Plans all of another material.
 function planMaterial(code) {
+  go(`cut/${code}`);
   chooseMaterial(code);
   $("planTitle").focus({preventScroll: true});
   return planAll();
@@ -365,11 +396,13 @@ function planMaterial(code) {
 
 // Opens the view, and plans all of the material of an order's first line.
 async function planOrdered(demand) {
-  location.hash = "tocut";
-  forgetPlans();
-  const planning = toCut.planning = new AbortController(), row = await ask(`/demand/${demand}`).catch(() => null);
-  if (planning !== toCut.planning) return;
-  toCut.planning = null;
+  const it = plansOf();
+  it.planning?.abort();
+  const planning = it.planning = new AbortController();
+  go(addressOfView("tocut"));
+  const row = await ask(`/demand/${demand}`).catch(() => null);
+  if (planning !== it.planning) return;
+  it.planning = null;
   if (row) await planMaterial(row.material);
   else showView();
 }

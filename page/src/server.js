@@ -16,7 +16,9 @@ class Refused extends Error {
   }
 }
 
+// sent: how many requests were sent.
 const queue = {
+  sent: 0,
   asked: [],
   calm: [],
   busy: false
@@ -56,6 +58,7 @@ async function fetchAlone({path, body, patience, signal, run}) {
   if (signal) signal.addEventListener("abort", () => stop.abort());
   try {
     if (signal && signal.aborted) stop.abort();
+    queue.sent++;
     const method = body === undefined ? "GET" : "POST", headers = run ? {"If-Match": `"${run}"`} : {};
     const answer = await fetch(path, {method, body, headers, signal: stop.signal, cache: "no-store"});
     const {status} = answer, reply = readReply(await answer.text());

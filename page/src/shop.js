@@ -1,6 +1,7 @@
 // ---- What is known of the shop.
 
-const PART_PAGES = 10;
+// A list is read up to so many pages of a hundred.
+const MOST_PAGES = 20;
 
 const shop = {
   materials: [],
@@ -10,19 +11,16 @@ const shop = {
   open: new Map(),
   left: new Map(),  // material -> how many pieces are left to cut of it
   turn: 0,
-  demands: [],
-  moreDemands: false,
-  demandPages: 1,  // open ones of the chosen material
+  get demands() { return knownOf().demands; },  // open ones of the chosen material
+  get moreDemands() { return knownOf().moreDemands; },
   orders: [],
   moreOrders: false,
-  orderPages: 1,  // open ones of all materials
   allOrders: [],
   moreAllOrders: false,
   allOrderPages: 1,  // orders with their sums, finished ones too
-  parts: [],
-  moreParts: false,
-  partPages: PART_PAGES,
-  partsOf: "",
+  get parts() { return knownOf().parts; },
+  get moreParts() { return knownOf().moreParts; },
+  get partsOf() { return knownOf().isRead ? shop.material : ""; },
   jobs: [],
   moreJobs: false,
   jobPages: 1,
@@ -34,6 +32,14 @@ const shop = {
   amending: new Map(),  // demand -> how many are wanted of it by a message without an answer yet
   changes: 0,  // how often an answer changed the lists: what is being read meanwhile is older
 };
+
+// What was read of each material: its open demands, and its parts. It stays when another one is looked at.
+const known = new Map();
+
+function knownOf(code = shop.material) {
+  if (!known.has(code)) known.set(code, {demands: [], moreDemands: false, parts: [], moreParts: false, isRead: false});
+  return known.get(code);
+}
 
 // Takes from the kept messages which parts and pieces are promised, and what is amended.
 function notePromised() {
@@ -49,20 +55,22 @@ function notePromised() {
 // Enters into the lists what an answer told, so that nobody waits until they are read again.
 function noteReserved(part, tree, job) {
   const counts = countPieces(tree), more = row => counts.get(row.demand) || 0;
-  shop.parts = shop.parts.map(row => row.part === part ? {...row, state: "reserved", of: job} : row);
-  shop.demands = shop.demands.map(row => ({...row, reserved: row.reserved + more(row)}));
+  for (const of of known.values()) {
+    of.parts = of.parts.map(row => row.part === part ? {...row, state: "reserved", of: job} : row);
+    of.demands = of.demands.map(row => ({...row, reserved: row.reserved + more(row)}));
+  }
   shop.changes++;
 }
 
 function noteGone(part) {
-  shop.parts = shop.parts.filter(row => row.part !== part);
+  for (const of of known.values()) of.parts = of.parts.filter(row => row.part !== part);
   shop.changes++;
 }
 
-// The open demands of the chosen material as they are once what was pressed here is answered.
-function demandsToCut() {
+// The open demands of a material as they are once what was pressed here is answered.
+function demandsToCut(code = shop.material) {
   const reserved = row => Math.min(row.wanted - row.made, row.reserved + (shop.promised.get(row.demand) || 0));
-  return shop.demands.map(row => ({...row, reserved: reserved(row)}));
+  return knownOf(code).demands.map(row => ({...row, reserved: reserved(row)}));
 }
 
 // Whether a part stands, and nothing was pressed here that takes it.
@@ -91,6 +99,8 @@ async function readPages(start, key, pages, behind) {
 async function readMaterials() {
   shop.materials = (await askCalmly("/materials")).materials;
   shop.isKnown = true;
+  const {word, of} = readAddress();
+  if (["cut", "stock"].includes(word) && of && !materialOf(of)) settle(word);
   if (!materialOf(shop.material)) chooseMaterial(shop.materials[0]?.material || "");
 }
 
@@ -98,22 +108,14 @@ function learnLines(rows) {
   for (const row of rows) shop.lines.set(row.demand, {order: row.order, line: row.line});
 }
 
-// At most so many pages are read on by themselves, where all that they have is reserved.
-const MAX_READ_ON = 10;
-
-async function readDemands() {
-  const code = shop.material, before = shop.changes;
+async function readDemands(code = shop.material) {
+  const before = shop.changes;
   if (!code) return;
-  const [rows, more] =
-    await readPages(`/demands/0/${code}`, "demands", shop.demandPages, row => `/demands/${row.demand}/${code}`);
+  const [rows, more] = await readPages(`/demands/0/${code}`, "demands", MOST_PAGES, row => `/demands/${row.demand}/${code}`);
   if (before !== shop.changes) return;
-  if (more && shop.demandPages < MAX_READ_ON && !rows.some(row => leftOf(row) > 0)) {
-    shop.demandPages++;
-    return readDemands();
-  }
   learnLines(rows);
   noteOpen(code, rows, more);
-  if (code === shop.material) [shop.demands, shop.moreDemands] = [rows, more];
+  Object.assign(knownOf(code), {demands: rows, moreDemands: more});
 }
 
 // The open demands of one other material a pass, so that each material's button tells how much is open.
@@ -136,11 +138,11 @@ async function readJobs() {
   for (const row of shop.jobs) shop.kindOfJob.set(row.job, kindOf(row.material));
 }
 
-async function readParts() {
-  const code = shop.material, before = shop.changes;
+async function readParts(code = shop.material) {
+  const before = shop.changes;
   if (!code) return;
-  const [parts, more] = await readPages(`/parts/${code}`, "parts", shop.partPages, row => `/parts/${code}/${row.part}`);
-  if (code === shop.material && before === shop.changes) Object.assign(shop, {parts, moreParts: more, partsOf: code});
+  const [parts, more] = await readPages(`/parts/${code}`, "parts", MOST_PAGES, row => `/parts/${code}/${row.part}`);
+  if (before === shop.changes) Object.assign(knownOf(code), {parts: parts.map(row => ({...row, material: code})), moreParts: more, isRead: true});
 }
 
 async function readTotals() {
@@ -150,13 +152,23 @@ async function readTotals() {
 
 function chooseMaterial(code) {
   if (code === shop.material && code) return;
-  Object.assign(shop, {material: code, demands: [], demandPages: 1, parts: [], partPages: PART_PAGES, partsOf: ""});
+  shop.material = code;
   storage.write("cutshop.material", code);
   $("receiveMaterial").value = code;
-  forgetPlans();
   showView();
   refreshNow();
 }
+
+// A person chooses a material: the address has it, and what was shown before keeps its own.
+function pickMaterial(code) {
+  const {word, of, view} = readAddress(), name = view === "stock" ? "stock" : "cut";
+  if (!of && shop.material) settle(`${word}/${shop.material}`);
+  go(`${name}/${code}`);
+  chooseMaterial(code);
+}
+
+// Where a list isn't read to its end.
+function andMore(more) { return more ? quiet(tr`And more that aren't shown.`) : null; }
 
 function moreButton(more, key, pages = 1) {
   return more ? el("button", {
@@ -197,7 +209,7 @@ function materialButton(row) {
   return el("button", {
     "data-key": row.material,
     "aria-pressed": String(row.material === shop.material),
-    on: {click: () => chooseMaterial(row.material)}
+    on: {click: () => pickMaterial(row.material)}
   },
     row.material, open ? el("span", {class: "tag", text: open, style: "margin-left:.6rem"}) : null,
     el("small", {text: materialWords(row)}));
@@ -205,7 +217,7 @@ function materialButton(row) {
 
 function materialSelect() {
   return el("label", {class: "field"}, tr`Material`,
-    el("select", {"data-key": "material", on: {change: event => chooseMaterial(event.target.value)}},
+    el("select", {"data-key": "material", on: {change: event => pickMaterial(event.target.value)}},
       ...shop.materials.map(row => el("option", {
         value: row.material,
         text: `${row.material}: ${materialWords(row)}`,

@@ -5,15 +5,12 @@ function onClick(id, act) { $(id).addEventListener("click", act); }
 function listenToPlans() {
   onClick("planAll", planAll);
   onClick("printAll", printReserved);
+  onClick("labelAll", printReservedLabels);
   onClick("stopPlan", stopPlan);
-  onClick("propose", propose);
   $("buyForm").addEventListener("submit", planBuying);
-  onClick("tryStep", tryStep);
-  onClick("askBound", askBound);
+  onClick("planAgain", planAgain);
+  $("stages").addEventListener("change", () => chooseStages(shop.material, Number($("stages").value)));
   onClick("reserve", reserve);
-  $("step").addEventListener("keydown", event => {
-    if (event.key === "Enter") tryStep();
-  });
   window.addEventListener("storage", () => {
     for (const name of ["leftOut", "partsOut"]) toCut[name] = readOut(`cutshop.${name}`);
   });
@@ -27,6 +24,12 @@ function listenToSaw() {
   $("jobNumber").addEventListener("input", () => showFault("jobFault", ""));
   $("jobForm").addEventListener("submit", showAnyJob);
   onClick("done", finish);
+  onClick("allDone", finishAll);
+  $("jobsFold").addEventListener("click", event => {
+    event.preventDefault();
+    atSaw.isListed = !$("jobsPanel").open;
+    foldJobs();
+  });
   onClick("startBreak", () => {
     setBreaking(true);
     document.querySelector("[name=breakMode]:checked").focus();
@@ -40,6 +43,7 @@ function listenToSaw() {
   onClick("nextJob", () => openJob(jobBehind().job));
   onClick("printJob", () => window.print());
   onClick("printWaiting", printWaiting);
+  onClick("labelWaiting", printWaitingLabels);
   window.addEventListener("afterprint", () => document.body.classList.remove("sheets"));
 }
 
@@ -84,12 +88,14 @@ function listenToTerminal() {
 }
 
 function listenToWindow() {
+  onClick("moreNotices", () => {
+    inNotices.isOpen = !inNotices.isOpen;
+    foldNotices();
+  });
   for (const button of document.querySelectorAll("nav button"))
-    button.addEventListener("click", () => {
-      location.hash = button.dataset.view;
-    });
+    button.addEventListener("click", () => go(addressOfView(button.dataset.view)));
   window.addEventListener("hashchange", () => {
-    forgetRead();
+    followAddress();
     showView();
     say($(viewName()).getAttribute("aria-label"));
     refreshNow();
@@ -139,12 +145,14 @@ function viewByKey(event) {
   const name = !isTyping && !event.ctrlKey && !event.metaKey && Object.keys(VIEWS)[Number(event.key) - 1];
   if (!name) return;
   event.preventDefault();
-  location.hash = name;
-  document.querySelector(`nav [data-view=${name}]`).focus();
+  go(addressOfView(name));
+  showView();
+  focusView(name);
 }
 
 translateDocument();
 for (const listen of [listenToPlans, listenToSaw, listenToOrders, listenToStock, listenToTerminal, listenToWindow]) listen();
+followAddress();
 showView();
 refreshNow();
 adoptLists();

@@ -1,7 +1,10 @@
 // ---- Stock.
 
+// name: the part that is looked for; batch: the batch whose units are shown.
 const traced = {
   chain: null,
+  name: "",
+  batch: "",
   width: 0
 };
 
@@ -42,7 +45,7 @@ function stockRows() {
   const sizes = groupsOf(units, part => `${part.w} ${part.h}`);
   const folds = [remnants, ...sizes].filter(parts => parts.length).map(parts => [parts, stockGroups(parts)]);
   const isOpen = folds.reduce((sum, [, rows]) => sum + rows.length, 0) <= MOST_OPEN;
-  return [...folds.map(([parts, rows]) => stockFold(parts, rows, isOpen)), moreButton(shop.moreParts, "partPages", PART_PAGES)];
+  return [...folds.map(([parts, rows]) => stockFold(parts, rows, isOpen)), andMore(shop.moreParts)];
 }
 
 function stockGroups(parts) {
@@ -182,7 +185,8 @@ function receive(event) {
   const typed = RECEIPT_FIELDS.map(id => $(id).value), isEmpty = () => !RECEIPT_FIELDS.slice(1, 4).some(id => $(id).value);
   const what = tr`Receive ${units} × ${material} ${sizeText(kind, w, h)}`;
   const command = {batch, count: units, do: "receive", h, material, w};
-  if (send(command, what, () => {}, givenBack(isEmpty, () => fillReceipt(typed)))) fillReceipt([material, "", "", "", "1"]);
+  const shown = () => viewName() === "stock" && pickMaterial(material);
+  if (send(command, what, shown, givenBack(isEmpty, () => fillReceipt(typed)))) fillReceipt([material, "", "", "", "1"]);
 }
 
 const RECEIPT_FIELDS = ["receiveMaterial", "receiveBatch", "receiveW", "receiveH", "receiveCount"];
@@ -194,20 +198,27 @@ function fillReceipt(texts) {
   adaptReceive();
 }
 
+function forgetTrace() {
+  Object.assign(traced, {chain: null, name: "", batch: ""});
+  for (const id of ["traceWords", "tracePicture"]) $(id).replaceChildren();
+}
+
 async function trace(name) {
-  $("tracePart").value = name;
-  $("tracePicture").replaceChildren();
-  traced.chain = null;
+  forgetTrace();
+  $("tracePart").value = traced.name = name;
   if (!PART_NAME.test(name))
     return $("traceWords")
       .replaceChildren(el("p", {class: "fault", text: tr`A part's name is a number, / and a number, like 2/4.`}));
   try {
-    traced.chain = await chainOf(name);
+    const chain = await chainOf(name);
+    if (traced.name !== name) return;
+    traced.chain = chain;
+    if (viewName() === "stock") go(`part/${name}`);
     const [part] = traced.chain;
     if (part.state === "piece" && !shop.lines.has(part.of)) learnLines([await ask(`/demand/${part.of}`)]);
     $("traceWords").replaceChildren(...traceWords(traced.chain));
     drawChain();
-    if (window.innerWidth <= 1000) $("tracePanel").scrollIntoView({block: "nearest"});
+    if (window.innerWidth < NARROW) $("tracePanel").scrollIntoView({block: "nearest"});
   } catch (error) { $("traceWords").replaceChildren(el("p", {class: "fault", text: await faultWords(error)})); }
 }
 
@@ -245,18 +256,44 @@ function traceWords(chain) {
   const at = kind === "bar" ? `${mm(part.x)} mm` : tr`${mm(part.x)} mm from the left, ${mm(part.y)} mm from the top`;
   const where = chain.length === 1 ? tr`It is a unit as it was received.`
                                    : tr`It lay in unit ${unit.part} (${sizeText(kind, unit.w, unit.h)}) at ${at}.`;
-  const go = () => {
-    location.hash = "orders";
-    $("findOrder").value = order;
-    markField($("findOrder"), "");
-    showOrder(order);
-  };
   const came = chain.slice(0, -1)
                  .map((from, i) => tr`${from.part} came of job ${from.part.split("/")[0]}, which cut ${chain[i + 1].part}`)
                  .join("; ");
   return [
     el("p", {}, el("b", {text: `${part.part}, ${sizeText(kind, part.w, part.h)}: ${state}.`})),
-    el("p", {text: tr`${where} Batch ${part.batch}.`}), came ? quiet(`${came}.`) : "",
-    part.state === "piece" ? el("button", {class: "small", text: tr`Order ${order}`, on: {click: go}}) : ""
+    el("p", {text: where}), linkTo(`batch/${part.batch}`, tr`Batch ${part.batch}`), came ? quiet(`${came}.`) : "",
+    part.state === "piece" ? linkTo(`order/${order}`, tr`Order ${order}`) : "",
+    ["reserved", "cut"].includes(part.state) ? linkTo(`saw/${part.of}`, tr`Job ${part.of}`) : ""
   ];
+}
+
+// The units and remnants of a batch that stand or are reserved, of all materials.
+async function showBatch(batch) {
+  forgetTrace();
+  traced.batch = batch;
+  $("traceWords").replaceChildren(quiet("…"));
+  try {
+    if (!shop.isKnown) await readMaterials();
+    const found = [];
+    for (const {material} of shop.materials) {
+      const [parts] = await readPages(`/parts/${material}`, "parts", MOST_PAGES, row => `/parts/${material}/${row.part}`);
+      found.push(...parts.filter(part => part.batch === batch).map(part => ({...part, material})));
+    }
+    if (traced.batch === batch) $("traceWords").replaceChildren(...batchRows(batch, found));
+  } catch (error) { $("traceWords").replaceChildren(el("p", {class: "fault", text: await faultWords(error)})); }
+}
+
+function batchRows(batch, parts) {
+  const rows = groupsOf(parts, ({material, w, h, state, of, root, part}) => [material, w, h, state, of, root === part].join(" "));
+  return [
+    el("h3", {text: tr`Batch ${batch}`}), parts.length ? null : quiet(tr`Nothing of it stands or is reserved.`),
+    ...rows.map(same => {
+      const [part] = same, what = count(same.length, isRemnant(part) ? "remnant" : "unit");
+      return el("div", {class: "stocked"},
+        el("div", {}, el("b", {class: "number", text: `${part.material} ${sizeText(kindOf(part.material), part.w, part.h)}`}),
+          el("div", {text: `${what}, ${part.state === "standing" ? tr`standing` : tr`reserved, job ${part.of}`}`}),
+          el("div", {class: "quiet", text: namesOf(same)})),
+        el("div", {class: "buttons"}, linkTo(`part/${part.part}`, tr`Trace`, `${tr`Trace`} ${part.part}`)));
+    })
+  ].filter(Boolean);
 }

@@ -1,11 +1,18 @@
-// ---- Tickets of many jobs on paper: one sheet for each plan, with how many jobs have it, and behind them a row for each piece.
+// ---- Jobs on paper: bars as one list, a row for each plan; sheets as tickets, small ones two on a page; and labels, 24 on a page.
 
-function printReserved() {
-  const {found} = toCut, {material} = shop;
-  return printSheets(() => found?.sent ? reservedJobs(found) : readTickets(material));
+function printReserved() { return printSheets(toCutJobs, workSheets); }
+
+function printWaiting() { return printSheets(() => readTickets($("jobMaterial").value), workSheets); }
+
+function printReservedLabels() { return printSheets(toCutJobs, labelPages); }
+
+function printWaitingLabels() { return printSheets(() => readTickets($("jobMaterial").value), labelPages); }
+
+// The jobs that were just reserved, or all of the material that wait.
+function toCutJobs() {
+  const {found} = toCut;
+  return found?.sent ? reservedJobs(found) : readTickets(shop.material);
 }
-
-function printWaiting() { return printSheets(() => readTickets($("jobMaterial").value)); }
 
 // The jobs that were just reserved, once all are answered: what their tickets show is known.
 async function reservedJobs({sent, jobs, plans, material}) {
@@ -25,36 +32,86 @@ async function readTickets(material) {
   return jobs.filter(told => told.state === "waiting");
 }
 
-async function printSheets(read) {
+async function printSheets(read, build) {
   say(tr`The tickets are being read`);
   try {
     const jobs = await read(), kinds = groupsOf(jobs, told => kindOfPlan(told, told.tree));
     if (!jobs.length) return tell(tr`No job waits.`, "good");
-    $("sheets").replaceChildren(...kinds.map(ticketSheet), await labelSheet(kinds));
+    $("sheets").replaceChildren(...await build(kinds));
   } catch (error) { return tell(tr`Print: ${await faultWords(error)}`, "refused"); }
   document.body.classList.add("sheets");
   window.print();
 }
+
+// What stands on each page: the shop's name, the day and the material.
+function pageWords(material) { return `${document.title} · ${timeText(Date.now())} · ${material}`; }
+
+function workSheets(kinds) {
+  const [bars, sheets] = ["bar", "sheet"].map(kind => kinds.filter(([told]) => told.kind === kind));
+  const small = sheets.filter(([told]) => told.root.cuts <= HALF_CUTS), large = sheets.filter(kind => !small.includes(kind));
+  return [...groupsOf(bars, ([told]) => told.material).map(barList), ...[...small, ...large].map(ticketSheet)];
+}
+
+// The plans of bars of one material; its head stands on each page.
+function barList(kinds) {
+  const [[{material}]] = kinds, right = text => el("th", {text, scope: "col", class: "right"}), head = text => el("th", {text, scope: "col"});
+  const heads = [right(tr`Times`), head(tr`Cuts in mm, with order and line`), head(tr`Rest`), head(tr`Jobs`), head(tr`Done`)];
+  return el("section", {class: "barlist"}, el("table", {},
+    el("thead", {}, el("tr", {}, el("th", {colspan: "5", class: "pagehead", text: pageWords(material)})), el("tr", {}, ...heads)),
+    el("tbody", {}, ...kinds.map(barRow))));
+}
+
+function barRow(jobs) {
+  const [first] = jobs, numbers = jobs.map(({job}) => job), boxes = layPlan(first.root, limitsOf(first));
+  const pieces = runsOf(boxes.filter(box => box.fate === "piece").map(box => {
+    const {order = "?", line = "?"} = shop.lines.get(box.demand) || {};
+    return `${mm(box.w)} ${order}/${line}`;
+  }));
+  const rests = boxes.filter(box => ["kept", "scrap"].includes(box.fate)).map(box => box.fate === "scrap"
+    ? `${mm(box.w)} ${word("scrap")}` : `${mm(box.w)}: ${tr`label ${restNames(numbers, box.node)}`}`);
+  return el("tr", {}, el("td", {class: "right"}, el("b", {text: `${jobs.length} ×`})),
+    el("td", {}, el("span", {class: "quiet", text: `${mm(first.w)}: `}), pieces.join(" | ")), el("td", {text: rests.join("; ")}),
+    el("td", {text: rangesOf(numbers)}), el("td", {class: "boxes", text: jobs.map(() => "☐").join(" ")}));
+}
+
+// Equal texts that follow one another, once with how often.
+function runsOf(texts) {
+  const runs = [];
+  for (const text of texts)
+    if (runs[runs.length - 1]?.text === text) runs[runs.length - 1].many++;
+    else runs.push({text, many: 1});
+  return runs.map(({text, many}) => many > 1 ? `${many} × ${text}` : text);
+}
+
+// The names of a rest of several jobs, those of jobs that follow one another from the first to the last.
+function restNames(jobs, node) {
+  return rangesOf(jobs).split(", ").map(range => range.split(/ \D+ /).map(job => `${job}/${node}`).join(" … ")).join(", ");
+}
+
+// A ticket that has so many cuts leaves room for a second one on its page.
+const HALF_CUTS = 24;
 
 // A sheet for jobs of one plan: picture, pieces and cuts.
 function ticketSheet(jobs) {
   const [first] = jobs, told = {...first, jobs: jobs.map(({job}) => job)}, {kind, root, material, w, h} = told;
   const limits = limitsOf(told), boxes = layPlan(root, limits), holder = el("div", {class: "picture"});
   const left = new Map(boxes.filter(box => box.fate !== "kerf").map(box => [box.node, box]));
-  const work = {told, boxes, left, halt: null, made: new Set(), isWaiting: true};
+  const work = {told, boxes, left, halt: null, made: new Set(), isWaiting: true}, isHalf = root.cuts <= HALF_CUTS;
   drawPlan(holder, root, limits,
     {wordsOf: box => pieceWords(box, shop.lines.get(box.demand)), restName: box => namesIn(told, box), made: work.made, room: 720});
   const isMany = jobs.length > 1, many = isMany ? `${jobs.length} × ` : "";
   const name = isMany ? tr`Jobs ${told.jobs.join(", ")}` : tr`Job ${told.job}`;
-  return el("section", {class: `ticket ${linesClass(root)}`},
+  return el("section", {class: `ticket ${isHalf ? "half" : linesClass(root)}`}, el("p", {class: "pagehead", text: pageWords(material)}),
     el("h2", {text: `${many}${material} ${sizeText(kind, w, h)}`}),
-    el("p", {text: `${name} (${namesOf(jobs)}), ${count(root.cuts, "cut")}`}), holder,
+    el("p", {text: `${name} (${namesOf(jobs)}), ${count(root.cuts, "cut")}  ${jobs.map(() => "☐").join(" ")}`}), holder,
     el("div", {class: "pieces"}, ...jobPieces(work)), el("div", {class: `cutlines ${linesClass(root)}`}, ...cutLines(work)));
 }
 
-// A row for each piece, in the order in which they come from the saw. They are counted on from those of the line that are made or
-// wait besides.
-async function labelSheet(kinds) {
+const LABELS_A_PAGE = 24;
+
+// A label for each piece, in the order in which they come from the saw. They are counted on from those of the line that are made
+// or wait besides.
+async function labelPages(kinds) {
   const pieces = kinds.flatMap(jobs => jobs.flatMap(({job, root, kind}) =>
     nodesOf(root).filter(box => box.kind === "piece").map(box => ({...box, job, size: pieceSize(kind, box)}))));
   const counts = new Map(), wanted = new Map();
@@ -65,14 +122,16 @@ async function labelSheet(kinds) {
     wanted.set(demand, row.wanted);
     counts.set(demand, Math.max(0, row.made + row.reserved - here));
   }
-  const rows = pieces.map(({demand, job, size}) => {
+  const labels = pieces.map(({demand, job, size}) => {
     const {order, line} = shop.lines.get(demand), number = counts.get(demand) + 1;
     counts.set(demand, number);
-    return el("tr", {}, el("td", {}, el("b", {text: order})), el("td", {text: tr`line ${line}`}), el("td", {text: size}),
-      el("td", {text: tr`piece ${number} of ${wanted.get(demand)}`}), el("td", {text: tr`job ${job}`}));
+    return el("div", {class: "label"}, el("b", {text: order}), el("span", {text: tr`line ${line}`}), el("span", {text: size}),
+      el("span", {text: tr`piece ${number} of ${wanted.get(demand)}`}), el("span", {text: tr`job ${job}`}));
   });
-  return el("section", {class: "labels"}, el("h2", {text: tr`Labels: ${count(rows.length, "piece")}`}),
-    el("table", {}, el("tbody", {}, ...rows)));
+  const pages = [];
+  for (let from = 0; from < labels.length; from += LABELS_A_PAGE)
+    pages.push(el("section", {class: "labels"}, ...labels.slice(from, from + LABELS_A_PAGE)));
+  return pages;
 }
 
 // A piece's size as it was ordered.

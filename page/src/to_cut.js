@@ -1,28 +1,32 @@
 // ---- To cut.
 
-// part: the one that is planned alone, or none where all that stands is; like: what others have in common with it; leftOut,
-// partsOut: the demands and the parts that are left out, by their keys; found: the plans that were found; tried: plans of the one part, that one and those by steps; picked:
-// the one of these that a person chose; waits: whether planning waits for the answer to what was reserved before; note: what
-// became of what was planned.
+// leftOut, partsOut: the demands and the parts that are left out, by their keys. Of each material, and so of the chosen one: part:
+// the one that is planned alone, or none where all that stands is; like: what others have in common with it; only: the order that
+// is planned alone, if one is; found: the plans that were found; waits: whether planning waits for the answer to what was reserved
+// before; note: what became of what was planned.
+const NO_PLANS = {part: "", like: "", only: "", found: null, planning: null, waits: false, note: "", fault: ""};
+
+const plansByMaterial = new Map();
+
+// The plans of a material stay until they are reserved or something of them changes, whatever is looked at meanwhile.
+function plansOf(code = shop.material) {
+  if (!plansByMaterial.has(code)) plansByMaterial.set(code, {...NO_PLANS, code});
+  return plansByMaterial.get(code);
+}
+
 const toCut = {
-  part: "",
-  like: "",
   leftOut: readOut("cutshop.leftOut"),
-  partsOut: readOut("cutshop.partsOut"),
-  found: null,
-  tried: [],
-  picked: null,
-  planning: null,
-  waits: false,
-  note: "",
-  fault: "",
-  bound: ""
+  partsOut: readOut("cutshop.partsOut")
 };
+for (const key of Object.keys(NO_PLANS))
+  Object.defineProperty(toCut, key, {get: () => plansOf()[key], set: value => { plansOf()[key] = value; }});
 
 function showToCut() {
   const hadFocus = $("planPanel").contains(document.activeElement);
   notePromised();
-  fill($("wanted"), [demandsToCut(), [...toCut.leftOut], shop.moreDemands, shop.material, shop.isKnown], wantedRows);
+  const going = shop.demands.map(row => shop.promised.get(row.demand) || 0);
+  fill($("wanted"), [demandsToCut(), going, [...toCut.leftOut], toCut.only, shop.moreDemands, shop.material, shop.isKnown],
+    wantedRows);
   passOverTaken();
   const choices = partChoices();
   fill($("cutFrom"), [choices, toCut.part, [...toCut.partsOut], shop.moreParts, shop.material, shop.partsOf, shop.isKnown],
@@ -40,7 +44,7 @@ function passOverTaken() {
   if (shop.parts.some(row => row.part === part && row.state === "standing")) return;
   const next = shop.parts.find(row => isFree(row) && likenessOf(row) === like);
   const words = tr`Part ${part} doesn't stand any more: it was taken elsewhere.`;
-  if (next) planOrder(next.part);
+  if (next) planOrder({part: next.part});
   else forgetPlans();
   toCut.note = next ? `${words} ${tr`${next.part} is planned in its place.`}` : words;
   say(toCut.note);
@@ -48,7 +52,7 @@ function passOverTaken() {
 
 // Where the next step is: what was planned is reserved, then printed; else all is planned.
 function focusNextStep() {
-  const next = ["reserve", toCut.found?.sent ? "printAll" : "planAll", "planAll"].find(id => !$(id).disabled);
+  const next = ["planAgain", "reserve", toCut.found?.sent ? "printAll" : "planAll", "planAll"].find(id => !$(id).disabled && !$(id).hidden);
   $(next || "planTitle").focus({preventScroll: true});
 }
 
@@ -56,15 +60,17 @@ function wantedRows() {
   const demands = demandsToCut();
   if (!demands.length)
     return [
-      quiet(shop.materials.length ? tr`Nothing is open of this material.` : noMaterial()),
-      opener("orders", tr`Make an order`)
+      quiet(shop.materials.length ? tr`Nothing to cut.` : noMaterial()), opener("orders", tr`New order`)
     ];
-  const left = demands.filter(row => leftOf(row) > 0), out = left.filter(isLeftOut), all = demands.length - left.length;
+  const left = demands.filter(row => leftOf(row) > 0), out = left.filter(isLeftOut);
+  const going = shop.demands.filter((row, i) => leftOf(row) > 0 && leftOf(demands[i]) === 0).length;
+  const all = demands.length - left.length - going;
   return [
     out.length ? el("div", {class: "buttons"}, tr`${count(out.length, ...KINDS)} left out`, putBackButton(out)) : null,
     left.length ? demandTable(left) : null,
+    going ? quiet(tr`Of ${count(going, ...KINDS)} all is being reserved.`) : null,
     all ? quiet(tr`Of ${count(all, ...left.length ? OTHER_KINDS : KINDS)} all that aren't made are reserved.`) : null,
-    left.length ? null : opener("saw", tr`At the saw`), moreButton(shop.moreDemands, "demandPages")
+    left.length ? null : opener("saw", tr`At the saw`), andMore(shop.moreDemands)
   ];
 }
 
@@ -92,8 +98,16 @@ function orderRow(rows) {
     on: {change: event => passOver(rows, !event.target.checked)}
   });
   box.indeterminate = chosen.length > 0 && chosen.length < rows.length;
+  const only = el("button", {
+    class: "small",
+    text: tr`Only this`,
+    "data-key": `only${order}`,
+    "aria-label": tr`Plan order ${order} alone`,
+    "aria-pressed": String(toCut.only === order),
+    on: {click: () => planOnly(order)}
+  });
   return el("tr", {class: "order"},
-    el("th", {colspan: "5", scope: "colgroup"}, el("label", {class: "heading"}, box, tr`Order ${order}`)));
+    el("th", {colspan: "5", scope: "colgroup"}, el("div", {class: "orderhead"}, el("label", {class: "heading"}, box, tr`Order ${order}`), only)));
 }
 
 // What is left out stays so in this browser: a demand by its number, order and line, a part by what it has in common with
@@ -106,7 +120,7 @@ function leftOutKey(row) { return `${row.demand} ${row.order} ${row.line}`; }
 
 function partOutKey(part) {
   const rest = isRemnant(part) ? [part.root, part.w, part.h] : [];
-  return [shop.material, likenessOf(part), ...rest].join(" ");
+  return [part.material, likenessOf(part), ...rest].join(" ");
 }
 
 function isLeftOut(row) { return toCut.leftOut.has(leftOutKey(row)); }
@@ -156,7 +170,13 @@ function demandRow(row) {
     right(tr`${grouped(leftOf(row))} of ${grouped(row.wanted)}`), right(String(row.demand)));
 }
 
-function chosenDemands() { return demandsToCut().filter(row => leftOf(row) > 0 && !isLeftOut(row)); }
+// What is planned: of one order alone its lines, also those that are left out where all are; else all that isn't left out.
+function chosenDemands(code = shop.material, only = plansOf(code).only) {
+  const left = demandsToCut(code).filter(row => leftOf(row) > 0), chosen = left.filter(row => !isLeftOut(row));
+  if (!only) return chosen;
+  const lines = rows => rows.filter(row => row.order === only);
+  return lines(chosen).length ? lines(chosen) : lines(left);
+}
 
 // What units have in common that are one row: batch and size. A remnant is a row of its own.
 function likenessOf(part) { return isRemnant(part) ? part.part : `${part.batch} ${part.w} ${part.h}`; }
@@ -177,13 +197,13 @@ function partChoices() {
 
 function cutFromRows(choices) {
   if (!choices.length)
-    return [quiet(shop.partsOf ? tr`Nothing of this material stands.` : noMaterial()), opener("stock", tr`Receive some`)];
+    return [quiet(shop.partsOf ? tr`No stock of ${shop.material}.` : noMaterial()), opener("stock", tr`Receive`)];
   const out = choices.filter(isPartOut);
   const back = el("button",
     {class: "small", text: tr`Put all back`, "data-key": "parts back", on: {click: () => passOverParts(out, false)}});
   return [
     out.length ? el("div", {class: "buttons"}, tr`${count(out.length, "size")} left out`, back) : null, ...choices.map(partRow),
-    moreButton(shop.moreParts, "partPages", PART_PAGES)
+    andMore(shop.moreParts)
   ];
 }
 
@@ -214,8 +234,32 @@ function partRow(part) {
     }));
 }
 
-function forgetPlans() {
-  toCut.planning?.abort();
-  Object.assign(toCut,
-    {part: "", like: "", found: null, tried: [], picked: null, planning: null, waits: false, note: "", fault: "", bound: ""});
+function forgetPlans(code = shop.material) {
+  plansByMaterial.get(code)?.planning?.abort();
+  Object.assign(plansOf(code), NO_PLANS);
+}
+
+// How often a sheet may be turned between cuts, which is kept by material: a glass table or a panel saw takes so many runs of
+// parallel cuts, 0 is any.
+const STAGES = [0, 2, 3, 4], USUAL_STAGES = 4;
+
+function stagesOf(code) {
+  const kept = storage.read("cutshop.stages", {})[code];
+  return STAGES.includes(kept) ? kept : USUAL_STAGES;
+}
+
+function chooseStages(code, stages) {
+  try {
+    storage.write("cutshop.stages", {...storage.read("cutshop.stages", {}), [code]: stages});
+  } catch { tell(tr`This browser can't keep how often a sheet may be turned.`, "refused"); }
+  forgetPlans(code);
+  showToCut();
+}
+
+function showStages() {
+  $("stagesField").hidden = !shop.material || kindOf(shop.material) === "bar";
+  const now = stagesOf(shop.material);
+  fill($("stages"), [shop.material, now],
+    () => STAGES.map(stages => el("option", {value: String(stages), text: stages ? String(stages) : tr`any`, selected: stages === now})));
+  if ($("stages").value !== String(now)) $("stages").value = String(now);
 }

@@ -1,7 +1,10 @@
 // ---- Units and words. JSON counts tenths of a millimetre; people read and type millimetres.
 
-const MAX_PLANNED = 40, MAX_LINES = 200, MAX_TEXT = 65536, MAX_NUMBER = 4294967295, MAX_WANTED = 1000000;
+const MAX_LINES = 200, MAX_TEXT = 65536, MAX_NUMBER = 4294967295, MAX_WANTED = 1000000;
 const PART_NAME = /^[1-9]\d*\/(0|[1-9]\d*)$/;
+
+// Under so many pixels of width all stands in one column.
+const NARROW = 1000;
 
 const $ = id => document.getElementById(id);
 
@@ -51,6 +54,12 @@ function decimal(number, digits) {
 function percent(part, whole) { return `${percentOf(part, whole).replace(".", POINT)}\u00a0%`; }
 
 function percentOf(part, whole) { return whole ? (Math.floor(part * 1000 / whole) / 10).toFixed(1) : "0.0"; }
+
+// A day and a time, in German as TT.MM.JJJJ.
+function timeText(time) {
+  const two = "2-digit", how = {day: two, month: two, year: "numeric", hour: two, minute: two};
+  return new Date(time).toLocaleString(...isGerman ? ["de-DE", how] : []);
+}
 
 function count(number, one, many = one + "s") { return `${grouped(number)} ${word(number === 1 ? one : many)}`; }
 

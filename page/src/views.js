@@ -13,22 +13,20 @@ const VIEWS = {
 const MINUTE = 60000, PAUSE = 4000, PAUSES = [[MINUTE, PAUSE], [60 * MINUTE, 15000], [Infinity, MINUTE]];
 // The materials change where the shop is started anew, which may not be seen.
 const MATERIALS_STAY = 2 * MINUTE;
-// lively: when something was done or changed; ended: when the last pass ended; lost: the shop didn't answer since materials
-// were read.
+// So much of a pause for each request of the pass before, at most so long: a page that is only looked at asks 30 times a minute.
+const PAUSE_EACH = 2100, LONGEST_PAUSE = 20000, MANY_WAIT = 4;
+// lively: when something was done or changed; ended: when the last pass ended; asked: how many requests it made; lost: the shop
+// didn't answer since materials were read.
 const refresh = {
   timer: 0,
   running: false,
   again: false,
   lively: 0,
   ended: 0,
+  asked: 0,
   lost: true,
   materials: 0
 };
-
-function viewName() {
-  const name = location.hash.slice(1);
-  return Object.hasOwn(VIEWS, name) ? name : "tocut";
-}
 
 function showView() {
   const name = viewName();
@@ -45,6 +43,13 @@ function showView() {
   showMaterials();
   showCsvButtons();
   VIEWS[name].show();
+}
+
+// The focus goes to the head of a view, at the saw to that of the ticket: what is done with it lies behind.
+function focusView(view) {
+  const [head] = [{saw: "jobTitle", tocut: "planTitle"}[view]].map(id => id && $(id)).filter(it => it?.getClientRects().length);
+  if (head) head.focus({preventScroll: true});
+  else focusHeading($(view));
 }
 
 // The shop's name, as it was written into this browser, is the window's title and the page's.
@@ -65,12 +70,18 @@ function refreshNow() {
 // Somebody does something: the next pass comes at once, or the shortest pause behind the last.
 function wake() {
   refresh.lively = performance.now();
-  if (!refresh.running) waitForPass();
+  if (!refresh.running) waitForPass(pauseOf());
 }
 
-function waitForPass() {
+function waitForPass(time = Math.max(pauseOf(), Math.min(LONGEST_PAUSE, PAUSE_EACH * refresh.asked))) {
   clearTimeout(refresh.timer);
-  refresh.timer = setTimeout(refreshPass, Math.max(0, refresh.ended + pauseOf() - performance.now()));
+  refresh.timer = setTimeout(passOrWait, Math.max(0, refresh.ended + time - performance.now()));
+}
+
+// While many messages of a press are answered one behind another, what is shown is read behind the last.
+function passOrWait() {
+  if (!sending.busy || terminal.kept().length < MANY_WAIT) return refreshPass();
+  refresh.timer = setTimeout(passOrWait, PAUSE);
 }
 
 function pauseOf() {
@@ -81,7 +92,7 @@ function pauseOf() {
 // A question that fails stops neither the others nor the view's drawing.
 async function refreshPass() {
   Object.assign(refresh, {running: true, again: false});
-  const before = knownText(), steps = document.hidden ? [] : [renewMaterials, readJobs, ...VIEWS[viewName()].read, showView];
+  const asked = queue.sent, before = knownText(), steps = document.hidden ? [] : [renewMaterials, readJobs, ...VIEWS[viewName()].read, showView];
   for (const step of steps) {
     try {
       await step();
@@ -89,7 +100,7 @@ async function refreshPass() {
       if (!(error instanceof NoAnswer || error instanceof Refused)) console.error(error);
     }
   }
-  Object.assign(refresh, {running: false, ended: performance.now()});
+  Object.assign(refresh, {running: false, ended: performance.now(), asked: queue.sent - asked});
   if (knownText() !== before) refresh.lively = refresh.ended;
   if (refresh.again) refreshPass();
   else waitForPass();
@@ -103,7 +114,7 @@ function knownText() {
 async function renewMaterials() {
   if (!refresh.lost && shop.materials.length && performance.now() - refresh.materials < MATERIALS_STAY) return;
   await readMaterials();
-  toldJobs.clear();
+  if (refresh.lost || !running.run) toldJobs.clear();
   backups.isKnown = false;
   Object.assign(refresh, {lost: false, materials: performance.now()});
 }

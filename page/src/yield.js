@@ -98,8 +98,8 @@ function yieldTable(rows) {
 async function openReport(code) {
   try {
     const totals = await ask(`/totals/${code}`),
-          [parts, more] = await readPages(`/parts/${code}`, "parts", 4 * PART_PAGES, row => `/parts/${code}/${row.part}`);
-    owner.report = {...materialOf(code), totals, parts, more, at: new Date().toLocaleString()};
+          [parts, more] = await readPages(`/parts/${code}`, "parts", 2 * MOST_PAGES, row => `/parts/${code}/${row.part}`);
+    owner.report = {...materialOf(code), totals, parts, more, at: timeText(Date.now())};
   } catch (error) { tell(tr`Report: ${await faultWords(error)}`, "refused"); }
   showYield();
   $("report").scrollIntoView({block: "nearest"});

@@ -146,13 +146,6 @@ class Terminal(Browser):
         self.click(f"{by_id('cutFrom')}.querySelector('.row button')")
         self.until("!toCut.planning && chosenPlan() && document.querySelector('#planList svg[role=img]')", 300)
 
-    def propose_by_grids(self, code):
-        """Has the part that comes first planned alone, and by grids besides."""
-        self.propose(code)
-        self.click("document.querySelector('#otherStep summary')")
-        self.click(by_id("propose"))
-        self.until("!toCut.planning && toCut.tried.length > 1", 300)
-
     def reserve(self):
         """Reserves the plan of one part that is shown, goes to the saw, and gives the job's number."""
         part = self.value("chosenPlan().part")

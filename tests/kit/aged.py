@@ -31,7 +31,7 @@ def once(name, make):
 def book(code, kind, kerf, act, demand, stock, **more):
     """The rows of a shop with one material of such a stock, of bars (0) or sheets (1), and with these others."""
     return {
-        "meta": [("act", act), ("demand", demand), ("version", 2)],
+        "meta": [("act", act), ("demand", demand), ("version", 3)],
         "materials": [(code, kind, kerf, 5, 4 if kind else 1)],
         "totals2": [(code, stock, stock, 0, 0, 0, 0, 0)],
         **more,
@@ -44,15 +44,17 @@ def scrapped(number):
     return compact({"do": "scrap", "number": number, "part": part, "terminal": EARLIER}), compact({"ok": "scrap", "part": part})
 
 
-def history(count, code):
-    """The rows of so many parts that were scrapped, with the messages, of jobs that are done, and of orders of a piece that is
-    made: all of bars of 100 of a material."""
+def history(count, code, first=1):
+    """The rows of so many parts that were scrapped, with the messages and their entries from a number on, of jobs that are done, and of
+    orders of a piece that is made: all of bars of 100 of a material."""
     return {
         "parts": ((HISTORY + it, 0, code, "B", 1, 0, 0, 0, 100, 1, 5, 0) for it in range(count)),
         "jobs": ((HISTORY + it, HISTORY + it, 0, "x30 p1 r", 1) for it in range(count)),
         "orders": ((f"OLD-{it}",) for it in range(count)),
         "demands": ((HISTORY + it, f"OLD-{it}", 1, code, 30, 1, 0, 1, 1, 0, 1) for it in range(count)),
         "kept": ((EARLIER, it, *scrapped(it)) for it in range(count)),
+        "journal": ((first + it, 0, EARLIER, it, "scrap", 0, 0, "", HISTORY + it, 0) for it in range(count)),
+        "uses": ((HISTORY + it, f"OLD-{it}") for it in range(count)),
     }
 
 

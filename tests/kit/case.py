@@ -8,6 +8,9 @@ from dataclasses import dataclass, field
 
 from kit.shop import Shop, is_watched
 
+# The repository's folder.
+TOP = os.path.dirname(os.path.dirname(os.path.dirname(os.path.abspath(__file__))))
+
 # No run of the program that ends by itself takes this long.
 SECONDS = 120
 
@@ -105,16 +108,20 @@ class Trial:
     whole: bool
     folder: str = ""
     shops: list = field(default_factory=list)
+    # What of exchanges over HTTP wasn't as docs/openapi.json says.
+    undescribed: list = field(default_factory=list)
 
     def __enter__(self):
         at = "/dev/shm" if os.access("/dev/shm", os.W_OK) else None
         self.folder = tempfile.mkdtemp(prefix="cutshop-", dir=at)
         return self
 
-    def __exit__(self, *_):
+    def __exit__(self, kind, *_):
         for shop in self.shops:
             shop.kill()
         shutil.rmtree(self.folder, ignore_errors=True)
+        if kind is None and self.undescribed:
+            raise Failed(f"\n  docs/openapi.json says otherwise: {self.undescribed[0]}")
 
     def path(self, name):
         """The path of a file in the case's folder."""

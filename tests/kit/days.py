@@ -8,6 +8,7 @@ from dataclasses import dataclass
 
 from kit import exchanges, tables
 from kit.case import SECONDS
+from kit.faults import Faults
 from kit.shop import busy
 
 QUESTIONS = [f'{{"ask":"totals","material":"{it}"}}' for it in ("STEEL", "GLASS")]
@@ -27,6 +28,8 @@ ORDER = (
 )
 PLANS = ['{"ask":"plan","demands":[4],"part":"3/2","step":1}', '{"ask":"plan","demands":[4],"part":"3/2","step":2}']
 PLANS += ['{"ask":"bound","demands":[4],"h":8,"material":"GLASS","step":1,"w":10}']
+HISTORY = ['{"ask":"shop"}', '{"after":0,"ask":"history"}', '{"after":1,"ask":"story","order":"A-1"}']
+HISTORY += ['{"after":0,"ask":"story","job":3}', '{"after":0,"ask":"story","part":"2/4"}']
 
 REFUSED = b'{"name":"NoMemory","refused":98}'
 
@@ -50,6 +53,11 @@ class Day:
         return [(line, reply) for line, reply in pairs if b'"do"' in line and b'"ok"' in reply]
 
 
+def whole(day):
+    """All lines of a day as bytes, and all replies."""
+    return b"".join(it + b"\n" for it in day.lines), b"".join(it + b"\n" for it in day.replies)
+
+
 def asked(shop, question):
     """The answer to a question; one that was refused for want of memory, or got none, is asked again."""
     try:
@@ -66,14 +74,15 @@ def questions_of(shop):
 def steps_of(name):
     """The lines of a day and the replies that its example wants."""
     steps = [(it.sent, it.wanted) for it in exchanges.EXCHANGES[NAMES[3] if name == ASKED else name].steps]
-    return steps + ([(it.encode(), None) for it in (ORDER, *PLANS, *QUESTIONS)] if name == ASKED else [])
+    return steps + ([(it.encode(), None) for it in (ORDER, *PLANS, *HISTORY, *QUESTIONS)] if name == ASKED else [])
 
 
 def day_of(trial, name):
     """The day of an example, from a run that nothing disturbs."""
     with LOCK:
         if name not in KNOWN:
-            shop = trial.shop(f"undisturbed {name}.db")
+            # (its entries have the times of `replay`)
+            shop = trial.shop(f"undisturbed {name}.db", environment=Faults(trial, date=0).environment)
             day = Day([], [], [], {})
             for line, wanted in steps_of(name):
                 day.states.append(questions_of(shop))

@@ -3,6 +3,7 @@
     = two bars                          the case's name
     A bar's cells are counted.          the sentence that it shows, up to the first mark below
     after three pieces                  it begins with all that this case, or this shop of shops.txt, sends and wants
+    date 0                              `serve` has a clock that stands at so many seconds since 1970; `replay` gives no time, as at 0
     > {"ask":"totals","material":"A"}   a line of a terminal; an empty line is `>` alone
     < {"name":"NoMaterial","refused":20}    its reply
     ~ "GET / HTTP/1.1\\r\\n\\r\\n"          a request, as a text of JSON or a list of texts, each after a number that many times
@@ -17,10 +18,12 @@ with the same bytes. Requests go to `serve` alone, whole and in pieces.
 
 import json
 import os
+import re
 from dataclasses import dataclass, field
 from functools import cache
 
 from kit import case as cases
+from kit.faults import Faults
 from kit.shop import answer, begin_line, end_line, request_of, status_of
 from kit.tables import select
 
@@ -63,11 +66,12 @@ class Exchange:
     says: list
     at: str
     steps: list = field(default_factory=list)
+    date: int = None
 
     def run(self, trial):
         if not any(it.is_request for it in self.steps):
             replay(trial, self.steps)
-        serve(trial, self.steps)
+        serve(trial, self.steps, self.date)
 
 
 def replay(trial, steps):
@@ -79,12 +83,14 @@ def replay(trial, steps):
     trial.equal((len(replies) - 1, replies[-1], ran.status, ran.err), (len(steps), b"", 0, b""), "replay")
 
 
-def serve(trial, steps):
-    """Sends each line and request to `cutshop serve` over a file, which ends by itself behind the last of them."""
+def serve(trial, steps, date=None):
+    """Sends each line and request to `cutshop serve` over a file, which ends by itself behind the last of them; with a clock that
+    stands at a date, where one is given."""
     sends = [(it, size) for it in steps for size in (PIECES if it.is_request else (None,))]
     is_new = not os.path.exists(trial.path("shop.db"))
     kept = 0 if is_new else select(trial.path("shop.db"), "SELECT count(*) FROM kept")[0][0]
-    shop = trial.shop("shop.db", limit=len(sends))
+    environment = None if date is None else Faults(trial, date=date).environment
+    shop = trial.shop("shop.db", limit=len(sends), environment=environment)
     trial.holds(shop.is_open, "the shop doesn't open")
     for step, size in sends:
         request = step.sent if step.is_request else request_of(step.sent, step.wanted)
@@ -107,7 +113,7 @@ def bytes_of(text):
 
 
 # What cases begin with, by its name; a shop of this file is no case.
-SHOPS = os.path.join(os.path.dirname(os.path.abspath(__file__)), "..", "cases", "shops.txt")
+SHOPS = os.path.join(os.path.dirname(os.path.abspath(__file__)), "..", "cases", "lines", "shops.txt")
 
 
 def lines_of(path):
@@ -132,6 +138,8 @@ def parsed(path, before):
             now = known[rest] = Exchange(rest, [], at)
         elif line.startswith("after ") and not now.steps:
             now.steps += {**before, **known}[line.removeprefix("after ")].steps
+        elif re.fullmatch("date [0-9]+", line):
+            now.date = int(line.removeprefix("date "))
         elif mark in (">", "~") and mark:
             sent = bytes_of(rest) if mark == "~" else rest.encode()
             now.steps.append(Step(at, sent, mark == "~"))

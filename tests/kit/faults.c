@@ -4,7 +4,8 @@
 //   FAULT_OF     memory (the program asks by malloc and realloc alone), read, write (of streams: all but standard error and
 //                the files below FAULT_UNDER), files (calls that change files there), looks (that open, lock or read them),
 //                port (that listen to one), accept, watch (that have a descriptor reported), wait (for a report), clock
-//                (that tell the time) or disk (that tell what a file there is: it is told to be on another disk)
+//                (that tell a time since some start), date (that tell the time since 1970) or disk (that tell what a file
+//                there is: it is told to be on another disk)
 //   FAULT_UNDER  the path of a folder
 //   FAULT_AT     the number of the call, from 1, that fails; 0: none
 //   FAULT_ON     once, or on: that call alone, or each from then on
@@ -14,7 +15,8 @@
 //                or in each sector what it held at some time since; halted: it stands still there until it is told to go on
 //   FAULT_SEED   which sectors are torn
 //   FAULT_COUNT  a file of a page, whose first 8 bytes count the calls of the process that was started last; so many seconds as
-//                the next 8 tell are added to each time that is told
+//                the next 8 tell are added to each time that is told; where the next 8 aren't 0 the seconds since 1970 are
+//                those that the 8 behind them tell, below 0 before it
 
 typedef unsigned long size_t;
 
@@ -23,7 +25,7 @@ enum { AT_FDCWD = -100, STANDARD_ERROR = 2 };
 enum { READ_CALL = 0, WRITE_CALL = 1, CLOSE_CALL = 3, LSEEK_CALL = 8, PREAD_CALL = 17, PWRITE_CALL = 18, ACCESS_CALL = 21 };
 enum { SOCKET_CALL = 41, ACCEPT_CALL = 43, BIND_CALL = 49, LISTEN_CALL = 50, ACCEPT4_CALL = 288 };
 enum { EPOLL_WAIT_CALL = 232, EPOLL_CTL_CALL = 233, EPOLL_CREATE1_CALL = 291 };
-enum { CLOCK_GETTIME_CALL = 228, STATX_CALL = 332, STATX_DISK = 35 };
+enum { CLOCK_GETTIME_CALL = 228, SINCE_1970 = 0, STATX_CALL = 332, STATX_DISK = 35 };
 enum { SENDTO_CALL = 44, RECVFROM_CALL = 45, FCNTL_CALL = 72, FSYNC_CALL = 74, FDATASYNC_CALL = 75, FTRUNCATE_CALL = 77 };
 enum { GETPID_CALL = 39, KILL_CALL = 62, HALT_SIGNAL = 19, LINK_CALL = 86, UNLINKAT_CALL = 263 };
 enum { RENAME_CALL = 82, MKDIR_CALL = 83, RMDIR_CALL = 84, UNLINK_CALL = 87, FCHMOD_CALL = 91, FCHOWN_CALL = 93, OPENAT_CALL = 257 };
@@ -41,7 +43,7 @@ extern void *memset(void *, int, size_t);
 extern void *mmap(void *, size_t, int, int, int, long);
 extern void _exit(int) __attribute__((noreturn));
 
-enum { MEMORY = 1, READ, WRITE, FILES, LOOKS, PORT, ACCEPT, WATCH, WAIT, CLOCK, DISK };
+enum { MEMORY = 1, READ, WRITE, FILES, LOOKS, PORT, ACCEPT, WATCH, WAIT, CLOCK, DATE, DISK };
 enum { KEPT = 1, DROPPED, TORN, HALTED };
 enum { SECTOR = 512, MOST_PATHS = 64, MOST_NOTES = 1 << 16, MOST_NUMBERS = 1024, MOST_LENGTH = 512 };
 
@@ -67,7 +69,7 @@ struct note {
 static int of, on, error_number, stop, ready;
 static long at, most, seed;
 static const char *under;
-static long own_page[2];
+static long own_page[4];
 static volatile long *calls = own_page;
 static struct path paths[MOST_PATHS];
 static int path_count;
@@ -99,7 +101,7 @@ static int word(const char *name, const char *const *words) {
 }
 
 __attribute__((constructor)) static void begin(void) {
-    static const char *const kinds[] = {"memory", "read", "write", "files", "looks", "port", "accept", "watch", "wait", "clock", "disk", 0};
+    static const char *const kinds[] = {"memory", "read", "write", "files", "looks", "port", "accept", "watch", "wait", "clock", "date", "disk", 0};
     static const char *const stops[] = {"kept", "dropped", "torn", "halted", 0};
     static const char *const times[] = {"on", 0};
     find_real();
@@ -415,9 +417,9 @@ int epoll_wait(int set, void *events, int most, int wait) {
 }
 
 int clock_gettime(int which, void *to) {
-    if (fails(CLOCK)) return -1;
+    if (fails(which == SINCE_1970 ? DATE : CLOCK)) return -1;
     int result = syscall(CLOCK_GETTIME_CALL, which, to);
-    if (!result) *(long *)to += calls[1];
+    if (!result) *(long *)to = which == SINCE_1970 && calls[2] ? calls[3] : *(long *)to + calls[1];
     return result;
 }
 

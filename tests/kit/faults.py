@@ -43,16 +43,19 @@ def library():
 
 
 class Faults:
-    """Which calls fail: `of` memory, read, write, files, looks, port, accept, watch, wait, clock or disk, as faults.c says; the
+    """Which calls fail: `of` memory, read, write, files, looks, port, accept, watch, wait, clock, date or disk, as faults.c says; the
     `at`-th, from 1 (0: none); once or from then `on`; with this error. Streams take at most `by` bytes a call. `stop`: the
     program ends there, with what wasn't synced kept, dropped or torn by a `seed`, or stands still there until it is told to go on
-    (halted). `under` is the folder of the files, the case's own where none is given."""
+    (halted). `under` is the folder of the files, the case's own where none is given. `date`: the seconds since 1970 that the clock
+    tells, which stand still."""
 
-    def __init__(self, trial, of="", at=0, on=False, error=errno.EIO, by=0, stop="", seed=0, under=None):
+    def __init__(self, trial, of="", at=0, on=False, error=errno.EIO, by=0, stop="", seed=0, under=None, date=None):
         # (each run has its own count)
         number, self.count_path = tempfile.mkstemp(dir=trial.folder, prefix="calls-")
         os.truncate(number, 4096)
         os.close(number)
+        if date is not None:
+            self.set_date(date)
         self.at = at
         self.environment = {
             "LD_PRELOAD": library(),
@@ -77,6 +80,12 @@ class Faults:
         with open(self.count_path, "r+b") as file:
             file.seek(8)
             file.write(seconds.to_bytes(8, "little"))
+
+    def set_date(self, seconds):
+        """Has the clock of the program tell so many seconds since 1970 from now on, below 0 before it."""
+        with open(self.count_path, "r+b") as file:
+            file.seek(16)
+            file.write((1).to_bytes(8, "little") + seconds.to_bytes(8, "little", signed=True))
 
     def end(self):
         """Takes its count away."""

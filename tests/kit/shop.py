@@ -11,6 +11,8 @@ import subprocess
 import threading
 from contextlib import suppress
 
+from kit import described
+
 # A client waits this long for an answer.
 SECONDS = 30
 
@@ -75,6 +77,11 @@ PATHS = (
     ("terminal", "/terminal/{terminal}"),
     ("orders", "/orders/{after}"),
     ("lines", "/order/{order}"),
+    ("shop", "/shop"),
+    ("history", "/history/{after}"),
+    ("story", "/story/order/{order}/{after}"),
+    ("story", "/story/job/{job}/{after}"),
+    ("story", "/story/part/{part}/{after}"),
 )
 
 
@@ -167,7 +174,7 @@ class Shop:
     """A running `cutshop serve`. `limit` is the number of connections after which it ends by itself."""
 
     def __init__(self, trial, store, shop_file=None, limit=None, environment=None, prepare=None, words=()):
-        self.store = trial.path(store)
+        self.trial, self.store = trial, trial.path(store)
         self.shop_file = shop_file or trial.write("empty.toml", "")
         for _ in range(20):
             self.port = free_port()
@@ -225,7 +232,11 @@ class Shop:
             except (BrokenPipeError, ConnectionResetError, OSError):
                 # (answered before all was sent)
                 pass
-            return read_all(it)
+            came = read_all(it)
+        fault = described.fault_in(request, came)
+        if fault:
+            self.trial.undescribed.append(fault)
+        return came
 
     def send(self, line, reply=None):
         """Sends a line, and gives the whole answer."""

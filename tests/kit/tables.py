@@ -16,7 +16,14 @@ COLUMNS = {
     "imports": "ord form material body reply",
     "totals": "material received stock rack pieces kerf scrap",
     "totals2": "material received stock rack pieces kerf scrap returned",
+    "journal": "entry at terminal number word act job ord part_act part_node",
+    "uses": "job ord",
+    "notes": "ord due body",
+    "begun": "job terminal",
+    "halts": "job body",
 }
+# The tables that version 3 brought.
+LAST = ("journal", "uses", "notes", "begun", "halts")
 KEYS = {
     "meta": "name",
     "materials": "code",
@@ -28,8 +35,13 @@ KEYS = {
     "imports": "ord",
     "totals": "material",
     "totals2": "material",
+    "journal": "entry",
+    "uses": "job ord",
+    "notes": "ord",
+    "begun": "job",
+    "halts": "job",
 }
-TEXTS = {"name", "code", "material", "batch", "tree", "ord", "command", "reply", "body"}
+TEXTS = {"name", "code", "material", "batch", "tree", "ord", "command", "reply", "body", "word"}
 
 
 @contextmanager
@@ -48,11 +60,16 @@ def copy(path, to):
     return to
 
 
-def rows(path):
-    """All rows of all tables, by table, each in the order of its key."""
+def rows(path, times=False):
+    """All rows of all tables that are there, by table, each in the order of its key. An entry has 0 in place of when it was accepted,
+    but where times are asked for: they differ from one run to the next."""
     with opened(path) as book:
-        by = {name: keys.replace(" ", ", ") for name, keys in KEYS.items()}
-        return {name: book.execute(f"SELECT * FROM {name} ORDER BY {by[name]}").fetchall() for name in COLUMNS}
+        there = {name for (name,) in book.execute("SELECT name FROM sqlite_schema WHERE type = 'table'")}
+        by = {name: keys.replace(" ", ", ") for name, keys in KEYS.items() if name in there}
+        found = {name: book.execute(f"SELECT * FROM {name} ORDER BY {by[name]}").fetchall() for name in COLUMNS if name in there}
+    if not times and "journal" in found:
+        found["journal"] = [(entry, 0, *rest) for entry, _, *rest in found["journal"]]
+    return found
 
 
 def select(path, statement):
@@ -78,7 +95,7 @@ def wanted_columns(name):
     return [(it, "TEXT" if it in TEXTS else "INTEGER", 1, places.get(it, 0)) for it in COLUMNS[name].split()]
 
 
-# The tables of version 1, as plain SQL, and the one that version 2 adds.
+# The tables of version 1, as plain SQL, the one that version 2 adds, and those that version 3 adds.
 VERSION_1 = """
 CREATE TABLE meta (name TEXT NOT NULL, value INTEGER NOT NULL, PRIMARY KEY (name)) STRICT;
 CREATE TABLE materials (
@@ -113,6 +130,19 @@ CREATE TABLE totals2 (
     rack INTEGER NOT NULL, pieces INTEGER NOT NULL, kerf INTEGER NOT NULL, scrap INTEGER NOT NULL,
     returned INTEGER NOT NULL) STRICT;
 """
+VERSION_3 = """
+CREATE TABLE journal (
+    entry INTEGER NOT NULL PRIMARY KEY, at INTEGER NOT NULL, terminal INTEGER NOT NULL, number INTEGER NOT NULL,
+    word TEXT NOT NULL, act INTEGER NOT NULL, job INTEGER NOT NULL, ord TEXT NOT NULL, part_act INTEGER NOT NULL,
+    part_node INTEGER NOT NULL) STRICT;
+CREATE TABLE uses (job INTEGER NOT NULL, ord TEXT NOT NULL, PRIMARY KEY (job, ord)) STRICT;
+CREATE TABLE notes (
+    ord TEXT NOT NULL PRIMARY KEY REFERENCES orders (ord), due INTEGER NOT NULL, body TEXT NOT NULL) STRICT;
+CREATE TABLE begun (job INTEGER NOT NULL PRIMARY KEY REFERENCES jobs (job), terminal INTEGER NOT NULL) STRICT;
+CREATE TABLE halts (job INTEGER NOT NULL PRIMARY KEY REFERENCES jobs (job), body TEXT NOT NULL) STRICT;
+"""
+# The statements that make the tables of each version.
+VERSIONS = {1: VERSION_1, 2: VERSION_1 + VERSION_2, 3: VERSION_1 + VERSION_2 + VERSION_3}
 
 # A table, an index and a view of others.
 OTHERS = """
@@ -121,10 +151,10 @@ INSERT INTO other VALUES (7);
 """
 
 
-def make(path, found, version=2):
+def make(path, found, version=3):
     """Makes a file with the tables of a version by plain SQL, and these rows in them."""
     with opened(path) as book:
-        book.executescript(VERSION_1 + (VERSION_2 if version == 2 else ""))
+        book.executescript(VERSIONS[version])
     insert(path, found)
     return path
 
@@ -143,3 +173,17 @@ def dump(path):
     """All tables, views and indexes of a file and all their rows, as the statements that make them."""
     with opened(path) as book:
         return list(book.iterdump())
+
+
+def earlier(found, version):
+    """The rows of version 3 as those of an earlier version, which has no entries; of version 1 none of whose material was returned."""
+    rows = {name: list(it) for name, it in found.items() if name not in LAST}
+    rows["meta"] = [(name, version if name == "version" else value) for name, value in rows["meta"]]
+    if version == 1:
+        rows |= {"totals": [it[:-1] for it in rows["totals2"]], "totals2": []}
+    return rows
+
+
+def renewed(found):
+    """The rows of version 3 that an open makes of those of an earlier version of a content: all but its entries."""
+    return dict(found, journal=[], uses=[])

@@ -78,6 +78,7 @@ table_text table.Parts = codes "parts"
 table_text table.Jobs = codes "jobs"
 table_text table.Orders = codes "orders"
 table_text table.Demands = codes "demands"
+table_text table.Journal = codes "journal"
 
 -- a key behind a space, where it is one
 abbrev pub key_text : RowKey → List ℕ

@@ -116,6 +116,7 @@ pub enum StoreTable {
     Jobs,
     Orders,
     Demands,
+    Journal,
 }
 
 /// The key of a row, as far as it is one.
@@ -296,6 +297,7 @@ impl StoreTable {
             StoreTable::Jobs => "jobs",
             StoreTable::Orders => "orders",
             StoreTable::Demands => "demands",
+            StoreTable::Journal => "journal",
         }
     }
 }

@@ -1,20 +1,24 @@
 -- What is told of a content by lists, which are cut after so many rows; of a job with its plan; of an order with its lines;
--- and of a terminal.
-use Rattle.std.specs.Prelude.{◌≡◌, ℕ, ◌+◌, ◌^◌, ◌<◌, ◌≤◌, List, [], ◌∷◌, length, take, filter_map, Bool, true, false, nat_lt, Option, Some, None, is_some, option_map, option_and_then}
+-- of a terminal; and of entries.
+use Rattle.std.specs.Prelude.{◌≡◌, ℕ, ◌+◌, ◌^◌, ◌<◌, ◌≤◌, List, [], ◌∷◌, length, take, filter_map, Bool, true, false, nat_lt, Option, Some, None, is_some, option_map, option_and_then, nat_le, if◌then◌else◌}
 use Rattle.cut_measure.specs.Names.{Name}
 use Rattle.cut_tree.specs.Tree.{cut_count}
 use Rattle.cut_tree.specs.Spelling.{text_of}
-use Rattle.shop_answers.specs.declared.listing.TheConstants.{MOST_TOLD}
+use Rattle.shop_answers.specs.declared.listing.TheConstants.{MOST_TOLD, MOST_TOLD_BYTES}
 use Rattle.shop_records.specs.declared.records.Material.{Material}
 use Rattle.shop_records.specs.declared.records.Part.{Part}
 use Rattle.shop_records.specs.declared.records.Job.{Job}
 use Rattle.shop_records.specs.declared.records.JobRow.{JobRow}
 use Rattle.shop_records.specs.declared.records.Demand.{Demand}
 use Rattle.shop_records.specs.declared.records.OrderRow.{OrderRow}
-use Rattle.shop_records.specs.declared.refusals.Refusal.TheVariants.{NoMaterial, NoOrder, NoJob}
+use Rattle.shop_records.specs.declared.journal.EntryTold.{EntryTold}
+use Rattle.shop_records.specs.declared.journal.Subject.{Subject}
+use Rattle.shop_records.specs.declared.journal.Subject.TheVariants as subject
+use Rattle.shop_records.specs.declared.refusals.Refusal.{Refusal}
+use Rattle.shop_records.specs.declared.refusals.Refusal.TheVariants.{NoMaterial, NoOrder, NoPart, NoJob}
 use Rattle.shop_records.specs.declared.messages.Reply.{Reply}
 use Rattle.shop_records.specs.declared.messages.Reply.TheVariants as reply
-use Rattle.shop_records.specs.Content.{Content, material_at, part_at, job_at}
+use Rattle.shop_records.specs.Content.{Content, material_at, part_at, job_at, has_order}
 use Rattle.shop_records.specs.Lists.{AreLines, order_row, IsLastNumber}
 
 -- the first rows of a list, as many as are told
@@ -103,3 +107,36 @@ IsLinesAnswer content order true answer = (lines : List Demand) × AreLines cont
 -- what may be told of a terminal
 abbrev pub IsTerminalAnswer : Content → ℕ → Reply → Type 0
 IsTerminalAnswer content terminal answer = (last : ℕ) × IsLastNumber content terminal last × (answer ≡ reply.Terminal last terminal)
+
+-- ---- entries
+
+-- bytes of the texts that are kept of an entry's message
+abbrev pub entry_bytes : EntryTold → ℕ
+entry_bytes entry = length entry.message + length entry.reply
+
+-- of entries that follow so many bytes those before which fewer are reached than end a list
+abbrev pub shown_from : (bytes : ℕ) → List EntryTold → List EntryTold
+shown_from bytes [] = []
+shown_from bytes (entry ∷ entries) =
+    if nat_le MOST_TOLD_BYTES bytes then [] else entry ∷ shown_from (bytes + entry_bytes entry) entries
+
+-- the first entries, as many as are told
+abbrev pub shown_within : List EntryTold → List EntryTold
+shown_within entries = shown_from 0 (first_told entries)
+
+-- others follow the last one told
+abbrev pub are_hidden : List EntryTold → Bool
+are_hidden entries = nat_lt (length (shown_within entries)) (length entries)
+
+abbrev pub told_history : List EntryTold → Reply
+told_history entries = reply.History (shown_within entries) (are_hidden entries)
+
+-- why nothing is told of a subject, if nothing is
+abbrev pub subject_refusal : Content → Subject → Option Refusal
+subject_refusal content (subject.Order code) = if has_order content code then None else Some NoOrder
+subject_refusal content (subject.Job number) = if is_some (job_at content number) then None else Some NoJob
+subject_refusal content (subject.Part name) = if is_some (part_at content name) then None else Some NoPart
+
+abbrev pub told_story : Option Refusal → List EntryTold → Reply
+told_story (Some refusal) entries = reply.Refused refusal
+told_story None entries = reply.Story (shown_within entries) (are_hidden entries)

@@ -10,10 +10,10 @@ use Rattle.shop_records.specs.declared.refusals.Refusal.TheVariants.{NoMaterial,
 use Rattle.shop_records.specs.declared.messages.Reply.{Reply}
 use Rattle.shop_records.specs.declared.messages.Reply.TheVariants as reply
 use Rattle.shop_records.specs.Columns.{state_word, state_of}
-use Rattle.shop_records.specs.Content.{Content, material_at, part_at, has_order, demand_at, totals_of, parts_of, rack_rows, material_of}
+use Rattle.shop_records.specs.Content.{Content, material_at, part_at, has_order, demand_at, entry_count, last_time, totals_of, parts_of, rack_rows, material_of}
 use Rattle.shop_answers.specs.Planning.{IsPlanAnswer, IsBoundAnswer}
-use Rattle.shop_records.specs.Lists.{materials_of, parts_after, open_demands, waiting_jobs, job_numbers, orders_after}
-use Rattle.shop_answers.specs.Listing.{is_known, job_with_part, told_parts, told_demands, told_jobs, told_job, IsOrdersAnswer, IsLinesAnswer, IsTerminalAnswer}
+use Rattle.shop_records.specs.Lists.{materials_of, parts_after, open_demands, waiting_jobs, job_numbers, orders_after, first_time, entries_behind, entries_about, told_entries}
+use Rattle.shop_answers.specs.Listing.{is_known, job_with_part, told_parts, told_demands, told_jobs, told_job, IsOrdersAnswer, IsLinesAnswer, IsTerminalAnswer, told_history, subject_refusal, told_story}
 
 abbrev pub told_totals : Option Material → List ℕ → Totals → Reply
 told_totals None material t = reply.Refused NoMaterial
@@ -50,6 +50,10 @@ IsAnswer content (query.Job job) answer = answer ≡ told_job (job_with_part con
 IsAnswer content (query.Terminal terminal) answer = IsTerminalAnswer content terminal answer
 IsAnswer content (query.Orders after) answer = IsOrdersAnswer content (orders_after content after) answer
 IsAnswer content (query.Lines order) answer = IsLinesAnswer content order (has_order content order) answer
+IsAnswer content query.Shop answer = answer ≡ reply.Shop (first_time content) (entry_count content) (last_time content)
+IsAnswer content (query.History after) answer = answer ≡ told_history (told_entries content (entries_behind content after))
+IsAnswer content (query.Story about after) answer =
+    answer ≡ told_story (subject_refusal content about) (told_entries content (entries_about content about after))
 
 -- the same, memory and the store aside; a query changes nothing
 abbrev pub Answers : Content → Query → Reply → Type 0

@@ -1,14 +1,16 @@
-//! What the machine answers to queries: a plan of a part, a bound, the rows of a list, a job and an order.
+//! What the machine answers to queries: a plan of a part, a bound, the rows of a list, a job, an order and entries.
 #![tactic(auto)]
 
+mod entries;
 mod laws;
 mod listing;
 mod planning;
 
+pub use entries::{bytes_with, is_full};
 pub use laws::{orders_have_one_answer, told_plans_can_be_reserved};
 pub use listing::{
-    MOST_TOLD, answer_demands, answer_job, answer_orders, answer_parts, are_more, first_told,
-    job_row, order_row,
+    MOST_TOLD, MOST_TOLD_BYTES, answer_demands, answer_job, answer_orders, answer_parts, are_more,
+    first_told, job_row, order_row,
 };
 pub use planning::{
     FoundDemand, FoundList, answer_bound, answer_plan, can_be_planned, demands_refusal, left_of,

@@ -19,6 +19,9 @@ use std::alloc::{AllocError, Global};
 /// The most rows that a list tells of parts, demands or jobs.
 pub const MOST_TOLD: usize = 100;
 
+/// A list of entries ends with the one with which so many bytes of messages and replies, as they are kept, are reached.
+pub const MOST_TOLD_BYTES: u64 = 1_000_000;
+
 /// Whether others follow the last row of a list that is told.
 pub fn are_more<T>(rows: &[T]) -> bool
     ensures { result ≡ listing.are_more rows.now }

@@ -17,6 +17,6 @@ pub use faults::BackupFault;
 pub use folders::{Backups, test_folder};
 pub use made::{Made, stayed_note};
 pub use names::Names;
-pub use replacing::{Judges, put_back};
+pub use replacing::{BookEntries, Judges, put_back};
 pub use restoring::{Place, RestoreFault, RestoreStep, restore};
 pub use shelves::{Half, Numbers, Shelf};

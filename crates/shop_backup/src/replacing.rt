@@ -14,10 +14,24 @@ use std::fs::{self, File, Files, Metadata, OpenFile, OpenOptions, Permissions};
 use std::io::{self, ErrorKind};
 use std::os::unix::fs::{MetadataExt, OpenOptionsExt, PermissionsExt};
 
+/// What a book tells of its entries.
+#[derive(Clone, Copy, Debug, PartialEq, Eq)]
+pub struct BookEntries {
+    /// How many there are.
+    pub count: u64,
+    /// The second of the last one, counted from 1970-01-01 00:00 UTC; 0 where none has a time.
+    pub last_time: u64,
+}
+
 /// What judges whether files hold a book.
 pub trait Judges {
-    /// Whether a store's file and its log, which are only read, hold a book.
-    fn holds_book(&mut self, alloc: Global, store: &str) -> Result<bool, AllocError>;
+    /// What the book that a store's file and its log hold tells of its entries, or none where they hold no book. The files are
+    /// only read.
+    fn book_entries(
+        &mut self,
+        alloc: Global,
+        store: &str,
+    ) -> Result<Option<BookEntries>, AllocError>;
 }
 
 // The names that a store's files have, get and had.
@@ -239,6 +253,7 @@ struct Replacing<'a, R, J> {
     from: &'a str,
     paths: Paths,
     copy: Option<String>,
+    entries: BookEntries,
     held: [Option<HeldFile>; 2],
     is_shielded: bool,
 }
@@ -262,11 +277,14 @@ impl<'a, R: Files, J: Judges> Replacing<'a, R, J> {
             return Err(RestoreFault::NoBackup);
         }
         let copy = store_in(self.rt, self.alloc, self.from)?;
-        if !self.judge.holds_book(self.alloc, copy.as_str())? {
-            return Err(RestoreFault::NoBackup);
+        match self.judge.book_entries(self.alloc, copy.as_str())? {
+            Some(entries) => {
+                self.entries = entries;
+                self.copy = Some(copy);
+                Ok(())
+            }
+            None => Err(RestoreFault::NoBackup),
         }
-        self.copy = Some(copy);
-        Ok(())
     }
 
     fn look(&self) -> Result<(), RestoreFault> {
@@ -382,7 +400,7 @@ impl<'a, R: Files, J: Judges> Place for Replacing<'a, R, J> {
 
 /// Puts a backup in the place of a store: the files that were there are `FILE.before` and `FILE.before-wal` then, where they were
 /// there. `FILE.new` and `FILE.new-wal` are copies of the backup's files before they get their names; of an earlier try they are
-/// taken away.
+/// taken away. The answer is what the backup's book tells of its entries.
 ///
 /// `Store(InUse)` where a program has the store open; `NoBackup` where the folder has no store with its log, or they hold no book;
 /// `Before` where `FILE.before` or `FILE.before-wal` is there. At these nothing was changed. `NoMemory`, and `Store` with another
@@ -394,7 +412,7 @@ pub fn put_back<R: Files, J: Judges + Drop>(
     judge: J,
     store: &str,
     from: &str,
-) -> Result<(), RestoreFault> {
+) -> Result<BookEntries, RestoreFault> {
     let paths = Paths::new(rt, alloc, store)?;
     let mut place = Replacing {
         rt,
@@ -403,8 +421,13 @@ pub fn put_back<R: Files, J: Judges + Drop>(
         from,
         paths,
         copy: None,
+        entries: BookEntries {
+            count: 0,
+            last_time: 0,
+        },
         held: [None, None],
         is_shielded: false,
     };
-    restore(&mut place)
+    restore(&mut place)?;
+    Ok(place.entries)
 }

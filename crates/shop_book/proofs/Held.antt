@@ -14,23 +14,25 @@ use Rattle.shop_records.specs.declared.records.Material.{Material}
 use Rattle.shop_records.specs.declared.records.Part.{Part}
 use Rattle.shop_records.specs.declared.records.Job.{Job}
 use Rattle.shop_records.specs.declared.records.Demand.{Demand}
-use Rattle.shop_records.specs.Content.{Content, pair_cmp, cells_in, with_material, with_parts, with_job, with_demands, with_kept, with_import, with_number}
+use Rattle.shop_records.specs.Content.{Content, pair_cmp, cells_in, with_material, with_parts, with_job, with_demands, with_entry, with_kept, with_import, with_number}
 use Rattle.shop_records.specs.Soundness.{IsInRange}
 use Rattle.std.specs.Cmp.{IsTotalOrder}
 use Rattle.std.specs.BTreeMap.{insert_entry}
-use Rattle.std.specs.FinMap.{FinMap, empty, insert, from_sorted, find, put, is_sorted, get, get-from_sorted, values, entries-from_sorted, entries-insert, same_entries_map, len-entries, empty_of_len}
+use Rattle.std.specs.FinMap.{FinMap, empty, insert, from_sorted, find, put, is_sorted, get, get-from_sorted, values, entries-from_sorted, entries-insert, same_entries_map, len, len-entries, empty_of_len}
 use Rattle.std.specs.FinMap.Entries.{by_order, is_sorted-put}
 use Rattle.shop_records.specs.declared.imports.ImportRow.{ImportRow}
+use Rattle.shop_records.specs.declared.journal.Entry.{Entry}
 use Rattle.shop_records.specs.declared.texts.Pair.{Pair}
 use Rattle.shop_records.specs.declared.texts.Kept.{Kept}
 use Rattle.shop_records.specs.declared.texts.KeptMessage.{KeptMessage}
 use Rattle.shop_book.specs.Memory.{put_kept, pairs_total}
-use Rattle.shop_rows.specs.Keys.{material_key, part_key, job_key, demand_key, import_key}
+use Rattle.shop_rows.specs.Keys.{material_key, part_key, job_key, demand_key, entry_key, import_key}
 use Rattle.shop_rows.specs.Rows.{entries_of, rise, row_at, put_each, map_of, with_rows, ArePut}
 use Rattle.std.specs.Bool.{Decides}
 use Rattle.std.specs.Cmp.Lexicographic.{pointwise}
 use Rattle.std.proofs.lemmas.Bool.Decides.{Decides-like}
 use Rattle.std.proofs.lemmas.Slice.Eq.{slice_eq-Decides}
+use Rattle.std.proofs.lemmas.List.{length-map}
 use Rattle.shop_rows.proofs.Mapped.{seconds}
 use Rattle.shop_rows.proofs.Places.{tested, met}
 
@@ -42,6 +44,10 @@ module _ {X K : Type 0} (key_of : X → K) (cmp : K → K → Ordering) where
   -- the rows are the map's values
   pub values-rows : (rows : List X) → rise key_of cmp rows ≡ true → values (from_sorted {R = cmp} (entries_of key_of cmp rows)) ≡ rows
   values-rows rows up = ap (map (λ (e : K × X). e.1)) (entries-from_sorted cmp (entries_of key_of cmp rows) (tested _ up)) ∙ seconds key_of cmp rows
+
+  -- there are as many
+  pub len-rows : (rows : List X) → rise key_of cmp rows ≡ true → len (from_sorted {R = cmp} (entries_of key_of cmp rows)) ≡ length rows
+  len-rows rows up = len-entries _ ∙ ap length (entries-from_sorted cmp (entries_of key_of cmp rows) (tested _ up)) ∙ length-map rows (λ row. (key_of row, row))
 
   -- a test of rows is one of the maps that they stand for
   pub maps_decide : (xs ys : List X) (r : Bool) → Decides r (xs ≡ ys) → rise key_of cmp xs ≡ true → rise key_of cmp ys ≡ true
@@ -124,6 +130,10 @@ job_after (Some row) m = refl
 pub import_after : (row : Option ImportRow) (m : FinMap code_cmp ImportRow) → with_rows import_key code_cmp (option_to_list row) m ≡ with_import row m
 import_after None m = refl
 import_after (Some row) m = refl
+
+pub entry_after : (row : Option Entry) (m : FinMap nat_cmp Entry) → with_rows entry_key nat_cmp (option_to_list row) m ≡ with_entry row m
+entry_after None m = refl
+entry_after (Some row) m = refl
 
 pub parts_after : (rows : List Part) (m : FinMap name_cmp Part) → with_rows part_key name_cmp rows m ≡ with_parts rows m
 parts_after [] m = refl

@@ -2,6 +2,7 @@
 pub mod Orders
 pub mod Replaced
 pub mod Held
+pub mod Behind
 pub mod Tallied
 pub mod Handed
 -- the last number of a terminal
@@ -11,3 +12,5 @@ pub mod LinesTold
 -- rows in a ledger, and what lasts beside it
 pub mod KnownRows
 pub mod Loaded
+-- which entries a story tells
+pub mod AboutOrders

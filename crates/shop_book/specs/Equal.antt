@@ -1,6 +1,7 @@
 -- When two contents are the same.
 use Rattle.std.specs.Prelude.{◌≡◌, Bool, true, false, ◌&&◌, ◌==◌, nat_eq}
-use Rattle.std.specs.Prelude.{T, refl}
+use Rattle.std.specs.Prelude.{T, ℕ, refl, List, Option, Some, None, cond, get_or}
+use Rattle.std.specs.Option.{option_eq}
 use Rattle.std.proofs.Common.{ap, sym, subst, ◌∙◌}
 use Rattle.std.specs.Bool.{Decides}
 use Rattle.std.specs.Cmp.{IsPartialEquivalence, unsigned_Decides, booleans_Decides, decided}
@@ -37,6 +38,10 @@ use Rattle.cut_tree.specs.SamePatterns.{same_pattern_decides}
 use Rattle.shop_records.specs.contracts.texts.KeptPartialEq.TheImpl as kept_eq
 use Rattle.shop_records.specs.contracts.imports.FormPartialEq.TheImpl as form_eq
 use Rattle.shop_records.specs.contracts.imports.ImportRowPartialEq.TheImpl as import_eq
+use Rattle.shop_records.specs.Journal.{word_name}
+use Rattle.shop_records.specs.declared.journal.Entry.{Entry}
+use Rattle.shop_records.specs.declared.journal.Word.{Word}
+use Rattle.shop_records.specs.declared.journal.Word.TheVariants as word
 use Rattle.shop_rows.specs.Keys.{codes_exact}
 use Rattle.shop_rows.specs.SameParts.{name_decides, part_decides, same_part, size_decides}
 
@@ -57,6 +62,16 @@ same_kept = kept_eq.ghosts.eq
 abbrev pub same_import : ImportRow → ImportRow → Bool
 same_import = import_eq.ghosts.eq
 
+-- words by their names
+abbrev pub same_word : Word → Word → Bool
+same_word v w = pointwise nat_eq (word_name v) (word_name w)
+
+abbrev pub same_entry : Entry → Entry → Bool
+same_entry a b =
+    a.number == b.number
+    && (same_pair a.pair b.pair
+    && (a.at == b.at && (same_word a.word b.word && (a.act == b.act && (a.job == b.job && (option_eq (pointwise nat_eq) a.order b.order && option_eq same_name a.part b.part))))))
+
 -- whether two maps have the same entries
 abbrev pub same_entries : {K X : Type 0} {R : K → K → Ordering} → (K → K → Bool) → (X → X → Bool) → FinMap R X → FinMap R X → Bool
 same_entries E F m n = pointwise (λ e f. E e.0 f.0 && F e.1 f.1) (entries m) (entries n)
@@ -72,7 +87,8 @@ same_content m n =
     && (same_entries nat_eq same_job m.jobs n.jobs
     && (same_codes m.orders n.orders
     && (same_entries nat_eq same_demand m.demands n.demands && (same_entries same_pair same_kept m.kept n.kept
-    && (same_entries (pointwise nat_eq) same_import m.imports n.imports && (m.last_act == n.last_act && m.last_demand == n.last_demand)))))))
+    && (same_entries (pointwise nat_eq) same_import m.imports n.imports
+    && (same_entries nat_eq same_entry m.entries n.entries && (m.last_act == n.last_act && m.last_demand == n.last_demand))))))))
 
 -- ---- they tell contents apart
 
@@ -221,6 +237,55 @@ import_decides a b =
     Decides-like _ (λ p i. record { order = p.0 i; form = p.1.0 i; text = p.1.1.0 i; reply = p.1.1.1 i }) (λ p. (ap (λ r. r.order) p, (ap (λ r. r.form) p, (ap (λ r. r.text) p, ap (λ r. r.reply) p))))
     (Decides-and _ _ (bytes_decides a.order b.order) (Decides-and _ _ (form_decides a.form b.form) (Decides-and _ _ (bytes_decides a.text b.text) (bytes_decides a.reply b.reply))))
 
+-- the word of a name: its first letter tells it, or its second or third
+word_back : List ℕ → Word
+word_back name =
+    let first = get_or name 0 0 in
+    let third = get_or name 2 0 in
+    cond (nat_eq first 109) word.Material
+    (cond (nat_eq first 111) word.Order
+    (cond (nat_eq first 100) word.Done
+    (cond (nat_eq first 98) word.Break
+    (cond (nat_eq first 105) word.Import
+    (cond (nat_eq first 97) word.Amend
+    (cond (nat_eq (get_or name 1 0) 99) word.Scrap
+    (cond (nat_eq third 99) word.Receive (cond (nat_eq third 115) word.Reserve (cond (nat_eq third 108) word.Release word.Return)))))))))
+
+back_again : (w : Word) → word_back (word_name w) ≡ w
+unfolding word_back
+back_again word.Material = refl
+back_again word.Receive = refl
+back_again word.Order = refl
+back_again word.Reserve = refl
+back_again word.Done = refl
+back_again word.Break = refl
+back_again word.Release = refl
+back_again word.Scrap = refl
+back_again word.Return = refl
+back_again word.Import = refl
+back_again word.Amend = refl
+
+words_decide : (v w : Word) → Decides (same_word v w) (v ≡ w)
+words_decide v w = Decides-like _ (λ e. sym (back_again v) ∙ ap word_back e ∙ back_again w) (ap word_name) (bytes_decides (word_name v) (word_name w))
+
+options_decide : {X : Type 0} {E : X → X → Bool} → ((a b : X) → Decides (E a b) (a ≡ b)) → (c d : Option X) → Decides (option_eq E c d) (c ≡ d)
+options_decide each None None = (λ e. refl, λ e. refl)
+options_decide each None (Some b) = (λ e. no e, λ e. absurd (cc))
+options_decide each (Some a) None = (λ e. no e, λ e. absurd (cc))
+options_decide each (Some a) (Some b) = Decides-like _ (ap Some) (λ e. cc) (each a b)
+
+pub entry_decides : (a b : Entry) → Decides (same_entry a b) (a ≡ b)
+entry_decides a b =
+    Decides-like _
+    (λ p i. record { number = p.0 i; pair = p.1.0 i; at = p.1.1.0 i; word = p.1.1.1.0 i; act = p.1.1.1.1.0 i; job = p.1.1.1.1.1.0 i; order = p.1.1.1.1.1.1.0 i; part = p.1.1.1.1.1.1.1 i })
+    (λ p. (ap (λ e. e.number) p, (ap (λ e. e.pair) p, (ap (λ e. e.at) p, (ap (λ e. e.word) p, (ap (λ e. e.act) p, (ap (λ e. e.job) p, (ap (λ e. e.order) p, ap (λ e. e.part) p))))))))
+    (Decides-and _ _ (unsigned_Decides a.number b.number)
+    (Decides-and _ _ (pair_decides a.pair b.pair)
+    (Decides-and _ _ (unsigned_Decides a.at b.at)
+    (Decides-and _ _ (words_decide a.word b.word)
+    (Decides-and _ _ (unsigned_Decides a.act b.act)
+    (Decides-and _ _ (unsigned_Decides a.job b.job) (Decides-and _ _ (options_decide bytes_decides a.order b.order) (options_decide name_decides a.part b.part))))))))
+
 pub content_decides : (m n : Content) → Decides (same_content m n) (m ≡ n)
 content_decides m n =
     Decides-like _
@@ -233,12 +298,13 @@ content_decides m n =
       demands = p.1.1.1.1.0 i;
       kept = p.1.1.1.1.1.0 i;
       imports = p.1.1.1.1.1.1.0 i;
-      last_act = p.1.1.1.1.1.1.1.0 i;
-      last_demand = p.1.1.1.1.1.1.1.1 i;
+      entries = p.1.1.1.1.1.1.1.0 i;
+      last_act = p.1.1.1.1.1.1.1.1.0 i;
+      last_demand = p.1.1.1.1.1.1.1.1.1 i;
     })
     (λ p. (
       ap (λ c. c.materials) p,
-      (ap (λ c. c.parts) p, (ap (λ c. c.jobs) p, (ap (λ c. c.orders) p, (ap (λ c. c.demands) p, (ap (λ c. c.kept) p, (ap (λ c. c.imports) p, (ap (λ c. c.last_act) p, ap (λ c. c.last_demand) p))))))),
+      (ap (λ c. c.parts) p, (ap (λ c. c.jobs) p, (ap (λ c. c.orders) p, (ap (λ c. c.demands) p, (ap (λ c. c.kept) p, (ap (λ c. c.imports) p, (ap (λ c. c.entries) p, (ap (λ c. c.last_act) p, ap (λ c. c.last_demand) p)))))))),
     ))
     (Decides-and _ _ (maps_decide bytes_decides material_decides m.materials n.materials)
     (Decides-and _ _ (maps_decide name_decides part_decides m.parts n.parts)
@@ -246,4 +312,5 @@ content_decides m n =
     (Decides-and _ _ (codes_decide m.orders n.orders)
     (Decides-and _ _ (maps_decide unsigned_Decides demand_decides m.demands n.demands)
     (Decides-and _ _ (maps_decide pair_decides kept_decides m.kept n.kept)
-    (Decides-and _ _ (maps_decide bytes_decides import_decides m.imports n.imports) (Decides-and _ _ (unsigned_Decides m.last_act n.last_act) (unsigned_Decides m.last_demand n.last_demand)))))))))
+    (Decides-and _ _ (maps_decide bytes_decides import_decides m.imports n.imports)
+    (Decides-and _ _ (maps_decide unsigned_Decides entry_decides m.entries n.entries) (Decides-and _ _ (unsigned_Decides m.last_act n.last_act) (unsigned_Decides m.last_demand n.last_demand))))))))))

@@ -14,3 +14,5 @@ pub mod Ledgers
 pub mod Storages
 pub mod MemStorages
 pub mod Loading
+-- which entries a story tells
+pub mod Stories

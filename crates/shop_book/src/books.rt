@@ -1,19 +1,22 @@
 //! What is promised of a book, which keeps the shop's content: what its calls answer, and what a crash may leave.
 
 ghost use Rattle.std.specs.Prelude.{◌≡◌, ◌+◌, ◌≤◌, ◌⊎◌, ℕ, IfOk, IfSome, OnOk, OnErr, map, option_map, take};
-ghost use Rattle.shop_records.specs.Content.{Content, material_at, part_at, job_at, has_order, demand_at, kept_at, import_at, totals_of, parts_of as listed_parts, changed};
-ghost use Rattle.shop_records.specs.Lists.{AreLines, IsLastNumber, materials_of, orders_after, parts_after, open_demands, waiting_jobs};
+ghost use Rattle.shop_records.specs.Content.{Content, material_at, part_at, job_at, has_order, demand_at, kept_at, import_at, entry_at, entry_count, last_time, totals_of, parts_of as listed_parts, changed};
+ghost use Rattle.shop_records.specs.Lists.{AreLines, IsLastNumber, entries_about, entries_behind, materials_of, orders_after, parts_after, open_demands, waiting_jobs};
 ghost use Rattle.shop_records.specs.Soundness.{Fits};
 ghost use Rattle.shop_records.specs.declared.records.Job.{Job as JobOf};
 ghost use Rattle.shop_book.specs.Failures.{CountsFailure};
 ghost use Rattle.shop_book.specs.Books.{Keeps};
 ghost use Rattle.shop_book.specs.FoundJobs.{IsFoundJob, head_of};
 ghost use Rattle.shop_records.specs.Visits.{IsVisit};
+ghost use Rattle.shop_book.specs.Ledgers.{bare, content_in};
+ghost use Rattle.std.specs.FinMap.{len};
 
+use crate::ledger::Ledger;
 use cut_measure::{Code, PartName};
 use shop_records::{
-    Change, CodeList, Demand, DemandList, ImportRow, Job, Kept, Material, MaterialList, NumberList,
-    Part, PartList, PartVisitor, Refusal, Totals,
+    Change, CodeList, Demand, DemandList, Entry, EntryRows, ImportRow, Job, Kept, Material,
+    MaterialList, NumberList, Part, PartList, PartVisitor, Refusal, Subject, Totals,
 };
 use std::alloc::{AllocError, Global};
 use std::error::Error;
@@ -298,10 +301,61 @@ pub trait Book {
         ensures keeps { Keeps has_clean_disk holds may_leave failed
             (CountsFailure result) self.old self.new };
 
+    /// The number and the time of the last entry, 0 and 0 if there is none. It costs no more as the shop grows.
+    fn last_entry(&mut self) -> Result<(u64, u64), BookFault>
+        ensures last { has_clean_disk self.new → (m : Content) → holds self.old m
+            → IfOk result (λ last. (last.0 ≡ entry_count m) × (last.1 ≡ last_time m)) }
+        ensures keeps { Keeps has_clean_disk holds may_leave failed
+            (CountsFailure result) self.old self.new };
+
+    /// The entry of a number.
+    fn entry(&mut self, number: u64) -> Result<Option<Entry>, BookFault>
+        ensures row { has_clean_disk self.new → (m : Content) → holds self.old m
+            → IfOk result (λ row. row ≡ entry_at m number) }
+        ensures keeps { Keeps has_clean_disk holds may_leave failed
+            (CountsFailure result) self.old self.new };
+
+    /// The first entries with greater numbers, rising: at most so many.
+    fn entries_after(
+        &mut self,
+        alloc: Global,
+        after: u64,
+        most: usize,
+    ) -> Result<EntryRows, BookFault>
+        ensures rows { has_clean_disk self.new → (m : Content) → holds self.old m
+            → IfOk result (λ rows. rows ≡ take most (entries_behind m after)) }
+        ensures keeps { Keeps has_clean_disk holds may_leave failed
+            (CountsFailure result) self.old self.new };
+
+    /// The first entries about a subject with greater numbers, rising: at most so many.
+    fn entries_about(
+        &mut self,
+        alloc: Global,
+        about: Subject,
+        after: u64,
+        most: usize,
+    ) -> Result<EntryRows, BookFault>
+        ensures rows { has_clean_disk self.new → (m : Content) → holds self.old m
+            → IfOk result (λ rows. rows ≡ take most (entries_about m about after)) }
+        ensures keeps { Keeps has_clean_disk holds may_leave failed
+            (CountsFailure result) self.old self.new };
+
     /// How many messages are kept. It is told in a log, and no clause says it.
     fn kept_count(&mut self) -> Result<u32, BookFault>
         ensures keeps { Keeps has_clean_disk holds may_leave failed
             (CountsFailure result) self.old self.new };
+
+    /// How many messages and how many imports are kept.
+    fn text_counts(&mut self) -> Result<(u64, u64), BookFault>
+        ensures counts { has_clean_disk self.new → (m : Content) → holds self.old m
+            → IfOk result (λ counts. (counts.0 ≡ len m.kept) × (counts.1 ≡ len m.imports)) }
+        ensures keeps { Keeps has_clean_disk holds may_leave failed
+            (CountsFailure result) self.old self.new };
+
+    /// All rows but the long texts and the entries, as they are in memory.
+    fn rows(&self) -> &Ledger
+        ensures { has_clean_disk self.now → (m : Content) → holds self.now m
+            → content_in result.now ≡ bare m };
 
     /// Makes a change that fits the content as a whole, or not at all. After an `Err` the content is what it was, whatever
     /// the change.

@@ -1,6 +1,6 @@
 //! How a message is kept in memory, in one text that takes no more than it needs, and which is the last of a terminal.
 
-ghost use Rattle.std.specs.Prelude.{◌≡◌, ◌⊎◌, ◌<◌, ◌≤◌, ◌^◌, ℕ, IfNone, IfOk, IfSome, IsSome, None, false};
+ghost use Rattle.std.specs.Prelude.{◌≡◌, ◌⊎◌, ◌<◌, ◌≤◌, ◌^◌, ℕ, IfNone, IfOk, IfSome, IsSome, None, false, length};
 ghost use Rattle.std.specs.FinMap.{find as find_entry};
 ghost use Rattle.std.specs.Ordering.{is_lt};
 ghost use Rattle.shop_records.specs.Content.{pair_cmp};
@@ -109,6 +109,13 @@ pub(crate) fn copy_kept(
 {
     let copy = kept.clone()?;
     Ok(copy)
+}
+
+/// How many messages are kept.
+pub(crate) fn count_kept(kept: &BTreeMap<Pair, KeptText>) -> u64
+    ensures { result ≡ length kept.now.entries }
+{
+    kept.len() as u64
 }
 
 /// What is kept under a pair.

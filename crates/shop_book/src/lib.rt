@@ -14,7 +14,9 @@ mod memory_lists;
 mod memory_parts;
 mod posting;
 mod read_rows;
+mod same_entries;
 mod storage;
+mod stories;
 
 pub use books::{Book, BookFault, FoundJob, JobHead, MOST_FAILURES};
 pub use ledger::Ledger;

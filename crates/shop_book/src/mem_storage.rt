@@ -1,14 +1,15 @@
-//! What lasts as long as a program runs: the long texts, in memory.
+//! What lasts as long as a program runs: the long texts and the entries, in memory.
 
 ghost use Rattle.std.specs.Prelude.{◌≡◌, ◌<◌, IsTrue, OnOk, OnErr, IfOk, IsSome, IfErr};
 ghost use Rattle.std.specs.FinMap.{is_sorted};
+ghost use Rattle.std.specs.Ordering.{nat_cmp};
 ghost use Rattle.cut_measure.specs.Codes.{code_cmp};
 ghost use Rattle.shop_records.specs.Content.{pair_cmp};
-ghost use Rattle.shop_rows.specs.Keys.{import_key};
+ghost use Rattle.shop_rows.specs.Keys.{entry_key, import_key};
 ghost use Rattle.shop_rows.specs.Rows.{rise};
 
 use crate::keeping::KeptText;
-use shop_records::{ImportRow, Pair};
+use shop_records::{Entry, ImportRow, Pair};
 use std::alloc::Global;
 use std::collections::BTreeMap;
 
@@ -18,6 +19,8 @@ pub struct MemStorage {
     pub(crate) alloc: Global,
     pub(crate) kept: BTreeMap<Pair, KeptText>,
     pub(crate) imports: Vec<ImportRow>,
+    pub(crate) entries: Vec<Entry>,
     ghost kept_rise: { IsTrue (is_sorted pair_cmp kept.entries) },
     ghost imports_rise: { IsTrue (rise import_key code_cmp imports.items) },
+    ghost entries_rise: { IsTrue (rise entry_key nat_cmp entries.items) },
 }

@@ -1,21 +1,27 @@
-//! How a storage in memory keeps texts and answers them.
+//! How a storage in memory keeps texts and entries, and answers them.
 
-ghost use Rattle.std.specs.Prelude.{IfOk, OnOk, OnErr, ◌≡◌};
+ghost use Rattle.std.specs.Prelude.{IfOk, IsTrue, OnOk, OnErr, ◌≡◌, length};
+ghost use Rattle.std.specs.Ordering.{nat_cmp};
+ghost use Rattle.shop_rows.specs.Keys.{entry_key};
+ghost use Rattle.shop_rows.specs.Rows.{rise, row_at};
 ghost use Rattle.shop_book.specs.Memory.{put_kept};
+ghost use Rattle.shop_records.specs.Content.{of_found};
+ghost use Rattle.shop_records.specs.declared.journal.Entry.{Entry as EntryOf};
 
-use crate::keeping::{KeptText, copy_kept, find_kept, last_kept};
+use crate::keeping::{KeptText, copy_kept, count_kept, find_kept, last_kept};
 use crate::mem_storage::MemStorage;
 use crate::memory_lists::{copy_imports, find_import};
+use crate::same_entries::are_same;
 use crate::storage::{Storage, StorageFault};
 use cut_measure::Code;
-use shop_records::{Change, ImportRow, Kept, KeptMessage, Pair};
-use shop_rows::{put_some, reserve_rows};
+use shop_records::{Change, Entry, EntryRows, ImportRow, Kept, KeptMessage, Pair};
+use shop_rows::{copy_rows, entries_after, find, first_rows, put_copy, put_some, reserve_rows};
 use std::alloc::{AllocError, Global};
 use std::collections::BTreeMap;
 
 impl MemStorage {
     ghost use Rattle.std.specs.Prelude.{◌≡◌, ◌↔◌, IfOk, IsTrue};
-    ghost use Rattle.shop_book.specs.MemStorages.{HoldsTexts, imports_in, kept_in};
+    ghost use Rattle.shop_book.specs.MemStorages.{HoldsTexts, entries_in, imports_in, kept_in};
     ghost use Rattle.shop_records.specs.Content.{fresh};
 
     /// The storage of a new shop.
@@ -26,20 +32,24 @@ impl MemStorage {
             alloc,
             kept: BTreeMap::new(alloc),
             imports: Vec::new(alloc),
+            entries: Vec::new(alloc),
         }
     }
 
-    /// A storage with the same texts.
+    /// A storage with the same texts and entries.
     pub fn copy(&self, alloc: Global) -> Result<MemStorage, AllocError>
         ensures kept { IfOk result (λ copy. kept_in copy ≡ kept_in self.now) }
         ensures imports { IfOk result (λ copy. imports_in copy ≡ imports_in self.now) }
+        ensures entries { IfOk result (λ copy. entries_in copy ≡ entries_in self.now) }
     {
         let kept = copy_kept(&self.kept)?;
         let imports = copy_imports(&self.imports)?;
+        let entries = Vec::from_slice(alloc, &self.entries)?;
         Ok(MemStorage {
             alloc,
             kept,
             imports,
+            entries,
         })
     }
 
@@ -55,12 +65,19 @@ impl MemStorage {
         self.imports == other.imports
     }
 
-    /// Whether another storage has the same texts.
+    fn has_entries_of(&self, other: &MemStorage) -> bool
+        ensures { IsTrue result ↔ (entries_in self.now ≡ entries_in other.now) }
+    {
+        are_same(&self.entries, &other.entries)
+    }
+
+    /// Whether another storage has the same texts and entries.
     pub fn has_texts_of(&self, other: &MemStorage) -> bool
         ensures { IsTrue result
-            ↔ ((kept_in self.now ≡ kept_in other.now) × (imports_in self.now ≡ imports_in other.now)) }
+            ↔ ((kept_in self.now ≡ kept_in other.now) × (imports_in self.now ≡ imports_in other.now)
+            × (entries_in self.now ≡ entries_in other.now)) }
     {
-        self.has_kept_of(other) && self.has_imports_of(other)
+        self.has_kept_of(other) && self.has_imports_of(other) && self.has_entries_of(other)
     }
 }
 
@@ -91,6 +108,34 @@ fn keep_text(
         kept.insert(message.pair, exact)?;
     }
     Ok(())
+}
+
+// How many rows there are.
+fn count_rows(rows: &[ImportRow]) -> u64
+    ensures { result ≡ length rows.now }
+{
+    rows.len() as u64
+}
+
+// The time of an entry that was found, 0 if there is none.
+fn time_of(entry: Option<Entry>) -> u64
+    ensures { result ≡ of_found (λ (entry : EntryOf). entry.at) entry }
+{
+    match entry {
+        Some(entry) => entry.at,
+        None => 0,
+    }
+}
+
+// How many entries there are, and the time of the one with that number, 0 if there is none.
+fn last_of(entries: &[Entry]) -> (u64, u64)
+    requires { IsTrue (rise entry_key nat_cmp entries.now) }
+    ensures count { result.0 ≡ length entries.now }
+    ensures time { result.1 ≡ of_found (λ (entry : EntryOf). entry.at)
+        (row_at entry_key nat_cmp (length entries.now) entries.now) }
+{
+    let count = entries.len() as u64;
+    (count, time_of(find(entries, count)))
 }
 
 impl Storage for MemStorage {
@@ -135,11 +180,36 @@ impl Storage for MemStorage {
         Ok(u32::try_from(self.kept.len()).unwrap_or(u32::MAX))
     }
 
+    fn last_entry(&mut self) -> Result<(u64, u64), StorageFault> {
+        Ok(last_of(&self.entries))
+    }
+
+    fn entry(&mut self, number: u64) -> Result<Option<Entry>, StorageFault> {
+        Ok(find(&self.entries, number))
+    }
+
+    fn entries_after(
+        &mut self,
+        alloc: Global,
+        after: u64,
+        most: usize,
+    ) -> Result<EntryRows, StorageFault> {
+        let rows = entries_after(&self.entries, after);
+        let list = copy_rows(alloc, first_rows(rows, most))?;
+        Ok(list)
+    }
+
+    fn text_counts(&mut self) -> Result<(u64, u64), StorageFault> {
+        Ok((count_kept(&self.kept), count_rows(&self.imports)))
+    }
+
     fn commit(&mut self, change: &Change) -> Result<(), StorageFault> {
         let import = copy_import(self.alloc, &change.import)?;
         reserve_rows(&mut self.imports, 1)?;
+        reserve_rows(&mut self.entries, 1)?;
         keep_text(self.alloc, &mut self.kept, &change.kept)?;
         put_some(&mut self.imports, import);
+        put_copy(&mut self.entries, &change.entry);
         Ok(())
     }
 }

@@ -1,14 +1,16 @@
 //! What lasts of a shop: its long texts, and each change, as a whole or not at all.
 
-ghost use Rattle.std.specs.Prelude.{◌≡◌, ◌⊎◌, Bool, IfErr, IfOk, IsOk, OnOk, OnErr, false};
-ghost use Rattle.shop_records.specs.Content.{Content, kept_at, import_at, changed};
-ghost use Rattle.shop_records.specs.Lists.{IsLastNumber};
+ghost use Rattle.std.specs.Prelude.{◌≡◌, ◌++◌, ◌∷◌, [], ◌⊎◌, Bool, IfErr, IfOk, IsOk, List, OnOk, OnErr, drop, false, length, take};
+ghost use Rattle.shop_records.specs.Content.{Content, kept_at, import_at, entry_at, entry_count, last_time, changed};
+ghost use Rattle.shop_records.specs.Lists.{IsLastNumber, entries_behind};
 ghost use Rattle.shop_records.specs.Soundness.{Fits};
+ghost use Rattle.shop_records.specs.declared.journal.Entry.{Entry as EntryOf};
 ghost use Rattle.shop_book.specs.Storages.{IsRead};
+ghost use Rattle.std.specs.FinMap.{len};
 ghost use Rattle.shop_book.specs.declared.storage.StorageFault.TheVariants.{NoMemory};
 
 use cut_measure::Code;
-use shop_records::{Change, ImportRow, Kept};
+use shop_records::{Change, Entry, EntryRows, ImportRow, Kept};
 use std::alloc::{AllocError, Global};
 
 /// Why a storage has no answer.
@@ -31,7 +33,8 @@ impl From<AllocError> for StorageFault {
     }
 }
 
-/// Where a shop's changes last. A storage answers for the long texts alone; a ledger answers for all other rows.
+/// Where a shop's changes last. A storage answers for the long texts and the entries alone; a ledger answers for all other
+/// rows.
 pub trait Storage {
     /// Whether there is a store that can fail. Where there is none, only memory can run out.
     const MAY_FAIL: bool;
@@ -80,8 +83,45 @@ pub trait Storage {
         ensures sure { MAY_FAIL ≡ false → IsOk result }
         ensures leaves { IsRead has_clean_disk holds may_leave self.old self.new };
 
+    /// The number and the time of the last entry, 0 and 0 if there is none.
+    fn last_entry(&mut self) -> Result<(u64, u64), StorageFault>
+        ensures last { has_clean_disk self.new → (m : Content) → holds self.old m
+            → IfOk result (λ last. (last.0 ≡ entry_count m) × (last.1 ≡ last_time m)) }
+        ensures sure { MAY_FAIL ≡ false → IsOk result }
+        ensures leaves { IsRead has_clean_disk holds may_leave self.old self.new };
+
+    /// The entry of a number.
+    fn entry(&mut self, number: u64) -> Result<Option<Entry>, StorageFault>
+        ensures row { has_clean_disk self.new → (m : Content) → holds self.old m
+            → IfOk result (λ row. row ≡ entry_at m number) }
+        ensures sure { MAY_FAIL ≡ false → IsOk result }
+        ensures leaves { IsRead has_clean_disk holds may_leave self.old self.new };
+
+    /// The first entries with greater numbers, rising: at most so many. Behind the last one's number are those behind them.
+    fn entries_after(
+        &mut self,
+        alloc: Global,
+        after: u64,
+        most: usize,
+    ) -> Result<EntryRows, StorageFault>
+        ensures rows { has_clean_disk self.new → (m : Content) → holds self.old m
+            → IfOk result (λ rows. rows ≡ take most (entries_behind m after)) }
+        ensures next { has_clean_disk self.new → (m : Content) → holds self.old m
+            → IfOk result (λ rows. (before : List EntryOf) (last : EntryOf)
+            → rows ≡ before ++ last ∷ []
+            → entries_behind m last.number ≡ drop (length rows) (entries_behind m after)) }
+        ensures memory { MAY_FAIL ≡ false → IfErr result (λ fault. fault ≡ NoMemory) }
+        ensures leaves { IsRead has_clean_disk holds may_leave self.old self.new };
+
     /// The number of kept messages, for the log alone: no clause says which number it is.
     fn kept_count(&mut self) -> Result<u32, StorageFault>
+        ensures sure { MAY_FAIL ≡ false → IsOk result }
+        ensures leaves { IsRead has_clean_disk holds may_leave self.old self.new };
+
+    /// How many messages and how many imports are kept.
+    fn text_counts(&mut self) -> Result<(u64, u64), StorageFault>
+        ensures counts { has_clean_disk self.new → (m : Content) → holds self.old m
+            → IfOk result (λ counts. (counts.0 ≡ len m.kept) × (counts.1 ≡ len m.imports)) }
         ensures sure { MAY_FAIL ≡ false → IsOk result }
         ensures leaves { IsRead has_clean_disk holds may_leave self.old self.new };
 

@@ -34,11 +34,11 @@ use Rattle.shop_records.proofs.Puts.{Pairwise, pairs_in, pairs_total, pairs_exac
 use Rattle.shop_machine.specs.Decisions.{first_of}
 use Rattle.shop_machine.specs.Recounts.{AreRecounted, plan_leaves, with_reserved}
 use Rattle.shop_machine.specs.Reserving.{IsReading, IsReservation, leaf_refusal, leaves_refusal, is_over, is_too_many, plan_refusal, reserve_refusal, reserve_change}
-use Rattle.shop_machine.specs.Machine.{Accepts, Reads, Refuses, Makes, Run, Step, StepNew, StepAgain, keeping, refusal_of}
+use Rattle.shop_machine.specs.Machine.{Accepts, Reads, Refuses, Makes, Run, Step, StepNew, StepAgain, keeping_at, refusal_of}
 use Rattle.shop_machine.proofs.Allowed.{or_none}
 use Rattle.shop_machine.proofs.Moved.{recount_of, demand_there, no_reserved}
 use Rattle.shop_machine.proofs.ReservingStep.{reading}
-use Rattle.shop_machine.proofs.Sound.{sound_after}
+use Rattle.shop_machine.proofs.Sound.{sound_entered}
 use Rattle.shop_bookings.specs.Bookings.{Booking, IsBookable, AreBookable, booked, sent_by, OnlySpent}
 
 -- ---- what is refused of one
@@ -154,9 +154,9 @@ module _ (texts : Texts) (m : Content) (b : Booking) (bookings : List Booking) (
       let why = subst (λ (c : Command). Refuses texts m c r) first.command refuses memory store in
       refused_by r why.0 why.1 why.2
 
-  module _ (row : Part) (there : part_at m b.part ≡ Some row) (rows : List Demand) (recounted : AreRecounted (demand_at m) with_reserved b.plan.tree rows) where
+  module _ (time : ℕ) (row : Part) (there : part_at m b.part ≡ Some row) (rows : List Demand) (recounted : AreRecounted (demand_at m) with_reserved b.plan.tree rows) where
     abbrev after : Content
-    after = changed m (keeping texts b.message (reserve_change row b.plan (m.last_act + 1) rows))
+    after = changed m (keeping_at texts time m b.message (reserve_change row b.plan (m.last_act + 1) rows))
 
     part_stays : (name : Name) → (name ≡ b.part → ⊥) → part_at after name ≡ part_at m name
     part_stays name other =
@@ -216,19 +216,19 @@ module _ (texts : Texts) (m : Content) (b : Booking) (bookings : List Booking) (
           subst (λ (d : Demand). d.reserved + d.made + booked number bookings ≤ d.wanted) (sym was.now) (omega (arith, room, sum));
     }
 
-  accepted_by : (read : Reading) (change : Change) → Reads texts m (Reserve b.part b.text) read → Makes m (Reserve b.part b.text) read change
-      → Holds (changed m (keeping texts b.message change)) bookings
-  accepted_by read change reads makes =
+  accepted_by : (time : ℕ) (read : Reading) (change : Change) → Reads texts m (Reserve b.part b.text) read → Makes m (Reserve b.part b.text) read change
+      → Holds (changed m (keeping_at texts time m b.message change)) bookings
+  accepted_by time read change reads makes =
       let same : makes.1 ≡ b.plan = one_plan m b.part b.text makes.1 b.plan (reading texts m b.part b.text read makes.1 makes.3 reads) first.reading in
       let reservation : IsReservation makes.0 b.plan (demand_at m) (m.last_act + 1) change =
       subst (λ p. IsReservation makes.0 p (demand_at m) (m.last_act + 1) change) same makes.4 in
-      subst (λ (c : Change). Holds (changed m (keeping texts b.message c)) bookings) (sym reservation.is)
-      (holds_after makes.0 makes.2 reservation.rows reservation.recounted)
+      subst (λ (c : Change). Holds (changed m (keeping_at texts time m b.message c)) bookings) (sym reservation.is)
+      (holds_after time makes.0 makes.2 reservation.rows reservation.recounted)
 
-  accepted : (read : Reading) (change : Change) → Reads texts m b.message.command read → Makes m b.message.command read change
-      → Holds (changed m (keeping texts b.message change)) bookings
-  accepted read change reads makes =
-      accepted_by read change (subst (λ (c : Command). Reads texts m c read) first.command reads) (subst (λ (c : Command). Makes m c read change) first.command makes)
+  accepted : (time : ℕ) (read : Reading) (change : Change) → Reads texts m b.message.command read → Makes m b.message.command read change
+      → Holds (changed m (keeping_at texts time m b.message change)) bookings
+  accepted time read change reads makes =
+      accepted_by time read change (subst (λ (c : Command). Reads texts m c read) first.command reads) (subst (λ (c : Command). Makes m c read change) first.command makes)
 
   new_step : (answer : Reply) (new : Content) → Step texts m b.message answer new → StepNew texts m b.message answer new
   new_step answer new step =
@@ -253,8 +253,8 @@ only_spent texts m new (b ∷ bookings) (a ∷ answers) sound holds (mid, step, 
           subst (λ o. IfSome o (λ refusal. refusal ≢ NoMemory → refusal ≢ StoreFault → refusal ≡ NumbersSpent)) (sym is) tt,
           next mid
               (subst (IsSound texts) (sym accepts.becomes)
-              (sound_after texts m b.message new_one.0 accepts.change sound accepts.reads accepts.allowed accepts.makes (holds.each b (inl refl)).is_message))
-              (subst (λ c. Holds c bookings) (sym accepts.becomes) (accepted texts m b bookings sound holds new_one.0 accepts.change accepts.reads accepts.makes)) more,
+              (sound_entered texts m b.message new_one.0 accepts.change accepts.at sound accepts.reads accepts.allowed accepts.makes (holds.each b (inl refl)).is_message))
+              (subst (λ c. Holds c bookings) (sym accepts.becomes) (accepted texts m b bookings sound holds accepts.at new_one.0 accepts.change accepts.reads accepts.makes)) more,
         )
     by next (Some r) is none = (
       subst (λ o. IfSome o (λ refusal. refusal ≢ NoMemory → refusal ≢ StoreFault → refusal ≡ NumbersSpent)) (sym is)

@@ -10,3 +10,4 @@ pub mod StepAdvice
 pub mod JudgedFiles
 pub mod PlannedFiles
 pub mod StageLimits
+pub mod Audited

@@ -23,7 +23,7 @@ use Rattle.shop_commands.specs.declared.advice.Advice.{Advice}
 use Rattle.shop_commands.specs.declared.advice.Cause.{Cause}
 use Rattle.shop_commands.specs.declared.advice.Cause.TheVariants as cause
 use Rattle.shop_commands.specs.declared.faults.Fault.{Fault}
-use Rattle.shop_commands.specs.Advice.{IsPlain, IsAdviceOf, FollowsFault, IsSecondLine, advice_line, is_order, no_memory_line, problem_text, refused_text, port_text, cause_text}
+use Rattle.shop_commands.specs.Advice.{IsPlain, IsAdviceOf, FollowsFault, IsSecondLine, advice_line, is_order, no_memory_line, problem_text, refused_text, port_text, cause_text, joint}
 
 -- ---- no text of a cause has a line feed
 
@@ -155,6 +155,32 @@ of_cause (cause.Port c) = of_port c
 of_cause (cause.Backup c) = of_backup c
 of_cause cause.Input = refl
 of_cause cause.Output = refl
+of_cause cause.Before = refl
+of_cause cause.Reply = refl
+of_cause cause.Row = refl
+
+-- nor has what stands before it
+of_joint : (c : Cause) → IsPlain (joint c)
+of_joint cause.Before = refl
+of_joint (cause.File c) = refl
+of_joint (cause.Problem c) = refl
+of_joint (cause.Shop c) = refl
+of_joint (cause.Refused r) = refl
+of_joint cause.Whole = refl
+of_joint cause.LongBar = refl
+of_joint cause.Steps = refl
+of_joint cause.Size = refl
+of_joint cause.NoFit = refl
+of_joint cause.Lines = refl
+of_joint cause.Made = refl
+of_joint (cause.Store c) = refl
+of_joint (cause.Version c) = refl
+of_joint (cause.Port c) = refl
+of_joint (cause.Backup c) = refl
+of_joint cause.Input = refl
+of_joint cause.Output = refl
+of_joint cause.Reply = refl
+of_joint cause.Row = refl
 
 -- ---- the line
 
@@ -166,9 +192,10 @@ of_advice a fault of =
     let about = string_bytes a.about in
     let why = cause_text a.cause in
     let word = string_bytes a.word in
-    let named = joined about (codes ": ") of.about refl in
-    let told = joined (about ++ codes ": ") why named (of_cause a.cause) in
-    (about ++ codes ": " ++ why ++ word, joined (about ++ codes ": " ++ why) word told of.word, refl)
+    let joint_of = joint a.cause in
+    let named = joined about joint_of of.about (of_joint a.cause) in
+    let told = joined (about ++ joint_of) why named (of_cause a.cause) in
+    (about ++ joint_of ++ why ++ word, joined (about ++ joint_of ++ why) word told of.word, refl)
 
 no_memory : IsSecondLine no_memory_line
 no_memory = (codes "memory ran out; end other programs, or give this one more", refl, refl)

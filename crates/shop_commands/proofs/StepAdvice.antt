@@ -29,6 +29,9 @@ helps r (cause.Port c) of no_help = absurd no_help
 helps r (cause.Backup c) of no_help = absurd no_help
 helps r cause.Input of no_help = absurd no_help
 helps r cause.Output of no_help = absurd no_help
+helps r cause.Before of no_help = elim no_help [ ]
+helps r cause.Reply of no_help = elim no_help [ ]
+helps r cause.Row of no_help = elim no_help [ ]
 
 step_help : (r : Refusal) (found : Option Advice) → IsOfStep r → IfSome found IsStepHelp → IfSome found (IsAdviceOf (Refused r))
 step_help r None of is = tt

@@ -12,7 +12,8 @@ use Rattle.shop_commands.specs.declared.advice.Advice.{Advice}
 use Rattle.shop_commands.specs.declared.advice.Cause.{Cause}
 use Rattle.shop_commands.specs.declared.advice.Cause.TheVariants as cause
 use Rattle.shop_commands.specs.declared.faults.Fault.{Fault}
-use Rattle.shop_commands.specs.declared.faults.Fault.TheVariants.{File, Text, Order, ShopText, ShopEntry, Entry, Refused, Read, Write, Store, Version, Port, Backup}
+use Rattle.shop_commands.specs.declared.faults.Fault.TheVariants.{File, Text, Order, ShopText, ShopEntry, Entry, Refused, Read, Write, Store, Version, Port, Backup, Audit}
+use Rattle.shop_commands.specs.declared.faults.Torn.TheVariants as torn
 use Rattle.shop_commands.specs.Faults.{fault_text}
 
 -- ---- what is told of each cause
@@ -62,6 +63,14 @@ cause_text (cause.Port c) = port_text c
 cause_text (cause.Backup c) = backup_text c
 cause_text cause.Input = codes "it can't be read to its end"
 cause_text cause.Output = codes "it can't be written; is its disk full, or its reader gone?"
+cause_text cause.Before = codes " messages were kept before entries began"
+cause_text cause.Reply = codes "another reply"
+cause_text cause.Row = []
+
+-- what stands between what is told of and the cause
+abbrev pub joint : Cause → List ℕ
+joint cause.Before = []
+joint c = codes ": "
 
 -- why the lines of an order file aren't planned
 abbrev pub lines_cause : Refusal → Cause
@@ -99,6 +108,9 @@ FitsFault (Store c) (cause.Store d) = d ≡ c
 FitsFault (Version c) (cause.Version d) = d ≡ c
 FitsFault (Port c) (cause.Port d) = d ≡ c
 FitsFault (Backup c) (cause.Backup d) = d ≡ c
+FitsFault (Audit (torn.Before count)) cause.Before = ⊤
+FitsFault (Audit (torn.Reply entry)) cause.Reply = ⊤
+FitsFault (Audit (torn.Row row)) cause.Row = ⊤
 FitsFault fault c = ⊥
 
 abbrev pub has_line_feed : List ℕ → Bool
@@ -135,7 +147,7 @@ pub record IsAdviceOf (fault : Fault) (a : Advice) : Type 0 where
 
 -- the second line: what it was, and why
 abbrev pub advice_line : Advice → List ℕ
-advice_line a = codes "  " ++ string_bytes a.about ++ codes ": " ++ cause_text a.cause ++ string_bytes a.word ++ codes "\n"
+advice_line a = codes "  " ++ string_bytes a.about ++ joint a.cause ++ cause_text a.cause ++ string_bytes a.word ++ codes "\n"
 
 -- the second line where memory ran out
 abbrev pub no_memory_line : List ℕ

@@ -16,6 +16,10 @@ use Rattle.shop_problems.specs.declared.stock.EntryFault.TheVariants as entry
 use Rattle.shop_records.specs.declared.refusals.Refusal.{Refusal}
 use Rattle.shop_records.specs.declared.refusals.Refusal.TheVariants as refusal
 use Rattle.shop_records.specs.Refusals.{refusal_number, refusal_name}
+use Rattle.shop_audit.specs.declared.lines.LinesFault.{LinesFault as HistoryFault}
+use Rattle.shop_audit.specs.declared.lines.LinesFault.TheVariants as history
+use Rattle.shop_book.specs.declared.books.BookFault.{BookFault}
+use Rattle.shop_book.specs.declared.books.BookFault.TheVariants as book
 use Rattle.shop_backup.specs.declared.faults.BackupFault.{BackupFault}
 use Rattle.shop_backup.specs.declared.faults.BackupFault.TheVariants as backup
 use Rattle.shop_backup.specs.declared.restoring.RestoreFault.{RestoreFault}
@@ -37,7 +41,7 @@ use Rattle.shop_wire.specs.declared.faults.ReplayFault.TheVariants as replay
 use Rattle.shop_commands.specs.declared.faults.OrderCause.{OrderCause}
 use Rattle.shop_commands.specs.declared.faults.OrderCause.TheVariants as cause
 use Rattle.shop_commands.specs.declared.faults.Fault.{Fault}
-use Rattle.shop_commands.specs.declared.faults.Fault.TheVariants.{File, Text, Order, ShopText, ShopEntry, Entry, Refused, Read, Write, NoMemory, Store, Version, Port, Backup}
+use Rattle.shop_commands.specs.declared.faults.Fault.TheVariants.{File, Text, Order, ShopText, ShopEntry, Entry, Refused, Read, Write, NoMemory, Store, Version, Port, Backup, Audit}
 
 abbrev pub cause_word : TextCause → List ℕ
 cause_word text.Long = codes "Long"
@@ -91,6 +95,7 @@ fault_text (Store cause) = codes "fault store"
 fault_text (Version cause) = codes "fault version"
 fault_text (Port cause) = codes "fault port"
 fault_text (Backup cause) = codes "fault backup"
+fault_text (Audit torn) = codes "fault audit"
 
 -- the planner's fault is the refusal of this name
 abbrev pub planner_fault : PlanFault → Fault
@@ -153,6 +158,18 @@ add_fault (add.Refused e) = Entry e
 abbrev pub print_fault : PrintFault → Fault
 print_fault (print.Refused r) = Refused r
 print_fault print.Write = Write
+
+-- what stops the lines of a store's entries
+abbrev pub written_fault : HistoryFault → Fault
+written_fault history.NoMemory = NoMemory
+written_fault history.Store = Store store_cause.Failed
+written_fault history.Write = Write
+
+-- the fault of a book that is audited
+abbrev pub book_fault : BookFault → Fault
+book_fault book.NoMemory = NoMemory
+book_fault book.Store = Store store_cause.Failed
+book_fault book.WrongVersion = Store store_cause.Failed
 
 abbrev pub serve_fault : ServeFault → Fault
 serve_fault serve.NoMemory = NoMemory

@@ -6,6 +6,7 @@ pub mod Sources
 pub mod Orders
 pub mod Plans
 pub mod Stored
+pub mod Audits
 pub mod Restoring
 pub mod Performs
 pub mod Limits

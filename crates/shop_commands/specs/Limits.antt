@@ -7,7 +7,7 @@ use Rattle.cut_sheets.specs.declared.sheet.TheConstants.{MOST_STEPS}
 use Rattle.cut_plan.specs.declared.faults.TheConstants.{MOST_WANTS}
 use Rattle.cut_order.specs.declared.question.TheConstants as orders
 use Rattle.shop_files.specs.declared.limits.TheConstants.{LONGEST_TEXT, MOST_PIECES, MOST_LINES, MOST_ENTRIES}
-use Rattle.shop_answers.specs.declared.listing.TheConstants.{MOST_TOLD}
+use Rattle.shop_answers.specs.declared.listing.TheConstants.{MOST_TOLD, MOST_TOLD_BYTES}
 use Rattle.shop_records.specs.declared.records.TheConstants.{MOST_RECEIVED}
 use Rattle.shop_machine.specs.declared.receiving.TheConstants.{MOST_UNITS}
 use Rattle.shop_book.specs.declared.books.TheConstants.{MOST_FAILURES}
@@ -18,7 +18,7 @@ use Rattle.shop_wire.specs.Streams.{most_reads}
 use Rattle.shop_serve.specs.declared.clients.TheConstants as connections
 use Rattle.shop_serve.specs.declared.thinking.TheConstants as questions
 use Rattle.shop_serve.specs.declared.serving.TheConstants.{MOST_SERVED}
-use Rattle.shop_words.specs.declared.words.TheConstants.{LEAST_STAGES, LONGEST_STEP, MOST_CALLS, MOST_STAGES, LAST_PORT, MOST_CONNECTIONS, MOST_KEPT, MOST_NAMES, MOST_PAIR, MOST_SIZES, VERSION}
+use Rattle.shop_words.specs.declared.words.TheConstants.{LEAST_STAGES, LONGEST_STEP, MOST_CALLS, MOST_STAGES, LAST_PORT, MOST_AFTER, MOST_CONNECTIONS, MOST_KEPT, MOST_NAMES, MOST_PAIR, MOST_SIZES, VERSION}
 use Rattle.shop_problems.specs.declared.steps.TheConstants.{LONGEST_GIVEN}
 use Rattle.shop_commands.specs.declared.files.TheConstants.{LONGEST_PAGE}
 
@@ -48,8 +48,8 @@ pub record AreFiles : Type 0 where
   pub entries : MOST_ENTRIES ≡ 1000
   pub page : LONGEST_PAGE ≡ 1048576
 
--- acts and demands, units of a receipt, cells received of a material, count and worth of a line, rows that a list tells, and
--- counted failures
+-- acts and demands, units of a receipt, cells received of a material, count and worth of a line, rows of a list, bytes of a list of
+-- entries, and counted failures
 pub record AreCounts : Type 0 where
   pub numbers : MOST_NUMBERS ≡ 2147483647
   pub units : MOST_UNITS ≡ 100
@@ -57,6 +57,7 @@ pub record AreCounts : Type 0 where
   pub count : MOST_COUNT ≡ 1000000
   pub worth : MOST_WORTH ≡ 1000000000
   pub told : MOST_TOLD ≡ 100
+  pub told_bytes : MOST_TOLD_BYTES ≡ 1000000
   pub failures : MOST_FAILURES ≡ 18446744073709551615
 
 -- reads of a replay, bytes of a line, and bytes of replies that are held; bytes and fields of a head, bytes of a body
@@ -76,8 +77,8 @@ pub record AreConnections : Type 0 where
   pub fair : questions.FAIR_CALLS ≡ 200
   pub served : MOST_SERVED ≡ 18446744073709551615
 
--- of the command line: a step, and the longest that is told, steps of a search, the limits of a plan's stages, a port, connections, backups that stay, names of a server, sizes
--- of a plan, the terminal and the number of a
+-- of the command line: a step, and the longest that is told, steps of a search, the limits of a plan's stages, a port, connections,
+-- backups that stay, names of a server, the number behind which entries are told, sizes of a plan, the terminal and the number of a
 -- message, and the version
 pub record AreWords : Type 0 where
   pub step : LONGEST_STEP ≡ 200000
@@ -87,6 +88,7 @@ pub record AreWords : Type 0 where
   pub stages : MOST_STAGES ≡ 255
   pub port : LAST_PORT ≡ 65535
   pub connections : MOST_CONNECTIONS ≡ 1000000
+  pub after : MOST_AFTER ≡ 4294967295
   pub kept : MOST_KEPT ≡ 10000
   pub names : MOST_NAMES ≡ 10
   pub sizes : MOST_SIZES ≡ 10

@@ -14,17 +14,18 @@ use Rattle.shop_wire.specs.Replays.{IsReplayedFresh}
 use Rattle.shop_commands.specs.declared.faults.Fault.{Fault}
 use Rattle.shop_commands.specs.declared.faults.Fault.TheVariants.{File, Read, Write, NoMemory}
 use Rattle.shop_words.specs.declared.words.Request.{Request}
-use Rattle.shop_words.specs.declared.words.Request.TheVariants.{Replay, Plan, PlanOrder, PlanLines, Orders, Serve, Ticket, Yield, Restore}
+use Rattle.shop_words.specs.declared.words.Request.TheVariants.{Replay, Plan, PlanOrder, PlanLines, Orders, Serve, Ticket, Yield, History, Audit, Restore}
 use Rattle.shop_words.specs.declared.words.TheConstants.{VERSION}
 use Rattle.shop_words.specs.CommandLine.{AsksFor, AsksNothing, shop_app}
 use Rattle.shop_words.specs.Mistakes.{IsMistakeOf, mistake_text}
 use Rattle.shop_words.specs.declared.mistakes.Mistake.{Mistake}
 use Rattle.shop_commands.specs.Advice.{IsFaultTold, fault_line, no_memory_line}
+use Rattle.shop_commands.specs.Audits.{IsAuditDone, IsAuditStopped, IsHistoryDone, IsHistoryStopped, number_of}
 use Rattle.shop_commands.specs.Orders.{IsOrdersDone, IsOrdersStopped}
 use Rattle.shop_commands.specs.Plans.{IsFileLines, IsFileLinesFault, IsFilePlan, IsFileFault, IsFileWhole, IsFileWholeFault}
 use Rattle.shop_request.specs.declared.addresses.Address.{Address}
 use Rattle.shop_commands.specs.Stored.{IsAddressOf, IsTextDone, IsTextStopped, IsServeDone, IsServeStopped}
-use Rattle.shop_commands.specs.Restoring.{IsRestoreStopped, restored_lines}
+use Rattle.shop_commands.specs.Restoring.{IsRestoreDone, IsRestoreStopped}
 use Rattle.shop_commands.specs.Sinks.{SinkChange, Adds, AddsPrefix, AddsNone, AddsSome, IsWritten, SinkFailed}
 use Rattle.shop_commands.specs.Sources.{SourceChange, SourceFailed}
 
@@ -88,7 +89,10 @@ module _ {B A : Type 0} (book : Ghosts B) (apart : Ghosts A) (gives : List ℕ �
   IsDone (Ticket store job true) input out = IsTextDone apart (reads store.now) (λ m. ticket_of m job) out
   IsDone (Yield store material false) input out = IsTextDone book (gives store.now) (λ m. yield_of m material) out
   IsDone (Yield store material true) input out = IsTextDone apart (reads store.now) (λ m. yield_of m material) out
-  IsDone (Restore store from) input out = Adds out (restored_lines store.now from.now)
+  IsDone (History store after false) input out = IsHistoryDone book (gives store.now) (number_of after) out
+  IsDone (History store after true) input out = IsHistoryDone apart (reads store.now) (number_of after) out
+  IsDone (Audit store read_only) input out = IsAuditDone apart (reads store.now) out
+  IsDone (Restore store from) input out = IsRestoreDone store.now from.now out
 
   abbrev pub IsStopped : Request → Fault → (input : SourceChange) → (out : SinkChange) → Type 0
   IsStopped Replay fault input out = IsReplayStopped fault input out
@@ -103,6 +107,9 @@ module _ {B A : Type 0} (book : Ghosts B) (apart : Ghosts A) (gives : List ℕ �
   IsStopped (Ticket store job true) fault input out = IsTextStopped apart (reads store.now) (λ m. ticket_of m job) fault out
   IsStopped (Yield store material false) fault input out = IsTextStopped book (gives store.now) (λ m. yield_of m material) fault out
   IsStopped (Yield store material true) fault input out = IsTextStopped apart (reads store.now) (λ m. yield_of m material) fault out
+  IsStopped (History store after false) fault input out = IsHistoryStopped book (gives store.now) (number_of after) fault out
+  IsStopped (History store after true) fault input out = IsHistoryStopped apart (reads store.now) (number_of after) fault out
+  IsStopped (Audit store read_only) fault input out = IsAuditStopped (reads store.now) fault out
   IsStopped (Restore store from) fault input out = IsRestoreStopped store.now from.now fault out
 
   -- what was asked was done and nothing was told, with status 0; or a fault was told, with status 1

@@ -136,7 +136,10 @@ module _ {B : Type 0} (book : Ghosts B) where
     pub counted : B
     pub count : Result ℕ BookFault
     pub keeps : Unchanged book (CountsFailure count) mid counted
-    pub served : HasServed site book counted after (most_served limit)
+    pub dated : B
+    pub last : Result (ℕ × ℕ) BookFault
+    pub dates : Unchanged book (CountsFailure last) counted dated
+    pub served : HasServed site book dated after (most_served limit)
 
   -- memory was wanting, and nothing was done, or an entry was refused
   abbrev pub AddFailed : B → B → List MaterialEntry → Fault → Type 0
@@ -155,7 +158,10 @@ module _ {B : Type 0} (book : Ghosts B) where
     pub counted : B
     pub count : Result ℕ BookFault
     pub keeps : Unchanged book (CountsFailure count) mid counted
-    pub left : IsUnaccepted site counted after limit fault
+    pub dated : B
+    pub last : Result (ℕ × ℕ) BookFault
+    pub dates : Unchanged book (CountsFailure last) counted dated
+    pub left : IsUnaccepted site dated after limit fault
 
   -- the store's names lead to other files by now, or no backup can be made of it, and nothing was done; or the entries aren't all there; or they are, and the port isn't told; or
   -- it is, and serving stopped

@@ -8,13 +8,14 @@ ghost use Rattle.shop_commands.specs.declared.advice.Cause.TheVariants as kind;
 ghost use Rattle.shop_commands.specs.declared.faults.Fault.{Fault as FaultOf};
 ghost use Rattle.shop_commands.specs.declared.faults.Fault.TheVariants as fault;
 
-use crate::faults::Fault;
+use crate::faults::{Fault, Torn};
 use crate::files::read_file;
 use crate::helping::{lines_cause, step_advice};
 use shop_advice::{
     BackupCause, FileCause, ShopCause, StoreCause, VersionCause, is_there, look_at_file,
     look_at_shop,
 };
+use shop_audit::Row;
 use shop_files::TextCause;
 use shop_records::Refusal;
 use shop_serve::PortCause;
@@ -66,6 +67,12 @@ pub enum Cause {
     Input,
     /// Standard output can't be written.
     Output,
+    /// Messages were kept before entries began.
+    Before,
+    /// A message gets another reply.
+    Reply,
+    /// A row differs.
+    Row,
 }
 
 /// What a second line says: of what, why, and a word after that, or none.
@@ -154,6 +161,19 @@ fn cause_text(cause: Cause) -> &'static str
         Cause::Backup(cause) => cause.text(),
         Cause::Input => "it can't be read to its end",
         Cause::Output => "it can't be written; is its disk full, or its reader gone?",
+        Cause::Before => " messages were kept before entries began",
+        Cause::Reply => "another reply",
+        Cause::Row => "",
+    }
+}
+
+// What stands between the subject of a second line and its cause.
+fn joint(cause: Cause) -> &'static str
+    ensures { result.now ≡ spec.joint cause }
+{
+    match cause {
+        Cause::Before => "",
+        _ => ": ",
     }
 }
 
@@ -210,6 +230,8 @@ fn first_name<'a>(request: &Request<'a>) -> &'a str {
         Request::Serve(serving) => serving.shop,
         Request::Ticket { store, .. } => store,
         Request::Yield { store, .. } => store,
+        Request::History { store, .. } => store,
+        Request::Audit { store, .. } => store,
         Request::Restore { store, .. } => store,
     }
 }
@@ -432,6 +454,35 @@ pub(crate) fn stream_advice(alloc: Global, fault: &Fault) -> Option<Advice>
     }
 }
 
+// Why a store isn't whole.
+fn torn_advice(alloc: Global, torn: Torn) -> Option<Advice>
+    ensures { IfSome result (IsAdviceOf (fault.Audit torn)) }
+{
+    match torn {
+        Torn::Before(count) => {
+            let about = format!(in alloc; "{count}").ok()?;
+            advice_of(alloc, about.as_str(), Cause::Before, "")
+        }
+        Torn::Reply(number) => {
+            let about = format!(in alloc; "entry {number}").ok()?;
+            advice_of(alloc, about.as_str(), Cause::Reply, "")
+        }
+        Torn::Row(row) => {
+            let table = row.table();
+            let key = row_words(alloc, row).ok()?;
+            advice_of(alloc, table, Cause::Row, key.as_str())
+        }
+    }
+}
+
+// The key of a row that differs.
+fn row_words(alloc: Global, row: Row) -> Result<String, AllocError> {
+    let mut words = String::new(alloc);
+    row.write_key(&mut words)?;
+    words.push_str(" differs")?;
+    Ok(words)
+}
+
 // Why a store, a port or a folder of backups of a request couldn't be used. None of another fault, and for want of memory.
 fn system_advice(alloc: Global, request: &Request<'_>, fault: Fault) -> Option<Advice>
     ensures { IfSome result (IsAdviceOf fault) }
@@ -441,6 +492,7 @@ fn system_advice(alloc: Global, request: &Request<'_>, fault: Fault) -> Option<A
         Fault::Version(cause) => version_advice(alloc, store_name(request), cause),
         Fault::Port(cause) => port_advice(alloc, request, cause),
         Fault::Backup(cause) => advice_of(alloc, backup_name(request), Cause::Backup(cause), ""),
+        Fault::Audit(torn) => torn_advice(alloc, torn),
         _ => stream_advice(alloc, &fault),
     }
 }
@@ -523,8 +575,9 @@ fn both_lines(alloc: Global, fault: Fault, advice: &Advice) -> Result<String, Al
     let mut text = line_alone(alloc, fault)?;
     write!(
         text,
-        "  {}: {}{}\n",
+        "  {}{}{}{}\n",
         advice.about,
+        joint(advice.cause),
         cause_text(advice.cause),
         advice.word
     )?;

@@ -5,12 +5,14 @@ ghost use Rattle.shop_commands.specs.Faults as spec;
 
 use cut_plan::PlanFault;
 use shop_advice::{BackupCause, StoreCause, VersionCause};
+use shop_audit::{LinesFault as HistoryFault, Row};
 use shop_backup::{BackupFault, RestoreFault};
 use shop_files::{ShopFault, TextCause, TextFault};
 use shop_opening::{AddFault, EntryRefused, OpenFault};
 use shop_problems::{BadEntry, EntryFault, LinesFault};
 use shop_records::Refusal;
 use shop_serve::{PortCause, ServeFault};
+use shop_store::BookFault;
 use shop_text::PrintFault;
 use shop_wire::ReplayFault;
 use std::alloc::AllocError;
@@ -93,6 +95,49 @@ pub enum Fault {
     Port(PortCause),
     /// No backup can be made in the folder, or it is none.
     Backup(BackupCause),
+    /// A store isn't whole.
+    Audit(Torn),
+}
+
+/// Why a store isn't whole.
+#[derive(Clone, Copy, Debug, PartialEq)]
+pub enum Torn {
+    /// So many messages were kept before entries began.
+    Before(u64),
+    /// The message of this entry gets another reply.
+    Reply(u64),
+    /// This row differs, or is there on one side alone.
+    Row(Row),
+}
+
+impl From<HistoryFault> for Fault {
+    ghost use Rattle.std.specs.Prelude.{◌≡◌};
+    ghost use Rattle.shop_commands.specs.Faults.{written_fault};
+
+    ghost from_gives = { λ fault result. result ≡ written_fault fault };
+
+    fn from(fault: HistoryFault) -> Fault {
+        match fault {
+            HistoryFault::NoMemory => Fault::NoMemory,
+            HistoryFault::Store => Fault::Store(StoreCause::Failed),
+            HistoryFault::Write => Fault::Write,
+        }
+    }
+}
+
+impl From<BookFault> for Fault {
+    ghost use Rattle.std.specs.Prelude.{◌≡◌};
+    ghost use Rattle.shop_commands.specs.Faults.{book_fault};
+
+    ghost from_gives = { λ fault result. result ≡ book_fault fault };
+
+    fn from(fault: BookFault) -> Fault {
+        match fault {
+            BookFault::NoMemory => Fault::NoMemory,
+            BookFault::Store => Fault::Store(StoreCause::Failed),
+            BookFault::WrongVersion => Fault::Store(StoreCause::Failed),
+        }
+    }
 }
 
 impl From<AllocError> for Fault {
@@ -400,6 +445,7 @@ impl fmt::Display for Fault {
             Fault::Version(_) => f.write_str("fault version"),
             Fault::Port(_) => f.write_str("fault port"),
             Fault::Backup(_) => f.write_str("fault backup"),
+            Fault::Audit(_) => f.write_str("fault audit"),
         }
     }
 }

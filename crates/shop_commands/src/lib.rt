@@ -2,6 +2,7 @@
 #![tactic(auto)]
 
 mod advice;
+mod audits;
 mod faults;
 mod files;
 mod helping;
@@ -16,7 +17,7 @@ mod running;
 mod stored;
 
 pub use advice::second_lines_are_lines;
-pub use faults::Fault;
+pub use faults::{Fault, Torn};
 pub use limits::limits_have_numbers;
 pub use performing::perform;
 pub use plans::plan_file;

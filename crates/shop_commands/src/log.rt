@@ -4,7 +4,8 @@ ghost use Rattle.std.specs.Prelude.{◌≡◌, IfOk, string_bytes};
 ghost use Rattle.shop_commands.specs.Log as spec;
 
 use shop_backup::Backups;
-use shop_serve::{Lines, Site};
+use shop_serve::{Lines, Site, note_clock};
+use shop_store::BookFault;
 use shop_words::VERSION;
 use std::alloc::{AllocError, Global};
 use std::io::Eprint;
@@ -96,6 +97,17 @@ pub(crate) fn note_disk<R: Eprint + Clock>(rt: &R, lines: &mut Lines, backups: O
         if backups.is_on_store_disk() {
             lines.write(rt, "cutshop: backups lie on the store's own disk\n");
         }
+    }
+}
+
+/// Tells that the machine's clock is behind the last entry by over an hour, where it is, by its number and its time.
+pub(crate) fn note_last<R: Eprint + Clock>(
+    rt: &R,
+    lines: &mut Lines,
+    last: Result<(u64, u64), BookFault>,
+) {
+    if let Ok((_, at)) = last {
+        note_clock(rt, lines, at);
     }
 }
 

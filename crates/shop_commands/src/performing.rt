@@ -16,6 +16,7 @@ ghost use Rattle.shop_commands.specs.Stored.{IsAddressOf};
 ghost use Rattle.shop_commands.specs.Sources.{source_change};
 
 use crate::advice::{Advice, NO_MEMORY_TOLD, advise, fault_lines, makes_store, stream_advice};
+use crate::audits::{audit_store, print_history};
 use crate::faults::Fault;
 use crate::files::{read_file, write_text};
 use crate::orders::check_orders;
@@ -214,6 +215,17 @@ fn do_request<
             material,
             read_only: true,
         } => print_stored(apart, alloc, store, StoreText::Yield(*material), sink),
+        Request::History {
+            store,
+            after,
+            read_only: false,
+        } => print_history(stores, alloc, store, *after, false, sink),
+        Request::History {
+            store,
+            after,
+            read_only: true,
+        } => print_history(apart, alloc, store, *after, true, sink),
+        Request::Audit { store, read_only } => audit_store(apart, alloc, store, *read_only, sink),
         Request::Restore { store, from } => restore(rt, apart, alloc, store, from, sink),
     }
 }

@@ -15,14 +15,14 @@ ghost use Rattle.shop_commands.specs.Sinks.{Adds, change_of};
 
 use crate::faults::Fault;
 use crate::files::{read_file, read_page, write_text};
-use crate::log::{note_begin, note_disk, note_end, note_host};
+use crate::log::{note_begin, note_disk, note_end, note_host, note_last};
 use cut_measure::Code;
 use shop_advice::StoreCause;
 use shop_backup::{BackupFault, Backups, Names, test_folder};
 use shop_files::{MaterialEntry, RowList, read_shop};
 use shop_opening::{Made, OpenAs, Opens, add_shop};
 use shop_request::Address;
-use shop_serve::{Lines, Listener, PortCause, Site, draw_run, listen, serve_on};
+use shop_serve::{Lines, Listener, PortCause, Site, draw_run, listen, second_now, serve_on};
 use shop_store::Book;
 use shop_text::{PrintFault, Sink, ticket, yield_report};
 use shop_words::VERSION;
@@ -219,13 +219,18 @@ fn site_of<R: Files + RandomSource>(
     Ok(site)
 }
 
-// Adds the entries to a book.
-fn add_entries<B: Book>(alloc: Global, book: &mut B, entries: &[MaterialEntry]) -> Result<(), Fault>
+// Adds the entries to a book, as messages of this second.
+fn add_entries<B: Book>(
+    alloc: Global,
+    book: &mut B,
+    entries: &[MaterialEntry],
+    at: u64,
+) -> Result<(), Fault>
     requires { length entries.now ≤ MOST_ENTRIES }
     ensures ok { OnOk result (IsShopped B.Book book.old book.new entries.now) }
     ensures err { IfErr result (AddFailed B.Book book.old book.new entries.now) }
 {
-    match add_shop(alloc, book, entries) {
+    match add_shop(alloc, book, entries, at) {
         Ok(()) => Ok(()),
         Err(fault) => Err(Fault::from(fault)),
     }
@@ -315,13 +320,15 @@ fn serve_book<R: Net + Clock + Eprint + Files, B: Book, W: Sink>(
 {
     let names = names_of(rt, alloc, store)?;
     let backups = backups_of(rt, alloc, store, backup, keep)?;
-    add_entries(alloc, book, entries)?;
+    add_entries(alloc, book, entries, second_now(rt))?;
     let listener = bind_and_announce(rt, alloc, port, sink)?;
     *begun = true;
     let kept = book.kept_count().ok();
+    let last = book.last_entry();
     note_begin(rt, alloc, lines, store, is_new, kept);
     note_host(rt, lines, site);
     note_disk(rt, lines, backups.as_ref());
+    note_last(rt, lines, last);
     match serve_connections(
         rt,
         alloc,

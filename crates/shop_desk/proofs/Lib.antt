@@ -9,3 +9,4 @@ pub mod TakenOrders
 pub mod Refusals
 pub mod Handling
 pub mod TakenLeaves
+pub mod ToldEntries

@@ -16,14 +16,15 @@ use Rattle.shop_records.specs.declared.messages.Reply.{Reply}
 use Rattle.shop_records.specs.declared.messages.Reply.TheVariants.{Refused}
 use Rattle.shop_records.specs.Messages.{Texts, IsMessage, IsMade, refusal_in, is_accepted, pair_of}
 use Rattle.shop_records.specs.Readings.{Reading}
-use Rattle.shop_records.specs.Content.{Content, kept_at, changed}
-use Rattle.shop_machine.specs.Machine.{Accepts, Reads, Makes, Refuses, StepNew, StepAgain, Step, refusal_of, keeping}
+use Rattle.shop_records.specs.Content.{Content, entry_count, kept_at, last_time, changed}
+use Rattle.shop_machine.specs.Machine.{Accepts, AcceptsAt, Reads, Makes, Refuses, StepNew, StepNewAt, StepAgain, Step, StepAt, entering, refusal_of, keeping_at}
 use Rattle.shop_records.specs.Keeping.{KeepsReply}
 use Rattle.shop_records.specs.Soundness.{IsSound, Fits}
-use Rattle.shop_machine.proofs.Sound.{told_accepted, sound_after, fits_accepted, agrees}
+use Rattle.shop_machine.proofs.Sound.{told_accepted, sound_entered, fits_entered, agrees}
+use Rattle.shop_machine.proofs.Timeless.{untimed}
 use Rattle.shop_desk.specs.Faults.{CountsRefusal, CountsReply, StoreFailed}
 use Rattle.shop_desk.specs.Decided.{BlamesStore, Contradicts, CountsOrDisagrees}
-use Rattle.shop_desk.specs.Handled.{LeftByNew, LeftBy, IsHandled, Leads}
+use Rattle.shop_desk.specs.Handled.{LeftByNew, LeftBy, IsHandled, IsHandledAt, Leads}
 
 pub counts_made : (before after : ℕ) (answer : Reply) → is_accepted answer ≡ true → after ≡ before → CountsReply answer before after
 counts_made before after answer made same = by (refusal_in answer) made
@@ -57,6 +58,10 @@ commit_blamed T before mid after fault.Store refusal same counts is told =
     rose before after (nat_lt before MOST_FAILURES) (subst (λ n. after ≡ (if nat_lt n MOST_FAILURES then n + 1 else MOST_FAILURES)) same counts)
 commit_blamed T before mid after fault.WrongVersion refusal same counts is told = absurd counts
 
+-- what follows a decision to accept is counted as if it were alone
+pub counted_after : (before mid after : ℕ) (refusal : Refusal) → mid ≡ before → CountsRefusal refusal mid after → CountsRefusal refusal before after
+counted_after before mid after refusal same counts = subst (λ n. CountsRefusal refusal n after) same counts
+
 -- on a sound content a decision blames the store only where it failed
 pub blamed : (texts : Texts) (m : Content) (message : Message) (before after : ℕ) (refusal : Refusal) → IsSound texts m
     → BlamesStore texts m message.command before (Err refusal) after → Refused refusal ≡ Refused StoreFault → StoreFailed before after
@@ -84,30 +89,44 @@ module _ (texts : Texts) where
     λ e. subst IsMade e made,
   )
 
-  step_made : (old : Content) (message : Message) (read : Reading) (answer : Reply) (new : Content) → IsMade answer → Accepts texts old message read answer new → StepNew texts old message answer new
-  step_made old message read answer new made accepts =
-      subst (λ (o : Option Refusal). MatchOption o ((r : Reading) × Accepts texts old message r answer new) (λ refusal. Refuses texts old message.command refusal × (new ≡ old))) (sym (none_made answer made)) (read, accepts)
+  step_made : (at : ℕ) (old : Content) (message : Message) (read : Reading) (answer : Reply) (new : Content) → IsMade answer → (accepts : Accepts texts old message read answer new) → accepts.at ≡ at
+      → StepNewAt texts at old message answer new
+  step_made at old message read answer new made accepts same =
+      subst (λ (o : Option Refusal). MatchOption o ((r : Reading) × AcceptsAt texts at old message r answer new) (λ refusal. Refuses texts old message.command refusal × (new ≡ old))) (sym (none_made answer made)) (read, (accepts, same))
+
+  -- a step with a time is one
+  new_untimed : (at : ℕ) (old : Content) (message : Message) (answer : Reply) (new : Content) → StepNewAt texts at old message answer new → StepNew texts old message answer new
+  new_untimed at old message answer new step = by (refusal_in answer) step
+    where
+      by : (o : Option Refusal) → MatchOption o ((r : Reading) × AcceptsAt texts at old message r answer new) (λ refusal. Refuses texts old message.command refusal × (new ≡ old))
+          → MatchOption o ((r : Reading) × Accepts texts old message r answer new) (λ refusal. Refuses texts old message.command refusal × (new ≡ old))
+      by None step = (step.0, step.1.0)
+      by (Some refusal) step = step
 
   -- a step of a message that isn't kept
-  pub step_new : (old : Content) (message : Message) (answer : Reply) (new : Content) → kept_at old (pair_of message) ≡ None → StepNew texts old message answer new → Step texts old message answer new
-  step_new old message answer new none step =
-      subst (λ o. MatchOption o (StepNew texts old message answer new) (λ row. StepAgain texts row message answer × (new ≡ old))) (sym none) step
+  pub step_new : (at : ℕ) (old : Content) (message : Message) (answer : Reply) (new : Content) → kept_at old (pair_of message) ≡ None → StepNewAt texts at old message answer new → StepAt texts at old message answer new
+  step_new at old message answer new none step =
+      subst (λ o. MatchOption o (StepNewAt texts at old message answer new) (λ row. StepAgain texts row message answer × (new ≡ old))) (sym none) step
 
   -- a step of one that is
-  pub step_again : (old : Content) (message : Message) (answer : Reply) (row : Kept) → kept_at old (pair_of message) ≡ Some row → StepAgain texts row message answer → Step texts old message answer old
-  step_again old message answer row some step =
-      subst (λ o. MatchOption o (StepNew texts old message answer old) (λ row. StepAgain texts row message answer × (old ≡ old))) (sym some) (step, refl)
+  pub step_again : (at : ℕ) (old : Content) (message : Message) (answer : Reply) (row : Kept) → kept_at old (pair_of message) ≡ Some row → StepAgain texts row message answer → StepAt texts at old message answer old
+  step_again at old message answer row some step =
+      subst (λ o. MatchOption o (StepNewAt texts at old message answer old) (λ row. StepAgain texts row message answer × (old ≡ old))) (sym some) (step, refl)
 
   -- want of memory and a failed store refuse any message
-  pub fault_step : (m : Content) (message : Message) (refusal : Refusal) (found : Option Kept) → ((refusal ≢ NoMemory) → (refusal ≢ StoreFault) → ⊥)
-      → MatchOption found (StepNew texts m message (Refused refusal) m) (λ row. StepAgain texts row message (Refused refusal) × (m ≡ m))
-  fault_step m message refusal None fault = (λ n s. absurd (fault n s), refl)
-  fault_step m message refusal (Some row) fault = (λ n s. absurd (fault n s), refl)
+  pub fault_step : (at : ℕ) (m : Content) (message : Message) (refusal : Refusal) (found : Option Kept) → ((refusal ≢ NoMemory) → (refusal ≢ StoreFault) → ⊥)
+      → MatchOption found (StepNewAt texts at m message (Refused refusal) m) (λ row. StepAgain texts row message (Refused refusal) × (m ≡ m))
+  fault_step at m message refusal None fault = (λ n s. absurd (fault n s), refl)
+  fault_step at m message refusal (Some row) fault = (λ n s. absurd (fault n s), refl)
 
   pub is_fault : (refusal : Refusal) (fault : BookFault) → refusal ≡ refusal_for fault → (refusal ≢ NoMemory) → (refusal ≢ StoreFault) → ⊥
   is_fault refusal fault.NoMemory e n s = n e
   is_fault refusal fault.Store e n s = s e
   is_fault refusal fault.WrongVersion e n s = s e
+
+  pub no_other : (refusal : Refusal) → (refusal ≡ NoMemory) ⊎ (refusal ≡ StoreFault) → (refusal ≢ NoMemory) → (refusal ≢ StoreFault) → ⊥
+  no_other refusal (inl is) n s = n is
+  no_other refusal (inr is) n s = s is
 
   -- the change that is committed fits, whatever reply it holds
   abbrev pub to_commit : Message → Change → (text told : List ℕ) → Reply → Change
@@ -117,10 +136,14 @@ module _ (texts : Texts) where
     reply = answer;
   }
 
-  fits_kept : (m : Content) (message : Message) (made : Change) (text told : List ℕ) (answer : Reply) → told ≡ texts.of_reply made.reply
-      → Fits m (keeping texts message made) → Fits m (to_commit message made text told answer)
-  fits_kept m message made text told answer is fits =
-      subst (λ t. Fits m (to_commit message made text t answer)) (sym is) (record {
+  -- the same with the message's entry
+  abbrev pub to_commit_at : (at : ℕ) → Content → Message → Change → (text told : List ℕ) → Reply → Change
+  to_commit_at at m message made text told answer = entering (entry_count m) (last_time m) at message (to_commit message made text told answer)
+
+  fits_kept : (at : ℕ) (m : Content) (message : Message) (made : Change) (text told : List ℕ) (answer : Reply) → told ≡ texts.of_reply made.reply
+      → Fits m (keeping_at texts at m message made) → Fits m (to_commit_at at m message made text told answer)
+  fits_kept at m message made text told answer is fits =
+      subst (λ t. Fits m (to_commit_at at m message made text t answer)) (sym is) (record {
         material = fits.material;
         parts = fits.parts;
         rising = fits.rising;
@@ -137,19 +160,20 @@ module _ (texts : Texts) where
         demand = fits.demand;
         import = fits.import;
         kept = fits.kept;
+        entry = record { next = fits.entry.next; new = fits.entry.new; later = fits.entry.later; of = refl };
       })
 
-  pub fits_committed : (m : Content) (message : Message) (read : Reading) (made : Change) (text told : List ℕ) (answer : Reply) → told ≡ texts.of_reply made.reply
+  pub fits_committed : (at : ℕ) (m : Content) (message : Message) (read : Reading) (made : Change) (text told : List ℕ) (answer : Reply) → told ≡ texts.of_reply made.reply
       → kept_at m (pair_of message) ≡ None → IsSound texts m → Reads texts m message.command read → refusal_of m message.command read ≡ None → Makes m message.command read made
-      → Fits m (to_commit message made text told answer)
-  fits_committed m message read made text told answer is none sound reads allowed makes =
-      fits_kept m message made text told answer is (fits_accepted texts m message read made sound reads allowed makes none)
+      → Fits m (to_commit_at at m message made text told answer)
+  fits_committed at m message read made text told answer is none sound reads allowed makes =
+      fits_kept at m message made text told answer is (fits_entered texts m message read made at sound reads allowed makes none)
 
   -- and makes of the content what the change that keeps the message makes of it
-  pub row_committed : (m : Content) (message : Message) (made : Change) (text told : List ℕ) (answer : Reply) → text ≡ texts.of_message message → told ≡ texts.of_reply made.reply
-      → changed m (to_commit message made text told answer) ≡ changed m (keeping texts message made)
-  row_committed m message made text told answer is_text is_told =
-      ap (λ t. changed m (to_commit message made t told answer)) is_text ∙ ap (λ t. changed m (to_commit message made (texts.of_message message) t answer)) is_told
+  pub row_committed : (at : ℕ) (m : Content) (message : Message) (made : Change) (text told : List ℕ) (answer : Reply) → text ≡ texts.of_message message → told ≡ texts.of_reply made.reply
+      → changed m (to_commit_at at m message made text told answer) ≡ changed m (keeping_at texts at m message made)
+  row_committed at m message made text told answer is_text is_told =
+      ap (λ t. changed m (to_commit_at at m message made t told answer)) is_text ∙ ap (λ t. changed m (to_commit_at at m message made (texts.of_message message) t answer)) is_told
 
   module _ {Left : Type 0} (stands : Left → Content → Type 0) where
     left_made : (before : Left → Type 0) (old : Content) (message : Message) (answer : Reply) (next : Content) (left : Left) → IsMade answer → stands left next
@@ -189,81 +213,82 @@ module _ (texts : Texts) where
         → (old : Content) (message : Message) (answer : Reply) (next : Content) (left : Left) → LeftBy texts stands mid old message answer next left → LeftBy texts stands before old message answer next left
     left_more before mid grows old message answer next left it = more_by before mid grows old message answer next left (kept_at old (pair_of message)) it
 
+    -- a step with a time
+    handled_at : (at : ℕ) (before after : Left → Type 0) (holds : Content → Type 0) (m : Content) (message : Message) (answer : Reply) (next : Content) → StepAt texts at m message answer next
+        → holds next → IsSound texts next → ((left : Left) → after left → LeftBy texts stands before m message answer next left) → IsHandledAt texts stands at before after holds m message answer
+    handled_at at before after holds m message answer next step held sound crash =
+        record { handled = record { next = next; step = untimed texts at m next message answer step; held = held; sound = sound; crash = crash }; timed = step }
+
     -- refused for want of memory or by a failed store
-    pub faulted : (before after : Left → Type 0) (holds : Content → Type 0) (m : Content) (message : Message) (refusal : Refusal) → ((refusal ≢ NoMemory) → (refusal ≢ StoreFault) → ⊥)
-        → IsSound texts m → holds m → ((left : Left) → after left → before left) → IsHandled texts stands before after holds m message (Refused refusal)
-    faulted before after holds m message refusal fault sound held crash =
-        record {
-          next = m;
-          step = fault_step m message refusal (kept_at m (pair_of message)) fault;
-          held = held;
-          sound = sound;
-          crash = λ left it. left_refused before m message refusal m left (kept_at m (pair_of message)) (crash left it);
-        }
+    pub faulted : (at : ℕ) (before after : Left → Type 0) (holds : Content → Type 0) (m : Content) (message : Message) (refusal : Refusal) → ((refusal ≢ NoMemory) → (refusal ≢ StoreFault) → ⊥)
+        → IsSound texts m → holds m → ((left : Left) → after left → before left) → IsHandledAt texts stands at before after holds m message (Refused refusal)
+    faulted at before after holds m message refusal fault sound held crash =
+        handled_at at before after holds m message (Refused refusal) m (fault_step at m message refusal (kept_at m (pair_of message)) fault) held sound
+        (λ left it. left_refused before m message refusal m left (kept_at m (pair_of message)) (crash left it))
 
     -- decided against
-    pub decided : (before after : Left → Type 0) (holds : Content → Type 0) (m : Content) (message : Message) (refusal : Refusal)
+    pub decided : (at : ℕ) (before after : Left → Type 0) (holds : Content → Type 0) (m : Content) (message : Message) (refusal : Refusal)
         → Refuses texts m message.command refusal → kept_at m (pair_of message) ≡ None
-        → IsSound texts m → holds m → ((left : Left) → after left → before left) → IsHandled texts stands before after holds m message (Refused refusal)
-    decided before after holds m message refusal refused none sound held crash =
-        record {
-          next = m;
-          step = step_new m message (Refused refusal) m none (refused, refl);
-          held = held;
-          sound = sound;
-          crash = λ left it. left_refused before m message refusal m left (kept_at m (pair_of message)) (crash left it);
-        }
+        → IsSound texts m → holds m → ((left : Left) → after left → before left) → IsHandledAt texts stands at before after holds m message (Refused refusal)
+    decided at before after holds m message refusal refused none sound held crash =
+        handled_at at before after holds m message (Refused refusal) m (step_new at m message (Refused refusal) m none (refused, refl)) held sound
+        (λ left it. left_refused before m message refusal m left (kept_at m (pair_of message)) (crash left it))
 
     -- answered again
-    pub repeated : (before after : Left → Type 0) (holds : Content → Type 0) (m : Content) (message : Message) (answer : Reply) (row : Kept)
+    pub repeated : (at : ℕ) (before after : Left → Type 0) (holds : Content → Type 0) (m : Content) (message : Message) (answer : Reply) (row : Kept)
         → kept_at m (pair_of message) ≡ Some row → StepAgain texts row message answer
-        → IsSound texts m → holds m → ((left : Left) → after left → before left) → IsHandled texts stands before after holds m message answer
-    repeated before after holds m message answer row some step sound held crash =
+        → IsSound texts m → holds m → ((left : Left) → after left → before left) → IsHandledAt texts stands at before after holds m message answer
+    repeated at before after holds m message answer row some step sound held crash =
+        handled_at at before after holds m message answer m (step_again at m message answer row some step) held sound
+        (λ left it. subst (λ o. MatchOption o (LeftByNew texts stands before m message answer m left) (λ (row : Kept). before left)) (sym some) (crash left it))
+
+    -- handled after a reading
+    pub handled_later : (at : ℕ) (before mid after : Left → Type 0) (holds : Content → Type 0) (m : Content) (message : Message) (answer : Reply) → ((left : Left) → mid left → before left)
+        → IsHandledAt texts stands at mid after holds m message answer → IsHandledAt texts stands at before after holds m message answer
+    handled_later at before mid after holds m message answer grows is =
+        let one = is.handled in
         record {
-          next = m;
-          step = step_again m message answer row some step;
-          held = held;
-          sound = sound;
-          crash = λ left it. subst (λ o. MatchOption o (LeftByNew texts stands before m message answer m left) (λ (row : Kept). before left)) (sym some) (crash left it);
+          handled = record {
+            next = one.next;
+            step = one.step;
+            held = one.held;
+            sound = one.sound;
+            crash = λ left it. left_more before mid grows m message answer one.next left (one.crash left it);
+          };
+          timed = is.timed;
         }
 
-    module _ (before mid after : Left → Type 0) (holds : Content → Type 0) (m : Content) (message : Message) (read : Reading) (change made : Change) (is_message : IsMessage message)
+    module _ (at : ℕ) (before mid after : Left → Type 0) (holds : Content → Type 0) (m : Content) (message : Message) (read : Reading) (change made : Change) (is_message : IsMessage message)
         (none : kept_at m (pair_of message) ≡ None) (sound : IsSound texts m) (reads : Reads texts m message.command read) (allowed : refusal_of m message.command read ≡ None) (makes : Makes m message.command read made)
-        (row : changed m change ≡ changed m (keeping texts message made)) where
+        (row : changed m change ≡ changed m (keeping_at texts at m message made)) where
       abbrev next : Content
-      next = changed m (keeping texts message made)
+      next = changed m (keeping_at texts at m message made)
 
       is_made : IsMade made.reply
       is_made = told_accepted texts m message read made sound reads allowed makes is_message
 
-      made_step : StepNew texts m message made.reply next
-      made_step = step_made m message read made.reply next is_made (record { reads = reads; allowed = allowed; change = made; makes = makes; answered = refl; becomes = refl })
+      abbrev accepted : Accepts texts m message read made.reply next
+      accepted = record { reads = reads; allowed = allowed; change = made; makes = makes; answered = refl; at = at; becomes = refl }
+
+      made_step : StepNewAt texts at m message made.reply next
+      made_step = step_made at m message read made.reply next is_made accepted refl
 
       -- accepted and kept
-      pub committed : holds (changed m change) → ((left : Left) → after left → stands left (changed m change)) → IsHandled texts stands before after holds m message made.reply
+      pub committed : holds (changed m change) → ((left : Left) → after left → stands left (changed m change)) → IsHandledAt texts stands at before after holds m message made.reply
       committed held lasts =
-          record {
-            next = next;
-            step = step_new m message made.reply next none made_step;
-            held = subst holds row held;
-            sound = sound_after texts m message read made sound reads allowed makes is_message;
-            crash = λ left it. left_new before m message made.reply next left none (left_made before m message made.reply next left is_made (subst (stands left) row (lasts left it)));
-          }
+          handled_at at before after holds m message made.reply next (step_new at m message made.reply next none made_step) (subst holds row held)
+          (sound_entered texts m message read made at sound reads allowed makes is_message)
+          (λ left it. left_new before m message made.reply next left none (left_made before m message made.reply next left is_made (subst (stands left) row (lasts left it))))
 
       -- the commit failed
       pub failed : (refusal : Refusal) → ((refusal ≢ NoMemory) → (refusal ≢ StoreFault) → ⊥) → holds m → ((left : Left) → mid left → before left)
-          → ((left : Left) → after left → mid left ⊎ stands left (changed m change)) → IsHandled texts stands before after holds m message (Refused refusal)
+          → ((left : Left) → after left → mid left ⊎ stands left (changed m change)) → IsHandledAt texts stands at before after holds m message (Refused refusal)
       failed refusal fault held crash_first crash =
-          record {
-            next = m;
-            step = step_new m message (Refused refusal) m none (λ n s. absurd (fault n s), refl);
-            held = held;
-            sound = sound;
-            crash = λ left it. left_new before m message (Refused refusal) m left none (elim (crash left it) [
-              | inl was ↦ inl (crash_first left was)
-              | inr new ↦ inr (made.reply, next, made_step, subst (stands left) row new)
-            ]);
-          }
+          handled_at at before after holds m message (Refused refusal) m (step_new at m message (Refused refusal) m none (λ n s. absurd (fault n s), refl)) held sound
+          (λ left it. left_new before m message (Refused refusal) m left none (elim (crash left it) [
+            | inl was ↦ inl (crash_first left was)
+            | inr new ↦ inr (made.reply, next, new_untimed at m message made.reply next made_step, subst (stands left) row new)
+          ]))
 
     -- what may be left in the end grows with what could be left before
     pub leads_grow : (before mid after : Left → Type 0) → ((left : Left) → mid left → before left)

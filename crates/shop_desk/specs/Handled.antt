@@ -1,13 +1,14 @@
 -- What handling a message does to a book, and to what a crash may leave of it.
-use Rattle.std.specs.Prelude.{◌≡◌, ◌⊎◌, List, [], ◌∷◌, MatchOption, IfSome}
+use Rattle.std.specs.Prelude.{◌≡◌, ◌⊎◌, ℕ, List, [], ◌∷◌, MatchOption, IfSome}
+use Rattle.std.specs.FinMap.{len}
 use Rattle.shop_records.specs.declared.messages.Message.{Message}
 use Rattle.shop_records.specs.declared.messages.Reply.{Reply}
 use Rattle.shop_records.specs.declared.messages.Reply.TheVariants.{Refused}
 use Rattle.shop_records.specs.declared.refusals.Refusal.TheVariants.{StoreFault}
 use Rattle.shop_records.specs.Messages.{Texts, IsMessage, refusal_in, pair_of}
-use Rattle.shop_records.specs.Content.{Content, kept_at}
-use Rattle.shop_machine.specs.Machine.{StepNew, Step, Run}
-use Rattle.shop_machine.specs.History.{Entry, messages_of, Gives, IsAccountOf, history_after}
+use Rattle.shop_records.specs.Content.{Content, entry_count, fresh, kept_at}
+use Rattle.shop_machine.specs.Machine.{StepNew, Step, StepAt, Run}
+use Rattle.shop_machine.specs.History.{Entry, entered_pairs, messages_of, pairs_of, Gives, IsAccountOf, history_after}
 use Rattle.shop_records.specs.Soundness.{IsSound}
 use Rattle.shop_book.specs.declared.books.Book.{Ghosts}
 use Rattle.shop_book.specs.Kept.{OnContent}
@@ -35,6 +36,11 @@ module _ (texts : Texts) {Left : Type 0} (stands : Left → Content → Type 0) 
     pub sound : IsSound texts next
     pub crash : (left : Left) → after left → LeftBy before old message answer next left
 
+  -- the same of a message that was given this time
+  pub record IsHandledAt (at : ℕ) (before after : Left → Type 0) (holds : Content → Type 0) (old : Content) (message : Message) (answer : Reply) : Type 0 where
+    pub handled : IsHandled before after holds old message answer
+    pub timed : StepAt texts at old message answer handled.next
+
   -- The same of messages in order: what may be left is what may be left after each step in turn.
   abbrev pub Leads : (Left → Type 0) → Content → List Message → List Reply → Content → (Left → Type 0) → Type 0
   Leads before old [] [] new after = (new ≡ old) × ((left : Left) → after left → before left)
@@ -48,6 +54,12 @@ abbrev pub Handles : {B : Type 0} → Texts → Ghosts B → B → B → Message
 Handles texts book before after message answer =
     OnContent book before after (λ m. IsSound texts m
     → IsHandled texts book.stands (book.may_leave before) (book.may_leave after) (book.holds after) m message answer)
+
+-- the same of a message that was given this time
+abbrev pub HandlesAt : {B : Type 0} → Texts → (at : ℕ) → Ghosts B → B → B → Message → Reply → Type 0
+HandlesAt texts at book before after message answer =
+    OnContent book before after (λ m. IsSound texts m
+    → IsHandledAt texts book.stands at (book.may_leave before) (book.may_leave after) (book.holds after) m message answer)
 
 -- over such a content a failed store is told of only where it failed
 abbrev pub BlamesStore : {B : Type 0} → Texts → Ghosts B → B → B → Reply → Type 0
@@ -67,6 +79,11 @@ pub record HandlesMessage {B : Type 0} (texts : Texts) (book : Ghosts B) (before
   pub failures : CountsOrContradicts answer (book.failed before) (book.failed after)
   pub store_fault : BlamesStore texts book before after answer
 
+-- the same of a message that was given this time
+pub record HandlesMessageAt {B : Type 0} (texts : Texts) (at : ℕ) (book : Ghosts B) (before after : B) (message : Message) (answer : Reply) : Type 0 where
+  pub handled : HandlesMessage texts book before after message answer
+  pub timed : HandlesAt texts at book before after message answer
+
 -- one by one, what was asked leads from one book to the next, with what was answered to it
 abbrev pub OneByOne : {B X A : Type 0} → (B → B → X → A → Type 0) → B → List X → List A → B → Type 0
 OneByOne leads before [] [] after = after ≡ before
@@ -78,14 +95,29 @@ OneByOne leads before (x ∷ asked) [] after = ⊥
 abbrev pub AreHandled : {B : Type 0} → Texts → Ghosts B → B → List Message → List Reply → B → Type 0
 AreHandled texts book before messages answers after = OneByOne (HandlesMessage texts book) before messages answers after
 
+-- the same of messages that were all given this time
+abbrev pub AreHandledAt : {B : Type 0} → Texts → (at : ℕ) → Ghosts B → B → List Message → List Reply → B → Type 0
+AreHandledAt texts at book before messages answers after = OneByOne (HandlesMessageAt texts at book) before messages answers after
+
 -- Where a history gives old, one whose messages are those of that history with each new message once gives next, and this is
 -- its account.
 abbrev pub HasAccount : Texts → Content → List Message → List Reply → Content → Type 0
 HasAccount texts old messages answers next = (history : List Entry) → Gives texts history old
     → (later : List Entry) × (messages_of later ≡ history_after (messages_of history) messages answers) × IsAccountOf texts later next
 
--- The book held old and holds next, a run of the machine later, with its account, and tells of a failed store only where it
--- failed.
+-- a content has an entry for each message that is kept
+abbrev pub HasAllEntries : Content → Type 0
+HasAllEntries content = len content.kept ≡ entry_count content
+
+-- Where old is fresh, or has an entry for each message that is kept, next has one too, and of each history that gives next the
+-- pairs of its messages, the newest first, are those of its entries.
+abbrev pub HasEntries : Texts → (old next : Content) → Type 0
+HasEntries texts old next =
+    ((old ≡ fresh) ⊎ HasAllEntries old)
+    → HasAllEntries next × ((history : List Entry) → Gives texts history next → pairs_of history ≡ entered_pairs next)
+
+-- The book held old and holds next, a run of the machine later, with its account and its entries, and tells of a failed store
+-- only where it failed.
 pub record HasRun {B : Type 0} (texts : Texts) (book : Ghosts B) (before after : B) (old : Content) (messages : List Message) (answers : List Reply) : Type 0 where
   pub next : Content
   pub run : Run texts old messages answers next
@@ -94,3 +126,4 @@ pub record HasRun {B : Type 0} (texts : Texts) (book : Ghosts B) (before after :
   pub crash : Leads texts book.stands (book.may_leave before) old messages answers next (book.may_leave after)
   pub blame : TellOfFailures answers (book.failed before) (book.failed after)
   pub account : HasAccount texts old messages answers next
+  pub entries : HasEntries texts old next

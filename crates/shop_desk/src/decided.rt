@@ -345,6 +345,7 @@ pub fn keeping_message(
         demand,
         import,
         kept: _,
+        entry,
         reply,
     } = change;
     let import = telling(alloc, import, &message.kept.reply)?;
@@ -360,6 +361,7 @@ pub fn keeping_message(
         demand,
         import,
         kept: Some(message),
+        entry,
         reply: Reply::Refused(Refusal::BadMessage),
     };
     Ok((kept, reply))

@@ -1,10 +1,10 @@
 //! The desk's calls: a message is handled once, a query is answered, and messages are run in order.
 
-ghost use Rattle.std.specs.Prelude.{◌≡◌, ◌≢◌, IfOk, IfSome, OnErr, None, true, false};
-ghost use Rattle.shop_records.specs.Content.{Content, demand_at, kept_at, material_at, material_of, part_at, parts_of, rack_rows};
+ghost use Rattle.std.specs.Prelude.{◌≡◌, ◌≢◌, ◌⊎◌, IfErr, IfOk, IfSome, OnErr, None, true, false};
+ghost use Rattle.shop_records.specs.Content.{Content, demand_at, entry_count, kept_at, last_time, material_at, material_of, part_at, parts_of, rack_rows};
 ghost use Rattle.shop_answers.specs.Planning.{AreAsked};
 ghost use Rattle.shop_records.specs.Messages.{IsMessage, pair_of};
-ghost use Rattle.shop_machine.specs.Machine.{StepAgain};
+ghost use Rattle.shop_machine.specs.Machine.{StepAgain, entering};
 ghost use Rattle.shop_answers.specs.Queries.{Answers};
 ghost use Rattle.shop_records.specs.Soundness.{IsSound, IsKept};
 ghost use Rattle.shop_records.specs.declared.texts.Pair.{Pair as PairOf};
@@ -15,18 +15,19 @@ ghost use Rattle.shop_records.specs.declared.refusals.Refusal.TheVariants.{NoMem
 ghost use Rattle.shop_forms.specs.Forms.{json_texts};
 ghost use Rattle.shop_book.specs.Failures.{CountsFailure};
 ghost use Rattle.shop_book.specs.Kept.{Unchanged, OnContent};
-ghost use Rattle.shop_desk.specs.Faults.{CountsReply, CountsOrContradicts, CountsUp, StoreFailed};
-ghost use Rattle.shop_desk.specs.Handled.{AreHandled, BlamesStore, Handles, HasRun, IsHandled, RefusalKeeps};
+ghost use Rattle.shop_desk.specs.Faults.{CountsDecision, CountsReply, CountsOrContradicts, CountsUp, StoreFailed};
+ghost use Rattle.shop_desk.specs.Handled.{AreHandled, AreHandledAt, BlamesStore, Handles, HandlesAt, HasRun, IsHandledAt, RefusalKeeps};
 
 use crate::decided::{decide, keeping_message};
 use crate::found::{demands_for, material_for};
+use crate::history::{history, shop, story};
 use crate::listing::{demands, job, jobs, lines, materials, orders, parts, terminal};
 use crate::racks::RackTaker;
 use cut_measure::PartName;
 use shop_book::{Book, BookFault};
 use shop_rules::{
-    Code, FoundList, Kept, KeptMessage, Material, Message, Pair, Part, Query, RackList, Refusal,
-    Reply, Text, answer_bound, answer_plan, kept_reply, message_text, reply_text,
+    Change, Code, FoundList, Kept, KeptMessage, Material, Message, Pair, Part, Query, RackList,
+    Refusal, Reply, Text, answer_bound, answer_plan, enter, kept_reply, message_text, reply_text,
 };
 use std::alloc::{AllocError, Global};
 
@@ -54,17 +55,38 @@ fn answer_again(alloc: Global, text: &Text, kept: &Kept) -> Reply
     }
 }
 
+// The change that also writes the message's entry behind the book's last one. Where no number of 64 bits is left for it, the
+// message is refused as if memory ran out.
+fn entered<B: Book>(
+    book: &mut B,
+    message: &Message,
+    at: u64,
+    change: Change,
+) -> Result<Change, Refusal>
+    ensures entered { OnContent B.Book book.old book.new (λ m. IfOk result (λ entered. entered
+        ≡ entering (entry_count m) (last_time m) at message.now change)) }
+    ensures fault { IfErr result (λ refusal. (refusal ≡ NoMemory) ⊎ (refusal ≡ StoreFault)) }
+    ensures keeps { Unchanged B.Book (CountsDecision result) book.old book.new }
+{
+    let (last_number, last_at) = book.last_entry()?;
+    match enter(last_number, last_at, at, message, change) {
+        Ok(change) => Ok(change),
+        Err(_) => Err(Refusal::NoMemory),
+    }
+}
+
 // Handles a message whose pair isn't kept. The text is the message's.
 fn handle_new<B: Book>(
     alloc: Global,
     book: &mut B,
     message: &Message,
     text: Text,
+    at: u64,
 ) -> (Reply, Option<Text>)
     ensures step { text ≡ json_texts.of_message message.now → IsMessage message.now
         → B.has_clean_disk book.new → (m : Content) → B.holds book.old m
         → IsSound json_texts m → kept_at m (pair_of message.now) ≡ None
-        → IsHandled json_texts B.stands (B.may_leave book.old) (B.may_leave book.new)
+        → IsHandledAt json_texts B.stands at (B.may_leave book.old) (B.may_leave book.new)
         (B.holds book.new) m message.now result.0 }
     ensures refused { RefusalKeeps B.Book book.old book.new result.0 }
     ensures told { IfSome result.1 (λ text. text ≡ json_texts.of_reply result.0) }
@@ -93,15 +115,79 @@ fn handle_new<B: Book>(
     let Ok((change, reply)) = keeping_message(alloc, change, KeptMessage { pair, kept }) else {
         return (Reply::Refused(Refusal::NoMemory), None);
     };
+    let change = match entered(book, message, at, change) {
+        Ok(change) => change,
+        Err(fault) => return (Reply::Refused(fault), None),
+    };
     match book.commit(change) {
         Ok(()) => (reply, copy),
         Err(fault) => (Reply::Refused(Refusal::from(fault)), None),
     }
 }
 
-/// Handles a message: one step of the machine. A message whose pair is kept gets the kept reply, or 11 where it is
-/// another command; one that is accepted is kept with its reply. Beside the reply its text, where it was written to be kept
-/// and there was memory for a copy.
+// Handles a message, as `handle_with_text_at` says.
+fn handle_message<B: Book>(
+    alloc: Global,
+    book: &mut B,
+    message: &Message,
+    at: u64,
+) -> (Reply, Option<Text>)
+    ensures timed { HandlesAt json_texts at B.Book book.old book.new message.now result.0 }
+    ensures refused { RefusalKeeps B.Book book.old book.new result.0 }
+    ensures told { IfSome result.1 (λ text. text ≡ json_texts.of_reply result.0) }
+    ensures message { IsMessage message.now }
+    ensures clean_disk { B.has_clean_disk book.new → B.has_clean_disk book.old }
+    ensures failures { CountsOrContradicts result.0 (B.failed book.old) (B.failed book.new) }
+    ensures store_fault { BlamesStore json_texts B.Book book.old book.new result.0 }
+{
+    let Ok(text) = message_text(alloc, message) else {
+        return (Reply::Refused(Refusal::NoMemory), None);
+    };
+    match book.kept(alloc, message.terminal, message.number) {
+        Ok(None) => handle_new(alloc, book, message, text, at),
+        Ok(Some(kept)) => (answer_again(alloc, &text, &kept), None),
+        Err(fault) => (Reply::Refused(Refusal::from(fault)), None),
+    }
+}
+
+/// Handles a message that was given this time, in seconds since 1970-01-01 00:00 UTC, or 0 without a time: one step of the
+/// machine. A message whose pair is kept gets the kept reply, or 11 where it is another command; one that is accepted is
+/// kept with its reply, and its entry is written, with the time, or the last entry's where that is greater. Beside the
+/// reply its text, where it was written to be kept and there was memory for a copy.
+pub fn handle_with_text_at<B: Book>(
+    alloc: Global,
+    book: &mut B,
+    message: &Message,
+    at: u64,
+) -> (Reply, Option<Text>)
+    ensures step { Handles json_texts B.Book book.old book.new message.now result.0 }
+    ensures timed { HandlesAt json_texts at B.Book book.old book.new message.now result.0 }
+    ensures refused { RefusalKeeps B.Book book.old book.new result.0 }
+    ensures told { IfSome result.1 (λ text. text ≡ json_texts.of_reply result.0) }
+    ensures message { IsMessage message.now }
+    ensures clean_disk { B.has_clean_disk book.new → B.has_clean_disk book.old }
+    ensures failures { CountsOrContradicts result.0 (B.failed book.old) (B.failed book.new) }
+    ensures store_fault { BlamesStore json_texts B.Book book.old book.new result.0 }
+{
+    handle_message(alloc, book, message, at)
+}
+
+/// Handles a message as `handle_with_text_at` does, and gives the reply alone.
+pub fn handle_at<B: Book>(alloc: Global, book: &mut B, message: &Message, at: u64) -> Reply
+    ensures step { Handles json_texts B.Book book.old book.new message.now result }
+    ensures timed { HandlesAt json_texts at B.Book book.old book.new message.now result }
+    ensures refused { RefusalKeeps B.Book book.old book.new result }
+    ensures message { IsMessage message.now }
+    ensures clean_disk { B.has_clean_disk book.new → B.has_clean_disk book.old }
+    ensures failures { CountsOrContradicts result (B.failed book.old) (B.failed book.new) }
+    ensures store_fault { BlamesStore json_texts B.Book book.old book.new result }
+{
+    handle_with_text_at(alloc, book, message, at).0
+}
+
+/// Handles a message without a time: one step of the machine. A message whose pair is kept gets the kept reply, or 11 where
+/// it is another command; one that is accepted is kept with its reply. Beside the reply its text, where it was written to be
+/// kept and there was memory for a copy.
 pub fn handle_with_text<B: Book>(
     alloc: Global,
     book: &mut B,
@@ -115,14 +201,7 @@ pub fn handle_with_text<B: Book>(
     ensures failures { CountsOrContradicts result.0 (B.failed book.old) (B.failed book.new) }
     ensures store_fault { BlamesStore json_texts B.Book book.old book.new result.0 }
 {
-    let Ok(text) = message_text(alloc, message) else {
-        return (Reply::Refused(Refusal::NoMemory), None);
-    };
-    match book.kept(alloc, message.terminal, message.number) {
-        Ok(None) => handle_new(alloc, book, message, text),
-        Ok(Some(kept)) => (answer_again(alloc, &text, &kept), None),
-        Err(fault) => (Reply::Refused(Refusal::from(fault)), None),
-    }
+    handle_with_text_at(alloc, book, message, 0)
 }
 
 /// Handles a message as `handle_with_text` does, and gives the reply alone.
@@ -134,7 +213,7 @@ pub fn handle<B: Book>(alloc: Global, book: &mut B, message: &Message) -> Reply
     ensures failures { CountsOrContradicts result (B.failed book.old) (B.failed book.new) }
     ensures store_fault { BlamesStore json_texts B.Book book.old book.new result }
 {
-    handle_with_text(alloc, book, message).0
+    handle_at(alloc, book, message, 0)
 }
 
 // The cells of a material.
@@ -363,11 +442,43 @@ pub fn ask<B: Book>(alloc: Global, book: &mut B, query: &Query) -> Reply
         Query::Terminal { terminal: number } => terminal(book, *number),
         Query::Orders { after } => orders(alloc, book, *after),
         Query::Lines { order } => lines(alloc, book, *order),
+        Query::Shop => shop(book),
+        Query::History { after } => history(alloc, book, *after),
+        Query::Story { about, after } => story(alloc, book, *about, *after),
     }
 }
 
-/// Handles messages in order. It makes room for all replies first, so an `Err` means that none was handled. A reply tells
-/// of a failed store only where it failed meanwhile.
+/// Handles messages in order, all of which were given this time. It makes room for all replies first, so an `Err` means that
+/// none was handled. A reply tells of a failed store only where it failed meanwhile.
+pub fn run_at<B: Book>(
+    alloc: Global,
+    book: &mut B,
+    messages: &[Message],
+    at: u64,
+) -> Result<Vec<Reply>, AllocError>
+    ensures run { OnContent B.Book book.old book.new
+        (λ m. IsSound json_texts m
+        → IfOk result (λ replies.
+        HasRun json_texts B.Book book.old book.new m messages.now replies.items)) }
+    ensures handled { IfOk result (λ replies.
+        AreHandledAt json_texts at B.Book book.old messages.now replies.items book.new) }
+    ensures err { OnErr result (book.new ≡ book.old) }
+    ensures clean_disk { B.has_clean_disk book.new → B.has_clean_disk book.old }
+    ensures failures { CountsUp (B.failed book.old) (B.failed book.new) }
+{
+    let mut replies = Vec::with_capacity(alloc, messages.len())?;
+    for message in messages {
+        let reply = handle_at(alloc, book, message, at);
+        match replies.push(reply) {
+            Ok(()) => (),
+            Err(_) => unreachable!(),
+        }
+    }
+    Ok(replies)
+}
+
+/// Handles messages in order, without a time. It makes room for all replies first, so an `Err` means that none was handled. A
+/// reply tells of a failed store only where it failed meanwhile.
 pub fn run<B: Book>(
     alloc: Global,
     book: &mut B,
@@ -383,13 +494,5 @@ pub fn run<B: Book>(
     ensures clean_disk { B.has_clean_disk book.new → B.has_clean_disk book.old }
     ensures failures { CountsUp (B.failed book.old) (B.failed book.new) }
 {
-    let mut replies = Vec::with_capacity(alloc, messages.len())?;
-    for message in messages {
-        let reply = handle(alloc, book, message);
-        match replies.push(reply) {
-            Ok(()) => (),
-            Err(_) => unreachable!(),
-        }
-    }
-    Ok(replies)
+    run_at(alloc, book, messages, 0)
 }

@@ -4,8 +4,9 @@
 mod decided;
 mod desk_calls;
 mod found;
+mod history;
 mod importing;
 mod listing;
 mod racks;
 
-pub use desk_calls::{ask, handle, handle_with_text, run};
+pub use desk_calls::{ask, handle, handle_at, handle_with_text, handle_with_text_at, run, run_at};

@@ -25,6 +25,7 @@ fn check(alloc: Global, name: &str) -> Result<()> {
         "stopped-messages" => stopping::stop_messages(alloc),
         "stopped-adopts" => stopping::stop_adopts(alloc),
         "stopped-renewals" => stopping::stop_renewals(alloc),
+        "stopped-extensions" => stopping::stop_extensions(alloc),
         _ => Err(Error::msg("no check has this name")),
     }
 }

@@ -21,11 +21,11 @@ pub fn message_told(alloc: Global, given: &str) -> Result<String> {
     }
 }
 
-/// The text of the value of a reply that an accepted message gets, or that the text is none of those.
+/// The text of the value of a reply that is read, or that the text is none of those.
 pub fn reply_told(alloc: Global, given: &str) -> Result<String> {
     let kept = kept_reply(alloc, given)?.is_some();
-    match read_reply(&Value::from_str(alloc, given)?) {
-        Ok(reply) if kept => line_of(alloc, &reply_value(alloc, &reply)?),
+    match read_reply(alloc, &Value::from_str(alloc, given)?) {
+        Ok(reply) => line_of(alloc, &reply_value(alloc, &reply)?),
         Err(_) if !kept => Ok(String::from_str(alloc, "not kept\n")?),
         _ => Err(Error::msg("the reply is read in two ways")),
     }

@@ -2,7 +2,7 @@
 
 use crate::lines::answered;
 use crate::messages::{MESSAGES, QUESTIONS, STORE_FAULT, accepted, all_answers, come_to_the_end};
-use crate::stores::{Start, Work, book_over, earlier_start, number, over_files};
+use crate::stores::{Start, Work, book_over, first_start, number, over_files, second_start};
 use anyhow::{Error, Result};
 use shop_store::Book;
 use sqlite::{Alter, Connection, Files};
@@ -92,13 +92,13 @@ fn has_tables<S: Alter>(conn: &mut Connection<S>, adopted: bool, start: i64) -> 
         conn,
         "SELECT count(*) FROM sqlite_schema WHERE type = 'table'",
     )?;
-    Ok(tables == 10 || (!adopted && tables == start))
+    Ok(tables == 15 || (!adopted && tables == start))
 }
 
-// The tables are those of version 2.
+// The tables are those of version 3.
 fn is_renewed<S: Alter>(conn: &mut Connection<S>) -> Result<bool> {
     Ok(
-        number(conn, "SELECT value FROM meta WHERE name = 'version'")? == 2
+        number(conn, "SELECT value FROM meta WHERE name = 'version'")? == 3
             && number(conn, "SELECT count(*) FROM totals")? == 0
             && number(conn, "SELECT count(*) FROM totals2")? == 1,
     )
@@ -186,7 +186,12 @@ pub fn stop_adopts(alloc: Global) -> Result<()> {
     sweep_both(alloc, Start::empty(alloc), false, 0)
 }
 
-/// A file stops while tables of version 1 are brought to version 2.
+/// A file stops while tables of version 1 are brought to version 3.
 pub fn stop_renewals(alloc: Global) -> Result<()> {
-    sweep_both(alloc, earlier_start(alloc)?, false, 0)
+    sweep_both(alloc, first_start(alloc)?, false, 0)
+}
+
+/// A file stops while tables of version 2 are brought to version 3.
+pub fn stop_extensions(alloc: Global) -> Result<()> {
+    sweep_both(alloc, second_start(alloc)?, false, 0)
 }

@@ -126,35 +126,54 @@ fn filled_book<S: Alter + Drop>(alloc: Global, conn: Connection<S>) -> Result<Sq
     Ok(book)
 }
 
+// What makes tables of version 2 of those of version 3.
+const TO_VERSION_TWO: &str =
+    "DROP TABLE journal;DROP TABLE uses;DROP TABLE notes;DROP TABLE begun;DROP TABLE halts;UPDATE meta SET value = 2 WHERE name = 'version'";
+
 // What makes tables of version 1 of those of version 2, where nothing was returned.
 const TO_VERSION_ONE: &str =
     "INSERT INTO totals (material, received, stock, rack, pieces, kerf, scrap) SELECT material, received, stock, rack, pieces, kerf, scrap FROM totals2;DROP TABLE totals2;UPDATE meta SET value = 1 WHERE name = 'version'";
 
-// All messages are handled, and then the shop is brought to version 1.
+// All messages are handled, and then the shop is brought to version 2, and from it to version 1 where that is wanted.
 #[derive(Drop)]
-struct EarlierShop;
+struct EarlierShop {
+    is_first: bool,
+}
 
 impl Work for EarlierShop {
     fn over<S: Alter + Drop>(&mut self, alloc: Global, conn: Connection<S>) -> Result<S> {
         let mut conn = filled_book(alloc, conn)?.into_connection();
-        conn.execute_batch(TO_VERSION_ONE)?;
+        conn.execute_batch(TO_VERSION_TWO)?;
+        if self.is_first {
+            conn.execute_batch(TO_VERSION_ONE)?;
+        }
         Ok(conn.into_store())
     }
 }
 
-/// A shop of version 1, in which all messages were handled.
-pub fn earlier_start(alloc: Global) -> Result<Start> {
+// A shop of an earlier version with so many tables, in which all messages were handled.
+fn start_of(alloc: Global, is_first: bool, tables: i64) -> Result<Start> {
     let files = Start::empty(alloc).files(alloc, true, u64::MAX)?;
-    let (files, is_made) = over_files(alloc, files, &mut EarlierShop)?;
+    let (files, is_made) = over_files(alloc, files, &mut EarlierShop { is_first })?;
     if !is_made {
         return Err(Error::msg("files that are not opened"));
     }
     Ok(Start {
         log: Vec::from_slice(alloc, files.log.inner().bytes())?,
         db: Vec::from_slice(alloc, files.db.inner().bytes())?,
-        tables: 9,
+        tables,
         accepted: MESSAGES.len(),
     })
+}
+
+/// A shop of version 1, in which all messages were handled.
+pub fn first_start(alloc: Global) -> Result<Start> {
+    start_of(alloc, true, 9)
+}
+
+/// A shop of version 2, in which all messages were handled.
+pub fn second_start(alloc: Global) -> Result<Start> {
+    start_of(alloc, false, 10)
 }
 
 // The book of a store over files, in which all messages were handled.

@@ -1,5 +1,5 @@
 -- What is printed is read back.
-use Rattle.std.proofs.Common.{◌≡◌, ℕ, suc, ◌<◌, ◌≤◌, ◌^◌, List, [], append-nil, All, Bool, true, false, Option, Some, None, refl, sym, ap, ◌∙◌, arith, le-leb, codes}
+use Rattle.std.proofs.Common.{◌≡◌, ℕ, suc, ◌≤◌, List, All, Bool, true, false, Option, Some, None, refl, sym, ap, ◌∙◌, arith, le-leb, codes}
 use Rattle.std.specs.Prelude.{max, option_map, option_and_then, if◌then◌else◌, is_some}
 use Rattle.cut_measure.specs.declared.sizes.Kind.{Kind}
 use Rattle.cut_measure.specs.Names.{Name, name_text}
@@ -18,21 +18,16 @@ use Rattle.shop_records.specs.declared.messages.Reply.TheVariants as reply
 use Rattle.shop_records.specs.Messages.{IsMessage, IsCommand, IsMade, IsNumber}
 use Rattle.std.proofs.Math.Nat.{max-le}
 use Rattle.json.proofs.Printed.Decimals.{IsNumber-decimal}
-use Rattle.json.proofs.Printed.Tokens.{tokens-print}
-use Rattle.json.proofs.Printed.Trees.{value-json_tokens, ArePrintable-json_tokens}
-use Rattle.json.specs.Json as json
-use Rattle.json.specs.Lex.{tokens}
-use Rattle.json.specs.Tree.{HasNumbers, depth, json_tokens}
 use Rattle.serde_json.specs.Data.{Data, boolean, number, string, unsigned}
 use Rattle.serde_json.specs.Find.{get, as_number, as_str, as_u64}
-use Rattle.serde_json.specs.Read.{read, of_json, max_depth}
-use Rattle.serde_json.specs.Written.{compact_text, outline}
+use Rattle.serde_json.specs.Read.{read}
+use Rattle.serde_json.specs.Written.{compact_text}
 use Rattle.serde_json.proofs.Numbers.{number_of-decimal}
-use Rattle.json.specs.Token.{Token}
-use Rattle.serde_json.proofs.Texts.{print-outline}
 use Rattle.shop_forms.specs.Forms.{message_of, sent_head, sent_of, from_one, command_of, material_command, receive_command, order_command, reserve_command, import_in, problem_command, import_by, import_command, amend_command, query_of, asked_of, reply_of, made_of, order_made, reserve_made, ended_cells, first_cuts, listed_cuts, lost_cut, list_data, break_command, has_few_cuts, lines_data, message_data, reply_data, json_texts, HasWideNumbers}
 use Rattle.shop_records.specs.Refusals.{refusal_number}
-use Rattle.shop_forms.proofs.ListedRows.{cuts_there, cuts_numbers, cuts_shallow, cuts_json, lines_there, lines_numbers, lines_shallow, lines_json, rack_numbers, rack_shallow, rack_json, materials_numbers, materials_shallow, materials_json, parts_numbers, parts_shallow, parts_json, demands_numbers, demands_shallow, demands_json, jobs_numbers, jobs_shallow, jobs_json, orders_numbers, orders_shallow, orders_json, shallow_first_of_two, shallow_first_of_three, shallow_fourth}
+use Rattle.shop_forms.proofs.ListedRows.{cuts_there, lines_there, rack_numbers, rack_shallow, rack_json, materials_numbers, materials_shallow, materials_json, parts_numbers, parts_shallow, parts_json, demands_numbers, demands_shallow, demands_json, jobs_numbers, jobs_shallow, jobs_json, orders_numbers, orders_shallow, orders_json, shallow_first_of_two, shallow_first_of_three, shallow_fourth}
+use Rattle.shop_forms.proofs.Readable.{read-compact, wide, read_readable, message_readable, made_readable}
+use Rattle.shop_forms.proofs.EntryRows.{entries_numbers, entries_deep, entries_json, entries_shallow}
 use Rattle.shop_forms.specs.Fields.{kind_text, small, number_at}
 use Rattle.shop_forms.proofs.FieldFacts.{number_there, wide_there, flag_there, code_there, kind_there, name_there, text_there}
 
@@ -225,138 +220,34 @@ reply_back (reply.Job cuts h job kerf material part state tree w) made = absurd 
 reply_back (reply.Terminal last terminal) made = absurd made
 reply_back (reply.Orders more orders) made = absurd made
 reply_back (reply.Lines lines order) made = absurd made
+reply_back (reply.Shop began entries last) made = absurd made
+reply_back (reply.History entries more) made = absurd made
+reply_back (reply.Story entries more) made = absurd made
 reply_back (reply.Refused refusal) h = absurd h
 
 -- ---- texts
-
--- the text of a value whose numbers are read back is read as the value
-read-compact : (d : Data) → HasNumbers (outline d) → depth (outline d) ≤ max_depth → of_json (outline d) ≡ Some d → read (compact_text d) ≡ Some d
-read-compact d numbers shallow back =
-    let j = outline d in
-    let same : tokens (compact_text d) ≡ json_tokens j = ap tokens (sym (print-outline d)) ∙ tokens-print (json_tokens j) (ArePrintable-json_tokens j numbers) in
-    ap (λ (read : Option (json.Json × List Token)). option_and_then of_json (option_and_then (λ p. json.if_last p.0 p.1) read)) (ap (json.value max_depth) (same ∙ sym (append-nil (json_tokens j))) ∙ value-json_tokens j max_depth [] shallow) ∙ back
-
-wide : (n : ℕ) → n < 2 ^ 32 → n < 2 ^ 64
-wide n h = omega arith
-
--- an object with one list of objects
-shallow : (n : ℕ) → n ≤ 1 → suc (max 0 (max (suc n) (max 0 (max 0 (max 0 0))))) ≤ 127
-shallow n h = let e : max 0 (max (suc n) (max 0 (max 0 (max 0 0)))) ≤ 126 = max-le (omega arith) (max-le (omega (arith, h)) (omega arith)) in omega (arith, e)
-
--- an object with a list of numbers first
-shallow_first : (n : ℕ) → n ≤ 1 → suc (max (suc n) (max 0 (max 0 (max 0 (max 0 (max 0 0)))))) ≤ 127
-shallow_first n h = let e : max (suc n) (max 0 (max 0 (max 0 (max 0 (max 0 0))))) ≤ 126 = max-le (omega (arith, h)) (omega arith) in omega (arith, e)
 
 -- an object with a list of objects last
 shallow_last : (n : ℕ) → n ≤ 1 → suc (max 0 (max 0 (max (suc n) 0))) ≤ 127
 shallow_last n h = let e : max 0 (max 0 (max (suc n) 0)) ≤ 126 = max-le (omega arith) (max-le (omega arith) (omega (arith, h))) in omega (arith, e)
 
-text_read_by : (terminal n : ℕ) (command : Command) → IsNumber terminal → IsNumber n → IsCommand command
-    → let d = message_data (record { terminal = terminal; number = n; command = command }) in read (compact_text d) ≡ Some d
-text_read_by terminal n (AddMaterial material kind kerf min_long min_short) p q h =
-    let d = message_data (record { terminal = terminal; number = n; command = AddMaterial material kind kerf min_long min_short }) in
-    read-compact d (
-      tt,
-      (
-        IsNumber-decimal kerf (wide kerf h.1),
-        (
-          tt,
-          (
-            tt,
-            (
-              IsNumber-decimal min_long (wide min_long h.2),
-              (
-                IsNumber-decimal min_short (wide min_short h.3),
-                (IsNumber-decimal n (wide n q), (IsNumber-decimal terminal (wide terminal p), tt)),
-              ),
-            ),
-          ),
-        ),
-      ),
-    ) (omega arith)
-    (rw (number_of-decimal kerf (wide kerf h.1), number_of-decimal min_long (wide min_long h.2), number_of-decimal min_short (wide min_short h.3), number_of-decimal n (wide n q), number_of-decimal terminal (wide terminal p)) refl)
-text_read_by terminal n (Receive material batch w h count) p q c =
-    let d = message_data (record { terminal = terminal; number = n; command = Receive material batch w h count }) in
-    read-compact d
-    (tt, (IsNumber-decimal count (wide count c.4), (tt, (IsNumber-decimal h (wide h c.3), (tt, (IsNumber-decimal n (wide n q), (IsNumber-decimal terminal (wide terminal p), (IsNumber-decimal w (wide w c.2), tt)))))))) (omega arith)
-    (rw (number_of-decimal count (wide count c.4), number_of-decimal h (wide h c.3), number_of-decimal n (wide n q), number_of-decimal terminal (wide terminal p), number_of-decimal w (wide w c.2)) refl)
-text_read_by terminal n (AddOrder order lines) p q h =
-    let d = message_data (record { terminal = terminal; number = n; command = AddOrder order lines }) in
-    read-compact d (tt, (lines_numbers lines h.1, (IsNumber-decimal n (wide n q), (tt, (IsNumber-decimal terminal (wide terminal p), tt))))) (shallow _ (lines_shallow lines))
-    (rw (lines_json lines h.1, number_of-decimal n (wide n q), number_of-decimal terminal (wide terminal p)) refl)
-text_read_by terminal n (Reserve part tree) p q h =
-    let d = message_data (record { terminal = terminal; number = n; command = Reserve part tree }) in
-    read-compact d (tt, (IsNumber-decimal n (wide n q), (tt, (IsNumber-decimal terminal (wide terminal p), (tt, tt))))) (omega arith)
-    (rw (number_of-decimal n (wide n q), number_of-decimal terminal (wide terminal p)) refl)
-text_read_by terminal n (Done job) p q h =
-    let d = message_data (record { terminal = terminal; number = n; command = Done job }) in
-    read-compact d (tt, (IsNumber-decimal job (wide job h), (IsNumber-decimal n (wide n q), (IsNumber-decimal terminal (wide terminal p), tt)))) (omega arith)
-    (rw (number_of-decimal job (wide job h), number_of-decimal n (wide n q), number_of-decimal terminal (wide terminal p)) refl)
-text_read_by terminal n (Break job (First cuts lost)) p q h =
-    let d = message_data (record { terminal = terminal; number = n; command = Break job (First cuts lost) }) in
-    read-compact d (IsNumber-decimal cuts (wide cuts h.1), (tt, (IsNumber-decimal job (wide job h.0), (tt, (IsNumber-decimal n (wide n q), (IsNumber-decimal terminal (wide terminal p), tt)))))) (omega arith)
-    (rw (number_of-decimal cuts (wide cuts h.1), number_of-decimal job (wide job h.0), number_of-decimal n (wide n q), number_of-decimal terminal (wide terminal p)) refl)
-text_read_by terminal n (Break job (Listed cuts None)) p q h =
-    let d = message_data (record { terminal = terminal; number = n; command = Break job (Listed cuts None) }) in
-    read-compact d (cuts_numbers cuts h.1.0, (tt, (IsNumber-decimal job (wide job h.0), (tt, (IsNumber-decimal n (wide n q), (IsNumber-decimal terminal (wide terminal p), tt)))))) (shallow_first _ (cuts_shallow cuts))
-    (rw (cuts_json cuts h.1.0, number_of-decimal job (wide job h.0), number_of-decimal n (wide n q), number_of-decimal terminal (wide terminal p)) refl)
-text_read_by terminal n (Break job (Listed cuts (Some cut))) p q h =
-    let d = message_data (record { terminal = terminal; number = n; command = Break job (Listed cuts (Some cut)) }) in
-    read-compact d (cuts_numbers cuts h.1.0, (tt, (IsNumber-decimal job (wide job h.0), (IsNumber-decimal cut (wide cut h.1.1), (IsNumber-decimal n (wide n q), (IsNumber-decimal terminal (wide terminal p), tt)))))) (shallow_first _ (cuts_shallow cuts))
-    (rw (cuts_json cuts h.1.0, number_of-decimal job (wide job h.0), number_of-decimal cut (wide cut h.1.1), number_of-decimal n (wide n q), number_of-decimal terminal (wide terminal p)) refl)
-text_read_by terminal n (Release job) p q h =
-    let d = message_data (record { terminal = terminal; number = n; command = Release job }) in
-    read-compact d (tt, (IsNumber-decimal job (wide job h), (IsNumber-decimal n (wide n q), (IsNumber-decimal terminal (wide terminal p), tt)))) (omega arith)
-    (rw (number_of-decimal job (wide job h), number_of-decimal n (wide n q), number_of-decimal terminal (wide terminal p)) refl)
-text_read_by terminal n (Scrap part) p q h =
-    let d = message_data (record { terminal = terminal; number = n; command = Scrap part }) in
-    read-compact d (tt, (IsNumber-decimal n (wide n q), (tt, (IsNumber-decimal terminal (wide terminal p), tt)))) (omega arith)
-    (rw (number_of-decimal n (wide n q), number_of-decimal terminal (wide terminal p)) refl)
-text_read_by terminal n (GiveBack part) p q h =
-    let d = message_data (record { terminal = terminal; number = n; command = GiveBack part }) in
-    read-compact d (tt, (IsNumber-decimal n (wide n q), (tt, (IsNumber-decimal terminal (wide terminal p), tt)))) (omega arith)
-    (rw (number_of-decimal n (wide n q), number_of-decimal terminal (wide terminal p)) refl)
-text_read_by terminal n (Import order Csv text) p q h =
-    let d = message_data (record { terminal = terminal; number = n; command = Import order Csv text }) in
-    read-compact d (tt, (tt, (IsNumber-decimal n (wide n q), (tt, (IsNumber-decimal terminal (wide terminal p), (tt, tt)))))) (omega arith)
-    (rw (number_of-decimal n (wide n q), number_of-decimal terminal (wide terminal p)) refl)
-text_read_by terminal n (Import order (Cgcut material) text) p q h =
-    let d = message_data (record { terminal = terminal; number = n; command = Import order (Cgcut material) text }) in
-    read-compact d (tt, (tt, (tt, (IsNumber-decimal n (wide n q), (tt, (IsNumber-decimal terminal (wide terminal p), (tt, tt))))))) (omega arith)
-    (rw (number_of-decimal n (wide n q), number_of-decimal terminal (wide terminal p)) refl)
-text_read_by terminal n (Amend demand wanted) p q h =
-    let d = message_data (record { terminal = terminal; number = n; command = Amend demand wanted }) in
-    read-compact d (IsNumber-decimal demand (wide demand h.0), (tt, (IsNumber-decimal n (wide n q), (IsNumber-decimal terminal (wide terminal p), (IsNumber-decimal wanted (wide wanted h.1), tt))))) (omega arith)
-    (rw (number_of-decimal demand (wide demand h.0), number_of-decimal n (wide n q), number_of-decimal terminal (wide terminal p), number_of-decimal wanted (wide wanted h.1)) refl)
-
 pub message_text_read : (message : Message) → IsMessage message → read (json_texts.of_message message) ≡ Some (message_data message)
 unfolding json_texts
-message_text_read message h = text_read_by message.terminal message.number message.command h.terminal h.number h.command
+message_text_read message h = read_readable (message_data message) (message_readable message h)
 
 -- a reply is read back from its text
 pub reply_read : (answer : Reply) → HasWideNumbers answer → read (compact_text (reply_data answer)) ≡ Some (reply_data answer)
-reply_read (reply.AddMaterial material) wide_ones =
-    read-compact (reply_data (reply.AddMaterial material)) (tt, (tt, tt)) (omega arith) refl
-reply_read (reply.Receive act count) wide_ones =
-    read-compact (reply_data (reply.Receive act count)) (IsNumber-decimal act wide_ones.0, (IsNumber-decimal count wide_ones.1, (tt, tt))) (omega arith) (rw (number_of-decimal act wide_ones.0, number_of-decimal count wide_ones.1) refl)
-reply_read (reply.AddOrder count first order) wide_ones =
-    read-compact (reply_data (reply.AddOrder count first order)) (IsNumber-decimal count wide_ones.0, (IsNumber-decimal first wide_ones.1, (tt, (tt, tt)))) (omega arith) (rw (number_of-decimal count wide_ones.0, number_of-decimal first wide_ones.1) refl)
-reply_read (reply.Reserve cuts job) wide_ones =
-    read-compact (reply_data (reply.Reserve cuts job)) (IsNumber-decimal cuts wide_ones.0, (IsNumber-decimal job wide_ones.1, (tt, tt))) (omega arith) (rw (number_of-decimal cuts wide_ones.0, number_of-decimal job wide_ones.1) refl)
-reply_read (reply.Done job kerf pieces rack scrap) wide_ones =
-    read-compact (reply_data (reply.Done job kerf pieces rack scrap)) (IsNumber-decimal job wide_ones.0, (IsNumber-decimal kerf wide_ones.1, (tt, (IsNumber-decimal pieces wide_ones.2, (IsNumber-decimal rack wide_ones.3, (IsNumber-decimal scrap wide_ones.4, tt)))))) (omega arith) (rw (number_of-decimal job wide_ones.0, number_of-decimal kerf wide_ones.1, number_of-decimal pieces wide_ones.2, number_of-decimal rack wide_ones.3, number_of-decimal scrap wide_ones.4) refl)
-reply_read (reply.Break job kerf pieces rack scrap) wide_ones =
-    read-compact (reply_data (reply.Break job kerf pieces rack scrap)) (IsNumber-decimal job wide_ones.0, (IsNumber-decimal kerf wide_ones.1, (tt, (IsNumber-decimal pieces wide_ones.2, (IsNumber-decimal rack wide_ones.3, (IsNumber-decimal scrap wide_ones.4, tt)))))) (omega arith) (rw (number_of-decimal job wide_ones.0, number_of-decimal kerf wide_ones.1, number_of-decimal pieces wide_ones.2, number_of-decimal rack wide_ones.3, number_of-decimal scrap wide_ones.4) refl)
-reply_read (reply.Release job) wide_ones =
-    read-compact (reply_data (reply.Release job)) (IsNumber-decimal job wide_ones, (tt, tt)) (omega arith) (rw (number_of-decimal job wide_ones) refl)
-reply_read (reply.Scrap part) wide_ones =
-    read-compact (reply_data (reply.Scrap part)) (tt, (tt, tt)) (omega arith) refl
-reply_read (reply.GiveBack part) wide_ones =
-    read-compact (reply_data (reply.GiveBack part)) (tt, (tt, tt)) (omega arith) refl
-reply_read (reply.Import act count first order) wide_ones =
-    read-compact (reply_data (reply.Import act count first order)) (IsNumber-decimal act wide_ones.0, (IsNumber-decimal count wide_ones.1, (IsNumber-decimal first wide_ones.2, (tt, (tt, tt))))) (omega arith) (rw (number_of-decimal act wide_ones.0, number_of-decimal count wide_ones.1, number_of-decimal first wide_ones.2) refl)
-reply_read (reply.Amend demand wanted) wide_ones =
-    read-compact (reply_data (reply.Amend demand wanted)) (IsNumber-decimal demand wide_ones.0, (tt, (IsNumber-decimal wanted wide_ones.1, tt))) (omega arith) (rw (number_of-decimal demand wide_ones.0, number_of-decimal wanted wide_ones.1) refl)
+reply_read (reply.AddMaterial material) wide_ones = read_readable _ (made_readable (reply.AddMaterial material) wide_ones)
+reply_read (reply.Receive act count) wide_ones = read_readable _ (made_readable (reply.Receive act count) wide_ones)
+reply_read (reply.AddOrder count first order) wide_ones = read_readable _ (made_readable (reply.AddOrder count first order) wide_ones)
+reply_read (reply.Reserve cuts job) wide_ones = read_readable _ (made_readable (reply.Reserve cuts job) wide_ones)
+reply_read (reply.Done job kerf pieces rack scrap) wide_ones = read_readable _ (made_readable (reply.Done job kerf pieces rack scrap) wide_ones)
+reply_read (reply.Break job kerf pieces rack scrap) wide_ones = read_readable _ (made_readable (reply.Break job kerf pieces rack scrap) wide_ones)
+reply_read (reply.Release job) wide_ones = read_readable _ (made_readable (reply.Release job) wide_ones)
+reply_read (reply.Scrap part) wide_ones = read_readable _ (made_readable (reply.Scrap part) wide_ones)
+reply_read (reply.GiveBack part) wide_ones = read_readable _ (made_readable (reply.GiveBack part) wide_ones)
+reply_read (reply.Import act count first order) wide_ones = read_readable _ (made_readable (reply.Import act count first order) wide_ones)
+reply_read (reply.Amend demand wanted) wide_ones = read_readable _ (made_readable (reply.Amend demand wanted) wide_ones)
 reply_read (reply.Totals material received stock rack pieces kerf scrap returned) wide_ones =
     read-compact (reply_data (reply.Totals material received stock rack pieces kerf scrap returned)) (IsNumber-decimal kerf wide_ones.0, (tt, (tt, (IsNumber-decimal pieces wide_ones.1, (IsNumber-decimal rack wide_ones.2, (IsNumber-decimal received wide_ones.3, (IsNumber-decimal returned wide_ones.4, (IsNumber-decimal scrap wide_ones.5, (IsNumber-decimal stock wide_ones.6, tt))))))))) (omega arith) (rw (number_of-decimal kerf wide_ones.0, number_of-decimal pieces wide_ones.1, number_of-decimal rack wide_ones.2, number_of-decimal received wide_ones.3, number_of-decimal returned wide_ones.4, number_of-decimal scrap wide_ones.5, number_of-decimal stock wide_ones.6) refl)
 reply_read (reply.Rack material parts) wide_ones =
@@ -385,6 +276,12 @@ reply_read (reply.Orders more orders) wide_ones =
     read-compact (reply_data (reply.Orders more orders)) (tt, (tt, (orders_numbers orders wide_ones, tt))) (shallow_last _ (orders_shallow orders)) (rw (orders_json orders wide_ones) refl)
 reply_read (reply.Lines lines order) wide_ones =
     read-compact (reply_data (reply.Lines lines order)) (demands_numbers lines wide_ones, (tt, (tt, tt))) (shallow_first_of_three _ (demands_shallow lines)) (rw (demands_json lines wide_ones) refl)
+reply_read (reply.Shop began entries last) wide_ones =
+    read-compact (reply_data (reply.Shop began entries last)) (IsNumber-decimal began wide_ones.0, (IsNumber-decimal entries wide_ones.1, (IsNumber-decimal last wide_ones.2, (tt, tt)))) (omega arith) (rw (number_of-decimal began wide_ones.0, number_of-decimal entries wide_ones.1, number_of-decimal last wide_ones.2) refl)
+reply_read (reply.History entries more) wide_ones =
+    read-compact (reply_data (reply.History entries more)) (entries_numbers entries wide_ones, (tt, (tt, tt))) (entries_shallow _ (entries_deep entries wide_ones)) (rw (entries_json entries wide_ones) refl)
+reply_read (reply.Story entries more) wide_ones =
+    read-compact (reply_data (reply.Story entries more)) (entries_numbers entries wide_ones, (tt, (tt, tt))) (entries_shallow _ (entries_deep entries wide_ones)) (rw (entries_json entries wide_ones) refl)
 reply_read (reply.Refused refusal) wide_ones =
     read-compact (reply_data (reply.Refused refusal)) (tt, (IsNumber-decimal (refusal_number refusal) wide_ones, tt)) (omega arith) (rw (number_of-decimal (refusal_number refusal) wide_ones) refl)
 
@@ -415,6 +312,9 @@ made_wide (reply.Job cuts h job kerf material part state tree w) made = absurd m
 made_wide (reply.Terminal last terminal) made = absurd made
 made_wide (reply.Orders more orders) made = absurd made
 made_wide (reply.Lines lines order) made = absurd made
+made_wide (reply.Shop began entries last) made = absurd made
+made_wide (reply.History entries more) made = absurd made
+made_wide (reply.Story entries more) made = absurd made
 made_wide (reply.Refused refusal) h = absurd h
 
 pub told_text_read : (answer : Reply) → HasWideNumbers answer → read (json_texts.of_reply answer) ≡ Some (reply_data answer)

@@ -102,6 +102,14 @@ module _ {T : Type 0} (said : T → Data) (Is : T → Type 0) where
   rows_shallow one [] = omega arith
   rows_shallow one (x ∷ xs) = max-le (one x) (rows_shallow one xs)
 
+  module _ (most : ℕ) (one : (x : T) → Is x → depth (outline (said x)) ≤ most) where
+    deep_by : (xs : List T) → AllByRecursion Is xs → items_depth (items_outline (items_of (map said xs))) ≤ most
+    deep_by [] h = omega arith
+    deep_by (x ∷ xs) h = max-le (one x h.0) (deep_by xs h.1)
+
+    pub rows_deep : (xs : List T) → All Is xs → items_depth (items_outline (items_of (map said xs))) ≤ most
+    rows_deep xs h = deep_by xs (recursion_from_All Is xs h)
+
   module _ (one : (x : T) → Is x → of_json (outline (said x)) ≡ Some (said x)) where
     json_by : (xs : List T) → AllByRecursion Is xs → of_items (items_outline (items_of (map said xs))) ≡ Some (items_of (map said xs))
     json_by [] h = refl

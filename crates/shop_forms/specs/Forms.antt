@@ -1,5 +1,5 @@
 -- Messages, queries and replies as JSON values: what a value stands for, and what is printed.
-use Rattle.std.specs.Prelude.{ℕ, ◌&&◌, List, length, map, All, nat_le, Bool, true, false, if◌then◌else◌, Option, Some, None, option_map, option_and_then, codes, bytes_eq}
+use Rattle.std.specs.Prelude.{◌≡◌, ℕ, ◌&&◌, List, length, map, All, nat_le, Bool, true, false, if◌then◌else◌, Option, Some, None, option_map, option_and_then, IfSome, codes, bytes_eq}
 use Rattle.std.specs.Option.{option_or}
 use Rattle.cut_measure.specs.Names.{Name, name_text}
 use Rattle.cut_measure.specs.declared.sizes.Kind.{Kind}
@@ -13,6 +13,9 @@ use Rattle.shop_records.specs.declared.imports.Form.TheVariants.{Csv, Cgcut}
 use Rattle.shop_records.specs.declared.messages.Message.{Message}
 use Rattle.shop_files.specs.declared.orders.OrderLine.{OrderLine}
 use Rattle.shop_records.specs.declared.messages.Query.{Query}
+use Rattle.shop_records.specs.declared.journal.EntryTold.{EntryTold}
+use Rattle.shop_records.specs.declared.journal.Subject.{Subject}
+use Rattle.shop_records.specs.declared.journal.Subject.TheVariants as subject
 use Rattle.shop_records.specs.declared.records.Demand.{Demand}
 use Rattle.shop_records.specs.declared.records.JobRow.{JobRow}
 use Rattle.shop_records.specs.declared.records.JobState.{JobState}
@@ -25,8 +28,9 @@ use Rattle.shop_records.specs.declared.messages.Reply.{Reply}
 use Rattle.shop_records.specs.declared.messages.Reply.TheVariants as reply
 use Rattle.shop_records.specs.Refusals.{refusal_number, refusal_name}
 use Rattle.shop_records.specs.Columns.{state_of, state_word}
-use Rattle.shop_records.specs.Messages.{Texts, IsWide}
-use Rattle.serde_json.specs.Data.{Data, array, boolean, object, number, unsigned, Members, member, no_members, put}
+use Rattle.shop_records.specs.Messages.{Texts, IsMessage, IsMade, IsWide}
+use Rattle.serde_json.specs.Data.{Data, null, array, boolean, object, number, unsigned, Members, member, no_members, put}
+use Rattle.serde_json.specs.Find.{get}
 use Rattle.serde_json.specs.Read.{read}
 use Rattle.serde_json.specs.View.{items_of}
 use Rattle.serde_json.specs.Written.{compact_text}
@@ -473,12 +477,32 @@ abbrev pub terminal_told : (last terminal : ℕ) → Data
 terminal_told last terminal =
     object (number_member (codes "last") last (text_member (codes "ok") (codes "terminal") (number_member (codes "terminal") terminal no_members)))
 
+abbrev pub history_query : Data → Option Query
+history_query d = option_map query.History (number_at (codes "after") d)
+
+-- what a story is asked of: where there is one key more than `ask` and `after`, at most one of these stands for something
+abbrev pub subject_of : Data → Option Subject
+subject_of d =
+    option_or (option_map subject.Order (code_at (codes "order") d))
+    (option_or (option_map subject.Job (number_at (codes "job") d)) (option_map subject.Part (name_at (codes "part") d)))
+
+abbrev pub story_query : Data → Option Query
+story_query d =
+    option_and_then (λ about. option_map (λ after. query.Story about after) (number_at (codes "after") d)) (subject_of d)
+
+abbrev pub shop_told : (began entries last : ℕ) → Data
+shop_told began entries last =
+    object (number_member (codes "began") began (number_member (codes "entries") entries (number_member (codes "last") last
+    (text_member (codes "ok") (codes "shop") no_members))))
+
 -- the rows of lists with other keys than one beside `ask`, by their words
 abbrev pub list_query : List ℕ → Data → Option Query
 list_query word d =
     if bytes_eq word (codes "materials") then row 1 (λ d. Some query.Materials) d
     else (if bytes_eq word (codes "parts") then row 3 parts_query d
-    else (if bytes_eq word (codes "demands") then demands_query d else None))
+    else (if bytes_eq word (codes "demands") then demands_query d
+    else (if bytes_eq word (codes "shop") then row 1 (λ d. Some query.Shop) d
+    else (if bytes_eq word (codes "story") then row 3 story_query d else None))))
 
 -- the rows with one key beside `ask`, by its word
 abbrev pub short_query : List ℕ → Data → Option Query
@@ -491,7 +515,8 @@ short_query word d =
     else (if bytes_eq word (codes "job") then job_query d
     else (if bytes_eq word (codes "terminal") then terminal_query d
     else (if bytes_eq word (codes "orders") then orders_query d
-    else (if bytes_eq word (codes "lines") then lines_query d else None))))))))
+    else (if bytes_eq word (codes "lines") then lines_query d
+    else (if bytes_eq word (codes "history") then history_query d else None)))))))))
 
 -- the rows by the word of `ask`, each with `ask`
 abbrev pub asked_of : List ℕ → Data → Option Query
@@ -586,19 +611,64 @@ made_of word d =
 abbrev pub reply_of : Data → Option Reply
 reply_of d = option_and_then (λ word. made_of word d) (text_at (codes "ok") d)
 
+-- a reply that an accepted message can get as an object, its keys in byte order; nothing of another one
+abbrev pub made_data : Reply → Data
+made_data (reply.AddMaterial material) = material_told material
+made_data (reply.Receive act count) = receive_told act count
+made_data (reply.AddOrder count first order) = order_told count first order
+made_data (reply.Reserve cuts job) = reserve_told cuts job
+made_data (reply.Done job kerf pieces rack scrap) = ended_told (codes "done") job kerf pieces rack scrap
+made_data (reply.Break job kerf pieces rack scrap) = ended_told (codes "break") job kerf pieces rack scrap
+made_data (reply.Release job) = release_told job
+made_data (reply.Scrap part) = scrap_told part
+made_data (reply.GiveBack part) = return_told part
+made_data (reply.Import act count first order) = import_told act count first order
+made_data (reply.Amend demand wanted) = amend_told demand wanted
+made_data _ = null
+
+-- ---- entries, with what is kept of their messages
+
+-- the message of any terminal that a kept text is, and the reply that one is
+abbrev pub kept_message_of : List ℕ → Option Message
+kept_message_of text = option_and_then sent_of (read text)
+
+abbrev pub kept_reply_of : List ℕ → Option Reply
+kept_reply_of text = option_and_then reply_of (read text)
+
+-- The object that a kept message is, and the one that a kept reply is. A text that is none is told as null; in each content
+-- that a history gives, kept texts are messages and replies.
+abbrev pub message_told : Option Message → Data
+message_told None = null
+message_told (Some message) = message_data message
+
+abbrev pub reply_told : Option Reply → Data
+reply_told None = null
+reply_told (Some answer) = made_data answer
+
+-- an entry as an object, its keys in byte order
+abbrev pub entry_data : EntryTold → Data
+entry_data e =
+    object (number_member (codes "at") e.at (number_member (codes "entry") e.entry
+    (member (codes "message") (message_told (kept_message_of e.message)) (member (codes "reply") (reply_told (kept_reply_of e.reply)) no_members))))
+
+-- what is told of entries, by the word of the reply
+abbrev pub entries_told : List ℕ → List EntryTold → Bool → Data
+entries_told word entries more =
+    object (member (codes "entries") (rows_data entry_data entries) (flag_member (codes "more") more (text_member (codes "ok") word no_members)))
+
 -- a reply as an object, its keys in byte order
 abbrev pub reply_data : Reply → Data
-reply_data (reply.AddMaterial material) = material_told material
-reply_data (reply.Receive act count) = receive_told act count
-reply_data (reply.AddOrder count first order) = order_told count first order
-reply_data (reply.Reserve cuts job) = reserve_told cuts job
-reply_data (reply.Done job kerf pieces rack scrap) = ended_told (codes "done") job kerf pieces rack scrap
-reply_data (reply.Break job kerf pieces rack scrap) = ended_told (codes "break") job kerf pieces rack scrap
-reply_data (reply.Release job) = release_told job
-reply_data (reply.Scrap part) = scrap_told part
-reply_data (reply.GiveBack part) = return_told part
-reply_data (reply.Import act count first order) = import_told act count first order
-reply_data (reply.Amend demand wanted) = amend_told demand wanted
+reply_data (reply.AddMaterial material) = made_data (reply.AddMaterial material)
+reply_data (reply.Receive act count) = made_data (reply.Receive act count)
+reply_data (reply.AddOrder count first order) = made_data (reply.AddOrder count first order)
+reply_data (reply.Reserve cuts job) = made_data (reply.Reserve cuts job)
+reply_data (reply.Done job kerf pieces rack scrap) = made_data (reply.Done job kerf pieces rack scrap)
+reply_data (reply.Break job kerf pieces rack scrap) = made_data (reply.Break job kerf pieces rack scrap)
+reply_data (reply.Release job) = made_data (reply.Release job)
+reply_data (reply.Scrap part) = made_data (reply.Scrap part)
+reply_data (reply.GiveBack part) = made_data (reply.GiveBack part)
+reply_data (reply.Import act count first order) = made_data (reply.Import act count first order)
+reply_data (reply.Amend demand wanted) = made_data (reply.Amend demand wanted)
 reply_data (reply.Totals material received stock rack pieces kerf scrap returned) = totals_told material received stock rack pieces kerf scrap returned
 reply_data (reply.Rack material parts) = rack_told material parts
 reply_data (reply.Trace batch h of part root state w x y) = trace_data batch (name_text part) (name_text root) (state_text state) h of w x y
@@ -613,22 +683,45 @@ reply_data (reply.Job cuts h job kerf material part state tree w) = job_told cut
 reply_data (reply.Terminal last terminal) = terminal_told last terminal
 reply_data (reply.Orders more orders) = orders_told more orders
 reply_data (reply.Lines lines order) = lines_told lines order
+reply_data (reply.Shop began entries last) = shop_told began entries last
+reply_data (reply.History entries more) = entries_told (codes "history") entries more
+reply_data (reply.Story entries more) = entries_told (codes "story") entries more
 reply_data (reply.Refused refusal) =
     object (text_member (codes "name") (refusal_name refusal) (number_member (codes "refused") (refusal_number refusal) no_members))
 
+-- each number of a reply that an accepted message can get has 64 bits
+abbrev pub HasWideMade : Reply → Type 0
+HasWideMade (reply.AddMaterial material) = Unit {0}
+HasWideMade (reply.Receive act count) = IsWide act × IsWide count
+HasWideMade (reply.AddOrder count first order) = IsWide count × IsWide first
+HasWideMade (reply.Reserve cuts job) = IsWide cuts × IsWide job
+HasWideMade (reply.Done job kerf pieces rack scrap) = IsWide job × IsWide kerf × IsWide pieces × IsWide rack × IsWide scrap
+HasWideMade (reply.Break job kerf pieces rack scrap) = IsWide job × IsWide kerf × IsWide pieces × IsWide rack × IsWide scrap
+HasWideMade (reply.Release job) = IsWide job
+HasWideMade (reply.Scrap part) = Unit {0}
+HasWideMade (reply.GiveBack part) = Unit {0}
+HasWideMade (reply.Import act count first order) = IsWide act × IsWide count × IsWide first
+HasWideMade (reply.Amend demand wanted) = IsWide demand × IsWide wanted
+HasWideMade _ = Unit {0}
+
+-- the same of an entry, and its message is one
+abbrev pub HasWideEntry : EntryTold → Type 0
+HasWideEntry e =
+    IsWide e.at × IsWide e.entry × IfSome (kept_message_of e.message) IsMessage × IfSome (kept_reply_of e.reply) HasWideMade
+
 -- each number of a reply has 64 bits
 abbrev pub HasWideNumbers : Reply → Type 0
-HasWideNumbers (reply.AddMaterial material) = Unit {0}
-HasWideNumbers (reply.Receive act count) = IsWide act × IsWide count
-HasWideNumbers (reply.AddOrder count first order) = IsWide count × IsWide first
-HasWideNumbers (reply.Reserve cuts job) = IsWide cuts × IsWide job
-HasWideNumbers (reply.Done job kerf pieces rack scrap) = IsWide job × IsWide kerf × IsWide pieces × IsWide rack × IsWide scrap
-HasWideNumbers (reply.Break job kerf pieces rack scrap) = IsWide job × IsWide kerf × IsWide pieces × IsWide rack × IsWide scrap
-HasWideNumbers (reply.Release job) = IsWide job
-HasWideNumbers (reply.Scrap part) = Unit {0}
-HasWideNumbers (reply.GiveBack part) = Unit {0}
-HasWideNumbers (reply.Import act count first order) = IsWide act × IsWide count × IsWide first
-HasWideNumbers (reply.Amend demand wanted) = IsWide demand × IsWide wanted
+HasWideNumbers (reply.AddMaterial material) = HasWideMade (reply.AddMaterial material)
+HasWideNumbers (reply.Receive act count) = HasWideMade (reply.Receive act count)
+HasWideNumbers (reply.AddOrder count first order) = HasWideMade (reply.AddOrder count first order)
+HasWideNumbers (reply.Reserve cuts job) = HasWideMade (reply.Reserve cuts job)
+HasWideNumbers (reply.Done job kerf pieces rack scrap) = HasWideMade (reply.Done job kerf pieces rack scrap)
+HasWideNumbers (reply.Break job kerf pieces rack scrap) = HasWideMade (reply.Break job kerf pieces rack scrap)
+HasWideNumbers (reply.Release job) = HasWideMade (reply.Release job)
+HasWideNumbers (reply.Scrap part) = HasWideMade (reply.Scrap part)
+HasWideNumbers (reply.GiveBack part) = HasWideMade (reply.GiveBack part)
+HasWideNumbers (reply.Import act count first order) = HasWideMade (reply.Import act count first order)
+HasWideNumbers (reply.Amend demand wanted) = HasWideMade (reply.Amend demand wanted)
 HasWideNumbers (reply.Totals material received stock rack pieces kerf scrap returned) =
     IsWide kerf × IsWide pieces × IsWide rack × IsWide received × IsWide returned × IsWide scrap × IsWide stock
 HasWideNumbers (reply.Rack material parts) = All HasWideSides parts
@@ -645,6 +738,9 @@ HasWideNumbers (reply.Job cuts h job kerf material part state tree w) = IsWide c
 HasWideNumbers (reply.Terminal last terminal) = IsWide last × IsWide terminal
 HasWideNumbers (reply.Orders more orders) = All HasWideOrder orders
 HasWideNumbers (reply.Lines lines order) = All HasWideDemand lines
+HasWideNumbers (reply.Shop began entries last) = IsWide began × IsWide entries × IsWide last
+HasWideNumbers (reply.History entries more) = All HasWideEntry entries
+HasWideNumbers (reply.Story entries more) = All HasWideEntry entries
 HasWideNumbers (reply.Refused refusal) = IsWide (refusal_number refusal)
 
 -- ---- texts
@@ -657,6 +753,50 @@ json_texts =
       of_reply = λ answer. compact_text (reply_data answer);
     }
 
--- the reply that a kept text is
-abbrev pub kept_reply_of : List ℕ → Option Reply
-kept_reply_of text = option_and_then reply_of (read text)
+-- ---- replies that are read, those about entries among them
+
+-- the text of the message, of any terminal, that a value stands for, and of the reply that one stands for
+abbrev pub sent_text : Data → Option (List ℕ)
+sent_text d = option_map json_texts.of_message (sent_of d)
+
+abbrev pub made_text : Data → Option (List ℕ)
+made_text d = option_map json_texts.of_reply (reply_of d)
+
+abbrev pub entry_fields : Data → Option EntryTold
+entry_fields d =
+    option_and_then (λ at. option_and_then (λ entry. option_and_then (λ message. option_map (λ answer.
+    record { at = at; entry = entry; message = message; reply = answer })
+    (option_and_then made_text (get (codes "reply") d))) (option_and_then sent_text (get (codes "message") d))) (wide_at (codes "entry") d)) (wide_at (codes "at") d)
+
+-- an element of a list of entries
+abbrev pub entry_in_list : Data → Option EntryTold
+entry_in_list d = row 4 entry_fields d
+
+abbrev pub entries_at : Data → Option (List EntryTold)
+entries_at d = option_and_then (all_of entry_in_list) (elements_at (codes "entries") d)
+
+-- entries, and whether others follow
+abbrev pub entries_read : Data → Option (List EntryTold × Bool)
+entries_read d = option_and_then (λ entries. option_map (λ more. (entries, more)) (flag_at (codes "more") d)) (entries_at d)
+
+-- of the replies to queries, the rows by the word of `ok` that are read
+abbrev pub told_by : List ℕ → Data → Option Reply
+told_by word d =
+    if bytes_eq word (codes "history") then option_map (λ read. reply.History read.0 read.1) (row 3 entries_read d)
+    else (if bytes_eq word (codes "story") then option_map (λ read. reply.Story read.0 read.1) (row 3 entries_read d) else None)
+
+abbrev pub told_of : Data → Option Reply
+told_of d = option_and_then (λ word. told_by word d) (text_at (codes "ok") d)
+
+-- a reply that an accepted message can get, or one about entries
+abbrev pub answer_of : Data → Option Reply
+answer_of d = option_or (reply_of d) (told_of d)
+
+-- an entry has the texts of a message and of a reply that an accepted message can get
+pub record TellsEntry (e : EntryTold) : Type 0 where
+  pub sent : Message
+  pub answer : Reply
+  pub is_message : IsMessage sent
+  pub is_made : IsMade answer
+  pub message : e.message ≡ json_texts.of_message sent
+  pub reply : e.reply ≡ json_texts.of_reply answer

@@ -97,8 +97,8 @@ pub fn word_at<'a>(value: &'a Value, key: &str, other: &str) -> Option<&'a str>
     }
 }
 
-// The elements of the list at a key.
-pub(crate) fn elements_at<'a>(value: &'a Value, key: &str) -> Option<&'a Vec<Value>>
+/// The elements of the list at a key.
+pub fn elements_at<'a>(value: &'a Value, key: &str) -> Option<&'a Vec<Value>>
     ensures { option_map (λ values. map view values.now.items) result
         ≡ form.elements_at key.now (view value.now) }
 {

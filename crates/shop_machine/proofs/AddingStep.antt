@@ -107,6 +107,7 @@ module _ (texts : Texts) (message : Message) (m : Content) (code : List ℕ) (ki
     demand = tt;
     import = tt;
     kept = new;
+    entry = tt;
   }
   material_fits stock (Some row) is new = nothing_fits m texts message _ new
 

@@ -124,6 +124,7 @@ module _ (m : Content) (stock : IsStock m) (number : ℕ) (row : Demand) (found 
     demand = tt;
     import = tt;
     kept = new;
+    entry = tt;
   }
 
 -- ---- what is done to cells

@@ -1,22 +1,24 @@
 -- What a history says of the content that it gives.
-use Rattle.std.proofs.Common.{◌≡◌, ℕ, zero, suc, List, [], ◌∷◌, ◌++◌, refl, sym, ap, subst, ◌∙◌}
+use Rattle.std.proofs.Common.{◌≡◌, ℕ, zero, suc, List, [], ◌∷◌, ◌++◌, refl, sym, ap, subst, ◌∙◌, inl, inr}
 use Rattle.std.specs.Prelude.{None}
 use Rattle.std.specs.Option.{option_map}
 use Rattle.std.specs.Ordering.{nat_cmp}
-use Rattle.std.specs.FinMap.{get-empty}
+use Rattle.std.specs.FinMap.{FinMap, empty, get-empty}
 use Rattle.cut_measure.specs.Codes.{code_cmp}
 use Rattle.cut_measure.specs.Names.{name_cmp}
+use Rattle.shop_records.specs.declared.journal.Entry.{Entry as EntryRow}
 use Rattle.shop_records.specs.declared.changes.Change.{Change}
 use Rattle.shop_records.specs.declared.messages.Message.{Message}
 use Rattle.shop_records.specs.declared.messages.Command.{Command}
 use Rattle.shop_records.specs.Messages.{Texts}
 use Rattle.shop_records.specs.Readings.{Reading}
 use Rattle.shop_records.specs.Content.{Content, fresh, changed}
-use Rattle.shop_machine.specs.Machine.{Reads, refusal_of, Makes, keeping, Effect, effects}
+use Rattle.shop_machine.specs.Machine.{Reads, refusal_of, Makes, keeping, keeping_at, Effect, effects}
 use Rattle.shop_records.specs.Soundness.{IsSound}
-use Rattle.shop_machine.specs.History.{Entry, effects_of, Gives, nth_line}
+use Rattle.shop_machine.specs.History.{Entry, effects_of, Gives, MayForget, nth_line}
 use Rattle.shop_records.proofs.Basics.{none_some}
 use Rattle.shop_machine.proofs.OrderedLines.{ordered_as}
+use Rattle.shop_machine.proofs.Entered.{with_entries}
 use Rattle.shop_machine.proofs.Accounts.{Follows}
 use Rattle.shop_machine.proofs.Sound.{by_message}
 
@@ -41,11 +43,31 @@ from_start = record {
   cells = λ unit i. absurd i;
 }
 
+-- what effects say of a content they say whatever its entries are
+follows_entries : (effects : List Effect) (content : Content) (entries : FinMap nat_cmp EntryRow) → Follows effects content → Follows effects (with_entries entries content)
+follows_entries effects content entries f = record {
+  acts = f.acts;
+  numbers = f.numbers;
+  lines = f.lines;
+  rules = f.rules;
+  rows = f.rows;
+  jobs = f.jobs;
+  wholes = f.wholes;
+  cells = f.cells;
+}
+
+follows_left : (effects : List Effect) (left content : Content) → MayForget left content → Follows effects left → Follows effects content
+follows_left effects left content (inl same) f = subst (Follows effects) (sym same) f
+follows_left effects left content (inr same) f = subst (Follows effects) (sym same) (follows_entries effects left empty f)
+
 -- where each content that a history gives is sound
 module _ (texts : Texts) (sound : (history : List Entry) (content : Content) → Gives texts history content → IsSound texts content) where
   pub follows : (history : List Entry) (content : Content) → Gives texts history content → Follows (effects_of history) content
   follows [] content given = subst (Follows []) (sym given) from_start
-  follows (entry ∷ earlier) content (before, answer, given, is_message, new, accepts) =
-      subst (Follows (effects_of (entry ∷ earlier))) (sym accepts.becomes)
+  follows (entry ∷ earlier) content (before, answer, given, is_message, new, left, accepts, forgets) =
+      follows_left (effects_of (entry ∷ earlier)) left content forgets
+      (subst (Follows (effects_of (entry ∷ earlier))) (sym accepts.becomes)
+      (follows_entries (effects_of (entry ∷ earlier)) (changed before (keeping texts entry.message accepts.change))
+      (changed before (keeping_at texts accepts.at before entry.message accepts.change)).entries
       (by_entry texts entry.message (effects_of earlier) before (sound earlier before given) (follows earlier before given)
-      entry.read accepts.change entry.message.command accepts.reads accepts.allowed accepts.makes)
+      entry.read accepts.change entry.message.command accepts.reads accepts.allowed accepts.makes)))

@@ -184,4 +184,5 @@ nothing_fits m texts message answer new = record {
   demand = tt;
   import = tt;
   kept = new;
+  entry = tt;
 }

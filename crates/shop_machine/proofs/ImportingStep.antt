@@ -142,6 +142,7 @@ module _ (texts : Texts) (m : Content) (order : List ℕ) where
         demand = o.demand;
         import = (none_at (import_at m order) (λ row is. let yes = used row is in let no = a.ordered.unused in cc), refl);
         kept = new;
+        entry = tt;
       })
   import_fits message form text read change stock used (inr (inr a)) new =
       let o = order_fits m stock order a.lines a.ordered texts message new in
@@ -164,6 +165,7 @@ module _ (texts : Texts) (m : Content) (order : List ℕ) where
         demand = o.demand;
         import = (none_at (import_at m order) (λ row is. let yes = used row is in let no = a.ordered.unused in cc), refl);
         kept = new;
+        entry = tt;
       })
 
   -- an import's row is of the order that is new

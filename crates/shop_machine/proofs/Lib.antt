@@ -7,6 +7,7 @@ pub mod Agreeing
 pub mod AddedUp
 pub mod Moved
 pub mod Grown
+pub mod Entered
 pub mod Tallied
 pub mod PartStep
 pub mod RecountedRows
@@ -49,5 +50,9 @@ pub mod Given
 pub mod CellCounts
 pub mod Owners
 pub mod Runs
+-- entries
+pub mod Newest
+pub mod OneResult
+pub mod Timeless
 -- the definitions on small examples
 pub mod Examples

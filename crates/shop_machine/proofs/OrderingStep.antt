@@ -317,6 +317,7 @@ module _ (m : Content) (stock : IsStock m) (order : List ℕ) (lines : List Orde
         demand = (omega (arith, some), omega (arith, some, numbers));
         import = tt;
         kept = new;
+        entry = tt;
       }
 
 -- ---- its refusals

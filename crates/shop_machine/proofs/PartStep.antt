@@ -88,6 +88,7 @@ module _ (m : Content) (stock : IsStock m) (row : Part) (s : State) (made : List
     demand = None;
     import = None;
     kept = None;
+    entry = None;
     reply = answer;
   }
 
@@ -250,4 +251,5 @@ module _ (m : Content) (stock : IsStock m) (row : Part) (s : State) (made : List
       demand = tt;
       import = tt;
       kept = new;
+      entry = tt;
     }

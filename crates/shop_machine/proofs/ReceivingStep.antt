@@ -355,6 +355,7 @@ module _ (m : Content) (stock : IsStock m) (material batch : List ℕ) (w h coun
     demand = tt;
     import = tt;
     kept = new;
+    entry = tt;
   }
 
 -- ---- its refusals

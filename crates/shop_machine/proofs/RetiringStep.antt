@@ -171,6 +171,7 @@ module _ (m : Content) (stock : IsStock m) (name : Name) (row : Part) (found : p
     demand = tt;
     import = tt;
     kept = new;
+    entry = tt;
   }
 
 -- ---- what is done to cells

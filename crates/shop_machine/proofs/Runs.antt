@@ -1,5 +1,5 @@
 -- Runs of the machine, and the histories that they leave.
-use Rattle.std.proofs.Common.{◌≡◌, ℕ, nat_eq, arith, List, [], ◌∷◌, ◌++◌, Bool, true, false, Option, Some, None, refl, sym, ap, subst, ◌∙◌}
+use Rattle.std.proofs.Common.{◌≡◌, ℕ, nat_eq, arith, List, [], ◌∷◌, ◌++◌, Bool, true, false, Option, Some, None, refl, sym, ap, subst, ◌∙◌, inl, inr}
 use Rattle.std.specs.Prelude.{MatchOption, is_some, ◌&&◌, ◌||◌, not, cond, if◌then◌else◌}
 use Rattle.std.specs.declared.cmp.Ordering.{Ordering}
 use Rattle.std.specs.declared.cmp.Ordering.TheVariants.{Less, Equal, Greater}
@@ -16,7 +16,7 @@ use Rattle.shop_records.specs.Content.{Content, pair_cmp, kept_at}
 use Rattle.shop_records.specs.Readings.{Reading}
 use Rattle.shop_machine.specs.Machine.{Accepts, Refuses, StepNew, StepAgain, Step, Run}
 use Rattle.shop_records.specs.Same.{same_pair}
-use Rattle.shop_machine.specs.History.{Entry, messages_of, Gives, history_after, has_pair}
+use Rattle.shop_machine.specs.History.{Entry, messages_of, Gives, MayForget, history_after, has_pair}
 use Rattle.shop_records.proofs.Puts.{pairs_total}
 
 module _ (texts : Texts) where
@@ -55,11 +55,17 @@ chosen : {X : Type 0} (b : Bool) (x : X) (o : Option X) → is_some (cond b (Som
 chosen true x o = refl
 chosen false x o = refl
 
+-- who forgets entries keeps messages
+kept_left : (left content : Content) → MayForget left content → (pair : Pair) → kept_at content pair ≡ kept_at left pair
+kept_left left content (inl same) pair = ap (λ (c : Content). kept_at c pair) same
+kept_left left content (inr same) pair = ap (λ (c : Content). kept_at c pair) same
+
 -- what a history keeps are its pairs
 pub kept_by : (texts : Texts) (history : List Entry) (content : Content) → Gives texts history content → (pair : Pair) → is_some (kept_at content pair) ≡ has_pair pair (messages_of history)
 kept_by texts [] content given pair = ap (λ (c : Content). is_some (kept_at c pair)) given ∙ ap is_some (get-empty pair_cmp pair)
-kept_by texts (entry ∷ earlier) content (before, answer, given, is_message, new, accepts) pair =
-    ap (λ (c : Content). is_some (kept_at c pair)) accepts.becomes
+kept_by texts (entry ∷ earlier) content (before, answer, given, is_message, new, left, accepts, forgets) pair =
+    ap is_some (kept_left left content forgets pair)
+    ∙ ap (λ (c : Content). is_some (kept_at c pair)) accepts.becomes
     ∙ ap is_some (get-insert pairs_total before.kept (pair_of entry.message) _ pair)
     ∙ chosen (eq_by_cmp pair_cmp pair (pair_of entry.message)) _ (kept_at before pair)
     ∙ ap (λ b. b || is_some (kept_at before pair)) (same_by_order pair (pair_of entry.message) ∙ same_pair-swap pair (pair_of entry.message))
@@ -90,7 +96,7 @@ module _ (texts : Texts) (history : List Entry) (old new : Content) (message : M
     history = record { message = message; read = step.0 } ∷ history;
     same = sym (ap (λ o. if not (is_some o) && not (has_pair (pair_of message) (messages_of history)) then message ∷ messages_of history else messages_of history) is
         ∙ ap (λ b. if not b then message ∷ messages_of history else messages_of history) first);
-    given = (old, answer, given, is_message, none, step.1);
+    given = (old, answer, given, is_message, none, new, step.1, inl refl);
   }
 
   unchanged : (b : Bool) → has_pair (pair_of message) (messages_of history) ≡ true

@@ -1,10 +1,11 @@
 -- Every history gives a sound content, and what is accepted on a sound content fits it.
-use Rattle.std.proofs.Common.{◌≡◌, ◌≢◌, ◌+◌, ◌≤◌, List, [], ◌∷◌, map, refl, sym, ap, subst, ◌∙◌, arith, inl, inr, length, ℕ, true}
-use Rattle.std.specs.Prelude.{Option, Some, None, length, IsSome, IfSome}
+use Rattle.std.proofs.Common.{◌≡◌, ◌≢◌, ◌+◌, ◌≤◌, List, [], ◌∷◌, map, refl, sym, ap, subst, ◌∙◌, arith, inl, inr, length, ℕ, true, false}
+use Rattle.std.proofs.Math.Nat.{le-max_right}
+use Rattle.std.specs.Prelude.{Option, Some, None, length, IsSome, IfSome, ◌⊎◌, max}
 use Rattle.std.specs.Option.{option_map}
 use Rattle.std.specs.FinSet as set
-use Rattle.std.specs.FinMap.{get, entries, get-empty, len-entries, len-empty, empty, values}
-use Rattle.std.specs.Ordering.{nat_cmp}
+use Rattle.std.specs.FinMap.{get, insert, entries, get-empty, len-entries, len-empty, empty, values}
+use Rattle.std.specs.Ordering.{nat_cmp, is_eq}
 use Rattle.cut_measure.specs.Codes.{code_cmp}
 use Rattle.cut_measure.specs.Names.{Name, IsName, name_cmp}
 use Rattle.cut_tree.specs.declared.halts.Stop.TheVariants as stop
@@ -21,17 +22,18 @@ use Rattle.shop_records.specs.declared.messages.Reply.TheVariants as reply
 use Rattle.shop_records.specs.declared.refusals.Refusal.TheVariants.{StoreFault}
 use Rattle.shop_records.specs.declared.texts.Pair.{Pair}
 use Rattle.shop_records.specs.declared.texts.Kept.{Kept}
+use Rattle.shop_records.specs.declared.journal.Entry.{Entry as EntryRow}
 use Rattle.shop_records.specs.Messages.{Texts, IsMessage, IsMade, pair_of, IsNumber, IsCommand}
 use Rattle.shop_records.specs.Readings.{Reading, plan_in}
-use Rattle.shop_records.specs.Content.{Content, fresh, pair_cmp, material_at, totals_in, AddsUp, has_order, kept_at, import_at, with_order, with_import, changed, part_at, demand_at, material_of, totals_of, totals_for}
+use Rattle.shop_records.specs.Content.{Content, fresh, pair_cmp, material_at, totals_in, AddsUp, has_order, kept_at, import_at, with_order, with_import, with_entry, entry_count, last_time, changed, part_at, demand_at, material_of, totals_of, totals_for}
 use Rattle.shop_machine.specs.Adding.{material_change}
-use Rattle.shop_machine.specs.Machine.{Reads, refusal_of, Makes, keeping, Effect, effects}
-use Rattle.shop_machine.specs.History.{Entry, Gives}
+use Rattle.shop_machine.specs.Machine.{Reads, refusal_of, Makes, entry_of, keeping, keeping_at, Effect, effects}
+use Rattle.shop_machine.specs.History.{Entry, Gives, MayForget}
 use Rattle.shop_records.specs.Soundness.{IsSound, Fits, IsKept, IsImport}
-use Rattle.shop_records.proofs.Basics.{codes_total, codes_same}
-use Rattle.shop_machine.proofs.ImportingStep.{accepted, import_stock, import_fits, import_told, import_order, import_agrees}
+use Rattle.shop_records.proofs.Basics.{codes_total, codes_same, key_cases, get_same, get_other}
+use Rattle.shop_machine.proofs.ImportingStep.{IsAccepted, accepted, import_stock, import_fits, import_told, import_order, import_agrees}
 use Rattle.shop_records.proofs.LinesKept.{order_kept, order_there}
-use Rattle.shop_records.proofs.Puts.{not_both, found_one, still_there, pairs_total, pairs_exact}
+use Rattle.shop_records.proofs.Puts.{not_both, found_one, still_there, is_known, pairs_total, pairs_exact}
 use Rattle.shop_machine.proofs.OrderingStep.{order_of, order_stock, order_fits, order_agrees, by_order}
 use Rattle.shop_machine.proofs.EndingStep.{job_waits, end_stock, end_fits, release_stock, release_fits, so_far, end_told, end_agrees}
 use Rattle.shop_machine.proofs.ReceivingStep.{receive_stock, receive_fits, receipt, receive_agrees}
@@ -45,6 +47,7 @@ use Rattle.shop_machine.proofs.ImportingEffect.{by_import}
 use Rattle.shop_machine.proofs.ReservingEffect.{reserves}
 use Rattle.shop_machine.proofs.EndingEffect.{ends, breaks, releases}
 use Rattle.shop_machine.proofs.Grown.{IsStock, stock_of}
+use Rattle.shop_machine.proofs.Entered.{entries_stay, no_entries_at, none_yet, entries_after, sound_entries, sound_forgotten}
 use Rattle.shop_machine.proofs.AddingStep.{material_stock, material_fits, material_agrees, made_material, by_material}
 
 -- ---- by cases on the command
@@ -184,6 +187,33 @@ ordered_by texts m (Import order form text) read change reads allowed makes =
     import_order texts m order form text read change (accepted texts m order form text read change reads allowed makes)
 ordered_by texts m (Amend demand wanted) read change reads allowed makes = subst IsOrdered (sym makes.2) tt
 
+-- a command's change writes no entry yet
+abbrev IsUnentered : Change → Type 0
+IsUnentered change = change.entry ≡ None
+
+unentered_by : (texts : Texts) (m : Content) (command : Command) (read : Reading) (change : Change) → Reads texts m command read → refusal_of m command read ≡ None
+    → Makes m command read change → IsUnentered change
+unentered_by texts m (AddMaterial material kind kerf min_long min_short) read change reads allowed makes = subst IsUnentered (sym makes) (by (material_at m material))
+  where
+    by : (known : Option Material) → IsUnentered (material_change known material kind (record { kerf = kerf; min_long = min_long; min_short = min_short }))
+    by None = refl
+    by (Some row) = refl
+unentered_by texts m (Receive material batch w h count) read change reads allowed makes = subst IsUnentered (sym makes) refl
+unentered_by texts m (AddOrder order lines) read change reads allowed makes = subst IsUnentered (sym makes) refl
+unentered_by texts m (Reserve part text) read change reads allowed makes = subst IsUnentered (sym makes.4.is) refl
+unentered_by texts m (Done number) read change reads allowed makes = subst IsUnentered (sym makes.4.is) refl
+unentered_by texts m (Break number halt) read change reads allowed makes = subst IsUnentered (sym makes.4.is) refl
+unentered_by texts m (Release number) read change reads allowed makes = subst IsUnentered (sym makes.4.is) refl
+unentered_by texts m (Scrap part) read change reads allowed makes = subst IsUnentered (sym makes.2) refl
+unentered_by texts m (GiveBack part) read change reads allowed makes = subst IsUnentered (sym makes.2) refl
+unentered_by texts m (Import order form text) read change reads allowed makes = by (accepted texts m order form text read change reads allowed makes)
+  where
+    by : IsAccepted texts m order form text read change → IsUnentered change
+    by (inl a) = subst IsUnentered (sym a.is) refl
+    by (inr (inl a)) = subst IsUnentered (sym a.is) refl
+    by (inr (inr a)) = subst IsUnentered (sym a.is) refl
+unentered_by texts m (Amend demand wanted) read change reads allowed makes = subst IsUnentered (sym makes.2) refl
+
 agrees_by : (texts : Texts) (m : Content) (sound : IsSound texts m) (stock : IsStock m) (command : Command) (read : Reading) → Reads texts m command read → refusal_of m command read ≢ Some StoreFault
 agrees_by texts m sound stock (AddMaterial material kind kerf min_long min_short) read reads = material_agrees (material_at m material) kind _
 agrees_by texts m sound stock (Receive material batch w h count) read reads =
@@ -271,6 +301,24 @@ imports_after texts m message change told ordered old = by change.import refl or
           | inr q ↦ earlier code row q.1
         ]
 
+-- each pair that was kept is kept
+pub kept_more : (texts : Texts) (m : Content) (message : Message) (change : Change) (pair : Pair) → IsSome (kept_at m pair) → IsSome (kept_at (changed m (keeping texts message change)) pair)
+kept_more texts m message change pair is = by (key_cases pairs_total pairs_exact pair (pair_of message))
+  where
+    row : Kept
+    row = record { command = texts.of_message message; reply = texts.of_reply change.reply }
+
+    by : ((pair ≡ pair_of message) × (is_eq (pair_cmp pair (pair_of message)) ≡ true)) ⊎ ((pair ≡ pair_of message → ⊥) × (is_eq (pair_cmp pair (pair_of message)) ≡ false))
+        → IsSome (get (insert m.kept (pair_of message) row) pair)
+    by (inl y) = is_known (get (insert m.kept (pair_of message) row) pair) row (ap (get (insert m.kept (pair_of message) row)) y.0 ∙ get_same pairs_total pairs_exact m.kept (pair_of message) row)
+    by (inr n) = subst (λ (o : Option Kept). IsSome o) (sym (get_other pairs_total pairs_exact m.kept (pair_of message) row pair n.0)) is
+
+-- the message's own pair is kept
+pub kept_now : (texts : Texts) (m : Content) (message : Message) (change : Change) → IsSome (kept_at (changed m (keeping texts message change)) (pair_of message))
+kept_now texts m message change =
+    is_known (kept_at (changed m (keeping texts message change)) (pair_of message)) (record { command = texts.of_message message; reply = texts.of_reply change.reply })
+    (get_same pairs_total pairs_exact m.kept (pair_of message) (record { command = texts.of_message message; reply = texts.of_reply change.reply }))
+
 -- ---- accepted changes
 
 -- what is accepted on a sound content fits it
@@ -314,26 +362,74 @@ sound_after texts m message read change sound reads allowed makes is =
       lines = stock.lines;
       kept = kept_after texts m message change is told sound.kept;
       imports = imports_after texts m message change told (ordered_by texts m message.command read change reads allowed makes) sound.imports;
+      entries = entries_stay m (changed m (keeping texts message change))
+          (ap (λ (entry : Option EntryRow). with_entry entry m.entries) (unentered_by texts m message.command read change reads allowed makes))
+          (kept_more texts m message change) sound.entries;
     }
+
+-- ---- accepted changes with their entries
+
+-- the entry of an accepted message
+abbrev entry_at_time : (at : ℕ) → Content → Message → Change → EntryRow
+entry_at_time at m message change = entry_of (entry_count m + 1) (max at (last_time m)) message change
+
+-- what is accepted on a sound content fits it with its entry
+pub fits_entered : (texts : Texts) (m : Content) (message : Message) (read : Reading) (change : Change) (at : ℕ) → IsSound texts m → Reads texts m message.command read
+    → refusal_of m message.command read ≡ None → Makes m message.command read change → kept_at m (pair_of message) ≡ None → Fits m (keeping_at texts at m message change)
+fits_entered texts m message read change at sound reads allowed makes new =
+    let fits = fits_accepted texts m message read change sound reads allowed makes new in
+    record {
+      material = fits.material;
+      parts = fits.parts;
+      rising = fits.rising;
+      moved = fits.moved;
+      job = fits.job;
+      order = fits.order;
+      demands = fits.demands;
+      wanted = fits.wanted;
+      once = fits.once;
+      lines = fits.lines;
+      totals = fits.totals;
+      sums = fits.sums;
+      act = fits.act;
+      demand = fits.demand;
+      import = fits.import;
+      kept = fits.kept;
+      entry = record {
+        next = refl;
+        new = none_yet m sound.entries (entry_at_time at m message change) refl;
+        later = le-max_right at (last_time m);
+        of = refl;
+      };
+    }
+
+-- and leaves a sound content
+pub sound_entered : (texts : Texts) (m : Content) (message : Message) (read : Reading) (change : Change) (at : ℕ) → IsSound texts m → Reads texts m message.command read
+    → refusal_of m message.command read ≡ None → Makes m message.command read change → IsMessage message → IsSound texts (changed m (keeping_at texts at m message change))
+sound_entered texts m message read change at sound reads allowed makes is =
+    let entry : EntryRow = entry_at_time at m message change in
+    let after : Content = changed m (keeping_at texts at m message change) in
+    sound_entries texts (changed m (keeping texts message change)) (insert m.entries entry.number entry) (sound_after texts m message read change sound reads allowed makes is)
+    (entries_after m sound.entries entry refl after refl (le-max_right at (last_time m)) (kept_more texts m message change) (kept_now texts m message change))
 
 -- its rows don't contradict each other
 pub agrees : (texts : Texts) (m : Content) (message : Message) (read : Reading) → IsSound texts m → Reads texts m message.command read
     → refusal_of m message.command read ≢ Some StoreFault
 agrees texts m message read sound reads = agrees_by texts m sound (stock_of texts m sound) message.command read reads
 
--- ---- histories
+-- ---- the start
 
-no_entries : entries (empty {X = Part} {R = name_cmp}) ≡ []
-no_entries = by (entries (empty {X = Part} {R = name_cmp})) (sym (len-entries (empty {X = Part} {R = name_cmp})) ∙ len-empty name_cmp Part)
+no_parts : entries (empty {X = Part} {R = name_cmp}) ≡ []
+no_parts = by (entries (empty {X = Part} {R = name_cmp})) (sym (len-entries (empty {X = Part} {R = name_cmp})) ∙ len-empty name_cmp Part)
   where
     by : (es : List (Name × Part)) → length es ≡ 0 → es ≡ []
     by [] e = refl
     by (e ∷ es) f = absurd (omega arith)
 
 no_values : values (fresh.parts) ≡ []
-no_values = ap (map (λ (e : Name × Part). e.1)) no_entries
+no_values = ap (map (λ (e : Name × Part). e.1)) no_parts
 
-fresh_sound : (texts : Texts) → IsSound texts fresh
+pub fresh_sound : (texts : Texts) → IsSound texts fresh
 fresh_sound texts = record {
   in_range = record {
     acts = λ name part is. absurd (not_both _ part (get-empty name_cmp name) is);
@@ -349,11 +445,19 @@ fresh_sound texts = record {
   lines = λ a b one other is is_too orders lines. absurd (not_both _ one (get-empty nat_cmp a) is);
   kept = λ pair row is. absurd (not_both _ row (get-empty pair_cmp pair) is);
   imports = λ code row is. absurd (not_both _ row (get-empty code_cmp code) is);
+  entries = no_entries_at fresh refl;
 }
+
+-- ---- histories
+
+-- a content that may have forgotten its entries is sound
+pub sound_left : (texts : Texts) (left content : Content) → MayForget left content → IsSound texts left → IsSound texts content
+sound_left texts left content (inl same) sound = subst (IsSound texts) (sym same) sound
+sound_left texts left content (inr same) sound = subst (IsSound texts) (sym same) (sound_forgotten texts left sound)
 
 -- every history gives a sound content
 pub gives_sound : (texts : Texts) (history : List Entry) (content : Content) → Gives texts history content → IsSound texts content
 gives_sound texts [] content given = subst (IsSound texts) (sym given) (fresh_sound texts)
-gives_sound texts (entry ∷ earlier) content (before, answer, given, is_message, new, accepts) =
-    subst (IsSound texts) (sym accepts.becomes)
-    (sound_after texts before entry.message entry.read accepts.change (gives_sound texts earlier before given) accepts.reads accepts.allowed accepts.makes is_message)
+gives_sound texts (entry ∷ earlier) content (before, answer, given, is_message, new, left, accepts, forgets) =
+    sound_left texts left content forgets (subst (IsSound texts) (sym accepts.becomes)
+    (sound_entered texts before entry.message entry.read accepts.change accepts.at (gives_sound texts earlier before given) accepts.reads accepts.allowed accepts.makes is_message))

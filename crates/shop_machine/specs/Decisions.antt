@@ -31,5 +31,6 @@ no_change answer =
       demand = None;
       import = None;
       kept = None;
+      entry = None;
       reply = answer;
     }

@@ -1,5 +1,5 @@
 -- What was done from the start, whose each cell is, and how many cells there are of a kind, by what was done alone.
-use Rattle.std.specs.Prelude.{◌≡◌, ℕ, zero, suc, ◌+◌, ◌<◌, ◌≤◌, ◌==◌, ◌&&◌, List, [], ◌∷◌, ◌++◌, map, length, slice_get, Bool, true, false, not, if◌then◌else◌, Option, Some, None, count_by}
+use Rattle.std.specs.Prelude.{◌≡◌, ℕ, zero, suc, ◌+◌, ◌<◌, ◌≤◌, ◌==◌, ◌&&◌, List, [], ◌∷◌, ◌++◌, map, length, slice_get, Bool, true, false, not, if◌then◌else◌, Option, Some, None, count_by, ◌⊎◌}
 use Rattle.std.specs.Ordering.{is_eq}
 use Rattle.std.specs.List.{flat_map, list_any}
 use Rattle.std.specs.Option.{option_map}
@@ -16,6 +16,7 @@ use Rattle.shop_records.specs.declared.records.Column.TheVariants.{Received, Sto
 use Rattle.shop_records.specs.declared.records.State.{State}
 use Rattle.shop_records.specs.declared.records.State.TheVariants as state
 use Rattle.shop_records.specs.declared.texts.Pair.{Pair}
+use Rattle.shop_records.specs.declared.journal.Entry.{Entry as EntryRow}
 use Rattle.shop_records.specs.declared.messages.Message.{Message}
 use Rattle.shop_files.specs.declared.orders.OrderLine.{OrderLine}
 use Rattle.shop_records.specs.declared.messages.Reply.{Reply}
@@ -24,7 +25,7 @@ use Rattle.shop_records.specs.Columns.{is_there, is_piece, is_kerf, is_scrap, is
 use Rattle.shop_records.specs.Elements.{IsIn}
 use Rattle.shop_records.specs.Messages.{Texts, IsMessage, is_accepted, pair_of}
 use Rattle.shop_records.specs.Readings.{Reading}
-use Rattle.shop_records.specs.Content.{Content, fresh, part_at, demand_at, kept_at, totals_of, AddsUp}
+use Rattle.shop_records.specs.Content.{Content, fresh, part_at, demand_at, kept_at, entry_at, entry_count, forgotten, totals_of, AddsUp}
 use Rattle.shop_machine.specs.Machine.{Accepts, Effect, Rules, Receives, Orders, Reserves, Ends, Turns, Amends, effects}
 use Rattle.shop_machine.specs.Ending.{fate}
 use Rattle.shop_records.specs.Soundness.{IsCounted, reserved_in, made_in}
@@ -37,12 +38,51 @@ pub record Entry : Type 0 where
 abbrev pub messages_of : List Entry → List Message
 messages_of history = map (λ (entry : Entry). entry.message) history
 
+-- the pair of an entry that is there, before others
+abbrev pub pair_before : Option EntryRow → List Pair → List Pair
+pair_before None pairs = pairs
+pair_before (Some entry) pairs = entry.pair ∷ pairs
+
+-- A content that a message left is as it was left, or it forgot its entries, all of them at once, as one that was taken over from
+-- an earlier version.
+abbrev pub MayForget : (left content : Content) → Type 0
+MayForget left content = (content ≡ left) ⊎ (content ≡ forgotten left)
+
 -- These messages, the newest first, were each accepted in turn from the start, none of them a repeat, and give this content.
+-- After any of them it may have forgotten its entries.
 abbrev pub Gives : Texts → List Entry → Content → Type 0
 Gives texts [] content = content ≡ fresh
 Gives texts (entry ∷ earlier) content =
     (before : Content) × (answer : Reply) × Gives texts earlier before × IsMessage entry.message
+    × (kept_at before (pair_of entry.message) ≡ None)
+    × (left : Content) × Accepts texts before entry.message entry.read answer left × MayForget left content
+
+-- the same, and no entry was forgotten
+abbrev pub GivesAll : Texts → List Entry → Content → Type 0
+GivesAll texts [] content = content ≡ fresh
+GivesAll texts (entry ∷ earlier) content =
+    (before : Content) × (answer : Reply) × GivesAll texts earlier before × IsMessage entry.message
     × (kept_at before (pair_of entry.message) ≡ None) × Accepts texts before entry.message entry.read answer content
+
+-- the pairs of a history's messages, the newest first
+abbrev pub pairs_of : List Entry → List Pair
+pairs_of history = map pair_of (messages_of history)
+
+-- the pairs of a content's entries of these numbers, from n down to 1
+abbrev pub pairs_to : (n : ℕ) → Content → List Pair
+pairs_to zero content = []
+pairs_to (suc n) content = pair_before (entry_at content (suc n)) (pairs_to n content)
+
+-- the pairs of all entries of a content, the newest first
+abbrev pub entered_pairs : Content → List Pair
+entered_pairs content = pairs_to (entry_count content) content
+
+-- The entries are the newest part of the history, and as many messages are kept as were accepted: so where as many entries are
+-- there as messages are kept, they are all of it.
+pub record AreNewest (history : List Entry) (content : Content) : Type 0 where
+  pub earlier : List Pair
+  pub newest : pairs_of history ≡ entered_pairs content ++ earlier
+  pub kept : maps.len content.kept ≡ length history
 
 -- a message with this pair was accepted before
 abbrev pub has_pair : Pair → List Message → Bool

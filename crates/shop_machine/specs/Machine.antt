@@ -1,5 +1,5 @@
 -- The shop as a machine: what it answers to a message, and what it contains afterwards.
-use Rattle.std.specs.Prelude.{◌≡◌, ◌≢◌, ◌+◌, ℕ, List, [], ◌∷◌, Option, Some, None, MatchOption}
+use Rattle.std.specs.Prelude.{◌≡◌, ◌≢◌, ◌+◌, ℕ, List, [], ◌∷◌, Option, Some, None, MatchOption, max}
 use Rattle.std.specs.Option.{option_map}
 use Rattle.cut_measure.specs.Names.{Name}
 use Rattle.cut_measure.specs.Measures.{Extent, Rule}
@@ -22,15 +22,17 @@ use Rattle.shop_records.specs.declared.messages.Command.TheVariants.{AddMaterial
 use Rattle.shop_records.specs.declared.imports.Form.{Form}
 use Rattle.shop_records.specs.declared.imports.Form.TheVariants.{Cgcut}
 use Rattle.shop_records.specs.declared.imports.ImportRow.{ImportRow}
+use Rattle.shop_records.specs.declared.journal.Entry.{Entry}
 use Rattle.shop_records.specs.declared.messages.Message.{Message}
 use Rattle.shop_records.specs.declared.refusals.Refusal.{Refusal}
 use Rattle.shop_records.specs.declared.refusals.Refusal.TheVariants.{NumberReused, NoMemory, StoreFault}
 use Rattle.shop_records.specs.declared.messages.Reply.{Reply}
 use Rattle.shop_records.specs.declared.messages.Reply.TheVariants as reply
 use Rattle.shop_records.specs.Messages.{Texts, refusal_in, pair_of}
+use Rattle.shop_records.specs.Journal.{word_of}
 use Rattle.shop_records.specs.Readings.{Reading, unread, Plan, Lines, Problem, plan_in}
 use Rattle.shop_records.specs.Keeping.{KeepsReply}
-use Rattle.shop_records.specs.Content.{Content, material_at, part_at, job_at, has_order, demand_at, kept_at, import_at, totals_of, totals_for, changed, material_of}
+use Rattle.shop_records.specs.Content.{Content, material_at, part_at, job_at, has_order, demand_at, kept_at, import_at, entry_count, last_time, totals_of, totals_for, of_found, with_number, changed, material_of}
 use Rattle.shop_machine.specs.Adding.{material_refusal, material_change}
 use Rattle.shop_machine.specs.Receiving.{receive_refusal, receive_change}
 use Rattle.shop_machine.specs.Ordering.{order_refusal, order_change}
@@ -149,6 +151,65 @@ effects (GiveBack part) read = Turns part state.Returned ∷ []
 effects (Import order form text) read = import_effects order form read
 effects (Amend demand wanted) read = Amends demand wanted ∷ []
 
+-- ---- entries
+
+abbrev pub first_order : List Demand → Option (List ℕ)
+first_order [] = None
+first_order (demand ∷ demands) = Some demand.order
+
+-- the order that a command makes, also by an import that came again, or of which it amends a demand, from the demands of its
+-- change
+abbrev pub entry_order : Command → List Demand → Option (List ℕ)
+entry_order (AddMaterial material kind kerf min_long min_short) demands = None
+entry_order (Receive material batch w h count) demands = None
+entry_order (AddOrder order lines) demands = Some order
+entry_order (Reserve part text) demands = None
+entry_order (Done number) demands = None
+entry_order (Break number halt) demands = None
+entry_order (Release number) demands = None
+entry_order (Scrap part) demands = None
+entry_order (GiveBack part) demands = None
+entry_order (Import order form text) demands = Some order
+entry_order (Amend demand wanted) demands = first_order demands
+
+-- the part that a command reserves, scraps or returns
+abbrev pub entry_part : Command → Option Name
+entry_part (AddMaterial material kind kerf min_long min_short) = None
+entry_part (Receive material batch w h count) = None
+entry_part (AddOrder order lines) = None
+entry_part (Reserve part text) = Some part
+entry_part (Done number) = None
+entry_part (Break number halt) = None
+entry_part (Release number) = None
+entry_part (Scrap part) = Some part
+entry_part (GiveBack part) = Some part
+entry_part (Import order form text) = None
+entry_part (Amend demand wanted) = None
+
+-- the job that a change reserves, ends or releases, or 0
+abbrev pub changed_job : Option Job → ℕ
+changed_job found = of_found (λ (job : Job). job.act) found
+
+-- the entry of a message, under this number and with this time: what it made by its command and its change
+abbrev pub entry_of : (number at : ℕ) → Message → Change → Entry
+entry_of number at message change =
+    record {
+      number = number;
+      pair = pair_of message;
+      at = at;
+      word = word_of message.command;
+      act = with_number change.act 0;
+      job = changed_job change.job;
+      order = entry_order message.command change.demands;
+      part = entry_part message.command;
+    }
+
+-- the change that also writes the message's entry, where these are the last one's number and time: its number is the next one,
+-- and its time the one that is given, or the last one's where that is greater
+abbrev pub entering : (last_number last_at at : ℕ) → Message → Change → Change
+entering last_number last_at at message change =
+    record change { entry = Some (entry_of (last_number + 1) (max at last_at) message change) }
+
 -- ---- steps and runs
 
 -- the change that also keeps the message, with both texts, and of an import the text of its reply
@@ -158,15 +219,24 @@ keeping texts message change = record change {
   kept = Some (record { pair = pair_of message; kept = record { command = texts.of_message message; reply = texts.of_reply change.reply } });
 }
 
+-- the change that keeps the message and writes its entry behind the last one of the content
+abbrev pub keeping_at : Texts → (at : ℕ) → Content → Message → Change → Change
+keeping_at texts at old message change = entering (entry_count old) (last_time old) at message (keeping texts message change)
+
 -- A message that isn't kept yet is accepted with this reply, what its text stands for being read: its command's change is
--- made, and it is kept.
+-- made, it is kept, and its entry is written, with the time that it was given; a message without a time was given 0.
 pub record Accepts (texts : Texts) (old : Content) (message : Message) (read : Reading) (answer : Reply) (new : Content) : Type 0 where
   pub reads : Reads texts old message.command read
   pub allowed : refusal_of old message.command read ≡ None
   pub change : Change
   pub makes : Makes old message.command read change
   pub answered : answer ≡ change.reply
-  pub becomes : new ≡ changed old (keeping texts message change)
+  pub at : ℕ
+  pub becomes : new ≡ changed old (keeping_at texts at old message change)
+
+-- the same of a message that was given this time
+abbrev pub AcceptsAt : Texts → (at : ℕ) → Content → Message → Reading → Reply → Content → Type 0
+AcceptsAt texts at old message read answer new = (accepts : Accepts texts old message read answer new) × (accepts.at ≡ at)
 
 -- a command is refused so, memory and the store aside
 abbrev pub Refuses : Texts → Content → Command → Refusal → Type 0
@@ -193,6 +263,19 @@ abbrev pub Step : Texts → Content → Message → Reply → Content → Type 0
 Step texts old message answer new =
     MatchOption (kept_at old (pair_of message))
     (StepNew texts old message answer new)
+    (λ row. StepAgain texts row message answer × (new ≡ old))
+
+-- the same two of a message that was given this time
+abbrev pub StepNewAt : Texts → (at : ℕ) → Content → Message → Reply → Content → Type 0
+StepNewAt texts at old message answer new =
+    MatchOption (refusal_in answer)
+    ((read : Reading) × AcceptsAt texts at old message read answer new)
+    (λ refusal. Refuses texts old message.command refusal × (new ≡ old))
+
+abbrev pub StepAt : Texts → (at : ℕ) → Content → Message → Reply → Content → Type 0
+StepAt texts at old message answer new =
+    MatchOption (kept_at old (pair_of message))
+    (StepNewAt texts at old message answer new)
     (λ row. StepAgain texts row message answer × (new ≡ old))
 
 -- the machine may give these replies to these messages, one step after another

@@ -22,6 +22,7 @@ pub fn no_change(alloc: Global, reply: Reply) -> Change
         demand: None,
         import: None,
         kept: None,
+        entry: None,
         reply,
     }
 }

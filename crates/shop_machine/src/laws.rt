@@ -1,6 +1,7 @@
-//! What holds of every history of the shop: its content is sound, and each cell has exactly one owner.
+//! What holds of every history of the shop: its content is sound, each cell has exactly one owner, and its newest part is
+//! written in entries, whose times decide nothing.
 
-ghost use Rattle.std.specs.Prelude.{◌≡◌, ◌≢◌, ◌≤◌, ◌↔◌, ℕ, List, Some, None};
+ghost use Rattle.std.specs.Prelude.{◌≡◌, ◌≢◌, ◌≤◌, ◌+◌, ◌↔◌, ℕ, List, Some, None};
 ghost use Rattle.cut_tree.specs.declared.lay.Row.{Row};
 ghost use Rattle.cut_tree.specs.Tree.{Tree, IsShaped};
 ghost use Rattle.cut_tree.specs.Cells.{Outcome};
@@ -11,9 +12,12 @@ ghost use Rattle.shop_records.specs.declared.refusals.Refusal.TheVariants.{Store
 ghost use Rattle.shop_records.specs.Messages.{Texts, IsMessage, IsMade, pair_of};
 ghost use Rattle.shop_records.specs.Readings.{Reading};
 ghost use Rattle.shop_records.specs.declared.imports.ImportRow.{ImportRow};
-ghost use Rattle.shop_records.specs.Content.{Content, kept_at, import_at, changed};
-ghost use Rattle.shop_machine.specs.Machine.{Reads, refusal_of, Makes, keeping};
-ghost use Rattle.shop_machine.specs.History.{Entry, Gives, IsAccountOf};
+ghost use Rattle.std.specs.FinMap.{len};
+ghost use Rattle.shop_records.specs.declared.messages.Reply.{Reply};
+ghost use Rattle.shop_records.specs.declared.journal.Entry.{Entry as EntryOf};
+ghost use Rattle.shop_records.specs.Content.{Content, kept_at, import_at, entry_at, entry_count, forgotten, without_times, changed};
+ghost use Rattle.shop_machine.specs.Machine.{Reads, refusal_of, Makes, keeping, keeping_at, Accepts, Step, StepAt};
+ghost use Rattle.shop_machine.specs.History.{Entry, Gives, GivesAll, IsAccountOf, AreNewest, pairs_of, entered_pairs};
 ghost use Rattle.shop_records.specs.Soundness.{IsSound, Fits};
 ghost use Rattle.shop_machine.specs.Sharing.{SharesCells};
 
@@ -62,6 +66,70 @@ pub fn imports_stay()
         → kept_at m (pair_of message) ≡ None → (code : List ℕ) (row : ImportRow)
         → import_at m code ≡ Some row
         → import_at (changed m (keeping texts message change)) code ≡ Some row }
+{}
+
+/// What is accepted on a sound content fits it with its entry too, whenever it is accepted, and leaves a sound content.
+pub fn entered_changes_fit()
+    ensures fits { (texts : Texts) (m : Content) (message : Message) (read : Reading)
+        (change : Change) (at : ℕ)
+        → IsSound texts m → Reads texts m message.command read
+        → refusal_of m message.command read ≡ None → Makes m message.command read change
+        → kept_at m (pair_of message) ≡ None → Fits m (keeping_at texts at m message change) }
+    ensures sound { (texts : Texts) (m : Content) (message : Message) (read : Reading)
+        (change : Change) (at : ℕ)
+        → IsSound texts m → Reads texts m message.command read
+        → refusal_of m message.command read ≡ None → Makes m message.command read change
+        → IsMessage message
+        → IsSound texts (changed m (keeping_at texts at m message change)) }
+{}
+
+/// The entries of a content are the newest part of each history that gives it: their pairs, the newest first, begin those
+/// of the history's messages. They are all of them where as many entries are there as messages are kept, and so where no
+/// entry was forgotten.
+pub fn entries_are_newest()
+    ensures newest { (texts : Texts) (history : List Entry) (content : Content)
+        → Gives texts history content → AreNewest history content }
+    ensures all { (texts : Texts) (history : List Entry) (content : Content)
+        → Gives texts history content → len content.kept ≡ entry_count content
+        → pairs_of history ≡ entered_pairs content }
+    ensures unforgotten { (texts : Texts) (history : List Entry) (content : Content)
+        → GivesAll texts history content → pairs_of history ≡ entered_pairs content }
+    ensures given { (texts : Texts) (history : List Entry) (content : Content)
+        → GivesAll texts history content → Gives texts history content }
+{}
+
+/// What is written of an entry stays: no step changes an entry that is there, or takes one away. A step keeps a message and
+/// writes its entry, or neither.
+pub fn entries_stay()
+    ensures stay { (texts : Texts) (old new : Content) (message : Message) (answer : Reply)
+        → IsSound texts old → Step texts old message answer new
+        → (number : ℕ) (entry : EntryOf) → entry_at old number ≡ Some entry
+        → entry_at new number ≡ Some entry }
+    ensures one_each { (texts : Texts) (old new : Content) (message : Message) (answer : Reply)
+        → IsSound texts old → Step texts old message answer new
+        → len new.kept + entry_count old ≡ len old.kept + entry_count new }
+{}
+
+/// Time decides nothing. A message that is accepted with the same reading on two sound contents that differ in times alone
+/// gets the same reply and leaves such contents, whenever it is accepted; so of one history all contents without times are
+/// the same, and all contents but for their entries, whatever was forgotten. A step with a time is a step, and each step
+/// is one with some time.
+pub fn time_decides_nothing()
+    ensures step { (texts : Texts) (a b : Content) (message : Message) (read : Reading)
+        (one other : Reply) (new also : Content)
+        → IsSound texts a → IsSound texts b → without_times a ≡ without_times b
+        → Accepts texts a message read one new → Accepts texts b message read other also
+        → (one ≡ other) × (without_times new ≡ without_times also) }
+    ensures history { (texts : Texts) (history : List Entry) (a b : Content)
+        → GivesAll texts history a → GivesAll texts history b
+        → without_times a ≡ without_times b }
+    ensures rows { (texts : Texts) (history : List Entry) (a b : Content)
+        → Gives texts history a → Gives texts history b → forgotten a ≡ forgotten b }
+    ensures untimed { (texts : Texts) (at : ℕ) (old new : Content) (message : Message)
+        (answer : Reply)
+        → StepAt texts at old message answer new → Step texts old message answer new }
+    ensures timed { (texts : Texts) (old new : Content) (message : Message) (answer : Reply)
+        → Step texts old message answer new → (at : ℕ) × StepAt texts at old message answer new }
 {}
 
 /// Rows are laid for a shaped tree exactly where they share the unit's cells out among its nodes: each row with its node's

@@ -6,6 +6,7 @@ pub mod adding;
 pub mod amending;
 mod decisions;
 pub mod ending;
+pub mod entering;
 pub mod importing;
 mod laws;
 mod moving;
@@ -17,13 +18,14 @@ pub mod retiring;
 
 pub use decisions::no_change;
 pub use laws::{
-    accepted_changes_fit, histories_have_accounts, imports_stay, shared_cells_are_laid,
+    accepted_changes_fit, entered_changes_fit, entries_are_newest, entries_stay,
+    histories_have_accounts, imports_stay, shared_cells_are_laid, time_decides_nothing,
 };
 pub use recounts::{FoundLeaf, wide};
 pub use shop_files::MOST_LINES;
 pub use shop_records::{
-    Change, CodeList, Column, Command, Demand, DemandList, Form, ImportRow, Job, JobList, JobRow,
-    JobState, Kept, KeptMessage, LineList, Material, MaterialList, MaterialTotals, Message,
+    Change, CodeList, Column, Command, Demand, DemandList, Entry, Form, ImportRow, Job, JobList,
+    JobRow, JobState, Kept, KeptMessage, LineList, Material, MaterialList, MaterialTotals, Message,
     NumberList, OrderLine, OrderList, OrderRow, Pair, Part, PartList, PartVisitor, Query, RackList,
-    RackRow, Refusal, Reply, RowList, State, StateWord, Text, Totals, no_totals,
+    RackRow, Refusal, Reply, RowList, State, StateWord, Text, Totals, Word, no_totals, word_of,
 };

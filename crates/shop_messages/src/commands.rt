@@ -58,8 +58,8 @@ pub(crate) fn command(
     }
 }
 
-// Writes a message.
-pub(crate) fn write_message(
+/// Writes a message as an object, its keys in byte order.
+pub fn write_message(
     alloc: Global,
     writer: &mut Writer,
     message: &Message,

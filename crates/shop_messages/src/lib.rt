@@ -9,4 +9,7 @@ mod listing;
 mod messages;
 mod ordering;
 
-pub use messages::{message_text, message_value, read_message, read_query};
+pub use commands::write_message;
+pub use messages::{
+    kept_message, message_text, message_value, read_message, read_query, sent_message,
+};

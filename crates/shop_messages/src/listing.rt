@@ -1,14 +1,14 @@
-//! JSON of the queries for lists, for a job, for a terminal and for an order's lines.
+//! JSON of the queries for lists, for a job, for a terminal, for an order's lines and for entries.
 
 ghost use Rattle.std.specs.Prelude.{◌≡◌, codes};
 ghost use Rattle.serde_json.specs.View.{view};
-ghost use Rattle.shop_forms.specs.Fields.{after_at, code_after_at};
+ghost use Rattle.shop_forms.specs.Fields.{after_at, code_after_at, row};
 ghost use Rattle.shop_forms.specs.Forms as form;
 
 use cut_measure::{Code, PartName};
 use serde_json::Value;
-use shop_forms::{code_at, has_keys, number_at, text_at};
-use shop_records::Query;
+use shop_forms::{code_at, has_keys, name_at, number_at, text_at};
+use shop_records::{Query, Subject};
 
 // The name after which parts are asked for: none in an empty text.
 fn name_after(value: &Value) -> Option<Option<PartName>>
@@ -119,7 +119,49 @@ pub(crate) fn lines_query(value: &Value) -> Option<Query>
     Some(Query::Lines { order })
 }
 
-// The query for a list of what is there, open or listed after a name.
+// The query for entries behind a number.
+pub(crate) fn history_query(value: &Value) -> Option<Query>
+    ensures { result ≡ form.history_query (view value.now) }
+{
+    let after = number_at(value, "after")?;
+    Some(Query::History { after })
+}
+
+// What a story is asked of.
+fn subject(value: &Value) -> Option<Subject>
+    ensures { result ≡ form.subject_of (view value.now) }
+{
+    if let Some(order) = code_at(value, "order") {
+        Some(Subject::Order(order))
+    } else if let Some(job) = number_at(value, "job") {
+        Some(Subject::Job(job))
+    } else {
+        let part = name_at(value, "part")?;
+        Some(Subject::Part(part))
+    }
+}
+
+// The query for the entries about a subject, behind a number.
+fn story_query(value: &Value) -> Option<Query>
+    ensures { result ≡ form.story_query (view value.now) }
+{
+    let about = subject(value)?;
+    let after = number_at(value, "after")?;
+    Some(Query::Story { about, after })
+}
+
+// The query for the entries about a subject, among exactly its keys.
+fn whole_story(value: &Value) -> Option<Query>
+    ensures { result ≡ row 3 form.story_query (view value.now) }
+{
+    if has_keys(value, 3) {
+        story_query(value)
+    } else {
+        None
+    }
+}
+
+// The query for a list of what is there, open or listed after a name, for the history as a whole, or for a story.
 pub(crate) fn list_query(value: &Value, word: &str) -> Option<Query>
     ensures { result ≡ form.list_query word.now (view value.now) }
 {
@@ -137,6 +179,14 @@ pub(crate) fn list_query(value: &Value, word: &str) -> Option<Query>
         }
     } else if word == "demands" {
         demands_query(value)
+    } else if word == "shop" {
+        if has_keys(value, 1) {
+            Some(Query::Shop)
+        } else {
+            None
+        }
+    } else if word == "story" {
+        whole_story(value)
     } else {
         None
     }

@@ -26,8 +26,8 @@ fn head(value: &Value) -> Option<(&str, u32, u32)>
     Some((word, terminal, number))
 }
 
-// A message of any terminal.
-fn sent(alloc: Global, value: &Value) -> Result<Option<Message>, AllocError>
+/// The message, of any terminal, that a value stands for, if it stands for one.
+pub fn sent_message(alloc: Global, value: &Value) -> Result<Option<Message>, AllocError>
     ensures { IfOk result (λ message. message ≡ form.sent_of (view value.now)) }
 {
     let Some((word, terminal, number)) = head(value) else {
@@ -51,7 +51,7 @@ pub fn read_message(alloc: Global, value: &Value) -> Result<Message, Refusal>
         (λ refusal. refusal ≢ NoMemory → (refusal ≡ BadMessage)
         × (form.message_of (view value.now) ≡ None)) }
 {
-    match sent(alloc, value) {
+    match sent_message(alloc, value) {
         Ok(Some(message)) => {
             if message.terminal < 1 || !has_few_cuts(&message.command) {
                 return Err(Refusal::BadMessage);
@@ -60,6 +60,24 @@ pub fn read_message(alloc: Global, value: &Value) -> Result<Message, Refusal>
         }
         Ok(None) => Err(Refusal::BadMessage),
         Err(_) => Err(Refusal::NoMemory),
+    }
+}
+
+/// The message that a kept text is, where it is one; terminal 0's are read, too.
+pub fn kept_message(alloc: Global, text: &str) -> Result<Option<Message>, AllocError>
+    ensures { IfOk result (λ kept. kept ≡ form.kept_message_of text.now) }
+{
+    match Value::from_str(alloc, text) {
+        Ok(value) => {
+            let message = sent_message(alloc, &value)?;
+            Ok(message)
+        }
+        Err(error) => {
+            if error.is_memory() {
+                return Err(AllocError);
+            }
+            Ok(None)
+        }
     }
 }
 

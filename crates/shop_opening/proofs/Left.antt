@@ -36,7 +36,7 @@ module _ {D : Type 0} {g : Ghosts D} (last : Held (FileStore D g)) (image : Imag
 
   pub held_left : SeenMayStay g → (m : Content) → HasCleanDisk (file_state last) → IsTrue (file_state last).is_open → HoldsContent (file_state last) m → ∥ ShowsContent image m ∥₁
   held_left stays m clean up was =
-      let at : IsSettledAt (file_state last) m = record { lines = was.lines; totals = was.totals; sums = was.sums; settled = was.holds clean up } in
+      let at : IsSettledAt (file_state last) m = record { lines = was.lines; totals = was.totals; uses = was.uses; sums = was.sums; trail = was.trail; settled = was.holds clean up } in
       only_left m clean (settled_leaves last m stays up at)
 
   pub after_left : (old next : Content) (messages : List Message) (answers : List Reply) (before : Trees → Type 0) → ((db : Trees) → before db → StandsFor db old) → Leads json_texts StandsFor before old messages answers next (file_state last).may_leave

@@ -1,6 +1,6 @@
 -- What the files of a store show, what an opening of them gives, and why there is none.
 use Rattle.std.specs.Prelude.{◌≡◌, ◌≢◌, ◌⊎◌, ℕ, List, Option, IfSome, Result, Ok, Err}
-use Rattle.std.specs.FinMap.{FinMap}
+use Rattle.std.specs.FinMap.{FinMap, empty}
 use Rattle.sqlite_disk.specs.declared.Disk.{Ghosts as DiskGhosts}
 use Rattle.sqlite_disk.specs.declared.Files.{Files}
 use Rattle.sqlite_store.specs.declared.store.FileStore.{FileStore}
@@ -19,7 +19,8 @@ use Rattle.cut_measure.specs.Codes.{code_cmp}
 use Rattle.shop_records.specs.Content.{Content, fresh}
 use Rattle.shop_records.specs.Soundness.{HasLines}
 use Rattle.shop_records.specs.declared.records.Totals.{Totals}
-use Rattle.shop_statements.specs.Earlier.{StandsInEarlier}
+use Rattle.shop_statements.specs.Earlier.{StandsInEarlier, StandsInSecond}
+use Rattle.shop_statements.specs.Shown.{Books}
 use Rattle.shop_tables.specs.Changing.{HasSums}
 use Rattle.shop_tables.specs.Held.{books, LeavesOnly, StandsFor}
 use Rattle.shop_book.specs.declared.ledger.Ledger.{Ledger}
@@ -36,14 +37,18 @@ use Rattle.shop_opening.specs.declared.stores.OpenFault.TheVariants.{NoMemory, S
 
 -- ---- what files show
 
--- The trees stand in version 1 for the content, whose orders have their lines, and for the sums of its parts as totals.
-pub record StandsForEarlier (db : Trees) (m : Content) : Type 0 where
+-- The trees stand in an older version for the content, whose orders have their lines, and for the sums of its parts as totals.
+pub record StandsForOlder (Stands : Trees → Books → Type 0) (db : Trees) (m : Content) : Type 0 where
   pub lines : HasLines m
   pub totals : FinMap code_cmp Totals
-  pub sums : HasSums (books m totals)
-  pub stands : StandsInEarlier db (books m totals)
+  pub sums : HasSums (books m totals empty)
+  pub stands : Stands db (books m totals empty)
 
--- The trees stand for the content, in version 2 or in version 1; or there are no tables, and nothing was done yet.
+-- in version 2 or in version 1, in which there is no entry
+abbrev pub StandsForEarlier : Trees → Content → Type 0
+StandsForEarlier db m = StandsForOlder StandsInSecond db m ⊎ StandsForOlder StandsInEarlier db m
+
+-- The trees stand for the content, in version 3, or in version 2 or 1; or there are no tables, and nothing was done yet.
 abbrev pub ShowsIn : Trees → Content → Type 0
 ShowsIn db m = StandsFor db m ⊎ (StandsForEarlier db m ⊎ (IsEmpty db × (m ≡ fresh)))
 
@@ -53,10 +58,11 @@ ShowsContent image m = ((db : Trees) × HoldsDatabase image db × ShowsIn db m) 
 
 -- ---- what an opening gives
 
--- Files with this image were opened as a book over this connection, with this ledger. It holds each content that they showed,
--- what a crash leaves of it stands for that alone, and no failure is counted yet.
-pub record IsOpenedOn {D : Type 0} {g : DiskGhosts D} (image : Image) (conn : Held (FileStore D g)) (ledger : Ledger) (failures : ℕ) : Type 0 where
-  pub holds : (m : Content) → ShowsContent image m → HoldsLedger (file_state conn) ledger m
+-- Files with this image were opened as a book over this connection, with this number and this time as those of the last entry,
+-- and with this ledger. It holds each content that they showed, what a crash leaves of it stands for that alone, and no failure
+-- is counted yet.
+pub record IsOpenedOn {D : Type 0} {g : DiskGhosts D} (image : Image) (conn : Held (FileStore D g)) (number at : ℕ) (ledger : Ledger) (failures : ℕ) : Type 0 where
+  pub holds : (m : Content) → ShowsContent image m → HoldsLedger (file_state conn) number at ledger m
   pub leaves : (m : Content) → ShowsContent image m → LeavesOnly (file_state conn) m
   pub uncounted : failures ≡ 0
 
@@ -66,8 +72,8 @@ pair_image log store = record { log = log; db = store }
 
 -- Files in memory were opened as a book over this connection, as files with some bytes are. Of a real file no bytes are told, so
 -- that it is not said with which.
-abbrev pub IsBookApart : {D : Type 0} {g : DiskGhosts D} → Held (FileStore D g) → Ledger → ℕ → Type 0
-IsBookApart conn ledger failures = (log store : List ℕ) × IsOpenedOn (pair_image log store) conn ledger failures
+abbrev pub IsBookApart : {D : Type 0} {g : DiskGhosts D} → Held (FileStore D g) → (number at : ℕ) → Ledger → ℕ → Type 0
+IsBookApart conn number at ledger failures = (log store : List ℕ) × IsOpenedOn (pair_image log store) conn number at ledger failures
 
 -- ---- why there is none
 
@@ -120,5 +126,5 @@ AreRefused {D = D} g image fault =
 
 -- What an opening of files with this image comes to: a book that is open on them, or the fault for which there is none.
 abbrev pub IsOpening : {D : Type 0} {g : DiskGhosts D} {s : StoreGhosts (FileStore D g)} → Image → Result (LedgerBook (SqlStorage (FileStore D g) s)) OpenFault → Type 0
-IsOpening image (Ok book) = IsOpenedOn image book.storage.conn book.ledger book.failures
+IsOpening image (Ok book) = IsOpenedOn image book.storage.conn book.storage.last_number book.storage.last_at book.ledger book.failures
 IsOpening {g = g} image (Err fault) = AreRefused g image fault

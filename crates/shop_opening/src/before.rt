@@ -18,7 +18,7 @@ const MAGIC: [u8; 16] = *b"SQLite format 3\0";
 const HEAD: usize = 100;
 
 // The tables of a shop, of each version.
-const TABLES: [&str; 10] = [
+const TABLES: [&str; 15] = [
     "meta",
     "materials",
     "parts",
@@ -29,6 +29,11 @@ const TABLES: [&str; 10] = [
     "imports",
     "totals",
     "totals2",
+    "journal",
+    "uses",
+    "notes",
+    "begun",
+    "halts",
 ];
 
 /// Why a store isn't to be opened.

@@ -1,13 +1,17 @@
 //! The materials of a shop file, added to a book as messages of terminal 0.
 
-ghost use Rattle.std.specs.Prelude.{◌≡◌, ◌≤◌, length, IfOk, OnOk, IfErr, MatchOption, All};
+ghost use Rattle.std.specs.Prelude.{◌≡◌, ◌≢◌, ◌≤◌, length, Err, IfOk, List, OnOk, IfErr, MatchOption, All};
 ghost use Rattle.shop_desk.specs.Faults.{CountsUp};
+ghost use Rattle.shop_desk.specs.Handled.{AreHandledAt};
+ghost use Rattle.shop_forms.specs.Forms.{json_texts};
 ghost use Rattle.shop_files.specs.declared.limits.TheConstants.{MOST_ENTRIES};
 ghost use Rattle.shop_records.specs.Messages.{refusal_in};
+ghost use Rattle.shop_records.specs.declared.messages.Reply.{Reply as ReplyOf};
 ghost use Rattle.shop_opening.specs.Shops as spec;
+ghost use Rattle.shop_opening.specs.declared.shops.AddFault.TheVariants.{NoMemory};
 ghost use Rattle.shop_opening.specs.Shops.{HasShop, IsAccepted, IsFirstRefused, ShopFailed};
 
-use shop_desk::run;
+use shop_desk::run_at;
 use shop_files::MaterialEntry;
 use shop_records::{Command, Message, Refusal, Reply};
 use shop_store::Book;
@@ -100,7 +104,7 @@ fn first_refused(replies: &[Reply]) -> Option<EntryRefused>
 }
 
 /// Handles a shop file's entries, the i-th, from 1, as message number i of terminal 0: each is added once, however often
-/// the file is read, and one that was changed is refused 11.
+/// the file is read, and one that was changed is refused 11. Each is given this time, the one of the start.
 ///
 /// `NoMemory` where room for the replies is wanting, and then nothing was done; `Refused` the first entry that was
 /// refused, where one was.
@@ -108,15 +112,19 @@ pub fn add_shop<B: Book>(
     alloc: Global,
     book: &mut B,
     entries: &[MaterialEntry],
+    at: u64,
 ) -> Result<(), AddFault>
     requires { length entries.now ≤ MOST_ENTRIES }
     ensures ok { OnOk result (HasShop B.Book book.old book.new entries.now (All IsAccepted)) }
     ensures err { IfErr result (ShopFailed B.Book book.old book.new entries.now) }
+    ensures timed { result ≢ Err NoMemory → (replies : List ReplyOf)
+        × AreHandledAt json_texts at B.Book book.old (spec.shop_messages entries.now) replies
+        book.new }
     ensures clean_disk { B.has_clean_disk book.new → B.has_clean_disk book.old }
     ensures failures { CountsUp (B.failed book.old) (B.failed book.new) }
 {
     let messages = messages_of(alloc, entries)?;
-    let replies = run(alloc, book, &messages)?;
+    let replies = run_at(alloc, book, &messages, at)?;
     match first_refused(&replies) {
         None => Ok(()),
         Some(refused) => Err(AddFault::Refused(refused)),

@@ -48,6 +48,7 @@ pub fn stopped_stores_are_found<D: Disk>()
         → ∥ ((found : Content) × IsAfter (WasRefused messages answers) next found
         × ShowsContent image found) ∥₁ }
     ensures again { (image : Image) (m : Content) → ∥ ShowsContent image m ∥₁
-        → (next : Held (StoreOf D D.Disk)) (ledger : LedgerOf) (failures : ℕ)
-        → IsOpenedOn image next ledger failures → ∥ HoldsLedger (file_state next) ledger m ∥₁ }
+        → (next : Held (StoreOf D D.Disk)) (number at : ℕ) (ledger : LedgerOf) (failures : ℕ)
+        → IsOpenedOn image next number at ledger failures
+        → ∥ HoldsLedger (file_state next) number at ledger m ∥₁ }
 {}

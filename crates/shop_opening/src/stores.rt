@@ -10,7 +10,7 @@ use crate::made::{Made, is_special};
 use cut_measure::Code;
 use shop_advice::{RowKey, RowName, StoreCause, StoreTable, VersionCause, look_at_store};
 use shop_store::{BookFault, Loaded, SqlBook, load_earlier_ledger, load_ledger};
-use shop_tables::{NoRow, TableFault};
+use shop_tables::{NoRow, TableFault, find_last_entry, stray_entry};
 use sqlite::{Connection, Error, ErrorCode, FileFrom, FileStore, Leftover, Start, Unknown};
 use sqlite_disk::Disk;
 use std::alloc::Global;
@@ -153,6 +153,10 @@ fn row_name(row: NoRow) -> RowName {
             table: StoreTable::Demands,
             key: number_key(number),
         },
+        NoRow::Entry(number) => RowName {
+            table: StoreTable::Journal,
+            key: number_key(number),
+        },
     }
 }
 
@@ -164,13 +168,35 @@ fn contradiction(loaded: &Result<Loaded, TableFault>) -> VersionCause {
     }
 }
 
-// What is wrong in tables of version 2.
+// What is wrong in tables of version 3 or 2, entries aside.
 fn contradiction_in<D: Disk + Drop>(
     alloc: Global,
     conn: &mut Connection<FileStore<D>>,
 ) -> VersionCause {
     let loaded = load_ledger(alloc, conn);
     contradiction(&loaded)
+}
+
+// What is wrong in the entries of version 3.
+fn stray_in<D: Disk + Drop>(conn: &mut Connection<FileStore<D>>) -> VersionCause {
+    let Ok((count, _)) = find_last_entry(conn) else {
+        return VersionCause::Contradicting;
+    };
+    match stray_entry(conn, count) {
+        Ok(Some(row)) => VersionCause::Row(row_name(row)),
+        _ => VersionCause::Contradicting,
+    }
+}
+
+// What is wrong in tables of version 3.
+fn last_contradiction_in<D: Disk + Drop>(
+    alloc: Global,
+    conn: &mut Connection<FileStore<D>>,
+) -> VersionCause {
+    match contradiction_in(alloc, conn) {
+        VersionCause::Contradicting => stray_in(conn),
+        cause => cause,
+    }
 }
 
 // What is wrong in tables of version 1.
@@ -188,7 +214,8 @@ fn foreign_cause<D: Disk + Drop>(
     conn: &mut Connection<FileStore<D>>,
 ) -> VersionCause {
     match version_of(conn) {
-        Some(version) if version > 2 => VersionCause::Newer,
+        Some(version) if version > 3 => VersionCause::Newer,
+        Some(3) => last_contradiction_in(alloc, conn),
         Some(2) => contradiction_in(alloc, conn),
         Some(1) => earlier_contradiction_in(alloc, conn),
         _ => VersionCause::Foreign,
@@ -236,7 +263,7 @@ fn open_book<S: Start>(
     start: S,
 ) -> Result<StoreBook<S>, Unopened<S>>
     ensures opened { IfOk result
-        (λ book. IsOpenedOn (image_at S.Start) book.storage.conn book.ledger book.failures) }
+        (λ book. IsOpenedOn (image_at S.Start) book.storage.conn book.storage.last_number book.storage.last_at book.ledger book.failures) }
     ensures tables { IfErr result (λ why. IfOk why
         (λ back. AreTablesLeft (image_at S.Start) back.0 back.1)) }
     ensures port { IfErr result (λ why. IfErr why

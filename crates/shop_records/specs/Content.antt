@@ -19,6 +19,7 @@ use Rattle.shop_records.specs.declared.imports.ImportRow.{ImportRow}
 use Rattle.shop_records.specs.declared.texts.Pair.{Pair}
 use Rattle.shop_records.specs.declared.texts.Kept.{Kept}
 use Rattle.shop_records.specs.declared.texts.KeptMessage.{KeptMessage}
+use Rattle.shop_records.specs.declared.journal.Entry.{Entry}
 use Rattle.shop_records.specs.declared.changes.Change.{Change}
 use Rattle.shop_records.specs.Columns.{is_counted, is_there, is_whole, rack_row}
 
@@ -27,8 +28,8 @@ abbrev pub pair_cmp : Pair → Pair → Ordering
 pair_cmp a b = ordering_then (nat_cmp a.terminal b.terminal) (nat_cmp a.number b.number)
 
 -- The materials by their codes, the parts by their names, the jobs and the demands by their numbers, the codes of the
--- orders, the accepted messages by their pairs, the imports by their orders' codes, and the last numbers of an act and of a
--- demand.
+-- orders, the accepted messages by their pairs, the imports by their orders' codes, the entries by their numbers, and the last
+-- numbers of an act and of a demand.
 pub record Content : Type 0 where
   pub materials : map.FinMap code_cmp Material
   pub parts : map.FinMap name_cmp Part
@@ -37,6 +38,7 @@ pub record Content : Type 0 where
   pub demands : map.FinMap nat_cmp Demand
   pub kept : map.FinMap pair_cmp Kept
   pub imports : map.FinMap code_cmp ImportRow
+  pub entries : map.FinMap nat_cmp Entry
   pub last_act : ℕ
   pub last_demand : ℕ
 
@@ -51,9 +53,15 @@ fresh =
       demands = map.empty;
       kept = map.empty;
       imports = map.empty;
+      entries = map.empty;
       last_act = 0;
       last_demand = 0;
     }
+
+-- a number of the row that was found, 0 where there was none
+abbrev pub of_found : {X : Type 0} → (X → ℕ) → Option X → ℕ
+of_found f None = 0
+of_found f (Some x) = f x
 
 abbrev pub material_at : Content → List ℕ → Option Material
 material_at content code = map.get content.materials code
@@ -78,6 +86,36 @@ kept_at content pair = map.get content.kept pair
 abbrev pub import_at : Content → List ℕ → Option ImportRow
 import_at content code = map.get content.imports code
 
+abbrev pub entry_at : Content → ℕ → Option Entry
+entry_at content number = map.get content.entries number
+
+-- how many entries there are; they are numbered from 1 on
+abbrev pub entry_count : Content → ℕ
+entry_count content = map.len content.entries
+
+-- the last entry, where there is one
+abbrev pub last_entry : Content → Option Entry
+last_entry content = entry_at content (entry_count content)
+
+-- the time of the last entry, 0 where there is none
+abbrev pub last_time : Content → ℕ
+last_time content = of_found (λ (entry : Entry). entry.at) (last_entry content)
+
+-- the content without its entries, as one is taken over from a version that had none
+abbrev pub forgotten : Content → Content
+forgotten content = record content { entries = map.empty }
+
+-- an entry without its time
+abbrev pub timeless : Entry → Entry
+timeless entry = record entry { at = 0 }
+
+-- the content without its entries' times
+abbrev pub without_times : Content → Content
+without_times content =
+    record content {
+      entries = map.from_entries {R = nat_cmp} (map_list (λ (e : ℕ × Entry). (e.0, timeless e.1)) (map.entries content.entries));
+    }
+
 -- a found part's material
 abbrev pub material_of : Content → Option Part → Option Material
 material_of old part = option_and_then (λ (p : Part). material_at old p.material) part
@@ -87,11 +125,6 @@ abbrev pub part_of_job : Content → Option Job → Option Part
 part_of_job old found = option_and_then (λ (j : Job). part_at old j.part) found
 
 -- ---- totals
-
--- a number of the row that was found, 0 where there was none
-abbrev pub of_found : {X : Type 0} → (X → ℕ) → Option X → ℕ
-of_found f None = 0
-of_found f (Some x) = f x
 
 -- whether the cells of a part are counted in a column of a material
 abbrev pub counts_for : Column → List ℕ → Part → Bool
@@ -183,6 +216,10 @@ abbrev pub with_import : Option ImportRow → map.FinMap code_cmp ImportRow → 
 with_import None imports = imports
 with_import (Some row) imports = map.insert imports row.order row
 
+abbrev pub with_entry : Option Entry → map.FinMap nat_cmp Entry → map.FinMap nat_cmp Entry
+with_entry None entries = entries
+with_entry (Some entry) entries = map.insert entries entry.number entry
+
 -- the last number after one was given
 abbrev pub with_number : Option ℕ → ℕ → ℕ
 with_number None last = last
@@ -199,6 +236,7 @@ changed content change =
       demands = with_demands change.demands content.demands;
       kept = with_kept change.kept content.kept;
       imports = with_import change.import content.imports;
+      entries = with_entry change.entry content.entries;
       last_act = with_number change.act content.last_act;
       last_demand = with_number change.demand content.last_demand;
     }

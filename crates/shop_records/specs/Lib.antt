@@ -5,6 +5,7 @@ pub mod Elements
 pub mod Columns
 pub mod Refusals
 pub mod Messages
+pub mod Journal
 pub mod Readings
 pub mod Keeping
 -- what a book contains, what a change makes of it, and what holds of it

@@ -92,6 +92,9 @@ IsMade (reply.Job cuts h job kerf material part state tree w) = ⊥
 IsMade (reply.Terminal last terminal) = ⊥
 IsMade (reply.Orders more orders) = ⊥
 IsMade (reply.Lines lines order) = ⊥
+IsMade (reply.Shop began entries last) = ⊥
+IsMade (reply.History entries more) = ⊥
+IsMade (reply.Story entries more) = ⊥
 IsMade (reply.Refused refusal) = ⊥
 
 -- the refusal that a reply tells of

@@ -16,7 +16,9 @@ use Rattle.shop_records.specs.declared.records.Job.{Job}
 use Rattle.shop_records.specs.declared.records.Demand.{Demand}
 use Rattle.shop_records.specs.declared.texts.Pair.{Pair}
 use Rattle.shop_records.specs.declared.texts.Kept.{Kept}
+use Rattle.shop_records.specs.declared.texts.KeptMessage.{KeptMessage}
 use Rattle.shop_records.specs.declared.imports.ImportRow.{ImportRow}
+use Rattle.shop_records.specs.declared.journal.Entry.{Entry}
 use Rattle.shop_records.specs.declared.messages.Message.{Message}
 use Rattle.shop_records.specs.declared.messages.Reply.{Reply}
 use Rattle.shop_records.specs.declared.changes.Change.{Change}
@@ -24,7 +26,7 @@ use Rattle.shop_records.specs.declared.changes.MaterialTotals.{MaterialTotals}
 use Rattle.shop_records.specs.declared.records.Totals.{Totals}
 use Rattle.shop_records.specs.Columns.{is_piece_for, is_waiting}
 use Rattle.shop_records.specs.Messages.{Texts, IsMessage, pair_of}
-use Rattle.shop_records.specs.Content.{Content, material_at, part_at, job_at, has_order, demand_at, kept_at, import_at, totals_of, AddsUp, in_state, changed}
+use Rattle.shop_records.specs.Content.{Content, material_at, part_at, job_at, has_order, demand_at, kept_at, import_at, entry_at, entry_count, last_time, totals_of, AddsUp, in_state, changed}
 use Rattle.shop_records.specs.Same.{same_code}
 use Rattle.shop_records.specs.Keeping.{TellsKept, KeepsReply}
 
@@ -134,6 +136,19 @@ pub record HasLines (content : Content) : Type 0 where
   pub ordered : (number : ℕ) (demand : Demand) → demand_at content number ≡ Some demand → has_order content demand.order ≡ true
   pub different : AreDifferent content
 
+-- an entry stands under its own number, one from 1 to the number of entries, and its message is kept
+pub record IsEntry (content : Content) (number : ℕ) (entry : Entry) : Type 0 where
+  pub numbered : entry.number ≡ number
+  pub least : 1 ≤ number
+  pub so_far : number ≤ entry_count content
+  pub kept : IsSome (kept_at content entry.pair)
+
+-- entries are numbered from 1 on without a gap, and their times never fall
+pub record AreEntries (content : Content) : Type 0 where
+  pub each : (number : ℕ) (entry : Entry) → entry_at content number ≡ Some entry → IsEntry content number entry
+  pub no_gap : (number : ℕ) → 1 ≤ number → number ≤ entry_count content → IsSome (entry_at content number)
+  pub rising : (a b : ℕ) (one other : Entry) → entry_at content a ≡ Some one → entry_at content b ≡ Some other → a ≤ b → one.at ≤ other.at
+
 -- a content as histories give it
 pub record IsSound (texts : Texts) (content : Content) : Type 0 where
   pub in_range : IsInRange content
@@ -144,6 +159,7 @@ pub record IsSound (texts : Texts) (content : Content) : Type 0 where
   pub lines : AreDifferent content
   pub kept : (pair : Pair) (row : Kept) → kept_at content pair ≡ Some row → IsKept texts pair row
   pub imports : (code : List ℕ) (row : ImportRow) → import_at content code ≡ Some row → IsImport texts content code row
+  pub entries : AreEntries content
 
 -- a new part is of a known material, and no part has its name yet
 pub record IsNewPart (content : Content) (part : Part) : Type 0 where
@@ -183,6 +199,13 @@ pub record IsMovedDemand (content : Content) (demand : Demand) : Type 0 where
   pub found : demand_at content demand.number ≡ Some before
   pub is : demand ≡ record before { wanted = demand.wanted; reserved = demand.reserved; made = demand.made }
 
+-- a new entry has the number behind the last one's, no earlier time, and the pair of the message that is kept with it
+pub record IsNewEntry (content : Content) (kept : Option KeptMessage) (entry : Entry) : Type 0 where
+  pub next : entry.number ≡ entry_count content + 1
+  pub new : entry_at content entry.number ≡ None
+  pub later : last_time content ≤ entry.at
+  pub of : MatchOption kept ⊥ (λ message. message.pair ≡ entry.pair)
+
 -- a new material comes with its totals, and other totals are of a material that is there
 abbrev pub TotalsFit : Content → Option Material → Option MaterialTotals → Type 0
 TotalsFit content None totals = IfSome totals (λ row. IsSome (material_at content row.material))
@@ -197,7 +220,7 @@ with_totals (Some row) code before = if same_code row.material code then row.tot
 -- names rise; a part that moves; a job, new with an act and else one that moves; an order of a new code; demands of known
 -- materials, each once, of which no more is reserved and made than wanted, with an order its own, of different lines, and
 -- else ones that move; totals, such that each material has the sums of its parts after the change; numbers above the last
--- ones; an import of the new order; and a message of a new pair.
+-- ones; an import of the new order; a message of a new pair; and its entry behind the last one.
 pub record Fits (content : Content) (change : Change) : Type 0 where
   pub material : IfSome change.material (λ row. material_at content row.code ≡ None)
   pub parts : All (IsNewPart content) change.parts
@@ -215,3 +238,4 @@ pub record Fits (content : Content) (change : Change) : Type 0 where
   pub demand : IfSome change.demand (λ demand. (content.last_demand < demand) × (demand ≤ MOST_NUMBERS))
   pub import : IfSome change.import (λ row. (import_at content row.order ≡ None) × (change.order ≡ Some row.order))
   pub kept : IfSome change.kept (λ row. kept_at content row.pair ≡ None)
+  pub entry : IfSome change.entry (IsNewEntry content change.kept)

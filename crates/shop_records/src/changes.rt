@@ -1,6 +1,7 @@
 //! What an accepted command changes of the shop: its new rows, the rows that move, and its reply.
 
 use crate::imports::ImportRow;
+use crate::journal::Entry;
 use crate::messages::Reply;
 use crate::records::{Demand, Job, Material, Part, Totals};
 use crate::texts::KeptMessage;
@@ -48,5 +49,7 @@ pub struct Change {
     pub import: Option<ImportRow>,
     /// The message to keep, once its texts are known.
     pub kept: Option<KeptMessage>,
+    /// The message's entry, once the last one and the time are known.
+    pub entry: Option<Entry>,
     pub reply: Reply,
 }

@@ -3,6 +3,7 @@
 
 mod changes;
 mod imports;
+mod journal;
 mod messages;
 mod records;
 mod refusals;
@@ -12,8 +13,10 @@ mod visits;
 pub use changes::{Change, DemandList, MaterialList, MaterialTotals, PartList};
 pub use cut_measure::RowList;
 pub use imports::{Form, ImportRow};
+pub use journal::{Entry, EntryTold, Subject, Word, word_of};
 pub use messages::{
-    CodeList, Command, JobList, LineList, Message, NumberList, OrderList, Query, RackList, Reply,
+    CodeList, Command, EntryList, EntryRows, JobList, LineList, Message, NumberList, OrderList,
+    Query, RackList, Reply,
 };
 pub use records::{
     Column, Demand, Job, JobRow, JobState, MOST_RECEIVED, Material, OrderRow, Part, RackRow, State,

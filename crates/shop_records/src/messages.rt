@@ -2,6 +2,7 @@
 
 use crate::changes::{DemandList, MaterialList, PartList};
 use crate::imports::Form;
+use crate::journal::{Entry, EntryTold, Subject};
 use crate::records::{JobRow, JobState, OrderRow, RackRow, StateWord};
 use crate::refusals::Refusal;
 use crate::texts::Text;
@@ -23,6 +24,12 @@ pub type OrderList = RowList<OrderRow>;
 
 /// Codes of orders, in order.
 pub type CodeList = RowList<Code>;
+
+/// Entries as they are told, in order.
+pub type EntryList = RowList<EntryTold>;
+
+/// Entries as they are written, in order.
+pub type EntryRows = RowList<Entry>;
 
 /// Numbers of demands or of jobs, in order.
 pub type NumberList = RowList<u32>;
@@ -153,6 +160,17 @@ pub enum Query {
     /// All lines of an order.
     Lines {
         order: Code,
+    },
+    /// How many entries there are, and when the first and the last one were accepted.
+    Shop,
+    /// The first entries with greater numbers.
+    History {
+        after: u32,
+    },
+    /// The first entries about a subject with greater numbers.
+    Story {
+        about: Subject,
+        after: u32,
     },
 }
 
@@ -311,6 +329,23 @@ pub enum Reply {
     Lines {
         lines: DemandList,
         order: Code,
+    },
+    /// The time of the first entry, how many there are, and the time of the last one, in seconds since 1970-01-01 00:00
+    /// UTC; 0 if there is none.
+    Shop {
+        began: u64,
+        entries: u64,
+        last: u64,
+    },
+    /// Entries by rising number, and whether others follow the last one.
+    History {
+        entries: EntryList,
+        more: bool,
+    },
+    /// The same of the entries about a subject.
+    Story {
+        entries: EntryList,
+        more: bool,
     },
     Refused(Refusal),
 }

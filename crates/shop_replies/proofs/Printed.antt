@@ -3,16 +3,20 @@ use Rattle.std.proofs.Common.{◌≡◌, ap, ◌∙◌, Bool, true, false, Some}
 use Rattle.std.specs.Prelude.{option_and_then}
 use Rattle.json.specs.Print.{print}
 use Rattle.json.specs.Tree.{json_tokens}
-use Rattle.serde_json.specs.Written.{outline}
+use Rattle.serde_json.specs.Written.{compact_text, outline}
 use Rattle.serde_json.proofs.Texts.{print-outline}
+use Rattle.shop_records.specs.declared.journal.EntryTold.{EntryTold}
 use Rattle.shop_records.specs.declared.messages.Reply.{Reply}
 use Rattle.shop_records.specs.Messages.{IsMade}
-use Rattle.shop_forms.specs.Forms.{reply_of, reply_data, json_texts, kept_reply_of}
+use Rattle.shop_forms.specs.Forms.{entry_data, reply_of, reply_data, json_texts, kept_reply_of}
 use Rattle.shop_forms.proofs.Back.{reply_back, reply_text_read}
 
 pub reply_text_printed : (answer : Reply) → print (json_tokens (outline (reply_data answer))) ≡ json_texts.of_reply answer
 unfolding json_texts
 reply_text_printed answer = print-outline (reply_data answer)
+
+pub entry_text_printed : (told : EntryTold) → print (json_tokens (outline (entry_data told))) ≡ compact_text (entry_data told)
+entry_text_printed told = print-outline (entry_data told)
 
 pub kept_back : (answer : Reply) → IsMade answer → kept_reply_of (json_texts.of_reply answer) ≡ Some answer
 unfolding json_texts

@@ -5,12 +5,13 @@ ghost use Rattle.serde_json.specs.View.{view};
 ghost use Rattle.shop_records.specs.Messages.{IsWide};
 ghost use Rattle.shop_records.specs.declared.messages.Reply.TheVariants as answer;
 ghost use Rattle.shop_forms.specs.Forms as form;
-ghost use Rattle.shop_forms.specs.Forms.{reply_data, HasWideNumbers};
+ghost use Rattle.shop_forms.specs.Forms.{made_data, reply_data, HasWideMade, HasWideNumbers};
 ghost use Rattle.shop_forms.specs.Tokens.{AddsValue};
 ghost use Rattle.shop_forms.specs.Fields.{row};
 ghost use Rattle.shop_replies.specs.Variants.{TellsOrder, TellsImport};
 
 use crate::asking::{tell_bound, tell_demand, tell_plan, tell_rack, tell_totals, tell_trace};
+use crate::history::{tell_entries, tell_shop, write_null};
 use crate::listing::{
     tell_after, tell_job, tell_lines, tell_materials, tell_orders, tell_parts, tell_terminal,
 };
@@ -65,6 +66,58 @@ pub(crate) fn write_reply(
     ensures wide { OnOk result (HasWideNumbers reply.now) }
 {
     match reply {
+        Reply::AddMaterial { .. }
+        | Reply::Receive { .. }
+        | Reply::AddOrder { .. }
+        | Reply::Reserve { .. }
+        | Reply::Done { .. }
+        | Reply::Break { .. }
+        | Reply::Release { .. }
+        | Reply::Scrap { .. }
+        | Reply::GiveBack { .. }
+        | Reply::Import { .. }
+        | Reply::Amend { .. } => write_made(alloc, writer, reply),
+        Reply::Totals { .. } => tell_totals(writer, reply),
+        Reply::Rack { material, parts } => tell_rack(alloc, writer, material, parts.as_slice()),
+        Reply::Trace { .. } => tell_trace(alloc, writer, reply),
+        Reply::Demand { .. } => tell_demand(writer, reply),
+        Reply::Plan { .. } => tell_plan(writer, reply),
+        Reply::Bound { best, units } => tell_bound(writer, *best, *units),
+        Reply::Materials { materials } => tell_materials(alloc, writer, materials.as_slice()),
+        Reply::Parts { .. } => tell_parts(alloc, writer, reply),
+        Reply::Demands { demands, more } => {
+            tell_after(alloc, writer, "demands", demands.as_slice(), *more)
+        }
+        Reply::Jobs { jobs, more } => tell_after(alloc, writer, "jobs", jobs.as_slice(), *more),
+        Reply::Job { .. } => tell_job(alloc, writer, reply),
+        Reply::Terminal { last, terminal } => tell_terminal(writer, *last, *terminal),
+        Reply::Orders { more, orders } => tell_orders(alloc, writer, *more, orders.as_slice()),
+        Reply::Lines { lines, order } => tell_lines(alloc, writer, lines.as_slice(), order),
+        Reply::Shop {
+            began,
+            entries,
+            last,
+        } => tell_shop(writer, *began, *entries, *last),
+        Reply::History { entries, more } => {
+            tell_entries(alloc, writer, "history", entries.as_slice(), *more)
+        }
+        Reply::Story { entries, more } => {
+            tell_entries(alloc, writer, "story", entries.as_slice(), *more)
+        }
+        Reply::Refused(refusal) => tell_refusal(writer, *refusal),
+    }
+}
+
+// Writes a reply that an accepted message can get, and null for another one.
+pub(crate) fn write_made(
+    alloc: Global,
+    writer: &mut Writer,
+    reply: &Reply,
+) -> Result<(), AllocError>
+    ensures value { OnOk result (AddsValue writer.old writer.new (made_data reply.now)) }
+    ensures wide { OnOk result (HasWideMade reply.now) }
+{
+    match reply {
         Reply::AddMaterial { material } => tell_material(writer, material),
         Reply::Receive { act, count } => tell_receive(writer, *act, *count),
         Reply::AddOrder { .. } => tell_order(writer, reply),
@@ -88,23 +141,7 @@ pub(crate) fn write_reply(
         Reply::GiveBack { part } => tell_turned(alloc, writer, "return", part),
         Reply::Import { .. } => tell_import(writer, reply),
         Reply::Amend { demand, wanted } => tell_amend(writer, *demand, *wanted),
-        Reply::Totals { .. } => tell_totals(writer, reply),
-        Reply::Rack { material, parts } => tell_rack(alloc, writer, material, parts.as_slice()),
-        Reply::Trace { .. } => tell_trace(alloc, writer, reply),
-        Reply::Demand { .. } => tell_demand(writer, reply),
-        Reply::Plan { .. } => tell_plan(writer, reply),
-        Reply::Bound { best, units } => tell_bound(writer, *best, *units),
-        Reply::Materials { materials } => tell_materials(alloc, writer, materials.as_slice()),
-        Reply::Parts { .. } => tell_parts(alloc, writer, reply),
-        Reply::Demands { demands, more } => {
-            tell_after(alloc, writer, "demands", demands.as_slice(), *more)
-        }
-        Reply::Jobs { jobs, more } => tell_after(alloc, writer, "jobs", jobs.as_slice(), *more),
-        Reply::Job { .. } => tell_job(alloc, writer, reply),
-        Reply::Terminal { last, terminal } => tell_terminal(writer, *last, *terminal),
-        Reply::Orders { more, orders } => tell_orders(alloc, writer, *more, orders.as_slice()),
-        Reply::Lines { lines, order } => tell_lines(alloc, writer, lines.as_slice(), order),
-        Reply::Refused(refusal) => tell_refusal(writer, *refusal),
+        _ => write_null(writer),
     }
 }
 

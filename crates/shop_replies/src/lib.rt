@@ -3,7 +3,9 @@
 
 mod asking;
 mod commands;
+mod history;
 mod listing;
+mod reading;
 mod replies;
 
-pub use replies::{kept_reply, read_reply, reply_text, reply_value};
+pub use replies::{entry_text, kept_reply, read_reply, reply_text, reply_value};

@@ -8,7 +8,7 @@ use Rattle.matchit.specs.Router.{RouteOf, route_from}
 use Rattle.matchit.specs.Seek.{first}
 use Rattle.matchit.specs.declared.error.InsertError.{InsertError}
 use Rattle.shop_request.specs.declared.routes.Route.{Route}
-use Rattle.shop_request.specs.declared.routes.Route.TheVariants.{Message, Plan, Plans, Bound, Backup, Totals, Rack, Trace, Demand, Ticket, Yield, Materials, Parts, PartsAfter, Demands, DemandsOf, Orders, OrdersAfter, OrderLines, Jobs, Job, Terminal}
+use Rattle.shop_request.specs.declared.routes.Route.TheVariants.{Message, Plan, Plans, Bound, Backup, Totals, Rack, Trace, Demand, Ticket, Yield, Materials, Parts, PartsAfter, Demands, DemandsOf, Orders, OrdersAfter, OrderLines, Jobs, Job, Terminal, Shop, History, OrderStory, JobStory, PartStory}
 
 -- the text of each route
 abbrev pub route_text : Route → List ℕ
@@ -34,6 +34,11 @@ route_text OrderLines = codes "/order/{order}"
 route_text Jobs = codes "/jobs/{after}"
 route_text Job = codes "/job/{job}"
 route_text Terminal = codes "/terminal/{terminal}"
+route_text Shop = codes "/shop"
+route_text History = codes "/history/{after}"
+route_text OrderStory = codes "/story/order/{order}/{after}"
+route_text JobStory = codes "/story/job/{job}/{after}"
+route_text PartStory = codes "/story/part/{act}/{node}/{after}"
 
 -- the bytes in front of its first parameter
 abbrev pub route_start : Route → List ℕ
@@ -59,6 +64,11 @@ route_start OrderLines = codes "/order/"
 route_start Jobs = codes "/jobs/"
 route_start Job = codes "/job/"
 route_start Terminal = codes "/terminal/"
+route_start Shop = codes "/shop"
+route_start History = codes "/history/"
+route_start OrderStory = codes "/story/order/"
+route_start JobStory = codes "/story/job/"
+route_start PartStory = codes "/story/part/"
 
 -- whether it takes a body
 abbrev pub takes_body : Route → Bool
@@ -84,6 +94,11 @@ takes_body OrderLines = false
 takes_body Jobs = false
 takes_body Job = false
 takes_body Terminal = false
+takes_body Shop = false
+takes_body History = false
+takes_body OrderStory = false
+takes_body JobStory = false
+takes_body PartStory = false
 
 abbrev pub RouteRows : Type 0
 RouteRows = RowsOf (RouteOf Route)
@@ -105,7 +120,7 @@ with_routes (route ∷ more) rows = with_routes more (with_route route rows)
 unfoldable pub all_routes : RouteRows
 all_routes =
     with_routes (Message ∷ Plan ∷ Plans ∷ Bound ∷ Backup ∷ Totals ∷ Rack ∷ Trace ∷ Demand ∷ Ticket ∷ Yield ∷ Materials ∷ Parts ∷ PartsAfter ∷ Demands
-    ∷ DemandsOf ∷ Orders ∷ OrdersAfter ∷ OrderLines ∷ Jobs ∷ Job ∷ Terminal ∷ []) []
+    ∷ DemandsOf ∷ Orders ∷ OrdersAfter ∷ OrderLines ∷ Jobs ∷ Job ∷ Terminal ∷ Shop ∷ History ∷ OrderStory ∷ JobStory ∷ PartStory ∷ []) []
 
 -- the target up to its first `?`
 abbrev pub path_of : List ℕ → List ℕ

@@ -53,6 +53,16 @@ pub enum Route {
     Job,
     /// GET `/terminal/{terminal}`.
     Terminal,
+    /// GET `/shop`.
+    Shop,
+    /// GET `/history/{after}`.
+    History,
+    /// GET `/story/order/{order}/{after}`.
+    OrderStory,
+    /// GET `/story/job/{job}/{after}`.
+    JobStory,
+    /// GET `/story/part/{act}/{node}/{after}`.
+    PartStory,
 }
 
 impl Route {
@@ -83,6 +93,11 @@ impl Route {
             Route::Jobs => "/jobs/{after}",
             Route::Job => "/job/{job}",
             Route::Terminal => "/terminal/{terminal}",
+            Route::Shop => "/shop",
+            Route::History => "/history/{after}",
+            Route::OrderStory => "/story/order/{order}/{after}",
+            Route::JobStory => "/story/job/{job}/{after}",
+            Route::PartStory => "/story/part/{act}/{node}/{after}",
         }
     }
 
@@ -113,6 +128,11 @@ impl Route {
             Route::Jobs => 6,
             Route::Job => 5,
             Route::Terminal => 10,
+            Route::Shop => 5,
+            Route::History => 9,
+            Route::OrderStory => 13,
+            Route::JobStory => 11,
+            Route::PartStory => 12,
         }
     }
 
@@ -152,7 +172,7 @@ fn add_all(router: &mut Router<Route>, routes: &[Route]) -> Result<(), InsertErr
     add_all(router, more)
 }
 
-const ROUTES: [Route; 22] = [
+const ROUTES: [Route; 27] = [
     Route::Message,
     Route::Plan,
     Route::Plans,
@@ -175,6 +195,11 @@ const ROUTES: [Route; 22] = [
     Route::Jobs,
     Route::Job,
     Route::Terminal,
+    Route::Shop,
+    Route::History,
+    Route::OrderStory,
+    Route::JobStory,
+    Route::PartStory,
 ];
 
 #[tactic(auto, unfolding(crate::specs::Routes::all_routes))]

@@ -4,6 +4,7 @@ pub mod Places
 pub mod Listed
 pub mod NameLists
 pub mod Named
+pub mod Behind
 -- sums of parts
 pub mod Summed
 pub mod Counting

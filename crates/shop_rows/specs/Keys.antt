@@ -12,6 +12,7 @@ use Rattle.shop_records.specs.declared.records.Part.{Part}
 use Rattle.shop_records.specs.declared.records.Job.{Job}
 use Rattle.shop_records.specs.declared.records.Demand.{Demand}
 use Rattle.shop_records.specs.declared.imports.ImportRow.{ImportRow}
+use Rattle.shop_records.specs.declared.journal.Entry.{Entry}
 
 abbrev pub material_key : Material → List ℕ
 material_key m = m.code
@@ -27,6 +28,9 @@ demand_key d = d.number
 
 abbrev pub import_key : ImportRow → List ℕ
 import_key row = row.order
+
+abbrev pub entry_key : Entry → ℕ
+entry_key entry = entry.number
 
 pub codes_exact : IsAntisymmetric code_cmp
 codes_exact = slice_cmp-IsAntisymmetric nat_cmp-IsAntisymmetric

@@ -1,8 +1,8 @@
-//! The keys by which materials, parts, jobs, demands, imports, numbers and names are kept in order.
+//! The keys by which materials, parts, jobs, demands, imports, entries, numbers and names are kept in order.
 
 use crate::rows::{KeyedRow, RowKey};
 use cut_measure::{Code, PartName};
-use shop_records::{Demand, ImportRow, Job, Material, Part};
+use shop_records::{Demand, Entry, ImportRow, Job, Material, Part};
 use std::cmp::Ordering;
 
 /// Codes in the order of their bytes.
@@ -45,6 +45,22 @@ impl RowKey for u32 {
     ghost cmp = { nat_cmp };
 
     fn compare_to(self, other: u32) -> Ordering {
+        self.cmp(&other)
+    }
+
+    ghost total = { nat_cmp_total };
+
+    ghost exact = { nat_cmp-IsAntisymmetric };
+}
+
+impl RowKey for u64 {
+    ghost use Rattle.std.specs.Ordering.{nat_cmp};
+    ghost use Rattle.std.specs.Cmp.{nat_cmp_total};
+    ghost use Rattle.std.specs.FinMap.{nat_cmp-IsAntisymmetric};
+
+    ghost cmp = { nat_cmp };
+
+    fn compare_to(self, other: u64) -> Ordering {
         self.cmp(&other)
     }
 
@@ -115,6 +131,23 @@ impl KeyedRow for ImportRow {
 
     fn key(&self) -> Code {
         self.order
+    }
+}
+
+impl KeyedRow for Entry {
+    ghost use Rattle.shop_rows.specs.Keys.{entry_key};
+
+    type Key = u64;
+
+    ghost key_of = { entry_key };
+
+    fn key(&self) -> u64 {
+        self.number
+    }
+
+    // entries are numbered from 1 on
+    fn near(number: u64, _len: usize) -> usize {
+        number.saturating_sub(1) as usize
     }
 }
 

@@ -16,12 +16,12 @@ pub use lines::{Span, between, by_line};
 pub use names::{
     NameList, OpenPart, list_all, list_in_place, list_part, make_room, names_after, reserve_names,
 };
-pub use open::{OpenRows, list_demands, list_job, numbers_after};
+pub use open::{OpenRows, entries_after, list_demands, list_job, numbers_after};
 pub use part_rows::{Origin, PartRow, PartRows};
 pub use room::reserve_rows;
 pub use rows::{
-    KeyedRow, RowKey, at, copy_rows, find, first_rows, put, put_all, put_run, put_some, rises,
-    settle, take_row,
+    KeyedRow, RowKey, at, copy_rows, find, first_rows, push_copy, put, put_all, put_copy, put_run,
+    put_some, rises, settle, take_row,
 };
 pub use sums::{
     Sums, add_part, count_part, has_totals, no_sums, sums_of, take_replaced, totals_in, with_all,

@@ -1,17 +1,17 @@
-//! Lists of the keys of what is open: standing parts, waiting jobs, and demands that aren't made yet.
+//! Lists of the keys of what is open: standing parts, waiting jobs, and demands that aren't made yet; and the entries behind one.
 
 ghost use Rattle.std.specs.Prelude.{◌≡◌, ◌+◌, ◌<◌, ◌≤◌, ℕ, Option, IsTrue, filter, length, nat_lt, vec_len, vec_capacity};
 ghost use Rattle.shop_records.specs.declared.records.Job.{Job as JobOf};
 ghost use Rattle.shop_records.specs.declared.records.Demand.{Demand as DemandOf};
 ghost use Rattle.shop_records.specs.Lists.{is_open};
 ghost use Rattle.std.specs.Ordering.{nat_cmp};
-ghost use Rattle.shop_rows.specs.Keys.{demand_key};
+ghost use Rattle.shop_rows.specs.Keys.{demand_key, entry_key};
 ghost use Rattle.shop_rows.specs.Rows.{rise};
 ghost use Rattle.shop_rows.specs.Open.{own_key, finds_with, finds_with_all, ListsNumbers, waits};
 
 use crate::names::{NameList, copy_lists};
 use crate::rows::settle;
-use shop_records::{Demand, Job};
+use shop_records::{Demand, Entry, Job};
 use std::alloc::{AllocError, Global};
 
 /// The keys of what is open, in lists that rise.
@@ -109,4 +109,13 @@ pub fn numbers_after(keys: &[u32], after: u32) -> &[u32]
 {
     let from = keys.partition_point(|key| *key <= after);
     &keys[from..]
+}
+
+/// The entries of greater numbers.
+pub fn entries_after(rows: &[Entry], after: u64) -> &[Entry]
+    requires { IsTrue (rise entry_key nat_cmp rows.now) }
+    ensures { result.now ≡ filter (λ entry. nat_lt after entry.number) rows.now }
+{
+    let from = rows.partition_point(|entry| entry.number <= after);
+    &rows[from..]
 }

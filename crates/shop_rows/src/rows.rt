@@ -2,7 +2,7 @@
 
 ghost use Rattle.std.specs.declared.cmp.Ordering.{Ordering};
 ghost use Rattle.std.specs.declared.cmp.Ordering.TheVariants.{Equal, Greater};
-ghost use Rattle.std.specs.Prelude.{◌≡◌, ◌+◌, ◌++◌, ◌<◌, ◌≤◌, ℕ, All, List, IfNone, IfOk, IfSome, IsSome, IsTrue, None, Err, [], false, length, take, option_copied, vec_len, vec_capacity};
+ghost use Rattle.std.specs.Prelude.{◌≡◌, ◌+◌, ◌++◌, ◌<◌, ◌≤◌, ℕ, All, List, IfNone, IfOk, IfSome, IsSome, IsTrue, None, OnErr, OnOk, Err, [], ◌∷◌, false, length, take, option_copied, vec_len, vec_capacity};
 ghost use Rattle.std.specs.List.{HoldsAt, insert_slice};
 ghost use Rattle.std.specs.List.Sorted.{IsBinarySearchResult, IsSearchInRange};
 ghost use Rattle.std.specs.Option.{option_to_list};
@@ -270,6 +270,18 @@ pub fn put_some<R: KeyedRow>(rows: &mut Vec<R>, row: Option<R>)
     }
 }
 
+/// Puts a copy of a row in its place, if there is one.
+pub fn put_copy<R: KeyedRow + Copy>(rows: &mut Vec<R>, row: &Option<R>)
+    requires rising { IsTrue (rise R.key_of R.Key.cmp rows.old.items) }
+    requires room { vec_len rows.old < vec_capacity rows.old }
+    ensures put { ArePut R.key_of R.Key.cmp (option_to_list row.now) rows.old.items rows.new.items }
+    ensures rising { IsTrue (rise R.key_of R.Key.cmp rows.new.items) }
+{
+    if let Some(row) = row {
+        let _ = put(rows, *row);
+    }
+}
+
 // Moves the rows from `from` on to a place before them.
 fn move_to<R: KeyedRow>(rows: &mut [R], from: usize, i: usize)
     requires order { i ≤ from }
@@ -353,6 +365,14 @@ pub fn first_rows<R>(rows: &[R], most: usize) -> &[R]
     } else {
         rows
     }
+}
+
+/// Appends a copy of a row, or changes nothing.
+pub fn push_copy<R: Copy + Drop>(list: &mut RowList<R>, row: &R) -> Result<(), AllocError>
+    ensures ok { OnOk result (list.new ≡ list.old ++ row.now ∷ []) }
+    ensures err { OnErr result (list.new ≡ list.old) }
+{
+    list.push(*row)
 }
 
 /// The same rows.

@@ -2,29 +2,108 @@
 //! answered, what is decided on each command, and what holds of the shop as a machine.
 #![tactic(auto)]
 
-pub use cut_measure::{Axis, Code, Kind, Limits, PartName, Size};
-pub use cut_tree::{CutList, Halt};
-pub use shop_answers::{
-    FoundDemand, FoundList, MOST_TOLD, answer_bound, answer_demands, answer_job, answer_orders,
-    answer_parts, answer_plan, are_more, can_be_planned, first_told, job_row, order_row,
-};
-pub use shop_forms::{one_kind_of_value, one_text, read_back};
+pub use cut_measure::Axis;
+pub use cut_measure::Code;
+pub use cut_measure::Kind;
+pub use cut_measure::Limits;
+pub use cut_measure::PartName;
+pub use cut_measure::Size;
+pub use cut_tree::CutList;
+pub use cut_tree::Halt;
+pub use shop_answers::FoundDemand;
+pub use shop_answers::FoundList;
+pub use shop_answers::MOST_TOLD;
+pub use shop_answers::MOST_TOLD_BYTES;
+pub use shop_answers::answer_bound;
+pub use shop_answers::answer_demands;
+pub use shop_answers::answer_job;
+pub use shop_answers::answer_orders;
+pub use shop_answers::answer_parts;
+pub use shop_answers::answer_plan;
+pub use shop_answers::are_more;
+pub use shop_answers::bytes_with;
+pub use shop_answers::can_be_planned;
+pub use shop_answers::first_told;
+pub use shop_answers::is_full;
+pub use shop_answers::job_row;
+pub use shop_answers::order_row;
+pub use shop_forms::entries_read_back;
+pub use shop_forms::one_kind_of_value;
+pub use shop_forms::one_text;
+pub use shop_forms::read_back;
+pub use shop_machine::FoundLeaf;
+pub use shop_machine::accepted_changes_fit;
 pub use shop_machine::adding::decide_material;
 pub use shop_machine::amending::decide_amend;
-pub use shop_machine::ending::{decide_break, decide_done, decide_release};
-pub use shop_machine::importing::{
-    decide_again, decide_lines, decide_problem, problem_lines, repeats, unread_refusal,
-};
-pub use shop_machine::ordering::{FoundLine, decide_order};
+pub use shop_machine::ending::decide_break;
+pub use shop_machine::ending::decide_done;
+pub use shop_machine::ending::decide_release;
+pub use shop_machine::entered_changes_fit;
+pub use shop_machine::entering::enter;
+pub use shop_machine::entries_are_newest;
+pub use shop_machine::entries_stay;
+pub use shop_machine::histories_have_accounts;
+pub use shop_machine::importing::decide_again;
+pub use shop_machine::importing::decide_lines;
+pub use shop_machine::importing::decide_problem;
+pub use shop_machine::importing::problem_lines;
+pub use shop_machine::importing::repeats;
+pub use shop_machine::importing::unread_refusal;
+pub use shop_machine::ordering::FoundLine;
+pub use shop_machine::ordering::decide_order;
 pub use shop_machine::receiving::decide_receive;
 pub use shop_machine::reserving::decide_reserve;
-pub use shop_machine::retiring::{decide_give_back, decide_scrap};
-pub use shop_machine::{FoundLeaf, accepted_changes_fit, histories_have_accounts};
-pub use shop_messages::{message_text, message_value, read_message, read_query};
-pub use shop_records::{
-    Change, CodeList, Column, Command, Demand, DemandList, Form, ImportRow, Job, JobList, JobRow,
-    JobState, Kept, KeptMessage, LineList, Material, MaterialTotals, Message, NumberList,
-    OrderLine, OrderList, OrderRow, Pair, Part, PartList, Query, RackList, RackRow, Refusal, Reply,
-    RowList, State, StateWord, Text, Totals, no_totals,
-};
-pub use shop_replies::{kept_reply, read_reply, reply_text, reply_value};
+pub use shop_machine::retiring::decide_give_back;
+pub use shop_machine::retiring::decide_scrap;
+pub use shop_machine::time_decides_nothing;
+pub use shop_messages::kept_message;
+pub use shop_messages::message_text;
+pub use shop_messages::message_value;
+pub use shop_messages::read_message;
+pub use shop_messages::read_query;
+pub use shop_records::Change;
+pub use shop_records::CodeList;
+pub use shop_records::Column;
+pub use shop_records::Command;
+pub use shop_records::Demand;
+pub use shop_records::DemandList;
+pub use shop_records::Entry;
+pub use shop_records::EntryList;
+pub use shop_records::EntryRows;
+pub use shop_records::EntryTold;
+pub use shop_records::Form;
+pub use shop_records::ImportRow;
+pub use shop_records::Job;
+pub use shop_records::JobList;
+pub use shop_records::JobRow;
+pub use shop_records::JobState;
+pub use shop_records::Kept;
+pub use shop_records::KeptMessage;
+pub use shop_records::LineList;
+pub use shop_records::Material;
+pub use shop_records::MaterialTotals;
+pub use shop_records::Message;
+pub use shop_records::NumberList;
+pub use shop_records::OrderLine;
+pub use shop_records::OrderList;
+pub use shop_records::OrderRow;
+pub use shop_records::Pair;
+pub use shop_records::Part;
+pub use shop_records::PartList;
+pub use shop_records::Query;
+pub use shop_records::RackList;
+pub use shop_records::RackRow;
+pub use shop_records::Refusal;
+pub use shop_records::Reply;
+pub use shop_records::RowList;
+pub use shop_records::State;
+pub use shop_records::StateWord;
+pub use shop_records::Subject;
+pub use shop_records::Text;
+pub use shop_records::Totals;
+pub use shop_records::Word;
+pub use shop_records::no_totals;
+pub use shop_replies::kept_reply;
+pub use shop_replies::read_reply;
+pub use shop_replies::reply_text;
+pub use shop_replies::reply_value;

@@ -9,3 +9,6 @@ pub mod Answered
 pub mod Few
 pub mod Thoughts
 pub mod Owned
+pub mod Dated
+pub mod Unserved
+pub mod Entries

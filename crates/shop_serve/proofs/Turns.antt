@@ -7,7 +7,7 @@ use Rattle.std.specs.declared.time.Instant.{Instant}
 use Rattle.shop_records.specs.declared.refusals.Refusal.{Refusal}
 use Rattle.shop_request.specs.Requests.{ParseResult, silent, faulty, asking, ParsesTo}
 use Rattle.shop_request.specs.declared.routes.Route.{Route}
-use Rattle.shop_request.specs.declared.routes.Route.TheVariants.{Message, Plan, Plans, Bound, Backup, Totals, Rack, Trace, Demand, Ticket, Yield, Materials, Parts, PartsAfter, Demands, DemandsOf, Orders, OrdersAfter, OrderLines, Jobs, Job, Terminal}
+use Rattle.shop_request.specs.declared.routes.Route.TheVariants.{Message, Plan, Plans, Bound, Backup, Totals, Rack, Trace, Demand, Ticket, Yield, Materials, Parts, PartsAfter, Demands, DemandsOf, Orders, OrdersAfter, OrderLines, Jobs, Job, Terminal, Shop, History, OrderStory, JobStory, PartStory}
 use Rattle.shop_serve.specs.Times.{Times}
 use Rattle.shop_desk.specs.Handled.{HasAccount}
 use Rattle.shop_desk.specs.Faults.{CountsUp}
@@ -28,7 +28,7 @@ use Rattle.shop_serve.specs.declared.answers.Made.TheVariants.{Answer, Thought}
 use Rattle.shop_serve.specs.Making.{IsMadeOf, IsMadeMeanwhile}
 use Rattle.shop_serve.specs.declared.sites.Site.{Site}
 use Rattle.shop_serve.specs.Sites.{is_routed, own_bytes}
-use Rattle.shop_serve.specs.Serving.{Turn, Handling, HandlingStep, IsServedOnce, routed, ruled, begun, copied, InTurn, asks_backup, is_backup, IsAnswered, IsAnsweredThen, IsBackupAnswer, exchange_of, exchanges, TellsFailure, TellOfFailures, HasServed, Advances}
+use Rattle.shop_serve.specs.Serving.{Turn, Handling, HandlingStep, IsCounted, IsServedOnce, routed, ruled, begun, copied, InTurn, asks_backup, is_backup, IsAnswered, IsAnsweredThen, IsBackupAnswer, exchange_of, exchanges, TellsFailure, TellOfFailures, HasServed, Advances}
 
 -- what goes to its route, and what doesn't
 pub is_route : (r : Ruling) → is_routed r ≡ true → r ≡ Routed
@@ -44,7 +44,7 @@ pub no_route : (r : Ruling) → is_routed r ≡ false → r ≢ Routed
 no_route r e is = absurd (cc (sym (ap is_routed is) ∙ e))
 
 -- a backup is asked for by some body
-is_for_backup : (route : Route) → is_backup route ≡ true → route ≡ Backup
+pub is_for_backup : (route : Route) → is_backup route ≡ true → route ≡ Backup
 is_for_backup Backup e = refl
 is_for_backup Message e = absurd (cc e)
 is_for_backup Plan e = absurd (cc e)
@@ -67,6 +67,11 @@ is_for_backup OrderLines e = absurd (cc e)
 is_for_backup Jobs e = absurd (cc e)
 is_for_backup Job e = absurd (cc e)
 is_for_backup Terminal e = absurd (cc e)
+is_for_backup Shop e = absurd (cc e)
+is_for_backup History e = absurd (cc e)
+is_for_backup OrderStory e = absurd (cc e)
+is_for_backup JobStory e = absurd (cc e)
+is_for_backup PartStory e = absurd (cc e)
 
 pub backup_asked : (received : List ℕ) (parsed : ParseResult) → asks_backup parsed ≡ true → ParsesTo received parsed → (body : List ℕ) × ParsesTo received (asking Backup body)
 backup_asked received silent e has = absurd (cc e)
@@ -204,18 +209,29 @@ module _ (site : Site) {B : Type 0} (book : Ghosts B) where
   answered-then before after seen seeing now received answer (between, inr (outcome, is, same, copies), tells) = inr (outcome, is, same)
 
   -- the site answered one by itself
-  pub one_ruled : (here : B) (input : List ℕ) (r : Ruling) → 0 < length input → HasRuling site.guard input r → r ≢ Routed → HasServed site book here here 1
-  one_ruled here input r some rules other clean_disk m held sound =
-      let turn : Turn = record { input = input; handling = ruled r; answer = own_bytes site false r } in
+  pub one_ruled : (before after : B) (input : List ℕ) (r : Ruling) (entries : Option ℕ) → 0 < length input → HasRuling site.guard input r → r ≢ Routed
+      → IsCounted book before after entries → HasServed site book before after 1
+  one_ruled before after input r entries some rules other counted clean_disk m held sound =
+      let holds : book.holds after m = counted.0.stays clean_disk m held in
+      let turn : Turn = record { input = input; handling = ruled r entries; answer = own_bytes site entries r } in
+      let once : IsServedOnce book before after m (ruled r entries) m =
+      record {
+        step = (refl, counted.1 clean_disk m held);
+        clean_disk = clean_disk;
+        held = holds;
+        crash = (refl, counted.0.crash clean_disk m held);
+        failures = counted.0.failures;
+        blame = λ none. absurd none;
+      } in
       record {
         served = turn ∷ [];
         few = omega arith;
         next = m;
-        run = (here, m, (some, (rules, other, (false, refl))), once_same here m turn.handling refl clean_disk held refl (λ none. none), (refl, refl));
-        held = held;
+        run = (after, m, (some, (rules, other, refl)), once, (refl, refl));
+        held = holds;
         sound = sound;
-        crash = (refl, λ left it. it);
-        failures = inl refl;
+        crash = (refl, counted.0.crash clean_disk m held);
+        failures = counted.0.failures;
         blame = λ t i e. elim i [ inl is ↦ absurd (subst (λ (t : Turn). TellsFailure t.handling) is e) | inr none ↦ absurd none ];
         account = account_same json_texts m m refl;
       }

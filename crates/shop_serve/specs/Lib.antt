@@ -11,3 +11,4 @@ pub mod Thinking
 pub mod Rounds
 pub mod Known
 pub mod Own
+pub mod Dates

@@ -1,9 +1,9 @@
 -- Connections that were served, one request after another.
-use Rattle.std.specs.Prelude.{◌≡◌, ◌≢◌, ◌⊎◌, ◌<◌, ◌≤◌, ◌+◌, ℕ, List, [], ◌∷◌, ◌++◌, length, map, Bool, true, false, Option, Some, None, Result}
+use Rattle.std.specs.Prelude.{◌≡◌, ◌≢◌, ◌⊎◌, ◌<◌, ◌≤◌, ◌+◌, ℕ, List, [], ◌∷◌, ◌++◌, length, map, Bool, true, false, Option, Some, None, IfSome, Result}
 use Rattle.std.specs.List.{flat_map}
 use Rattle.shop_desk.specs.Faults.{CountsUp, StoreFailed}
 use Rattle.shop_desk.specs.Handled.{HasAccount}
-use Rattle.shop_records.specs.Content.{Content}
+use Rattle.shop_records.specs.Content.{Content, entry_count}
 use Rattle.shop_records.specs.Elements.{IsIn}
 use Rattle.shop_records.specs.Soundness.{IsSound}
 use Rattle.shop_records.specs.declared.messages.Message.{Message as ShopMessage}
@@ -24,22 +24,22 @@ use Rattle.shop_forms.specs.Forms.{json_texts}
 use Rattle.shop_serve.specs.declared.faults.ServeFault.{ServeFault}
 use Rattle.shop_serve.specs.declared.faults.ServeFault.TheVariants.{NoMemory, Port, Moved}
 use Rattle.shop_book.specs.declared.books.Book.{Ghosts}
-use Rattle.shop_book.specs.Kept.{OnContent}
+use Rattle.shop_book.specs.Kept.{OnContent, Unchanged}
 use Rattle.shop_wire.specs.Replays.{ExchangesLead}
 use Rattle.shop_wire.specs.AnswerBytes.{Telling, answer_bytes, backup_answer, replied, bytes_of}
-use Rattle.shop_wire.specs.Serves.{ParsedStep, exchanged, body_plans, IsServed}
+use Rattle.shop_wire.specs.Serves.{HandlesInputAt, ParsedStep, exchanged, body_plans, IsServed}
 use Rattle.shop_serve.specs.declared.serving.TheConstants.{MOST_SERVED}
-use Rattle.shop_serve.specs.Sites.{own_bytes}
+use Rattle.shop_serve.specs.Sites.{is_health, own_bytes}
 use Rattle.shop_serve.specs.declared.sites.Site.{Site}
 use Rattle.shop_serve.specs.Times.{Times, Copies, Tells, TellsNone}
 use Rattle.std.specs.declared.time.Instant.{Instant}
 
--- What is done with a request: it goes to its route, with this parse, and this is told; or the site answers by itself; or its
--- body is a question, and this is what it asks of the content, which is thought about; or it asks for a backup, by this body, and
+-- What is done with a request: it goes to its route, with this parse, and this is told; or the site answers by itself, and may
+-- tell how many entries there are; or its body is a question, and this is what it asks of the content, which is thought about; or it asks for a backup, by this body, and
 -- this came of it.
 pub data Handling : Type 0 where
   routed : ParseResult → Telling → Handling
-  ruled : Ruling → Handling
+  ruled : Ruling → Option ℕ → Handling
   begun : List ℕ → PlansQuery → Posed → Handling
   copied : List ℕ → Result ℕ Refusal → Handling
 
@@ -76,7 +76,7 @@ abbrev pub IsHandling : Site → (input answer : List ℕ) → Handling → Type
 IsHandling site input answer (routed parsed telling) =
     HasRuling site.guard input Routed × ParsesTo input parsed
     × ((unwritten : List ℕ) × (answer ++ unwritten ≡ bytes_of parsed telling))
-IsHandling site input answer (ruled r) = HasRuling site.guard input r × (r ≢ Routed) × ((failed : Bool) × (answer ≡ own_bytes site failed r))
+IsHandling site input answer (ruled r entries) = HasRuling site.guard input r × (r ≢ Routed) × (answer ≡ own_bytes site entries r)
 IsHandling site input answer (begun body query posed) =
     HasRuling site.guard input Routed × ParsesTo input (asking Plans body) × (body_plans body ≡ Some query) × (answer ≡ [])
 IsHandling site input answer (copied body outcome) =
@@ -86,18 +86,22 @@ IsHandling site input answer (copied body outcome) =
 abbrev pub IsTurn : Site → Turn → Type 0
 IsTurn site t = (0 < length t.input) × IsHandling site t.input t.answer t.handling
 
+-- so many entries are in a content, where a number is told
+abbrev pub IsCount : Content → Option ℕ → Type 0
+IsCount content entries = IfSome entries (λ count. count ≡ entry_count content)
+
 -- What the site answers by itself does nothing, and a question and a backup neither. What a question asks is asked of the content as
--- it is then.
+-- it is then, and the entries that are told of are those of it.
 abbrev pub HandlingStep : Content → Handling → Content → Type 0
 HandlingStep old (routed parsed telling) new = ParsedStep old parsed telling new
-HandlingStep old (ruled r) new = new ≡ old
+HandlingStep old (ruled r entries) new = (new ≡ old) × IsCount old entries
 HandlingStep old (begun body query posed) new = (new ≡ old) × IsPosed old query posed
 HandlingStep old (copied body outcome) new = new ≡ old
 
 -- the message that was read, with its reply
 abbrev pub exchange_of : Handling → List (ShopMessage × Reply)
 exchange_of (routed parsed telling) = exchanged parsed telling
-exchange_of (ruled r) = []
+exchange_of (ruled r entries) = []
 exchange_of (begun body query posed) = []
 exchange_of (copied body outcome) = []
 
@@ -108,7 +112,7 @@ exchanges = flat_map (λ t. exchange_of t.handling)
 -- a failed store is told; a backup that wasn't made tells nothing of the store
 abbrev pub TellsFailure : Handling → Type 0
 TellsFailure (routed parsed telling) = telling ≡ replied (Refused StoreFault)
-TellsFailure (ruled r) = ⊥
+TellsFailure (ruled r entries) = ⊥
 TellsFailure (begun body query posed) = ⊥
 TellsFailure (copied body outcome) = ⊥
 
@@ -176,12 +180,22 @@ AsksBackup site received = HasRuling site.guard received Routed × ((body : List
 abbrev pub AsksElse : List ℕ → Type 0
 AsksElse received = (parsed : ParseResult) × ParsesTo received parsed × (asks_backup parsed ≡ false)
 
+-- A book was asked how many entries it has, and is left as it was, but that it counts its failures. Where a number is told, the
+-- content that it held has so many.
+abbrev pub IsCounted : {B : Type 0} → Ghosts B → B → B → Option ℕ → Type 0
+IsCounted book before after entries = Unchanged book CountsUp before after × OnContent book before after (λ m. IsCount m entries)
+
+-- a book is the same, but where the state of the server is asked for: then it was asked how many entries it has
+abbrev pub IsAskedFor : {B : Type 0} → Ghosts B → B → B → Ruling → Option ℕ → Type 0
+IsAskedFor book before after r entries = (is_health r ≡ false → after ≡ before) × IsCounted book before after entries
+
 -- The whole answer to some bytes that ask for no backup: by their head they went to their route, and that is the answer to what they
--- stand for; or the site answered by itself, as the store failed or not, and the book is the same.
+-- stand for; or the site answered by itself, and the book is the same but for what its state was asked for.
 abbrev pub IsAnsweredAlone : Site → {B : Type 0} → Ghosts B → B → B → (received answer : List ℕ) → Type 0
 IsAnsweredAlone site book before after received answer =
     (HasRuling site.guard received Routed × IsServed book before after (Some received) (Some []) (Some answer) [] × AsksElse received)
-    ⊎ ((r : Ruling) × (failed : Bool) × HasRuling site.guard received r × (r ≢ Routed) × (answer ≡ own_bytes site failed r) × (after ≡ before))
+    ⊎ ((r : Ruling) × (entries : Option ℕ) × HasRuling site.guard received r × (r ≢ Routed) × (answer ≡ own_bytes site entries r)
+    × IsAskedFor book before after r entries)
 
 -- the whole answer to some bytes that ask for a backup, of which this came
 abbrev pub IsBackupAnswer : Site → (received answer : List ℕ) → Result ℕ Refusal → Type 0
@@ -202,3 +216,8 @@ IsAnsweredMeanwhile site book before after seen between received answer =
 abbrev pub IsAnsweredThen : Site → {B : Type 0} → Ghosts B → B → B → (seen seeing : Times) → Instant → (received answer : List ℕ) → Type 0
 IsAnsweredThen site book before after seen seeing now received answer =
     (between : Times) × IsAnsweredMeanwhile site book before after seen between received answer × Tells between seeing now
+
+-- Where by its head an input goes to its route, the message that it is, if it is one, was handled as one that was given this time.
+abbrev pub HandlesRequestAt : Site → {B : Type 0} → Ghosts B → B → B → (at : ℕ) → (input : List ℕ) → Type 0
+HandlesRequestAt site book before after at input =
+    HasRuling site.guard input Routed → (parsed : ParseResult) → ParsesTo input parsed → HandlesInputAt book before after at parsed

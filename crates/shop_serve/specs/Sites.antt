@@ -31,31 +31,37 @@ page_bytes page = page_start ++ decimal (length page) ++ page_fields ++ page
 abbrev pub other_run_bytes : List ℕ
 other_run_bytes = codes "HTTP/1.1 412 Precondition Failed\r\nContent-Length: 0\r\nConnection: close\r\n\r\n"
 
--- the state of a server whose store is good: its run and its version
-abbrev pub health_text : (run version : List ℕ) → List ℕ
-health_text run version = codes "{\"entries\":0,\"ok\":\"health\",\"run\":\"" ++ run ++ codes "\",\"version\":\"" ++ version ++ codes "\"}"
+-- the state of a server whose store is good: how many entries it has, its run and its version
+abbrev pub health_text : (entries : ℕ) → (run version : List ℕ) → List ℕ
+health_text entries run version =
+    codes "{\"entries\":" ++ decimal entries ++ codes ",\"ok\":\"health\",\"run\":\"" ++ run ++ codes "\",\"version\":\"" ++ version ++ codes "\"}"
 
 -- the answer that is a text of JSON
 abbrev pub json_bytes : List ℕ → List ℕ
 json_bytes text =
     codes "HTTP/1.1 200 OK\r\nContent-Type: application/json\r\nContent-Length: " ++ decimal (length text) ++ codes "\r\nConnection: close\r\n\r\n" ++ text
 
--- the answer that tells the state of a server, whose store failed or not
-abbrev pub health_bytes : Site → (failed : Bool) → List ℕ
-health_bytes site false = json_bytes (health_text (string_bytes site.run) (string_bytes site.version))
-health_bytes site true = answer_bytes (backup_answer (Err StoreFault))
+-- the answer that tells the state of a server: how many entries its store has, or that it failed
+abbrev pub health_bytes : Site → (entries : Option ℕ) → List ℕ
+health_bytes site (Some entries) = json_bytes (health_text entries (string_bytes site.run) (string_bytes site.version))
+health_bytes site None = answer_bytes (backup_answer (Err StoreFault))
 
 -- whether a request goes to its route
 abbrev pub is_routed : Ruling → Bool
 is_routed Routed = true
 is_routed _ = false
 
--- what a site answers by itself, as its store failed or not
-abbrev pub own_bytes : Site → (failed : Bool) → Ruling → List ℕ
-own_bytes site failed Routed = []
-own_bytes site failed Forbidden = forbidden_bytes
-own_bytes site failed OtherRun = other_run_bytes
-own_bytes site failed Page = page_bytes site.page.items
-own_bytes site failed Health = health_bytes site failed
-own_bytes site failed OnlyGet = answer_bytes (fault_answer faults.OnlyGet)
-own_bytes site failed NoBackups = answer_bytes (fault_answer faults.NotFound)
+-- whether the state of the server is asked for
+abbrev pub is_health : Ruling → Bool
+is_health Health = true
+is_health _ = false
+
+-- what a site answers by itself, where its store has so many entries, or failed
+abbrev pub own_bytes : Site → (entries : Option ℕ) → Ruling → List ℕ
+own_bytes site entries Routed = []
+own_bytes site entries Forbidden = forbidden_bytes
+own_bytes site entries OtherRun = other_run_bytes
+own_bytes site entries Page = page_bytes site.page.items
+own_bytes site entries Health = health_bytes site entries
+own_bytes site entries OnlyGet = answer_bytes (fault_answer faults.OnlyGet)
+own_bytes site entries NoBackups = answer_bytes (fault_answer faults.NotFound)

@@ -1,7 +1,7 @@
 //! What is made of the bytes of a request: its route's answer, what the site answers by itself, a question that is to be
 //! thought about, or a backup that is to be made.
 
-ghost use Rattle.std.specs.Prelude.{◌≡◌, ◌≢◌, ◌⊎◌, ◌<◌, ◌++◌, ℕ, Result, length, IfOk, IfSome, Some, [], string_bytes, decimal};
+ghost use Rattle.std.specs.Prelude.{◌≡◌, ◌≢◌, ◌⊎◌, ◌<◌, ◌++◌, ℕ, Result, length, IfErr, IfOk, IfSome, None, Ok, Option, Some, true, [], string_bytes, decimal};
 ghost use Rattle.shop_records.specs.declared.refusals.Refusal.{Refusal as RefusalOf};
 ghost use Rattle.shop_request.specs.Guards.{HasRuling};
 ghost use Rattle.shop_request.specs.declared.guards.Ruling.TheVariants as ruling;
@@ -10,13 +10,13 @@ ghost use Rattle.shop_wire.specs.AnswerBytes.{answer_bytes, backup_answer};
 ghost use Rattle.shop_request.specs.Reading.{IsHeadIn};
 ghost use Rattle.shop_request.specs.Requests.{parse_of};
 ghost use Rattle.shop_serve.specs.Making.{IsMadeMeanwhile, IsNext};
-ghost use Rattle.shop_serve.specs.Serving.{HasServed, asks_backup, asks_message};
+ghost use Rattle.shop_serve.specs.Serving.{HandlesRequestAt, HasServed, IsAskedFor, IsCounted, asks_backup, asks_message};
 ghost use Rattle.shop_serve.specs.Times.{Copies, TellsNone};
-ghost use Rattle.shop_serve.specs.Sites.{health_bytes, health_text, is_routed, json_bytes, own_bytes, page_bytes, page_fields, page_start};
+ghost use Rattle.shop_serve.specs.Sites.{health_bytes, health_text, is_health, is_routed, json_bytes, own_bytes, page_bytes, page_fields, page_start};
 
 use crate::sites::Site;
 use crate::watches::Watch;
-use shop_book::Book;
+use shop_book::{Book, BookFault};
 use shop_planning::Thought;
 use shop_request::{Head, Inbound, Route, Ruling, inbound_of};
 use shop_rules::Refusal;
@@ -109,19 +109,21 @@ fn asks_message(inbound: &Inbound) -> bool
     }
 }
 
-// Serves the bytes that came at their route, and gives the whole answer, or begins their question. A backup that they ask for
-// is still to be made.
+// Serves the bytes that came at their route, and gives the whole answer, or begins their question. A message is given this time.
+// A backup that they ask for is still to be made.
 fn routed_answer<B: Book>(
     alloc: Global,
     site: &Site,
     head: &Head,
     received: &[u8],
+    at: u64,
     book: &mut B,
 ) -> Option<Next>
     requires some { 0 < length received.now }
     requires head { IsHeadIn received.now head.now }
     requires goes { HasRuling site.now.guard received.now ruling.Routed }
     ensures made { IfSome result (IsNext site.now B.Book book.old book.new received.now) }
+    ensures timed { HandlesRequestAt site.now B.Book book.old book.new at received.now }
     ensures step { HasServed site.now B.Book book.old book.new 1 }
     ensures clean_disk { B.has_clean_disk book.new → B.has_clean_disk book.old }
 {
@@ -133,7 +135,7 @@ fn routed_answer<B: Book>(
         bytes: Vec::new(alloc),
         failures: 0,
     };
-    match begin_inbound(alloc, &inbound, &mut sink, book) {
+    match begin_inbound(alloc, &inbound, &mut sink, book, at) {
         Ok(None) => Some(Next::Made(Made::Answer(sink.bytes))),
         Ok(Some(thought)) => Some(Next::Made(Made::Thought(thought))),
         Err(_) => None,
@@ -167,30 +169,30 @@ fn json_answer(alloc: Global, text: &str) -> Result<String, AllocError>
 }
 
 // The state of a server whose store is good.
-fn health_text(alloc: Global, run: &str, version: &str) -> Result<String, AllocError>
-    ensures { IfOk result (λ text. string_bytes text ≡ health_text run.now version.now) }
+fn health_text(alloc: Global, entries: u64, run: &str, version: &str) -> Result<String, AllocError>
+    ensures { IfOk result (λ text. string_bytes text ≡ health_text entries run.now version.now) }
 {
     format!(in alloc;
-        "{{\"entries\":0,\"ok\":\"health\",\"run\":\"{run}\",\"version\":\"{version}\"}}"
+        "{{\"entries\":{entries},\"ok\":\"health\",\"run\":\"{run}\",\"version\":\"{version}\"}}"
     )
 }
 
-// The answer that tells the state of a server, whose store failed or not.
-fn health_answer(alloc: Global, site: &Site, failed: bool) -> Result<String, AllocError>
-    ensures { IfOk result (λ answer. string_bytes answer ≡ health_bytes site.now failed) }
+// The answer that tells the state of a server: how many entries its store has, or that it failed.
+fn health_answer(alloc: Global, site: &Site, entries: Option<u64>) -> Result<String, AllocError>
+    ensures { IfOk result (λ answer. string_bytes answer ≡ health_bytes site.now entries) }
 {
-    if failed {
+    let Some(entries) = entries else {
         return backup_answer(alloc, Err(Refusal::StoreFault));
-    }
-    let text = health_text(alloc, site.run.as_str(), site.version.as_str())?;
+    };
+    let text = health_text(alloc, entries, site.run.as_str(), site.version.as_str())?;
     json_answer(alloc, text.as_str())
 }
 
 // The same, as bytes.
-fn health_of(alloc: Global, site: &Site, failed: bool) -> Result<Vec<u8>, AllocError>
-    ensures { IfOk result (λ answer. answer.items ≡ health_bytes site.now failed) }
+fn health_of(alloc: Global, site: &Site, entries: Option<u64>) -> Result<Vec<u8>, AllocError>
+    ensures { IfOk result (λ answer. answer.items ≡ health_bytes site.now entries) }
 {
-    let answer = health_answer(alloc, site, failed)?;
+    let answer = health_answer(alloc, site, entries)?;
     Ok(answer.into_bytes())
 }
 
@@ -201,14 +203,21 @@ fn is_routed(ruling: Ruling) -> bool
     matches!(ruling, Ruling::Routed)
 }
 
-// What the site answers by itself, as its store failed or not.
+// Whether the state of the server is asked for.
+fn is_health(ruling: Ruling) -> bool
+    ensures { result ≡ is_health ruling }
+{
+    matches!(ruling, Ruling::Health)
+}
+
+// What the site answers by itself, where its store has so many entries, or failed.
 fn own_answer(
     alloc: Global,
     site: &Site,
-    failed: bool,
+    entries: Option<u64>,
     ruling: Ruling,
 ) -> Result<Vec<u8>, AllocError>
-    ensures { IfOk result (λ answer. answer.items ≡ own_bytes site.now failed ruling) }
+    ensures { IfOk result (λ answer. answer.items ≡ own_bytes site.now entries ruling) }
 {
     match ruling {
         Ruling::Routed => Ok(Vec::new(alloc)),
@@ -217,33 +226,85 @@ fn own_answer(
         Ruling::OnlyGet => Vec::from_slice(alloc, ONLY_GET),
         Ruling::NoBackups => Vec::from_slice(alloc, NOT_FOUND),
         Ruling::Page => page_answer(alloc, &site.page),
-        Ruling::Health => health_of(alloc, site, failed),
+        Ruling::Health => health_of(alloc, site, entries),
     }
 }
 
-// Serves the bytes that came, and gives the whole answer, or begins their question. A backup that they ask for is still to be
-// made. Where memory is wanting there is nothing, though what was asked for may be done.
+// How many entries a book has; none where its store fails.
+fn count_entries<B: Book>(book: &mut B) -> Result<Option<u64>, AllocError>
+    ensures ok { IfOk result (IsCounted B.Book book.old book.new) }
+    ensures err { IfErr result (λ _. IsCounted B.Book book.old book.new None) }
+{
+    match book.last_entry() {
+        Ok((entries, _)) => Ok(Some(entries)),
+        Err(BookFault::NoMemory) => Err(AllocError),
+        Err(_) => Ok(None),
+    }
+}
+
+// How many entries there are, where that is asked for and the store is good.
+fn entries_for<B: Book>(
+    ruling: Ruling,
+    failed: bool,
+    book: &mut B,
+) -> Result<Option<u64>, AllocError>
+    ensures ok { IfOk result (IsAskedFor B.Book book.old book.new ruling) }
+    ensures err { IfErr result (λ _. IsAskedFor B.Book book.old book.new ruling None) }
+    ensures failed { failed ≡ true → result ≡ Ok None }
+{
+    if failed || !is_health(ruling) {
+        return Ok(None);
+    }
+    count_entries(book)
+}
+
+// What the site answers by itself, as its store failed or not.
+fn ruled_answer<B: Book>(
+    alloc: Global,
+    site: &Site,
+    failed: bool,
+    ruling: Ruling,
+    book: &mut B,
+) -> Option<Vec<u8>>
+    ensures made { IfSome result (λ answer. (entries : Option ℕ)
+        × (answer.items ≡ own_bytes site.now entries ruling)
+        × IsAskedFor B.Book book.old book.new ruling entries) }
+    ensures asked { (entries : Option ℕ) × IsAskedFor B.Book book.old book.new ruling entries }
+{
+    let Ok(entries) = entries_for(ruling, failed, book) else {
+        return None;
+    };
+    match own_answer(alloc, site, entries, ruling) {
+        Ok(answer) => Some(answer),
+        Err(_) => None,
+    }
+}
+
+// Serves the bytes that came, and gives the whole answer, or begins their question. A message is given this time. A backup that
+// they ask for is still to be made. Where memory is wanting there is nothing, though what was asked for may be done.
 fn answer_of<B: Book>(
     alloc: Global,
     site: &Site,
     failed: bool,
     head: &Head,
     received: &[u8],
+    at: u64,
     book: &mut B,
 ) -> Option<Next>
     requires some { 0 < length received.now }
     requires head { IsHeadIn received.now head.now }
     ensures made { IfSome result (IsNext site.now B.Book book.old book.new received.now) }
+    ensures timed { HandlesRequestAt site.now B.Book book.old book.new at received.now }
     ensures step { HasServed site.now B.Book book.old book.new 1 }
     ensures clean_disk { B.has_clean_disk book.new → B.has_clean_disk book.old }
 {
     let ruling = site.guard.rule(head, received);
     if is_routed(ruling) {
-        return routed_answer(alloc, site, head, received, book);
+        return routed_answer(alloc, site, head, received, at, book);
     }
-    match own_answer(alloc, site, failed, ruling) {
-        Ok(answer) => Some(Next::Made(Made::Answer(answer))),
-        Err(_) => None,
+    match ruled_answer(alloc, site, failed, ruling, book) {
+        Some(answer) => Some(Next::Made(Made::Answer(answer))),
+        None => None,
     }
 }
 
@@ -281,8 +342,8 @@ fn copied_answer<K: Watch>(alloc: Global, watch: &mut K) -> Option<Vec<u8>>
     }
 }
 
-/// Serves the bytes that came, by their head, and gives the whole answer, or begins their question. A backup that they ask for
-/// is made. Where memory is wanting there is nothing, though what was asked for may be done.
+/// Serves the bytes that came, by their head, and gives the whole answer, or begins their question. A message is given the time
+/// that it is. A backup that they ask for is made. Where memory is wanting there is nothing, though what was asked for may be done.
 pub(crate) fn made_of<K: Watch, B: Book>(
     alloc: Global,
     site: &Site,
@@ -295,11 +356,14 @@ pub(crate) fn made_of<K: Watch, B: Book>(
     requires head { IsHeadIn received.now head.now }
     ensures made { IfSome result (IsMadeMeanwhile site.now B.Book book.old book.new
         (K.times watch.old) (K.times watch.new) received.now) }
+    ensures timed { IfSome (K.date watch.old)
+        (λ at. HandlesRequestAt site.now B.Book book.old book.new at received.now) }
     ensures step { HasServed site.now B.Book book.old book.new 1 }
     ensures clean_disk { B.has_clean_disk book.new → B.has_clean_disk book.old }
 {
     let is_message = asks_message(&inbound_of(head, received));
-    match answer_of(alloc, site, watch.has_failed(), head, received, book)? {
+    let at = watch.second();
+    match answer_of(alloc, site, watch.has_failed(), head, received, at, book)? {
         Next::Made(made) => {
             note_made(watch, is_message, &made);
             Some(made)

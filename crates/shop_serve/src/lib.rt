@@ -5,6 +5,7 @@
 mod answers;
 mod clients;
 mod connections;
+mod dates;
 mod faults;
 mod laws;
 mod lines;
@@ -16,6 +17,7 @@ mod thinking;
 mod transfers;
 mod watches;
 
+pub use dates::{note_clock, second_now};
 pub use faults::ServeFault;
 pub use lines::Lines;
 pub use ports::{Listener, PortCause, listen};

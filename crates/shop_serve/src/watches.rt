@@ -6,6 +6,7 @@ ghost use Rattle.std.specs.Duration.{as_nanos, max_nanos};
 ghost use Rattle.std.specs.Time.{instant_nanos};
 ghost use Rattle.shop_serve.specs.Watches.{failed_after, is_done, is_store_fault};
 
+use crate::dates::second_now;
 use crate::faults::ServeFault;
 use crate::lines::Lines;
 use shop_advice::{FailureCause, answer_note, backup_note, no_backup_note, tells_failure};
@@ -18,11 +19,14 @@ use std::time::{Clock, Duration, Instant};
 
 /// What tells a server's time, and makes its backups.
 pub(crate) trait Watch {
-    ghost use Rattle.std.specs.Prelude.{◌≡◌};
+    ghost use Rattle.std.specs.Prelude.{◌≡◌, ℕ, IfSome, Option};
     ghost use Rattle.shop_serve.specs.Times.{Copies, Looks, Times, Tells, TellsNone};
 
     /// The times that it told so far, what came of backups meanwhile, and where the store's names led, where they are known.
     ghost times: { Self → Times };
+
+    /// The second that its clock reads, where it is known.
+    ghost date: { Self → Option ℕ };
 
     /// Tells the time, and goes on where it stood still.
     fn now(&mut self) -> Instant
@@ -31,6 +35,10 @@ pub(crate) trait Watch {
     /// Stands still until the time is told next.
     fn stop(&mut self)
         ensures { TellsNone (times self.old) (times self.new) };
+
+    /// The second that it is, counted from 1970-01-01 00:00 UTC; 0 where it can't be read, or is before that.
+    fn second(&self) -> u64
+        ensures { IfSome (date self.now) (λ second. result ≡ second) };
 
     /// Whether the store's names lead to the files that are open.
     fn is_in_place(&mut self) -> bool
@@ -180,6 +188,8 @@ impl<'a, R: Clock + Eprint + Files> Watch for Stopwatch<'a, R> {
 
     ghost times = { λ _. None };
 
+    ghost date = { λ _. None };
+
     // Where the clock can't be read it is the last time again.
     fn now(&mut self) -> Instant {
         if let Ok(reading) = Instant::now(self.clock) {
@@ -192,6 +202,10 @@ impl<'a, R: Clock + Eprint + Files> Watch for Stopwatch<'a, R> {
 
     fn stop(&mut self) {
         self.stopped = Instant::now(self.clock).ok();
+    }
+
+    fn second(&self) -> u64 {
+        second_now(self.clock)
     }
 
     fn is_in_place(&mut self) -> bool {

@@ -8,7 +8,7 @@ use Rattle.std.specs.Ordering.{eq_by_cmp, is_eq, nat_cmp, ordering_then}
 use Rattle.std.specs.Cmp.{IsTotalOrder, nat_cmp_total, on_total, then_total}
 use Rattle.std.specs.Cmp.Lexicographic.{nat_list_cmp_total}
 use Rattle.std.specs.FinMap.{IsAntisymmetric, get, nat_cmp-IsAntisymmetric, slice_cmp-IsAntisymmetric}
-use Rattle.sqlite_value.specs.declared.value.Value.TheVariants.{Int, Text}
+use Rattle.sqlite_value.specs.declared.value.Value.TheVariants.{Int, Text, Null}
 use Rattle.sqlite_value.specs.Order.{Row, column}
 use Rattle.sqlite_value.proofs.KeyLemmas.{then_tied}
 use Rattle.sqlite.specs.Schema.{Schema}
@@ -17,12 +17,13 @@ use Rattle.cut_measure.specs.Codes.{code_cmp}
 use Rattle.cut_measure.specs.Names.{Name, name_cmp}
 use Rattle.shop_records.specs.Content.{pair_cmp}
 use Rattle.shop_records.specs.declared.texts.Pair.{Pair}
-use Rattle.shop_statements.specs.Rows.{AreRows, meta_row, meta_entries, kept_columns, kept_row, import_columns, import_row}
+use Rattle.shop_statements.specs.declared.uses.JobOrder.{JobOrder}
+use Rattle.shop_statements.specs.Rows.{AreRows, meta_row, meta_entries, kept_columns, kept_row, import_columns, import_row, entry_columns, journal_row, use_cmp}
 use Rattle.shop_statements.specs.Shown.{Books, Shows}
 use Rattle.shop_statements.proofs.Selects.{selects, selected}
 use Rattle.shop_statements.proofs.Terms.{Reads, from_table}
 use Rattle.shop_statements.proofs.Keys.{equal, equal-Int, equal-Text, and_true, shown_as}
-use Rattle.shop_statements.proofs.Texts.{shop, shop_is, by_one, get_meta_text, get_meta_terms, get_meta_is, get_kept_text, get_kept_terms, get_kept_is, get_import_text, get_import_terms, get_import_is, by_one, by_two}
+use Rattle.shop_statements.proofs.Texts.{shop, shop_is, by_one, get_meta_text, get_meta_terms, get_meta_is, get_kept_text, get_kept_terms, get_kept_is, get_import_text, get_import_terms, get_import_is, get_entry_text, get_entry_terms, get_entry_is, by_one, by_two, by_number}
 use Rattle.shop_statements.proofs.Reading.{asked, finds}
 
 pub code_total : IsTotalOrder code_cmp
@@ -46,6 +47,14 @@ pub pair_same : IsAntisymmetric pair_cmp
 pair_same x y e =
     let parts = then_tied (nat_cmp x.terminal y.terminal) (nat_cmp x.number y.number) e in
     λ i. record { terminal = nat_cmp-IsAntisymmetric x.terminal y.terminal parts.0 i; number = nat_cmp-IsAntisymmetric x.number y.number parts.1 i }
+
+pub use_total : IsTotalOrder use_cmp
+use_total = then_total (on_total (λ (u : JobOrder). u.job) nat_cmp_total) (on_total (λ (u : JobOrder). u.order) code_total)
+
+pub use_same : IsAntisymmetric use_cmp
+use_same x y e =
+    let parts = then_tied (nat_cmp x.job y.job) (code_cmp x.order y.order) e in
+    λ i. record { job = nat_cmp-IsAntisymmetric x.job y.job parts.0 i; order = code_same x.order y.order parts.1 i }
 
 -- two numbers are tested as two orders, one after the other
 pub both_equal : (a b m n : ℕ) → (is_eq (nat_cmp a m) && (is_eq (nat_cmp b n) && true)) ≡ is_eq (ordering_then (nat_cmp a m) (nat_cmp b n))
@@ -105,6 +114,15 @@ module _ (old new : State) (rows : List Row) (b : Books) (has : Shows old b) whe
   finds_import code shown =
       finds code_total code_same 1 import_row (λ e. import_columns e.1) b.content.imports code _ (is_word code) (word_later code) (λ e. word_tests e.0 code (import_columns e.1)) _ material_shown material_shown_later (λ e. refl) _ rows has.stands.imports
       (asked old new has.schema get_import_text (Text code ∷ []) 13 by_one get_import_terms _ (get_import_is old.now.schema has.schema) refl rows shown)
+
+abbrev entry_shown : Row → Row
+entry_shown d = column d 2 ∷ column d 3 ∷ column d 4 ∷ column d 5 ∷ column d 6 ∷ column d 7 ∷ column d 8 ∷ column d 9 ∷ column d 10 ∷ []
+
+module _ (old new : State) (rows : List Row) (b : Books) (has : Shows old b) where
+  pub finds_entry : (n : ℕ) → Shown get_entry_text (Int (pos n) ∷ []) old new rows → rows ≡ option_to_list (option_map entry_columns (get b.content.entries n))
+  finds_entry n shown =
+      finds nat_cmp_total nat_cmp-IsAntisymmetric 0 journal_row (λ e. entry_columns e.1) b.content.entries n _ (is_number n) (λ r. refl) (λ e. number_tests e.0 n (Null ∷ entry_columns e.1)) _ entry_shown (λ r. refl) (λ e. refl) _ rows has.stands.journal
+      (asked old new has.schema get_entry_text (Int (pos n) ∷ []) 19 by_number get_entry_terms _ (get_entry_is old.now.schema has.schema) refl rows shown)
 
 abbrev pub meta_shown : Row → Row
 meta_shown d = column d 1 ∷ []

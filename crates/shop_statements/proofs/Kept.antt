@@ -31,14 +31,14 @@ module _ (old new : State) (m : Books) where
       let now : old.now ≡ new.now = sym same.0.now_is in
       let commit : old.committed ≡ new.committed = sym same.0.committed_is in
       record {
-        shows = record { schema = subst (λ (d : Database). HasShopTables d.schema) now was.shows.schema; sound = subst IsDatabase now was.shows.sound; stands = subst (λ (d : Database). Stands d.trees m.content m.totals) now was.shows.stands; keyed = was.shows.keyed };
+        shows = record { schema = subst (λ (d : Database). HasShopTables d.schema) now was.shows.schema; sound = subst IsDatabase now was.shows.sound; stands = subst (λ (d : Database). Stands d.trees m.content m.totals m.uses) now was.shows.stands; keyed = was.shows.keyed };
         committed = sym now ∙ was.committed ∙ commit;
       }
   settled_stays (inr undone) up was =
       let back = undone.undone up in
       let now : old.now ≡ new.now = was.committed ∙ sym back.0 in
       record {
-        shows = record { schema = subst (λ (d : Database). HasShopTables d.schema) now was.shows.schema; sound = subst IsDatabase now was.shows.sound; stands = subst (λ (d : Database). Stands d.trees m.content m.totals) now was.shows.stands; keyed = was.shows.keyed };
+        shows = record { schema = subst (λ (d : Database). HasShopTables d.schema) now was.shows.schema; sound = subst IsDatabase now was.shows.sound; stands = subst (λ (d : Database). Stands d.trees m.content m.totals m.uses) now was.shows.stands; keyed = was.shows.keyed };
         committed = back.0 ∙ sym back.1;
       }
 

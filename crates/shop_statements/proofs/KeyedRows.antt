@@ -15,8 +15,9 @@ use Rattle.shop_records.specs.declared.records.Part.{Part}
 use Rattle.shop_records.specs.declared.records.Job.{Job}
 use Rattle.shop_records.specs.declared.records.Demand.{Demand}
 use Rattle.shop_records.specs.declared.imports.ImportRow.{ImportRow}
+use Rattle.shop_records.specs.declared.journal.Entry.{Entry}
 use Rattle.shop_statements.specs.Rows.{IsKeyed, IsOwnJob}
-use Rattle.shop_statements.specs.Values.{IsPartValue}
+use Rattle.shop_statements.specs.Values.{IsEntryValue, IsPartValue}
 use Rattle.shop_statements.proofs.Finding.{code_total, code_same, name_total, name_same}
 
 some_same : {X : Type 0} (x y : X) → Some x ≡ Some y → x ≡ y
@@ -91,8 +92,10 @@ module _ (m : Content) (keyed : IsKeyed m) where
     jobs = λ number job there. job_still m (record m { materials = insert m.materials x.code x }) (λ q p found. (p, found, itself p)) (λ code y. found_still code_total code_same m.materials x.code code x y fresh) number job (keyed.jobs number job there);
     demands = keyed.demands;
     imports = keyed.imports;
+    entries = keyed.entries;
     codes = each_then code_total code_same (λ code y. IsTrue (is_code code)) m.materials x.code x keyed.codes coded;
     values = keyed.values;
+    noted = keyed.noted;
   }
 
   pub with_part_keyed : (x : Part) → IsPartValue x → get m.parts x.name ≡ None → IsKeyed (record m { parts = insert m.parts x.name x })
@@ -102,8 +105,10 @@ module _ (m : Content) (keyed : IsKeyed m) where
     jobs = λ number job there. job_still m (record m { parts = insert m.parts x.name x }) (λ q p found. (p, found_still name_total name_same m.parts x.name q x p fresh found, itself p)) (λ code y found. found) number job (keyed.jobs number job there);
     demands = keyed.demands;
     imports = keyed.imports;
+    entries = keyed.entries;
     codes = keyed.codes;
     values = each_then name_total name_same (λ name y. IsPartValue y) m.parts x.name x keyed.values value;
+    noted = keyed.noted;
   }
 
   pub with_moved_keyed : (x d : Part) → IsPartValue x → get m.parts x.name ≡ Some d → SameCut d x → IsKeyed (record m { parts = insert m.parts x.name x })
@@ -113,8 +118,10 @@ module _ (m : Content) (keyed : IsKeyed m) where
     jobs = λ number job there. job_still m (record m { parts = insert m.parts x.name x }) (λ q p found. found_like name_total name_same SameCut itself m.parts x.name q x d p was like found) (λ code y found. found) number job (keyed.jobs number job there);
     demands = keyed.demands;
     imports = keyed.imports;
+    entries = keyed.entries;
     codes = keyed.codes;
     values = each_then name_total name_same (λ name y. IsPartValue y) m.parts x.name x keyed.values value;
+    noted = keyed.noted;
   }
 
   pub with_job_keyed : (x : Job) → IsOwnJob m x.act x → IsKeyed (record m { jobs = insert m.jobs x.act x })
@@ -124,8 +131,10 @@ module _ (m : Content) (keyed : IsKeyed m) where
     jobs = λ number job there. job_still m (record m { jobs = insert m.jobs x.act x }) (λ q p found. (p, found, itself p)) (λ code y found. found) number job (each_then nat_cmp_total nat_cmp-IsAntisymmetric (IsOwnJob m) m.jobs x.act x keyed.jobs own number job there);
     demands = keyed.demands;
     imports = keyed.imports;
+    entries = keyed.entries;
     codes = keyed.codes;
     values = keyed.values;
+    noted = keyed.noted;
   }
 
   pub with_demand_keyed : (x : Demand) → IsKeyed (record m { demands = insert m.demands x.number x })
@@ -135,8 +144,10 @@ module _ (m : Content) (keyed : IsKeyed m) where
     jobs = λ number job there. job_still m (record m { demands = insert m.demands x.number x }) (λ q p found. (p, found, itself p)) (λ code y found. found) number job (keyed.jobs number job there);
     demands = each_then nat_cmp_total nat_cmp-IsAntisymmetric (λ number y. y.number ≡ number) m.demands x.number x keyed.demands refl;
     imports = keyed.imports;
+    entries = keyed.entries;
     codes = keyed.codes;
     values = keyed.values;
+    noted = keyed.noted;
   }
 
   pub with_import_keyed : (x : ImportRow) → IsKeyed (record m { imports = insert m.imports x.order x })
@@ -146,6 +157,21 @@ module _ (m : Content) (keyed : IsKeyed m) where
     jobs = λ number job there. job_still m (record m { imports = insert m.imports x.order x }) (λ q p found. (p, found, itself p)) (λ code y found. found) number job (keyed.jobs number job there);
     demands = keyed.demands;
     imports = each_then code_total code_same (λ code y. y.order ≡ code) m.imports x.order x keyed.imports refl;
+    entries = keyed.entries;
     codes = keyed.codes;
     values = keyed.values;
+    noted = keyed.noted;
+  }
+
+  pub with_entry_keyed : (x : Entry) → IsEntryValue x → IsKeyed (record m { entries = insert m.entries x.number x })
+  with_entry_keyed x value = record {
+    materials = keyed.materials;
+    parts = keyed.parts;
+    jobs = λ number job there. job_still m (record m { entries = insert m.entries x.number x }) (λ q p found. (p, found, itself p)) (λ code y found. found) number job (keyed.jobs number job there);
+    demands = keyed.demands;
+    imports = keyed.imports;
+    entries = each_then nat_cmp_total nat_cmp-IsAntisymmetric (λ number y. y.number ≡ number) m.entries x.number x keyed.entries refl;
+    codes = keyed.codes;
+    values = keyed.values;
+    noted = each_then nat_cmp_total nat_cmp-IsAntisymmetric (λ number y. IsEntryValue y) m.entries x.number x keyed.noted value;
   }

@@ -20,3 +20,4 @@ pub mod Steps
 pub mod Beside
 pub mod Versions
 pub mod UnderKeys
+pub mod EntryValues

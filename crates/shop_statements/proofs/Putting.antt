@@ -18,16 +18,19 @@ use Rattle.shop_records.specs.declared.records.Demand.{Demand}
 use Rattle.shop_records.specs.declared.records.Totals.{Totals}
 use Rattle.shop_records.specs.declared.imports.ImportRow.{ImportRow}
 use Rattle.shop_records.specs.declared.texts.KeptMessage.{KeptMessage}
-use Rattle.shop_statements.specs.Layout.{loosened, materials_table, parts_table, jobs_table, orders_table, demands_table, kept_table, imports_table, totals2_table}
-use Rattle.shop_statements.specs.Rows.{IsOwnJob, kind_number, state_number, job_state_number, turn_number, form_number, form_material, material_row, part_row, job_row, order_row, demand_row, kept_row, import_row, totals_row, job_columns, demand_columns}
-use Rattle.shop_statements.specs.Changes.{with_material, with_part, with_job, with_order, with_demand, with_kept, with_import, with_totals}
+use Rattle.shop_records.specs.declared.journal.Entry.{Entry}
+use Rattle.shop_records.specs.Journal.{word_name}
+use Rattle.shop_statements.specs.declared.uses.JobOrder.{JobOrder}
+use Rattle.shop_statements.specs.Layout.{journal_table, uses_table, loosened, materials_table, parts_table, jobs_table, orders_table, demands_table, kept_table, imports_table, totals2_table}
+use Rattle.shop_statements.specs.Rows.{IsOwnJob, kind_number, state_number, job_state_number, turn_number, form_number, form_material, material_row, part_row, job_row, order_row, demand_row, kept_row, import_row, totals_row, job_columns, demand_columns, entry_columns, journal_row, order_text, act_number, node_number, use_row}
+use Rattle.shop_statements.specs.Changes.{with_material, with_part, with_job, with_order, with_demand, with_kept, with_import, with_totals, with_entry, with_use}
 use Rattle.shop_statements.specs.Shown.{Books, Shows}
-use Rattle.shop_statements.specs.Values.{IsPartValue}
-use Rattle.shop_statements.proofs.Finding.{code_total, code_same, name_total, name_same, pair_total, pair_same}
+use Rattle.shop_statements.specs.Values.{IsEntryValue, IsPartValue}
+use Rattle.shop_statements.proofs.Finding.{code_total, code_same, name_total, name_same, pair_total, pair_same, use_total, use_same}
 use Rattle.shop_statements.proofs.Keys.{cast-Int, cast-Null, news_are, news_keyed}
-use Rattle.shop_statements.proofs.KeyedRows.{with_material_keyed, with_part_keyed, with_job_keyed, with_demand_keyed, with_import_keyed}
-use Rattle.shop_statements.proofs.Standing.{materials_shown, parts_shown, jobs_shown, orders_shown, demands_shown, kept_shown, imports_shown, totals2_shown}
-use Rattle.shop_statements.proofs.Texts.{put_material_text, put_material_terms, put_material_is, put_part_text, put_part_terms, put_part_is, put_job_text, put_job_terms, put_job_is, put_order_text, put_order_terms, put_order_is, put_demand_text, put_demand_terms, put_demand_is, put_kept_text, put_kept_terms, put_kept_is, put_import_text, put_import_terms, put_import_is, put_totals_text, put_totals_terms, put_totals_is}
+use Rattle.shop_statements.proofs.KeyedRows.{with_material_keyed, with_part_keyed, with_job_keyed, with_demand_keyed, with_import_keyed, with_entry_keyed}
+use Rattle.shop_statements.proofs.Standing.{materials_shown, parts_shown, jobs_shown, orders_shown, demands_shown, kept_shown, imports_shown, totals2_shown, journal_shown, uses_shown}
+use Rattle.shop_statements.proofs.Texts.{put_material_text, put_material_terms, put_material_is, put_part_text, put_part_terms, put_part_is, put_job_text, put_job_terms, put_job_is, put_order_text, put_order_terms, put_order_is, put_demand_text, put_demand_terms, put_demand_is, put_kept_text, put_kept_terms, put_kept_is, put_import_text, put_import_terms, put_import_is, put_totals_text, put_totals_terms, put_totals_is, put_entry_text, put_entry_terms, put_entry_is, put_use_text, put_use_terms, put_use_is}
 use Rattle.shop_statements.proofs.Writing.{puts, rows_with}
 
 module _ (old new : State) (count : ℕ) (b : Books) (has : Shows old b) where
@@ -70,6 +73,19 @@ module _ (old new : State) (count : ℕ) (b : Books) (has : Shows old b) where
       let put = puts old new has.schema put_import_text (import_row (x.order, x)) 7 (loosened has.schema.imports imports_table) refl put_import_terms 6 (put_import_is old.now.schema has.schema) (Int id ∷ import_row (x.order, x)) count
       (news_are (loosened has.schema.imports imports_table) (import_row (x.order, x)) (old.now.trees 13) (λ i. Text x.order ∷ cast-Int (pos (form_number x.form)) i ∷ Text (form_material x.form) ∷ Text x.text ∷ Text x.reply ∷ [])) ran in
       imports_shown old new b has _ _ (insert b.content.imports x.order x) put (rows_with code_total code_same 1 import_row old new 13 (Int id ∷ import_row (x.order, x)) id b.content.imports x.order x fresh refl refl has.stands.imports put) (with_import_keyed b.content has.keyed x)
+
+  pub puts_entry : (x : Entry) → IsEntryValue x → get b.content.entries x.number ≡ None → Executes put_entry_text (Int (pos x.number) ∷ entry_columns x) old new (Ok count) → Shows new (with_entry x b)
+  puts_entry x value fresh ran =
+      let put = puts old new has.schema put_entry_text (Int (pos x.number) ∷ entry_columns x) 10 (loosened has.schema.journal journal_table) refl put_entry_terms 11 (put_entry_is old.now.schema has.schema) (journal_row (x.number, x)) count
+      (news_keyed (loosened has.schema.journal journal_table) (Null ∷ entry_columns x) (old.now.trees 19) (pos x.number) (λ i. cast-Null i ∷ cast-Int (pos x.at) i ∷ cast-Int (pos x.pair.terminal) i ∷ cast-Int (pos x.pair.number) i ∷ Text (word_name x.word) ∷ cast-Int (pos x.act) i ∷ cast-Int (pos x.job) i ∷ Text (order_text x.order) ∷ cast-Int (pos (act_number x.part)) i ∷ cast-Int (pos (node_number x.part)) i ∷ [])) ran in
+      journal_shown old new b has _ _ (insert b.content.entries x.number x) put (rows_with nat_cmp_total nat_cmp-IsAntisymmetric 0 journal_row old new 19 (journal_row (x.number, x)) (pos x.number) b.content.entries x.number x fresh refl refl has.stands.journal put) (with_entry_keyed b.content has.keyed x value)
+
+  pub puts_use : (x : JobOrder) → get b.uses x ≡ None → Executes put_use_text (use_row (x, tt)) old new (Ok count) → Shows new (with_use x b)
+  puts_use x fresh ran =
+      let id = next_rowid (old.now.trees 20) in
+      let put = puts old new has.schema put_use_text (use_row (x, tt)) 11 (loosened has.schema.uses uses_table) refl put_use_terms 3 (put_use_is old.now.schema has.schema) (Int id ∷ use_row (x, tt)) count
+      (news_are (loosened has.schema.uses uses_table) (use_row (x, tt)) (old.now.trees 20) (λ i. cast-Int (pos x.job) i ∷ Text x.order ∷ [])) ran in
+      uses_shown old new b has _ _ (insert b.uses x tt) put (rows_with use_total use_same 1 use_row old new 20 (Int id ∷ use_row (x, tt)) id b.uses x tt fresh refl refl has.stands.uses put)
 
   pub puts_totals : (code : List ℕ) (x : Totals) → get b.totals code ≡ None → Executes put_totals_text (totals_row (code, x)) old new (Ok count) → Shows new (with_totals code x b)
   puts_totals code x fresh ran =

@@ -1,5 +1,5 @@
 -- What a query on one table gives of a map.
-use Rattle.std.proofs.Common.{◌≡◌, ℕ, pos, Bool, List, [], ◌∷◌, map, drop, filter, Option, Some, None, option_map, Result, IfOk, true, arith, refl, ap, subst, IsPermutation}
+use Rattle.std.proofs.Common.{◌≡◌, ℕ, pos, Bool, List, [], ◌∷◌, map, drop, filter, Option, Some, None, option_map, Result, IfOk, true, arith, refl, sym, ap, subst, ◌∙◌, IsPermutation}
 use Rattle.std.specs.Option.{option_to_list}
 use Rattle.std.specs.List.{list_all}
 use Rattle.std.specs.declared.cmp.Ordering.{Ordering}
@@ -20,7 +20,6 @@ use Rattle.shop_statements.specs.Rows.{AreRows}
 use Rattle.shop_statements.specs.Shown.{Books, Shows, Holds, Leaves, GivesRow, IsRowOf}
 use Rattle.shop_statements.specs.Selecting.{is_select}
 use Rattle.std.proofs.lemmas.Result.{IfOk-weaker}
-use Rattle.sqlite.specs.declared.error.Error.{Error}
 use Rattle.sqlite.specs.declared.rows.Row.{Row as Answered}
 use Rattle.shop_statements.proofs.Steps.{within_itself}
 use Rattle.shop_statements.proofs.Terms.{from_table, Reads}
@@ -77,7 +76,7 @@ none_as Is columns (Some y) h = absurd (let e = h.shown in cc)
 
 -- a query's row on held books is that of what the query finds
 module _ (sql : List ℕ) (params : Row) (old new : State) (is : is_select sql ≡ true) (left : is_select sql ≡ true → Leaves old new) where
-  pub row_given : {X : Type 0} (Is : X → Type 0) (columns : X → Row) (o : Option X) (b : Books) (r : Result (Option Answered) Error) → HasCleanDisk new → Holds old b
+  pub row_given : {X E : Type 0} (Is : X → Type 0) (columns : X → Row) (o : Option X) (b : Books) (r : Result (Option Answered) E) → HasCleanDisk new → Holds old b
       → ((rows : List Row) → Shows old b → Shown sql params old new rows → rows ≡ option_to_list (option_map columns o)) → (Shows old b → (x : X) → o ≡ Some x → Is x)
       → IfOk r (GivesRow sql params old new) → IfOk r (IsRowOf Is columns o)
   row_given Is columns o b r clean was finds known given =
@@ -97,3 +96,12 @@ leaves_then a b c first second = record {
 
 pub one_number : (m n : ℕ) → Int (pos m) ≡ Int (pos n) → m ≡ n
 one_number m n h = cc
+
+-- what is read of the row's columns has the columns of what was found
+pub columns_as : {X : Type 0} (Is : X → Type 0) (columns : X → Row) (o : Option X) (row : Row) (x : X) (back : Row → Row) → IsRowOf Is columns o (Some row) → ((y : X) → back (columns y) ≡ columns y) → back row ≡ columns x → option_map columns (Some x) ≡ option_map columns o
+columns_as Is columns None row x back h whole is = absurd (let e = h.shown in cc)
+columns_as Is columns (Some y) row x back h whole is = let e : row ≡ columns y = let s = h.shown in cc in ap Some (sym is ∙ ap back e ∙ whole y)
+
+pub columns_none : {X : Type 0} (Is : X → Type 0) (columns : X → Row) (o : Option X) → IsRowOf Is columns o None → option_map columns None ≡ option_map columns o
+columns_none Is columns None h = refl
+columns_none Is columns (Some y) h = absurd (let e = h.shown in cc)

@@ -94,7 +94,7 @@ module _ (old new : State) (count : ℕ) (b : Books) (has : Shows old b) where
       let wrote = meta_row (codes "act", n) in
       let put = sets old new has.schema set_meta_text (Text (codes "act") ∷ Int (pos n) ∷ []) 0 (loosened has.schema.meta meta_table) refl by_one set_meta_terms (set_meta_is old.now.schema has.schema) refl it.row it.id wrote count it.found (shown_again it.row it.is ∙ ap (λ v. v ∷ v ∷ wrote) it.key)
       (λ left. news_again (loosened has.schema.meta meta_table) wrote left (Int it.id) it.id (λ i. Text (codes "act") ∷ cast-Int (pos n) i ∷ []) refl) ran in
-      let rows = subst (AreRows 1 _) (sym put.rows) (reordered 1 _ _ _ (IsPermutation-sym _ _ (IsPermutation-middle (meta_row (codes "version", 2) ∷ []) (meta_row (codes "act", n)) (meta_row (codes "demand", b.content.last_demand) ∷ []))) (added 1 (Int it.id ∷ wrote) it.id _ _ refl it.rest put.free)) in
+      let rows = subst (AreRows 1 _) (sym put.rows) (reordered 1 _ _ _ (IsPermutation-sym _ _ (IsPermutation-middle (meta_row (codes "version", 3) ∷ []) (meta_row (codes "act", n)) (meta_row (codes "demand", b.content.last_demand) ∷ []))) (added 1 (Int it.id ∷ wrote) it.id _ _ refl it.rest put.free)) in
       meta_shown old new b has _ _ n b.content.last_demand put rows
     where
       shown_again : (r : Row) → drop 1 r ≡ meta_row (codes "act", b.content.last_act) → again old new has.schema set_meta_text (Text (codes "act") ∷ Int (pos n) ∷ []) 0 (loosened has.schema.meta meta_table) refl by_one set_meta_terms (set_meta_is old.now.schema has.schema) refl r ≡ rowid r ∷ rowid r ∷ meta_row (codes "act", n)
@@ -107,7 +107,7 @@ module _ (old new : State) (count : ℕ) (b : Books) (has : Shows old b) where
       let wrote = meta_row (codes "demand", n) in
       let put = sets old new has.schema set_meta_text (Text (codes "demand") ∷ Int (pos n) ∷ []) 0 (loosened has.schema.meta meta_table) refl by_one set_meta_terms (set_meta_is old.now.schema has.schema) refl it.row it.id wrote count it.found (shown_again it.row it.is ∙ ap (λ v. v ∷ v ∷ wrote) it.key)
       (λ left. news_again (loosened has.schema.meta meta_table) wrote left (Int it.id) it.id (λ i. Text (codes "demand") ∷ cast-Int (pos n) i ∷ []) refl) ran in
-      let rows = subst (AreRows 1 _) (sym put.rows) (reordered 1 _ _ _ (IsPermutation-sym _ _ (IsPermutation-middle (meta_row (codes "version", 2) ∷ meta_row (codes "act", b.content.last_act) ∷ []) (meta_row (codes "demand", n)) [])) (added 1 (Int it.id ∷ wrote) it.id _ _ refl it.rest put.free)) in
+      let rows = subst (AreRows 1 _) (sym put.rows) (reordered 1 _ _ _ (IsPermutation-sym _ _ (IsPermutation-middle (meta_row (codes "version", 3) ∷ meta_row (codes "act", b.content.last_act) ∷ []) (meta_row (codes "demand", n)) [])) (added 1 (Int it.id ∷ wrote) it.id _ _ refl it.rest put.free)) in
       meta_shown old new b has _ _ b.content.last_act n put rows
     where
       shown_again : (r : Row) → drop 1 r ≡ meta_row (codes "demand", b.content.last_demand) → again old new has.schema set_meta_text (Text (codes "demand") ∷ Int (pos n) ∷ []) 0 (loosened has.schema.meta meta_table) refl by_one set_meta_terms (set_meta_is old.now.schema has.schema) refl r ≡ rowid r ∷ rowid r ∷ meta_row (codes "demand", n)

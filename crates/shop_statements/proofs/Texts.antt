@@ -7,7 +7,7 @@ use Rattle.sqlite.specs.Source.TheVariants.{Values}
 use Rattle.sqlite.specs.Term.{Term, lit, col}
 use Rattle.sqlite_value.specs.declared.value.Value.TheVariants.{Null}
 use Rattle.sqlite.specs.Schema.{Schema}
-use Rattle.shop_statements.specs.Layout.{meta_table, materials_table, parts_table, jobs_table, orders_table, demands_table, kept_table, imports_table, totals_table, totals2_table, loosened, HasShopTables}
+use Rattle.shop_statements.specs.Layout.{meta_table, materials_table, parts_table, jobs_table, orders_table, demands_table, kept_table, imports_table, totals_table, totals2_table, journal_table, uses_table, notes_table, begun_table, halts_table, loosened, HasShopTables}
 use Rattle.shop_statements.specs.Selecting.{is_select}
 use Rattle.shop_statements.proofs.Terms.{same, from_table, Reads, Writes}
 
@@ -18,7 +18,8 @@ shop schema h =
       tables =
           loosened h.meta meta_table ∷ loosened h.materials materials_table ∷ loosened h.parts parts_table ∷ loosened h.jobs jobs_table
           ∷ loosened h.orders orders_table ∷ loosened h.demands demands_table ∷ loosened h.kept kept_table ∷ loosened h.imports imports_table
-          ∷ loosened h.totals totals_table ∷ loosened h.totals2 totals2_table ∷ h.others;
+          ∷ loosened h.totals totals_table ∷ loosened h.totals2 totals2_table ∷ loosened h.journal journal_table ∷ loosened h.uses uses_table
+          ∷ loosened h.notes notes_table ∷ loosened h.begun begun_table ∷ loosened h.halts halts_table ∷ h.others;
       indexes = schema.indexes;
       views = schema.views;
     }
@@ -132,7 +133,37 @@ set_totals_text = codes "UPDATE totals2 SET received = ?2, stock = ?3, rack = ?4
 abbrev pub set_totals_terms : List Term
 set_totals_terms = col 1 0 ∷ col 1 0 ∷ col 1 1 ∷ col 0 1 ∷ col 0 2 ∷ col 0 3 ∷ col 0 4 ∷ col 0 5 ∷ col 0 6 ∷ col 0 7 ∷ []
 
+abbrev pub get_entry_text : List ℕ
+get_entry_text = codes "SELECT at, terminal, number, word, act, job, ord, part_act, part_node FROM journal WHERE entry = ?1"
+
+abbrev pub get_entry_terms : List Term
+get_entry_terms = col 1 2 ∷ col 1 3 ∷ col 1 4 ∷ col 1 5 ∷ col 1 6 ∷ col 1 7 ∷ col 1 8 ∷ col 1 9 ∷ col 1 10 ∷ []
+
+abbrev pub put_entry_text : List ℕ
+put_entry_text = codes "INSERT INTO journal (entry, at, terminal, number, word, act, job, ord, part_act, part_node) VALUES (?1, ?2, ?3, ?4, ?5, ?6, ?7, ?8, ?9, ?10)"
+
+abbrev pub put_entry_terms : List Term
+put_entry_terms = col 0 0 ∷ lit Null ∷ col 0 1 ∷ col 0 2 ∷ col 0 3 ∷ col 0 4 ∷ col 0 5 ∷ col 0 6 ∷ col 0 7 ∷ col 0 8 ∷ col 0 9 ∷ []
+
+abbrev pub put_use_text : List ℕ
+put_use_text = codes "INSERT INTO uses (job, ord) VALUES (?1, ?2)"
+
+abbrev pub put_use_terms : List Term
+put_use_terms = lit Null ∷ col 0 0 ∷ col 0 1 ∷ []
+
 module _ (schema : Schema) (h : HasShopTables schema) where
+  pub get_entry_is : Reads (shop schema h) get_entry_text (from_table 19 by_number get_entry_terms []) (codes "at" ∷ codes "terminal" ∷ codes "number" ∷ codes "word" ∷ codes "act" ∷ codes "job" ∷ codes "ord" ∷ codes "part_act" ∷ codes "part_node" ∷ [])
+  unfolding understood everything
+  get_entry_is = record { command = refl; listing = refl; plain = (refl, refl) }
+
+  pub put_entry_is : Writes (shop schema h) put_entry_text (Insert 10 (Values put_entry_terms 11))
+  unfolding understood everything
+  put_entry_is = record { command = refl; plain = (refl, refl) }
+
+  pub put_use_is : Writes (shop schema h) put_use_text (Insert 11 (Values put_use_terms 3))
+  unfolding understood everything
+  put_use_is = record { command = refl; plain = (refl, refl) }
+
   pub get_meta_is : Reads (shop schema h) get_meta_text (from_table 0 by_one get_meta_terms []) (codes "value" ∷ [])
   unfolding understood everything
   get_meta_is = record { command = refl; listing = refl; plain = (refl, refl) }
@@ -210,3 +241,7 @@ get_kept_selects = refl
 pub get_import_selects : is_select get_import_text ≡ true
 unfolding everything
 get_import_selects = refl
+
+pub get_entry_selects : is_select get_entry_text ≡ true
+unfolding everything
+get_entry_selects = refl

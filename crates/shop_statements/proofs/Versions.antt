@@ -18,7 +18,7 @@ use Rattle.sqlite.specs.Schema.{Schema}
 use Rattle.sqlite.specs.State.{State, Shown}
 use Rattle.sqlite.proofs.Callers.{reads_as}
 use Rattle.shop_statements.specs.Found.{IsNumberRow}
-use Rattle.shop_statements.specs.Earlier.{earlier_schema}
+use Rattle.shop_statements.specs.Earlier.{earlier_schema, second_schema, HasSomeTables}
 use Rattle.shop_statements.specs.Layout.{HasShopTables}
 use Rattle.shop_statements.specs.Shown.{GivesRow}
 use Rattle.shop_statements.proofs.Finding.{code_same}
@@ -75,6 +75,10 @@ pub earlier_meta_is : Reads earlier_schema get_meta_text (from_table 0 by_one ge
 unfolding understood everything
 earlier_meta_is = record { command = refl; listing = refl; plain = (refl, refl) }
 
+pub second_meta_is : Reads second_schema get_meta_text (from_table 0 by_one get_meta_terms []) (codes "value" ∷ [])
+unfolding understood everything
+second_meta_is = record { command = refl; listing = refl; plain = (refl, refl) }
+
 -- what a query of a number shows of a row
 abbrev value_of : Row → Row
 value_of r = column r 2 ∷ []
@@ -87,9 +91,10 @@ number_under old new schema has names is word rows given there shown =
     let it = shown_of value_of (λ r. equal (column r 1) (Text word) && true) (old.now.trees 0) rows given all there in
     (it.0, it.1, equal_word (column it.0 1) word (sym (and_true _) ∙ it.2), sym it.3)
 
-pub number_stands : (old new : State) → HasShopTables old.now.schema ⊎ (old.now.schema ≡ earlier_schema) → (word : List ℕ) (rows : List Row) (given : Row) → Contains rows given → Shown get_meta_text (Text word ∷ []) old new rows → IsNumberRow old word given
+pub number_stands : (old new : State) → HasSomeTables old.now.schema → (word : List ℕ) (rows : List Row) (given : Row) → Contains rows given → Shown get_meta_text (Text word ∷ []) old new rows → IsNumberRow old word given
 number_stands old new (inl h) word rows given there shown = number_under old new (shop old.now.schema h) (shop_is old.now.schema h) _ (get_meta_is old.now.schema h) word rows given there shown
-number_stands old new (inr h) word rows given there shown = number_under old new earlier_schema h _ earlier_meta_is word rows given there shown
+number_stands old new (inr (inl h)) word rows given there shown = number_under old new second_schema h _ second_meta_is word rows given there shown
+number_stands old new (inr (inr h)) word rows given there shown = number_under old new earlier_schema h _ earlier_meta_is word rows given there shown
 
 abbrev alone : Value → Row
 alone v = v ∷ []
@@ -98,6 +103,6 @@ alone v = v ∷ []
 pub number_read : (s : State) (word : List ℕ) (row : Row) (value : Value) → IsNumberRow s word row → column row 0 ≡ value → IsNumberRow s word (value ∷ [])
 number_read s word row value it is = (it.0, it.1, it.2, ap alone (sym is ∙ ap (λ (r : Row). column r 0) it.3))
 
-pub given_stands : (old new : State) → HasShopTables old.now.schema ⊎ (old.now.schema ≡ earlier_schema) → (word : List ℕ) (row : Option Row) → GivesRow get_meta_text (Text word ∷ []) old new row → IfSome row (IsNumberRow old word)
+pub given_stands : (old new : State) → HasSomeTables old.now.schema → (word : List ℕ) (row : Option Row) → GivesRow get_meta_text (Text word ∷ []) old new row → IfSome row (IsNumberRow old word)
 given_stands old new which word None it = tt
 given_stands old new which word (Some given) it = number_stands old new which word it.rows given it.among it.shown

@@ -9,6 +9,8 @@ use Rattle.shop_records.specs.declared.records.Demand.{Demand}
 use Rattle.shop_records.specs.declared.records.Totals.{Totals}
 use Rattle.shop_records.specs.declared.imports.ImportRow.{ImportRow}
 use Rattle.shop_records.specs.declared.texts.KeptMessage.{KeptMessage}
+use Rattle.shop_records.specs.declared.journal.Entry.{Entry}
+use Rattle.shop_statements.specs.declared.uses.JobOrder.{JobOrder}
 use Rattle.shop_statements.specs.Shown.{Books}
 
 abbrev pub with_material : Material → Books → Books
@@ -34,6 +36,13 @@ with_kept message b = record b { content = record b.content { kept = insert b.co
 
 abbrev pub with_import : ImportRow → Books → Books
 with_import row b = record b { content = record b.content { imports = insert b.content.imports row.order row } }
+
+abbrev pub with_entry : Entry → Books → Books
+with_entry entry b = record b { content = record b.content { entries = insert b.content.entries entry.number entry } }
+
+-- an order of which a job's plan has a piece
+abbrev pub with_use : JobOrder → Books → Books
+with_use x b = record b { uses = insert b.uses x tt }
 
 -- the totals of a material, new or other ones
 abbrev pub with_totals : List ℕ → Totals → Books → Books

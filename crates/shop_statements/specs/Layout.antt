@@ -120,9 +120,34 @@ totals2_table =
     keyed (codes "totals2") 17 (totals_columns ++ number (codes "returned") ∷ []) (1 ∷ [])
     (refers (1 ∷ []) (codes "materials") (codes "code" ∷ []) ∷ [])
 
+abbrev pub journal_table : Table
+journal_table =
+    table (codes "journal") 19
+    (number (codes "entry") ∷ number (codes "at") ∷ number (codes "terminal") ∷ number (codes "number") ∷ word (codes "word")
+    ∷ number (codes "act") ∷ number (codes "job") ∷ word (codes "ord") ∷ number (codes "part_act") ∷ number (codes "part_node") ∷ [])
+    (Some 0) (0 ∷ []) [] [] [] []
+
+abbrev pub uses_table : Table
+uses_table = keyed (codes "uses") 20 (number (codes "job") ∷ word (codes "ord") ∷ []) (1 ∷ 2 ∷ []) []
+
+abbrev pub notes_table : Table
+notes_table =
+    keyed (codes "notes") 22 (word (codes "ord") ∷ number (codes "due") ∷ word (codes "body") ∷ []) (1 ∷ [])
+    (refers (1 ∷ []) (codes "orders") (codes "ord" ∷ []) ∷ [])
+
+abbrev pub begun_table : Table
+begun_table =
+    table (codes "begun") 24 (number (codes "job") ∷ number (codes "terminal") ∷ []) (Some 0) (0 ∷ []) [] [] []
+    (refers (0 ∷ []) (codes "jobs") (codes "job" ∷ []) ∷ [])
+
+abbrev pub halts_table : Table
+halts_table =
+    table (codes "halts") 25 (number (codes "job") ∷ word (codes "body") ∷ []) (Some 0) (0 ∷ []) [] [] []
+    (refers (0 ∷ []) (codes "jobs") (codes "job" ∷ []) ∷ [])
+
 -- their trees
 abbrev pub our_trees : List ℕ
-our_trees = 0 ∷ 2 ∷ 4 ∷ 6 ∷ 7 ∷ 9 ∷ 11 ∷ 13 ∷ 15 ∷ 17 ∷ []
+our_trees = 0 ∷ 2 ∷ 4 ∷ 6 ∷ 7 ∷ 9 ∷ 11 ∷ 13 ∷ 15 ∷ 17 ∷ 19 ∷ 20 ∷ 22 ∷ 24 ∷ 25 ∷ []
 
 abbrev pub no_schema : Schema
 no_schema = record { tables = []; indexes = []; views = [] }
@@ -136,14 +161,14 @@ created_all (t ∷ more) schema = created_all more (created schema t)
 abbrev pub our_tables : List Table
 our_tables =
     meta_table ∷ materials_table ∷ parts_table ∷ jobs_table ∷ orders_table ∷ demands_table ∷ kept_table ∷ imports_table ∷ totals_table
-    ∷ totals2_table ∷ []
+    ∷ totals2_table ∷ journal_table ∷ uses_table ∷ notes_table ∷ begun_table ∷ halts_table ∷ []
 
 -- the first so many of them, and nothing else
 abbrev pub laid : ℕ → Schema
 laid count = created_all (take count our_tables) no_schema
 
 abbrev pub shop_schema : Schema
-shop_schema = laid 10
+shop_schema = laid 15
 
 -- ---- a schema in which ours are the first tables
 
@@ -163,7 +188,7 @@ loosened l t =
 abbrev pub Rests : Reference → Type 0
 Rests ref = (ref.on_delete ≡ NoAction) × (ref.on_update ≡ NoAction)
 
--- Ours are the first ten, and others may stand after them. No index of others has one of our trees, and no reference acts.
+-- Ours are the first fifteen, and others may stand after them. No index of others has one of our trees, and no reference acts.
 pub record HasShopTables (schema : Schema) : Type 0 where
   pub meta : Loose
   pub materials : Loose
@@ -175,11 +200,17 @@ pub record HasShopTables (schema : Schema) : Type 0 where
   pub imports : Loose
   pub totals : Loose
   pub totals2 : Loose
+  pub journal : Loose
+  pub uses : Loose
+  pub notes : Loose
+  pub begun : Loose
+  pub halts : Loose
   pub others : List Table
   pub tables :
       schema.tables
       ≡ loosened meta meta_table ∷ loosened materials materials_table ∷ loosened parts parts_table ∷ loosened jobs jobs_table
       ∷ loosened orders orders_table ∷ loosened demands demands_table ∷ loosened kept kept_table ∷ loosened imports imports_table
-      ∷ loosened totals totals_table ∷ loosened totals2 totals2_table ∷ others
+      ∷ loosened totals totals_table ∷ loosened totals2 totals2_table ∷ loosened journal journal_table ∷ loosened uses uses_table
+      ∷ loosened notes notes_table ∷ loosened begun begun_table ∷ loosened halts halts_table ∷ others
   pub bare : AllByRecursion (IsNoIndex schema) our_trees
   pub rests : AllByRecursion (λ t. AllByRecursion Rests t.references) schema.tables

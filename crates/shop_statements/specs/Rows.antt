@@ -1,7 +1,9 @@
 -- The rows that stand for what a book contains.
-use Rattle.std.specs.Prelude.{◌≡◌, ℕ, pos, Bool, true, false, List, [], ◌∷◌, map, drop, codes, IsPermutation, IsTrue, Some, is_some}
+use Rattle.std.specs.Prelude.{◌≡◌, ℕ, pos, Bool, true, false, List, [], ◌∷◌, map, drop, codes, IsPermutation, IsTrue, Option, Some, None, is_some}
 use Rattle.std.specs.List.{AllByRecursion}
 use Rattle.std.specs.FinMap.{FinMap, entries, get}
+use Rattle.std.specs.Ordering.{nat_cmp, ordering_then}
+use Rattle.std.specs.declared.cmp.Ordering.{Ordering}
 use Rattle.std.specs.FinSet as set
 use Rattle.sqlite_value.specs.declared.value.Value.TheVariants.{Int, Text, Null}
 use Rattle.sqlite_value.specs.Order.{Row}
@@ -14,7 +16,7 @@ use Rattle.cut_measure.specs.declared.sizes.Kind.TheVariants as kind
 use Rattle.cut_tree.specs.Patterns.{IsPlan}
 use Rattle.cut_tree.specs.Spelling.{text_of}
 use Rattle.shop_records.specs.Columns.{state_of}
-use Rattle.shop_records.specs.Content.{Content, material_at, part_at, job_at, demand_at, import_at}
+use Rattle.shop_records.specs.Content.{Content, material_at, part_at, job_at, demand_at, import_at, entry_at}
 use Rattle.shop_records.specs.Soundness.{IsOnPart}
 use Rattle.shop_records.specs.declared.records.Material.{Material}
 use Rattle.shop_records.specs.declared.records.Part.{Part}
@@ -30,7 +32,10 @@ use Rattle.shop_records.specs.declared.imports.Form.TheVariants as form
 use Rattle.shop_records.specs.declared.imports.ImportRow.{ImportRow}
 use Rattle.shop_records.specs.declared.texts.Pair.{Pair}
 use Rattle.shop_records.specs.declared.texts.Kept.{Kept}
-use Rattle.shop_statements.specs.Values.{IsPartValue}
+use Rattle.shop_records.specs.declared.journal.Entry.{Entry}
+use Rattle.shop_records.specs.Journal.{word_name}
+use Rattle.shop_statements.specs.declared.uses.JobOrder.{JobOrder}
+use Rattle.shop_statements.specs.Values.{IsEntryValue, IsPartValue}
 
 -- ---- numbers of words
 
@@ -67,6 +72,20 @@ abbrev pub form_material : Form → List ℕ
 form_material form.Csv = []
 form_material (form.Cgcut material) = material
 
+-- an entry's order, nothing where it has none
+abbrev pub order_text : Option (List ℕ) → List ℕ
+order_text None = []
+order_text (Some code) = code
+
+-- the numbers of an entry's part, 0 where it has none
+abbrev pub act_number : Option Name → ℕ
+act_number None = 0
+act_number (Some name) = name.act
+
+abbrev pub node_number : Option Name → ℕ
+node_number None = 0
+node_number (Some name) = name.node
+
 -- ---- columns after the key
 
 abbrev pub material_columns : Material → Row
@@ -99,6 +118,11 @@ totals_columns t =
     Int (pos t.received) ∷ Int (pos t.stock) ∷ Int (pos t.rack) ∷ Int (pos t.pieces) ∷ Int (pos t.kerf) ∷ Int (pos t.scrap)
     ∷ Int (pos t.returned) ∷ []
 
+abbrev pub entry_columns : Entry → Row
+entry_columns e =
+    Int (pos e.at) ∷ Int (pos e.pair.terminal) ∷ Int (pos e.pair.number) ∷ Text (word_name e.word) ∷ Int (pos e.act) ∷ Int (pos e.job)
+    ∷ Text (order_text e.order) ∷ Int (pos (act_number e.part)) ∷ Int (pos (node_number e.part)) ∷ []
+
 -- ---- rows without their rowids
 
 abbrev pub meta_row : List ℕ × ℕ → Row
@@ -122,6 +146,13 @@ import_row e = Text e.0 ∷ import_columns e.1
 abbrev pub totals_row : List ℕ × Totals → Row
 totals_row e = Text e.0 ∷ totals_columns e.1
 
+-- by job, and then by code
+abbrev pub use_cmp : JobOrder → JobOrder → Ordering
+use_cmp a b = ordering_then (nat_cmp a.job b.job) (code_cmp a.order b.order)
+
+abbrev pub use_row : JobOrder × Unit {0} → Row
+use_row e = Int (pos e.0.job) ∷ Text e.0.order ∷ []
+
 -- ---- rows with their rowids, which are the numbers; the number's own column is empty
 
 abbrev pub job_row : ℕ × Job → Row
@@ -130,11 +161,14 @@ job_row e = Int (pos e.0) ∷ Null ∷ job_columns e.1
 abbrev pub demand_row : ℕ × Demand → Row
 demand_row e = Int (pos e.0) ∷ Null ∷ demand_columns e.1
 
+abbrev pub journal_row : ℕ × Entry → Row
+journal_row e = Int (pos e.0) ∷ Null ∷ entry_columns e.1
+
 -- ---- the tables
 
 -- the rows with numbers as values, in `meta`
 abbrev pub meta_entries : Content → List (List ℕ × ℕ)
-meta_entries m = (codes "version", 2) ∷ (codes "act", m.last_act) ∷ (codes "demand", m.last_demand) ∷ []
+meta_entries m = (codes "version", 3) ∷ (codes "act", m.last_act) ∷ (codes "demand", m.last_demand) ∷ []
 
 -- The table has these rows and no other, in any order, under rowids that rise. So many columns of the stored ones are left
 -- out: the rowid, or none.
@@ -149,8 +183,8 @@ pub record AreOrders (orders : set.FinSet code_cmp) (stored : List Row) : Type 0
   pub there : (code : List ℕ) → set.contains orders code ≡ is_some (get codes code)
   pub rows : AreRows 1 (map order_row (entries codes)) stored
 
--- The trees have the rows that stand for the content and the totals.
-pub record Stands (db : Trees) (m : Content) (sums : FinMap code_cmp Totals) : Type 0 where
+-- The trees have the rows that stand for the content, the totals, and the orders of jobs. Nothing is noted, begun or halted.
+pub record Stands (db : Trees) (m : Content) (sums : FinMap code_cmp Totals) (used : FinMap use_cmp (Unit {0})) : Type 0 where
   pub meta : AreRows 1 (map meta_row (meta_entries m)) (db 0)
   pub materials : AreRows 1 (map material_row (entries m.materials)) (db 2)
   pub parts : AreRows 1 (map part_row (entries m.parts)) (db 4)
@@ -161,6 +195,11 @@ pub record Stands (db : Trees) (m : Content) (sums : FinMap code_cmp Totals) : T
   pub imports : AreRows 1 (map import_row (entries m.imports)) (db 13)
   pub totals : db 15 ≡ []
   pub totals2 : AreRows 1 (map totals_row (entries sums)) (db 17)
+  pub journal : AreRows 0 (map journal_row (entries m.entries)) (db 19)
+  pub uses : AreRows 1 (map use_row (entries used)) (db 20)
+  pub notes : db 22 ≡ []
+  pub begun : db 24 ≡ []
+  pub halts : db 25 ≡ []
 
 -- a job stands under its own number, and has a plan of its part, with its kerf
 pub record IsOwnJob (m : Content) (number : ℕ) (job : Job) : Type 0 where
@@ -169,12 +208,15 @@ pub record IsOwnJob (m : Content) (number : ℕ) (job : Job) : Type 0 where
   pub plan : IsPlan job.plan
   pub on : IsOnPart m job
 
--- What the rows leave out: each row stands under its own key, and the codes of materials and the parts are values.
+-- What the rows leave out: each row stands under its own key, and the codes of materials, the parts and the
+-- entries are values.
 pub record IsKeyed (m : Content) : Type 0 where
   pub materials : (code : List ℕ) (material : Material) → material_at m code ≡ Some material → material.code ≡ code
   pub parts : (name : Name) (part : Part) → part_at m name ≡ Some part → part.name ≡ name
   pub jobs : (number : ℕ) (job : Job) → job_at m number ≡ Some job → IsOwnJob m number job
   pub demands : (number : ℕ) (demand : Demand) → demand_at m number ≡ Some demand → demand.number ≡ number
   pub imports : (order : List ℕ) (row : ImportRow) → import_at m order ≡ Some row → row.order ≡ order
+  pub entries : (number : ℕ) (entry : Entry) → entry_at m number ≡ Some entry → entry.number ≡ number
   pub codes : (code : List ℕ) (material : Material) → material_at m code ≡ Some material → IsTrue (is_code code)
   pub values : (name : Name) (part : Part) → part_at m name ≡ Some part → IsPartValue part
+  pub noted : (number : ℕ) (entry : Entry) → entry_at m number ≡ Some entry → IsEntryValue entry

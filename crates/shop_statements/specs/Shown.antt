@@ -13,22 +13,23 @@ use Rattle.cut_measure.specs.Codes.{code_cmp}
 use Rattle.shop_records.specs.Content.{Content, fresh}
 use Rattle.shop_records.specs.declared.records.Totals.{Totals}
 use Rattle.shop_statements.specs.Layout.{HasShopTables, shop_schema}
-use Rattle.shop_statements.specs.Rows.{Stands, IsKeyed}
+use Rattle.shop_statements.specs.Rows.{Stands, IsKeyed, use_cmp}
 
--- what the tables stand for: a content, and a row of totals for each material
+-- what the tables stand for: a content, a row of totals for each material, and the orders of which a job's plan has a piece
 pub record Books : Type 0 where
   pub content : Content
   pub totals : FinMap code_cmp Totals
+  pub uses : FinMap use_cmp (Unit {0})
 
 -- nothing was done yet
 abbrev pub fresh_books : Books
-fresh_books = record { content = fresh; totals = empty }
+fresh_books = record { content = fresh; totals = empty; uses = empty }
 
 -- the rows that the connection sees stand for the books
 pub record Shows (s : State) (b : Books) : Type 0 where
   pub schema : HasShopTables s.now.schema
   pub sound : IsDatabase s.now
-  pub stands : Stands s.now.trees b.content b.totals
+  pub stands : Stands s.now.trees b.content b.totals b.uses
   pub keyed : IsKeyed b.content
 
 -- Its tables are those of a new shop, with their keys, checks and references, and it has nothing else.
@@ -46,7 +47,7 @@ Holds s b = HasCleanDisk s → IsTrue s.is_open → IsSettled s b
 
 -- The trees list a schema in which ours are the first tables, and these have the rows that stand for the books.
 abbrev pub StandsIn : Trees → Books → Type 0
-StandsIn db b = ((schema : Schema) × HasShopTables schema × IsSound schema db) × Stands db b.content b.totals × IsKeyed b.content
+StandsIn db b = ((schema : Schema) × HasShopTables schema × IsSound schema db) × Stands db b.content b.totals b.uses × IsKeyed b.content
 
 -- the connection was open, and where it saw its last commit it sees the same
 pub record IsAsWas (old new : State) : Type 0 where

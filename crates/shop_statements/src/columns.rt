@@ -5,11 +5,12 @@ ghost use Rattle.sqlite_value.specs.declared.value.Value.TheVariants.{Int, Text 
 ghost use Rattle.sqlite_value.specs.Order.{column};
 ghost use Rattle.cut_measure.specs.declared.ranges.TheConstants.{MOST_NUMBERS};
 ghost use Rattle.shop_records.specs.Columns.{state_of};
-ghost use Rattle.shop_statements.specs.Rows.{kind_number, state_number, job_state_number, turn_number, form_number, form_material};
+ghost use Rattle.shop_statements.specs.Rows.{kind_number, state_number, job_state_number, turn_number, form_number, form_material, order_text, act_number, node_number};
+ghost use Rattle.shop_records.specs.Journal.{word_name};
 
 use crate::TableFault;
 use cut_measure::{Code, Kind, Limits, MOST_NUMBERS, PartName, Size};
-use shop_records::{Form, JobState, State, Text};
+use shop_records::{Form, JobState, State, Text, Word as CommandWord};
 use sqlite::Row;
 use sqlite::types::ValueRef;
 
@@ -20,7 +21,8 @@ pub fn number_in(row: &Row, at: usize) -> Result<u32, TableFault>
     Ok(row.get(at)?)
 }
 
-pub(crate) fn count_in(row: &Row, at: usize) -> Result<u64, TableFault>
+/// The number in a column, up to 9223372036854775807.
+pub fn count_in(row: &Row, at: usize) -> Result<u64, TableFault>
     ensures { IfOk result (λ number. column row.now at ≡ Int (pos number)) }
 {
     Ok(row.get(at)?)
@@ -157,6 +159,116 @@ fn form_of_words(word: u32, material: &str) -> Option<Form>
         Some(Form::Cgcut(Code::read(material)?))
     } else {
         None
+    }
+}
+
+fn word_of_text(text: &str) -> Option<CommandWord>
+    ensures { IfSome result (λ word. word_name word ≡ text.now) }
+{
+    if text == "material" {
+        Some(CommandWord::Material)
+    } else if text == "receive" {
+        Some(CommandWord::Receive)
+    } else if text == "order" {
+        Some(CommandWord::Order)
+    } else if text == "reserve" {
+        Some(CommandWord::Reserve)
+    } else if text == "done" {
+        Some(CommandWord::Done)
+    } else {
+        later_word_of_text(text)
+    }
+}
+
+fn later_word_of_text(text: &str) -> Option<CommandWord>
+    ensures { IfSome result (λ word. word_name word ≡ text.now) }
+{
+    if text == "break" {
+        Some(CommandWord::Break)
+    } else if text == "release" {
+        Some(CommandWord::Release)
+    } else if text == "scrap" {
+        Some(CommandWord::Scrap)
+    } else if text == "return" {
+        Some(CommandWord::Return)
+    } else if text == "import" {
+        Some(CommandWord::Import)
+    } else if text == "amend" {
+        Some(CommandWord::Amend)
+    } else {
+        None
+    }
+}
+
+/// The word of a command in a column.
+pub(crate) fn word_of_entry(row: &Row, at: usize) -> Result<CommandWord, TableFault>
+    ensures { IfOk result (λ word. column row.now at ≡ Word (word_name word)) }
+{
+    word_of_text(word_in(row, at)?).ok_or(TableFault::Store)
+}
+
+// The order of a text, none of an empty one.
+fn order_of_text(text: &str) -> Result<Option<Code>, TableFault>
+    ensures { IfOk result (λ order. order_text order ≡ text.now) }
+{
+    if text.is_empty() {
+        return Ok(None);
+    }
+    match Code::read(text) {
+        Some(code) => Ok(Some(code)),
+        None => Err(TableFault::Store),
+    }
+}
+
+/// The order in a column, none where it is empty.
+pub(crate) fn order_in(row: &Row, at: usize) -> Result<Option<Code>, TableFault>
+    ensures { IfOk result (λ order. column row.now at ≡ Word (order_text order)) }
+{
+    let text = word_in(row, at)?;
+    let order = order_of_text(text)?;
+    Ok(order)
+}
+
+/// The part in two columns, none where both are 0.
+pub(crate) fn part_in(row: &Row, at: usize) -> Result<Option<PartName>, TableFault>
+    requires { at < 100 }
+    ensures act { IfOk result (λ part. column row.now at ≡ Int (pos (act_number part))) }
+    ensures node { IfOk result (λ part. column row.now (at + 1) ≡ Int (pos (node_number part))) }
+{
+    let act = number_in(row, at)?;
+    let node = number_in(row, at + 1)?;
+    if act == 0 && node == 0 {
+        return Ok(None);
+    }
+    let name = name_in(row, at)?;
+    Ok(Some(name))
+}
+
+// An entry's order as a column has it, empty where it has none.
+pub(crate) fn text_of_order(order: &Option<Code>) -> &str
+    ensures { result.now ≡ order_text order.now }
+{
+    match order {
+        Some(code) => code.as_str(),
+        None => "",
+    }
+}
+
+pub(crate) fn act_of_part(part: Option<PartName>) -> u32
+    ensures { result ≡ act_number part }
+{
+    match part {
+        Some(name) => name.act(),
+        None => 0,
+    }
+}
+
+pub(crate) fn node_of_part(part: Option<PartName>) -> u32
+    ensures { result ≡ node_number part }
+{
+    match part {
+        Some(name) => name.node(),
+        None => 0,
     }
 }
 

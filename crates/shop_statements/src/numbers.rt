@@ -1,6 +1,6 @@
 //! The last act's and the last demand's numbers, which stand in the table `meta`: read and set.
 
-ghost use Rattle.std.specs.Prelude.{◌≡◌, ◌⊎◌, ℕ, pos, false, [], ◌∷◌, codes, filter, IfOk, IfSome};
+ghost use Rattle.std.specs.Prelude.{◌≡◌, ℕ, pos, false, [], ◌∷◌, codes, filter, IfOk, IfSome};
 ghost use Rattle.sqlite_value.specs.declared.value.Value.TheVariants.{Int};
 ghost use Rattle.std.specs.Ordering.{eq_by_cmp};
 ghost use Rattle.sqlite.specs.Held.{state};
@@ -8,7 +8,7 @@ ghost use Rattle.cut_measure.specs.Codes.{code_cmp};
 ghost use Rattle.sqlite.specs.State.{HasCleanDisk};
 ghost use Rattle.shop_statements.specs.Beside.{Spares};
 ghost use Rattle.shop_statements.specs.Found.{IsNumberRow};
-ghost use Rattle.shop_statements.specs.Earlier.{OnBooksEarlier, earlier_entries, earlier_schema};
+ghost use Rattle.shop_statements.specs.Earlier.{HasSomeTables, OnBooksEarlier, OnBooksSecond, earlier_entries, second_entries};
 ghost use Rattle.shop_statements.specs.Layout.{HasShopTables, meta_table};
 ghost use Rattle.shop_statements.specs.Rows.{meta_entries};
 ghost use Rattle.shop_statements.specs.Shown.{Leaves, OnBooks, GivesNumber};
@@ -30,8 +30,10 @@ pub fn number_row<S: Alter>(conn: &mut Connection<S>, word: &str) -> Result<Opti
     ensures earlier { OnBooksEarlier (state S.Store conn.old) (state S.Store conn.new)
         (λ books. (n : ℕ) → filter (λ e. eq_by_cmp code_cmp e.0 word.now)
         (earlier_entries books.content) ≡ (word.now, n) ∷ [] → IfOk result (GivesNumber n)) }
-    ensures stands { HasCleanDisk (state S.Store conn.new) → HasShopTables conn.old.schema
-        ⊎ (conn.old.schema ≡ earlier_schema)
+    ensures second { OnBooksSecond (state S.Store conn.old) (state S.Store conn.new)
+        (λ books. (n : ℕ) → filter (λ e. eq_by_cmp code_cmp e.0 word.now)
+        (second_entries books.content) ≡ (word.now, n) ∷ [] → IfOk result (GivesNumber n)) }
+    ensures stands { HasCleanDisk (state S.Store conn.new) → HasSomeTables conn.old.schema
         → IfOk result (λ row. IfSome row (IsNumberRow (state S.Store conn.old) word.now)) }
     ensures leaves { Leaves (state S.Store conn.old) (state S.Store conn.new) }
     ensures mode { conn.old.in_transaction ≡ false → conn.new.in_transaction ≡ false }
@@ -48,6 +50,10 @@ fn number_of<S: Alter>(conn: &mut Connection<S>, word: &str) -> Result<u32, Tabl
     ensures earlier { OnBooksEarlier (state S.Store conn.old) (state S.Store conn.new)
         (λ books. (n : ℕ) → filter (λ e. eq_by_cmp code_cmp e.0 word.now)
         (earlier_entries books.content) ≡ (word.now, n) ∷ []
+        → IfOk result (λ number. number ≡ n)) }
+    ensures second { OnBooksSecond (state S.Store conn.old) (state S.Store conn.new)
+        (λ books. (n : ℕ) → filter (λ e. eq_by_cmp code_cmp e.0 word.now)
+        (second_entries books.content) ≡ (word.now, n) ∷ []
         → IfOk result (λ number. number ≡ n)) }
     ensures stands { HasCleanDisk (state S.Store conn.new) → HasShopTables conn.old.schema
         → IfOk result (λ number. IsNumberRow (state S.Store conn.old) word.now
@@ -67,6 +73,8 @@ pub fn find_last_act<S: Alter>(conn: &mut Connection<S>) -> Result<u32, TableFau
         (λ books. IfOk result (λ number. number ≡ books.content.last_act)) }
     ensures earlier { OnBooksEarlier (state S.Store conn.old) (state S.Store conn.new)
         (λ books. IfOk result (λ number. number ≡ books.content.last_act)) }
+    ensures second { OnBooksSecond (state S.Store conn.old) (state S.Store conn.new)
+        (λ books. IfOk result (λ number. number ≡ books.content.last_act)) }
     ensures stands { HasCleanDisk (state S.Store conn.new) → HasShopTables conn.old.schema
         → IfOk result (λ number. IsNumberRow (state S.Store conn.old) (codes "act")
         (Int (pos number) ∷ [])) }
@@ -81,6 +89,8 @@ pub fn find_last_demand<S: Alter>(conn: &mut Connection<S>) -> Result<u32, Table
     ensures number { OnBooks (state S.Store conn.old) (state S.Store conn.new)
         (λ books. IfOk result (λ number. number ≡ books.content.last_demand)) }
     ensures earlier { OnBooksEarlier (state S.Store conn.old) (state S.Store conn.new)
+        (λ books. IfOk result (λ number. number ≡ books.content.last_demand)) }
+    ensures second { OnBooksSecond (state S.Store conn.old) (state S.Store conn.new)
         (λ books. IfOk result (λ number. number ≡ books.content.last_demand)) }
     ensures stands { HasCleanDisk (state S.Store conn.new) → HasShopTables conn.old.schema
         → IfOk result (λ number. IsNumberRow (state S.Store conn.old) (codes "demand")

@@ -8,6 +8,8 @@ ghost use Rattle.sqlite_value.specs.declared.value.Value.TheVariants.{Int, Text 
 ghost use Rattle.shop_statements.specs.Selecting.{is_select};
 ghost use Rattle.shop_statements.specs.Shown.{Leaves, GivesRow};
 
+use crate::TableFault;
+use crate::columns::counted;
 use sqlite::types::ValueRef;
 use sqlite::{Alter, Connection, Error, Row, params};
 
@@ -91,4 +93,36 @@ pub(crate) fn row_by_two<S: Alter>(
     ensures mode { conn.old.in_transaction ≡ false → conn.new.in_transaction ≡ false }
 {
     one_row(conn, sql, params![one, other])
+}
+
+// A count as a statement has it.
+#[derive(Clone, Copy)]
+struct Count {
+    number: i64,
+}
+
+fn count_of(count: u64) -> Result<Count, TableFault>
+    ensures { IfOk result (λ bound. bound.number ≡ pos count) }
+{
+    Ok(Count {
+        number: counted(count)?,
+    })
+}
+
+/// By a number below 9223372036854775808.
+pub(crate) fn row_by_count<S: Alter>(
+    conn: &mut Connection<S>,
+    sql: &str,
+    count: u64,
+) -> Result<Option<Row>, TableFault>
+    ensures row { HasCleanDisk (state S.Store conn.new)
+        → IfOk result (GivesRow sql.now (Int (pos count) ∷ []) (state S.Store conn.old)
+        (state S.Store conn.new)) }
+    ensures leaves { is_select sql.now ≡ true
+        → Leaves (state S.Store conn.old) (state S.Store conn.new) }
+    ensures mode { conn.old.in_transaction ≡ false → conn.new.in_transaction ≡ false }
+{
+    let bound = count_of(count)?;
+    let row = one_row(conn, sql, params![&bound.number])?;
+    Ok(row)
 }

@@ -21,8 +21,8 @@ use Rattle.shop_store.specs.Crashes.{IsFoundAfter}
 -- what is committed stands for the content at which a connection is settled
 settled_stands : (s : State) (m : Content) → IsSettledAt s m → (db : Trees) → db ≡ s.committed.trees → StandsFor db m
 settled_stands s m was db is =
-    let now : StandsIn s.committed.trees (books m was.totals) = subst (λ (d : Database). StandsIn d.trees (books m was.totals)) was.settled.committed (stands_in s (books m was.totals) was.settled.shows) in
-    record { lines = was.lines; totals = was.totals; sums = was.sums; stands = subst (λ t. StandsIn t (books m was.totals)) (sym is) now }
+    let now : StandsIn s.committed.trees (books m was.totals was.uses) = subst (λ (d : Database). StandsIn d.trees (books m was.totals was.uses)) was.settled.committed (stands_in s (books m was.totals was.uses) was.settled.shows) in
+    record { lines = was.lines; totals = was.totals; uses = was.uses; sums = was.sums; trail = was.trail; stands = subst (λ t. StandsIn t (books m was.totals was.uses)) (sym is) now }
 
 -- while a connection is open a crash leaves its last commit
 pub settled_leaves : {D : Type 0} {g : DiskGhosts D} (at : Held (FileStore D g)) (m : Content) → SeenMayStay g → IsTrue (file_state at).is_open → IsSettledAt (file_state at) m → LeavesOnly (file_state at) m

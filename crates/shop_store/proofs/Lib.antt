@@ -1,7 +1,9 @@
 -- a ledger beside a storage, and a storage in tables
 pub mod LedgerBooks
+pub mod InSteps
 pub mod InMemory
 pub mod Stored
+pub mod NextEntries
 -- totals that are sums of parts
 pub mod Counting
 -- what an adopt makes of tables

@@ -10,7 +10,7 @@ use Rattle.shop_statements.specs.declared.faults.TableFault.{TableFault}
 use Rattle.shop_records.specs.declared.changes.MaterialTotals.{MaterialTotals}
 use Rattle.shop_records.specs.declared.records.Column.{Column}
 use Rattle.shop_tables.specs.Changing.{HasSums}
-use Rattle.shop_statements.specs.Earlier.{HoldsEither, OnBooksEarlier}
+use Rattle.shop_statements.specs.Earlier.{HoldsEither, OnBooksEarlier, OnBooksSecond}
 use Rattle.shop_statements.specs.Shown.{Books, OnBooks}
 use Rattle.shop_rows.specs.Adding.{has_sums}
 use Rattle.shop_rows.specs.Sums.{sum_at}
@@ -38,11 +38,13 @@ seen_too parts false old new room seen = (seen.0, seen.1, seen.2.adder, seen.3, 
 abbrev pub IsVisitOf : List Part → PartLoader → Result Bool TableFault → PartLoader → Type 0
 IsVisitOf list old r new = IsVisit LoadsPart {Fault = TableFault} (λ what. what list) old r new
 
--- a visit of the parts of books that are held in either version
+-- a visit of the parts of books that are held in any version
 pub held_visit : (s t : State) (b : Books) (old new : PartLoader) (r : Result Bool TableFault) → HasCleanDisk t → HoldsEither s b → IsVisit LoadsPart {Fault = TableFault} (λ what. OnBooks s t (λ b. what (values b.content.parts))) old r new
-    → IsVisit LoadsPart {Fault = TableFault} (λ what. OnBooksEarlier s t (λ b. what (values b.content.parts))) old r new → IsVisitOf (values b.content.parts) old r new
-held_visit s t b old new r clean (inl was) v earlier = record { parts = v.parts; on = v.on; visitor = v.visitor; answer = v.answer; begins = v.begins clean b was }
-held_visit s t b old new r clean (inr was) v earlier = record { parts = earlier.parts; on = earlier.on; visitor = earlier.visitor; answer = earlier.answer; begins = earlier.begins clean b was }
+    → IsVisit LoadsPart {Fault = TableFault} (λ what. OnBooksSecond s t (λ b. what (values b.content.parts))) old r new → IsVisit LoadsPart {Fault = TableFault} (λ what. OnBooksEarlier s t (λ b. what (values b.content.parts))) old r new
+    → IsVisitOf (values b.content.parts) old r new
+held_visit s t b old new r clean (inl was) v second earlier = record { parts = v.parts; on = v.on; visitor = v.visitor; answer = v.answer; begins = v.begins clean b was }
+held_visit s t b old new r clean (inr (inl was)) v second earlier = record { parts = second.parts; on = second.on; visitor = second.visitor; answer = second.answer; begins = second.begins clean b was }
+held_visit s t b old new r clean (inr (inr was)) v second earlier = record { parts = earlier.parts; on = earlier.on; visitor = earlier.visitor; answer = earlier.answer; begins = earlier.begins clean b was }
 
 pub adder_visit : (list : List Part) (old new : PartLoader) (r : Result Bool TableFault) (visit : IsVisitOf list old r new) → (visit.on ≡ false → new.wanting ≡ false) → IsVisit AddsPart {Fault = TableFault} (λ what. what list) old.adder r new.adder
 adder_visit list old new r visit room = record {

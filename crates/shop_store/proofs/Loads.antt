@@ -145,6 +145,7 @@ module _ (of : Content) (keyed : IsKeyed of) where
         demands = with_demands (values of.demands) empty;
         kept = empty;
         imports = empty;
+        entries = empty;
         last_act = of.last_act;
         last_demand = of.last_demand;
       }) (all_orders (order_codes of))

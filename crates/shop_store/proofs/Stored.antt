@@ -1,5 +1,5 @@
 -- What a storage makes of the tables' answers.
-use Rattle.std.proofs.Common.{◌≡◌, Result, Ok, Err, OnOk, OnErr, IfOk, inl, inr, subst, sym, arith}
+use Rattle.std.proofs.Common.{◌≡◌, ◌∙◌, ℕ, Result, Ok, Err, OnOk, OnErr, IfOk, inl, inr, subst, sym, arith}
 use Rattle.sqlite_trees.specs.Tree.{Trees}
 use Rattle.sqlite_trees.specs.declared.store.Store.{Ghosts}
 use Rattle.sqlite.specs.State.{HasCleanDisk}
@@ -10,7 +10,7 @@ use Rattle.shop_tables.specs.Held.{books, HoldsContent}
 use Rattle.shop_statements.specs.declared.faults.TableFault.{TableFault}
 use Rattle.shop_book.specs.Storages.{IsRead}
 use Rattle.shop_book.specs.declared.storage.StorageFault.{StorageFault}
-use Rattle.shop_store.specs.Storing.{read_by_tables}
+use Rattle.shop_store.specs.Storing.{HoldsTables, read_by_tables}
 
 if_lift : {T : Type 0} (P : T → Type 0) (r : Result T TableFault) → IfOk r P → IfOk (read_by_tables r) P
 if_lift P (Ok x) h = h
@@ -35,14 +35,21 @@ on_err A r answer same h = subst (λ a. OnErr a A) (sym same) (err_lift A r h)
 
 module _ {S : Type 0} (g : Ghosts S) where
   -- what is said of the books is said of a held content
-  pub says_of : (What : Books → Type 0) (old new : Held S) → OnBooks (state g old) (state g new) What → HasCleanDisk (state g new) → (m : Content) (was : HoldsContent (state g old) m) → What (books m was.totals)
-  says_of What old new says clean m was = says clean (books m was.totals) was.holds
+  pub says_of : (What : Books → Type 0) (old new : Held S) → OnBooks (state g old) (state g new) What → HasCleanDisk (state g new) → (m : Content) (was : HoldsContent (state g old) m) → What (books m was.totals was.uses)
+  says_of What old new says clean m was = says clean (books m was.totals was.uses) was.holds
 
-  -- a reading leaves the storage as it was
-  pub reads : {J : Type 0} (conn : J → Held S) (old new : J) → Leaves (state g (conn old)) (state g (conn new))
-      → IsRead (λ j. HasCleanDisk (state g (conn j))) (λ j m. HoldsContent (state g (conn j)) m) (λ j (db : Trees). (state g (conn j)).may_leave db) old new
-  reads conn old new l = record {
+  -- a reading leaves the content
+  pub leaves_content : (old new : Held S) → Leaves (state g old) (state g new) → (m : Content) → HoldsContent (state g old) m → HoldsContent (state g new) m
+  leaves_content old new l m was = record { lines = was.lines; totals = was.totals; uses = was.uses; sums = was.sums; trail = was.trail; holds = l.stays (books m was.totals was.uses) was.holds }
+
+  -- and the storage as it was, which remembers what it did
+  pub reads : {J : Type 0} (conn : J → Held S) (number at : J → ℕ) (old new : J) → number new ≡ number old → at new ≡ at old → Leaves (state g (conn old)) (state g (conn new))
+      → IsRead (λ j. HasCleanDisk (state g (conn j))) (λ j m. HoldsTables (state g (conn j)) (number j) (at j) m) (λ j (db : Trees). (state g (conn j)).may_leave db) old new
+  reads conn number at old new same_number same_at l = record {
     clean_disk = λ clean. let s = l.survives.clean in omega (arith, s, clean);
-    stays = λ clean m was. record { lines = was.lines; totals = was.totals; sums = was.sums; holds = l.stays (books m was.totals) was.holds };
+    stays = λ clean m was. (
+      leaves_content (conn old) (conn new) l m was.0,
+      λ clean. let last = was.1 (let s = l.survives.clean in omega (arith, s, clean)) in (same_number ∙ last.0, same_at ∙ last.1),
+    );
     crash = λ clean m was left may. elim (l.survives.crash clean left may) [ inl before ↦ before | inr none ↦ absurd none ];
   }

@@ -2,8 +2,10 @@
 pub mod LedgerBooks
 pub mod MemBooks
 pub mod Storing
+pub mod Entries
 pub mod SqlBooks
 pub mod EarlierBooks
 pub mod Checking
 pub mod Crashes
 pub mod Loading
+pub mod Stories

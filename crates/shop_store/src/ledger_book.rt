@@ -1,9 +1,10 @@
 //! A book of both: a ledger answers for rows, and a storage behind it writes what lasts.
 
 ghost use Rattle.std.specs.Prelude.{◌≡◌, ◌⊎◌, ◌+◌, ◌<◌, ◌≤◌, ◌-◌, ◌^◌, IfErr, IfOk, IfSome, IsOk, Ok, OnErr, OnOk, false, map, option_map, take};
-ghost use Rattle.shop_records.specs.Content.{Content, changed, demand_at, has_order, import_at, job_at, kept_at, material_at, part_at, parts_of as listed_parts, totals_of};
-ghost use Rattle.shop_records.specs.Lists.{AreLines, IsLastNumber, materials_of, open_demands, orders_after, parts_after, waiting_jobs};
+ghost use Rattle.shop_records.specs.Content.{Content, changed, demand_at, entry_at, entry_count, has_order, import_at, job_at, kept_at, last_time, material_at, part_at, parts_of as listed_parts, totals_of};
+ghost use Rattle.shop_records.specs.Lists.{AreLines, IsLastNumber, entries_about, entries_behind, materials_of, open_demands, orders_after, parts_after, waiting_jobs};
 ghost use Rattle.shop_records.specs.Soundness.{AreDifferent, Fits, IsInRange};
+ghost use Rattle.std.specs.FinMap.{len};
 ghost use Rattle.shop_records.specs.Visits.{IsVisit};
 ghost use Rattle.shop_records.specs.declared.records.Job.{Job as JobOf};
 ghost use Rattle.shop_book.specs.FoundJobs.{IsFoundJob, head_of};
@@ -11,11 +12,12 @@ ghost use Rattle.shop_book.specs.Ledgers.{bare, content_in};
 ghost use Rattle.shop_store.specs.LedgerBooks.{CountsFault, failed_of, fault_by, told_by};
 
 use crate::posted::LedgerBook;
+use crate::stories::scan;
 use cut_measure::{Code, PartName};
-use shop_book::{Book, BookFault, FoundJob, JobHead, Storage, StorageFault};
+use shop_book::{Book, BookFault, FoundJob, JobHead, Ledger, Storage, StorageFault};
 use shop_records::{
-    Change, CodeList, Demand, DemandList, ImportRow, Job, Kept, Material, MaterialList, NumberList,
-    Part, PartList, PartVisitor, Totals,
+    Change, CodeList, Demand, DemandList, Entry, EntryRows, ImportRow, Job, Kept, Material,
+    MaterialList, NumberList, Part, PartList, PartVisitor, Subject, Totals,
 };
 use std::alloc::Global;
 
@@ -400,6 +402,61 @@ impl<S: Storage> Book for LedgerBook<S> {
         self.count(answer)
     }
 
+    fn last_entry(&mut self) -> Result<(u64, u64), BookFault>
+        ensures ledger { self.new.ledger ≡ self.old.ledger }
+        ensures sure { S.MAY_FAIL ≡ false → IsOk result }
+        ensures last { OnBoth S.Storage self.old self.new
+            (λ m. IfOk result (λ last. (last.0 ≡ entry_count m) × (last.1 ≡ last_time m))) }
+        ensures keeps { KeepsBoth S.Storage (CountsFailure result) self.old self.new }
+    {
+        let answer = self.storage.last_entry();
+        self.count(answer)
+    }
+
+    fn entry(&mut self, number: u64) -> Result<Option<Entry>, BookFault>
+        ensures ledger { self.new.ledger ≡ self.old.ledger }
+        ensures sure { S.MAY_FAIL ≡ false → IsOk result }
+        ensures row { OnBoth S.Storage self.old self.new
+            (λ m. IfOk result (λ row. row ≡ entry_at m number)) }
+        ensures keeps { KeepsBoth S.Storage (CountsFailure result) self.old self.new }
+    {
+        let answer = self.storage.entry(number);
+        self.count(answer)
+    }
+
+    fn entries_after(
+        &mut self,
+        alloc: Global,
+        after: u64,
+        most: usize,
+    ) -> Result<EntryRows, BookFault>
+        ensures ledger { self.new.ledger ≡ self.old.ledger }
+        ensures memory { S.MAY_FAIL ≡ false → IfErr result (λ fault. fault ≡ NoMemory) }
+        ensures rows { OnBoth S.Storage self.old self.new
+            (λ m. IfOk result (λ rows. rows ≡ take most (entries_behind m after))) }
+        ensures keeps { KeepsBoth S.Storage (CountsFailure result) self.old self.new }
+    {
+        let answer = self.storage.entries_after(alloc, after, most);
+        self.count(answer)
+    }
+
+    fn entries_about(
+        &mut self,
+        alloc: Global,
+        about: Subject,
+        after: u64,
+        most: usize,
+    ) -> Result<EntryRows, BookFault>
+        ensures ledger { self.new.ledger ≡ self.old.ledger }
+        ensures memory { S.MAY_FAIL ≡ false → IfErr result (λ fault. fault ≡ NoMemory) }
+        ensures rows { OnBoth S.Storage self.old self.new
+            (λ m. IfOk result (λ rows. rows ≡ take most (entries_about m about after))) }
+        ensures keeps { KeepsBoth S.Storage (CountsFailure result) self.old self.new }
+    {
+        let answer = scan(alloc, &self.ledger, &mut self.storage, &about, after, most);
+        self.count(answer)
+    }
+
     fn kept_count(&mut self) -> Result<u32, BookFault>
         ensures ledger { self.new.ledger ≡ self.old.ledger }
         ensures sure { S.MAY_FAIL ≡ false → IsOk result }
@@ -407,6 +464,21 @@ impl<S: Storage> Book for LedgerBook<S> {
     {
         let answer = self.storage.kept_count();
         self.count(answer)
+    }
+
+    fn text_counts(&mut self) -> Result<(u64, u64), BookFault>
+        ensures ledger { self.new.ledger ≡ self.old.ledger }
+        ensures sure { S.MAY_FAIL ≡ false → IsOk result }
+        ensures counts { OnBoth S.Storage self.old self.new (λ m. IfOk result
+            (λ counts. (counts.0 ≡ len m.kept) × (counts.1 ≡ len m.imports))) }
+        ensures keeps { KeepsBoth S.Storage (CountsFailure result) self.old self.new }
+    {
+        let answer = self.storage.text_counts();
+        self.count(answer)
+    }
+
+    fn rows(&self) -> &Ledger {
+        &self.ledger
     }
 
     /// Reserves capacity in the ledger, makes the change last, and then puts its rows, which can't fail.

@@ -3,6 +3,7 @@
 
 mod adders;
 mod checking;
+mod entries;
 mod ledger_book;
 mod loadable;
 mod loaded;
@@ -16,6 +17,7 @@ mod reopening;
 mod sql;
 mod sql_storage;
 mod sql_storing;
+mod stories;
 
 pub use loaded::Loaded;
 pub use loading::{load_earlier_ledger, load_ledger};

@@ -4,7 +4,7 @@ ghost use Rattle.std.specs.Prelude.{◌≡◌, false, None, IfOk, OnOk};
 ghost use Rattle.sqlite.specs.Held.{state};
 ghost use Rattle.shop_records.specs.Content.{Content, changed};
 ghost use Rattle.shop_records.specs.Lists.{materials_of, order_codes};
-ghost use Rattle.shop_statements.specs.Earlier.{OnBooksEarlier, OnBooksEither};
+ghost use Rattle.shop_statements.specs.Earlier.{OnBooksEarlier, OnBooksEither, OnBooksSecond};
 ghost use Rattle.shop_statements.specs.Rows.{IsKeyed};
 ghost use Rattle.shop_statements.specs.Shown.{Leaves, OnBooks};
 ghost use Rattle.shop_tables.specs.Changing.{HasSums};
@@ -82,6 +82,7 @@ fn numbers_alone(alloc: Global, act: u32, demand: u32) -> Change
         demand: Some(demand),
         import: None,
         kept: None,
+        entry: None,
         reply: Reply::Release { job: 0 },
     }
 }
@@ -155,11 +156,13 @@ fn load_behind<S: Alter>(
     }
 }
 
-/// Reads each table once, in the order of its keys, into a ledger. Tables that stand for books give the ledger of all their
-/// rows but long texts if their totals are the sums of their parts, and else `OtherSums`; only other tables give `NoRow`. A
+/// Reads each table once, in the order of its keys, into a ledger. Tables of version 3 or 2 that stand for books give the
+/// ledger of all their rows except long texts and entries if their totals are the sums of their parts, and else `OtherSums`; only other tables give `NoRow`. A
 /// number or a code that is out of the range of its type is a `TableFault::Store`, but for those of parts.
 pub fn load_ledger<S: Alter>(alloc: Global, conn: &mut Connection<S>) -> Result<Loaded, TableFault>
     ensures loaded { OnBooks (state S.Store conn.old) (state S.Store conn.new)
+        (λ books. IfOk result (IsLoaded (HasSums books) (bare books.content))) }
+    ensures second { OnBooksSecond (state S.Store conn.old) (state S.Store conn.new)
         (λ books. IfOk result (IsLoaded (HasSums books) (bare books.content))) }
     ensures leaves { Leaves (state S.Store conn.old) (state S.Store conn.new) }
     ensures mode { conn.old.in_transaction ≡ false → conn.new.in_transaction ≡ false }

@@ -45,7 +45,8 @@ pub fn reopen_book<D: Disk + Drop>(
     options: Options,
 ) -> Option<SqlBook<FileStore<D>>>
     ensures { IfSome result (λ again. (m : Content) → HoldsContent (file_state book.storage.conn) m
-        → HoldsLedger (file_state again.storage.conn) again.ledger m) }
+        → HoldsLedger (file_state again.storage.conn) again.storage.last_number
+        again.storage.last_at again.ledger m) }
 {
     let files = close(book.into_connection())?;
     let Ok(conn) = Connection::open_files(alloc, files, options) else {
@@ -57,10 +58,10 @@ pub fn reopen_book<D: Disk + Drop>(
     }
 }
 
-/// What a crash in a renewal leaves is found again. A connection was settled at a content in tables of version 1, and an
-/// adopt of it came to another state, whatever exit that was (its clause `renewed_crash`); the store of that state was taken
-/// back. A connection that opened on files with what a crash then leaves is settled at the same content, in version 2 or
-/// in version 1. So a book that is adopted from it holds that content.
+/// What a crash in a renewal leaves is found again. A connection was settled at a content in tables of version 2 or 1, and
+/// an adopt of it came to another state, whatever exit that was (its clause `renewed_crash`); the store of that state was
+/// taken back. A connection that opened on files with what a crash then leaves is settled at the same content, in version 3
+/// or in that version. So a book that is adopted from it holds that content.
 pub fn left_renewals_are_found<D: Disk>()
     ensures { (old after : Held (StoreOf D D.Disk)) (m : Content) → IsTrue (file_state old).is_open
         → IsSettledEarlierAt (file_state old) m

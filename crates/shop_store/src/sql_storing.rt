@@ -1,4 +1,4 @@
-//! How a storage in SQL tables reads long texts, and makes a change last in one transaction.
+//! How a storage in SQL tables reads long texts and entries, and makes a change last in one transaction.
 
 ghost use Rattle.std.specs.Prelude.{◌≡◌};
 ghost use Rattle.shop_store.specs.Storing.{read_by_tables};
@@ -6,9 +6,10 @@ ghost use Rattle.shop_store.specs.Storing.{read_by_tables};
 use crate::sql_storage::SqlStorage;
 use cut_measure::Code;
 use shop_book::{Storage, StorageFault};
-use shop_records::{Change, ImportRow, Kept, Pair};
+use shop_records::{Change, Entry, EntryRows, ImportRow, Kept, Pair};
 use shop_tables::{
-    TableFault, commit_change, count_kept, find_import, find_kept, find_last_number,
+    TableFault, commit_change, count_kept, count_texts, entries_after, find_entry, find_import,
+    find_kept, find_last_number,
 };
 use sqlite::Alter;
 use std::alloc::Global;
@@ -24,12 +25,32 @@ fn from_tables<T: Drop>(answer: Result<T, TableFault>) -> Result<T, StorageFault
     }
 }
 
+impl<S: Alter> SqlStorage<S> {
+    ghost use Rattle.std.specs.Prelude.{◌≡◌, option_map, unwrap_or};
+    ghost use Rattle.shop_records.specs.declared.journal.Entry.{Entry as EntryOf};
+
+    // Remembers a new entry, if there is one, as the last one.
+    fn remember(&mut self, entry: &Option<Entry>)
+        ensures conn { self.new.conn ≡ self.old.conn }
+        ensures number { self.new.last_number
+            ≡ unwrap_or (option_map (λ (entry : EntryOf). entry.number) entry.now) self.old.last_number }
+        ensures at { self.new.last_at
+            ≡ unwrap_or (option_map (λ (entry : EntryOf). entry.at) entry.now) self.old.last_at }
+    {
+        if let Some(entry) = entry {
+            self.last_number = entry.number;
+            self.last_at = entry.at;
+        }
+    }
+}
+
 impl<S: Alter> Storage for SqlStorage<S> {
     ghost use Rattle.std.specs.Prelude.{true};
     ghost use Rattle.sqlite_trees.specs.Tree.{Trees};
     ghost use Rattle.sqlite.specs.State.{HasCleanDisk};
     ghost use Rattle.sqlite.specs.Held.{state};
-    ghost use Rattle.shop_tables.specs.Held.{HoldsContent, StandsFor};
+    ghost use Rattle.shop_tables.specs.Held.{StandsFor};
+    ghost use Rattle.shop_store.specs.Storing.{HoldsTables};
 
     const MAY_FAIL: bool = true;
 
@@ -41,7 +62,8 @@ impl<S: Alter> Storage for SqlStorage<S> {
 
     ghost may_leave = { λ storage db. (state S.Store storage.conn).may_leave db };
 
-    ghost holds = { λ storage m. HoldsContent (state S.Store storage.conn) m };
+    ghost holds = { λ storage m. HoldsTables (state S.Store storage.conn)
+        storage.last_number storage.last_at m };
 
     ghost has_clean_disk = { λ storage. HasCleanDisk (state S.Store storage.conn) };
 
@@ -66,7 +88,34 @@ impl<S: Alter> Storage for SqlStorage<S> {
         from_tables(count_kept(&mut self.conn))
     }
 
+    fn last_entry(&mut self) -> Result<(u64, u64), StorageFault> {
+        Ok((self.last_number, self.last_at))
+    }
+
+    fn entry(&mut self, number: u64) -> Result<Option<Entry>, StorageFault> {
+        from_tables(find_entry(&mut self.conn, number))
+    }
+
+    fn entries_after(
+        &mut self,
+        alloc: Global,
+        after: u64,
+        most: usize,
+    ) -> Result<EntryRows, StorageFault> {
+        from_tables(entries_after(alloc, &mut self.conn, after, most))
+    }
+
+    fn text_counts(&mut self) -> Result<(u64, u64), StorageFault> {
+        from_tables(count_texts(&mut self.conn))
+    }
+
     fn commit(&mut self, change: &Change) -> Result<(), StorageFault> {
-        from_tables(commit_change(self.alloc, &mut self.conn, change))
+        match from_tables(commit_change(self.alloc, &mut self.conn, change)) {
+            Ok(()) => {
+                self.remember(&change.entry);
+                Ok(())
+            }
+            Err(fault) => Err(fault),
+        }
     }
 }

@@ -17,11 +17,11 @@ use Rattle.shop_statements.specs.Beside.{IsSameBeside, SparesRows, Spares}
 use Rattle.shop_statements.specs.Layout.{HasShopTables, our_trees}
 use Rattle.shop_statements.specs.Rows.{Stands}
 use Rattle.shop_statements.specs.Shown.{Books, Shows, Holds, Ran, Makes, Within, StandsIn}
-use Rattle.shop_tables.specs.Changing.{HasSums, with_change}
+use Rattle.shop_tables.specs.Changing.{HasSums, HasTrail, with_change}
 use Rattle.shop_tables.specs.Held.{books, HoldsContent, StandsFor, LeavesOthers}
 use Rattle.shop_statements.proofs.Beside.{beside_itself}
 use Rattle.shop_records.proofs.LinesKept.{lines_kept}
-use Rattle.shop_tables.proofs.Fitting.{sums_kept}
+use Rattle.shop_tables.proofs.Fitting.{sums_kept, trail_kept}
 
 pub stands_in : (s : State) (b : Books) → Shows s b → StandsIn s.now.trees b
 stands_in s b h = ((s.now.schema, h.schema, h.sound), h.stands, h.keyed)
@@ -30,7 +30,7 @@ pub shows_along : (old new : State) (b : Books) → old.now ≡ new.now → Show
 shows_along old new b same h = record {
   schema = subst (λ (d : Database). HasShopTables d.schema) same h.schema;
   sound = subst IsDatabase same h.sound;
-  stands = subst (λ (d : Database). Stands d.trees b.content b.totals) same h.stands;
+  stands = subst (λ (d : Database). Stands d.trees b.content b.totals b.uses) same h.stands;
   keyed = h.keyed;
 }
 
@@ -66,7 +66,7 @@ module _ {S : Type 0} (g : Ghosts S) (h : Held S) where
         record { shows = shows_along old last b (start.committed ∙ went.seen) start.shows; committed = went.committed }
 
     pub undone : (m : Content) → HoldsContent old m → Within begun done → (HasCleanDisk last → IsRolledBack done last) → HoldsContent last m
-    undone m was within back = record { lines = was.lines; totals = was.totals; sums = was.sums; holds = undoes (books m was.totals) was.holds within back }
+    undone m was within back = record { lines = was.lines; totals = was.totals; uses = was.uses; sums = was.sums; trail = was.trail; holds = undoes (books m was.totals was.uses) was.holds within back }
 
     module _ (ran : Ran begun done) where
       -- a commit that fails has undone it
@@ -78,12 +78,15 @@ module _ {S : Type 0} (g : Ghosts S) (h : Held S) where
 
       -- ---- it is committed
 
-      module _ (m : Content) (change : Change) (was : HoldsContent old m) (fits : Fits m change) (made : Makes begun done (books m was.totals) (with_change change (books m was.totals))) where
+      module _ (m : Content) (change : Change) (was : HoldsContent old m) (fits : Fits m change) (made : Makes begun done (books m was.totals was.uses) (with_change change (books m was.totals was.uses))) where
         abbrev after : Books
-        after = with_change change (books m was.totals)
+        after = with_change change (books m was.totals was.uses)
 
         sums : HasSums after
-        sums = sums_kept (books m was.totals) change was.sums fits
+        sums = sums_kept (books m was.totals was.uses) change was.sums fits
+
+        trail : HasTrail after
+        trail = trail_kept (books m was.totals was.uses) change was.trail fits
 
         -- what the transaction sees at its end
         pub shows_end : HasCleanDisk done → Shows done after
@@ -92,13 +95,15 @@ module _ {S : Type 0} (g : Ghosts S) (h : Held S) where
             made clean refl (record { schema = start.schema; sound = start.sound; stands = start.stands; keyed = start.keyed })
 
         pub stands_end : HasCleanDisk done → StandsFor done.now.trees (changed m change)
-        stands_end clean = record { lines = lines_kept m change fits was.lines; totals = after.totals; sums = sums; stands = stands_in done after (shows_end clean) }
+        stands_end clean = record { lines = lines_kept m change fits was.lines; totals = after.totals; uses = after.uses; sums = sums; trail = trail; stands = stands_in done after (shows_end clean) }
 
         pub committed : (HasCleanDisk last → sql.Shows done last done.now done.now false) → HoldsContent last (changed m change)
         committed end = record {
           lines = lines_kept m change fits was.lines;
           totals = after.totals;
+          uses = after.uses;
           sums = sums;
+          trail = trail;
           holds = λ clean up. let e = end clean in record { shows = shows_along done last after (sym e.now_is) (shows_end (late clean)); committed = e.now_is ∙ sym e.committed_is };
         }
 

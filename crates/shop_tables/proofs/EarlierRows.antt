@@ -17,7 +17,7 @@ use Rattle.sqlite.specs.declared.error.Error.{Error}
 use Rattle.sqlite.specs.declared.rows.Row.{Row as Answered}
 use Rattle.sqlite.proofs.Callers.{reads_as}
 use Rattle.shop_records.specs.declared.records.Totals.{Totals}
-use Rattle.shop_statements.specs.Earlier.{HasNoneReturned, HoldsEarlier, ShowsEarlier, StandsEarlier, earlier_row, earlier_schema}
+use Rattle.shop_statements.specs.Earlier.{HasNoneReturned, HoldsEarlier, ShowsEarlier, StandsEarlier, earlier_row, earlier_schema, HoldsSecond, ShowsSecond, StandsSecond}
 use Rattle.shop_tables.specs.Lending.{IsHeldAt}
 use Rattle.shop_tables.specs.Listing.{listed_row}
 use Rattle.shop_statements.specs.Selecting.{is_select}
@@ -35,6 +35,7 @@ shows_earlier_along old new b same h = record {
   sound = subst IsDatabase same h.sound;
   stands = subst (λ (d : Database). StandsEarlier d.trees b.content b.totals) same h.stands;
   keyed = h.keyed;
+  uses = h.uses;
 }
 
 pub held_along : (old new : State) (b : Books) → HasCleanDisk old → HoldsEarlier old b → IsAsWas old new → ShowsEarlier new b × (new.now ≡ new.committed)
@@ -45,6 +46,24 @@ held_along old new b clean was along =
 pub stays_earlier : (old new : State) (b : Books) → Leaves old new → HoldsEarlier old b → HoldsEarlier new b
 stays_earlier old new b left was clean up =
     let now = held_along old new b (omega (arith, left.survives.clean)) was (left.as_was clean up) in record { shows = now.0; committed = now.1 }
+
+pub shows_second_along : (old new : State) (b : Books) → old.now ≡ new.now → ShowsSecond old b → ShowsSecond new b
+shows_second_along old new b same h = record {
+  schema = sym (ap (λ (d : Database). d.schema) same) ∙ h.schema;
+  sound = subst IsDatabase same h.sound;
+  stands = subst (λ (d : Database). StandsSecond d.trees b.content b.totals) same h.stands;
+  keyed = h.keyed;
+  uses = h.uses;
+}
+
+pub second_along : (old new : State) (b : Books) → HasCleanDisk old → HoldsSecond old b → IsAsWas old new → ShowsSecond new b × (new.now ≡ new.committed)
+second_along old new b clean was along =
+    let before = was clean along.was_open in
+    (shows_second_along old new b (sym (along.now before.committed)) before.shows, along.committed before.committed)
+
+pub stays_second : (old new : State) (b : Books) → Leaves old new → HoldsSecond old b → HoldsSecond new b
+stays_second old new b left was clean up =
+    let now = second_along old new b (omega (arith, left.survives.clean)) was (left.as_was clean up) in record { shows = now.0; committed = now.1 }
 
 pub sees_earlier : {S : Type 0} (g : Ghosts S) (sql : List ℕ) (params : Row) (old : Held S) (b : Books) → (HasCleanDisk (state g old)) → HoldsEarlier (state g old) b → (mid : Held S) → IsHeldAt g sql params old mid → ShowsEarlier (state g mid) b
 sees_earlier g sql params old b clean was mid held = (held_along (state g old) (state g mid) b clean was held.as_was).0

@@ -1,16 +1,17 @@
 -- What a change that fits is row by row.
-use Rattle.std.proofs.Common.{◌≡◌, ℕ, true, false, List, [], ◌∷◌, inl, inr, refl, sym, ap, subst, ◌∙◌, cond}
-use Rattle.std.specs.Prelude.{◌≢◌, not, Bool, Option, Some, None, IfSome, All, MatchOption, is_some, unwrap_or, if◌then◌else◌}
+use Rattle.std.proofs.Common.{◌≡◌, ◌≤◌, ◌+◌, ◌⊎◌, ◌||◌, ◌++◌, ℕ, true, false, true≢false, List, [], ◌∷◌, IsSome, inl, inr, refl, sym, ap, subst, ◌∙◌, cond, arith}
+use Rattle.std.specs.Prelude.{nat_eq, ◌≢◌, not, Bool, Option, Some, None, IfSome, All, MatchOption, is_some, unwrap_or, if◌then◌else◌}
 use Rattle.std.specs.declared.cmp.Ordering.TheVariants.{Less}
-use Rattle.std.specs.Ordering.{eq_by_cmp}
+use Rattle.std.specs.Ordering.{eq_by_cmp, nat_cmp}
 use Rattle.std.specs.Cmp.{nat_cmp_total, tied_itself}
-use Rattle.std.specs.FinMap.{FinMap, get, insert, get-insert, nat_cmp-IsAntisymmetric}
+use Rattle.std.specs.Cmp.Lexicographic.{nat_list_eq_equiv, pointwise}
+use Rattle.std.specs.FinMap.{FinMap, empty, get, get-empty, insert, get-insert, len, len-insert, nat_cmp-IsAntisymmetric}
 use Rattle.cut_measure.specs.Codes.{code_cmp}
 use Rattle.cut_measure.specs.Names.{Name, name_cmp}
 use Rattle.shop_records.specs.Content as content
-use Rattle.shop_records.specs.Content.{Content, material_at, part_at, demand_at, import_at, in_state, totals_of, no_totals}
+use Rattle.shop_records.specs.Content.{Content, material_at, part_at, demand_at, entry_at, import_at, in_state, totals_of, no_totals}
 use Rattle.shop_records.specs.Elements.{IsIn}
-use Rattle.shop_records.specs.Soundness.{Fits, TotalsFit, with_totals, IsNewPart, IsMovedPart, IsNewJob, IsMovedJob, IsNewDemand, IsMovedDemand}
+use Rattle.shop_records.specs.Soundness.{Fits, TotalsFit, with_totals, IsNewPart, IsMovedPart, IsNewJob, IsMovedJob, IsNewDemand, IsMovedDemand, IsNewEntry}
 use Rattle.shop_records.specs.declared.changes.Change.{Change}
 use Rattle.shop_records.specs.declared.changes.MaterialTotals.{MaterialTotals}
 use Rattle.shop_records.specs.declared.imports.ImportRow.{ImportRow}
@@ -21,9 +22,13 @@ use Rattle.shop_records.specs.declared.records.Part.{Part}
 use Rattle.shop_records.specs.declared.records.Demand.{Demand}
 use Rattle.shop_records.proofs.Basics.{names_total, names_same, codes_total, codes_same, none_some, key_cases, tied, untied, get_other, all_in}
 use Rattle.shop_records.proofs.Puts.{Pairwise, pairs_in, pairs_more}
+use Rattle.shop_records.specs.declared.journal.Entry.{Entry}
+use Rattle.shop_statements.specs.declared.uses.JobOrder.{JobOrder}
+use Rattle.shop_statements.specs.Rows.{use_cmp}
+use Rattle.shop_statements.proofs.Finding.{use_total, use_same}
 use Rattle.shop_statements.specs.Shown.{Books}
-use Rattle.shop_statements.specs.Changes.{with_part, with_demand}
-use Rattle.shop_tables.specs.Changing.{HasSums, AreDemandsFit, AreInTurn, IsOver, recounted, with_row, with_change}
+use Rattle.shop_statements.specs.Changes.{with_part, with_demand, with_use}
+use Rattle.shop_tables.specs.Changing.{HasSums, HasTrail, AreDemandsFit, AreInTurn, IsOver, recounted, with_row, with_change, AreNewUses, is_ordered, new_uses, put_uses, uses_of, uses_of_job}
 
 -- ---- rows that are put one after another
 
@@ -102,11 +107,87 @@ sums_then b (Some row) has code = elim (key_cases codes_total codes_same code ro
       ∙ has.sums code ∙ sym (ap (λ (c : Bool). if c then row.totals else totals_of b.content code) (untied codes_total codes_same row.material code (λ e. other.0 (sym e))))
 ]
 
+-- ---- the orders of jobs
+
+in_uses : (job : ℕ) (demands : List Demand) (x : JobOrder) → IsIn x (uses_of job demands) → x.job ≡ job
+in_uses job [] x i = absurd i
+in_uses job (demand ∷ more) x i =
+    elim (is_ordered demand.order more) as (λ (c : Bool). IsIn x (if c then uses_of job more else uses_of job more ++ record { job = job; order = demand.order } ∷ []) → x.job ≡ job) [
+      | true ↦ λ there. in_uses job more x there
+      | false ↦ λ there. last (uses_of job more) (in_uses job more x) there
+    ] i
+  where
+    last : (xs : List JobOrder) → (IsIn x xs → x.job ≡ job) → IsIn x (xs ++ record { job = job; order = demand.order } ∷ []) → x.job ≡ job
+    last [] each (inl is) = ap (λ (u : JobOrder). u.job) is
+    last [] each (inr none) = absurd none
+    last (y ∷ ys) each (inl is) = each (inl is)
+    last (y ∷ ys) each (inr later) = last ys (λ there. each (inr there)) later
+
+-- what holds of each order of a job that was there, and of each new one, holds of all
+put_all_uses : (P : JobOrder → Type 0) (xs : List JobOrder) (uses : FinMap use_cmp (Unit {0})) → ((x : JobOrder) → IsSome (get uses x) → P x) → ((x : JobOrder) → IsIn x xs → P x) → (x : JobOrder) → IsSome (get (put_uses xs uses) x) → P x
+put_all_uses P [] uses old new x there = old x there
+put_all_uses P (y ∷ more) uses old new x there =
+    put_all_uses P more (insert uses y tt)
+    (λ z found. elim (key_cases use_total use_same z y) [
+      | inl is ↦ subst P (sym is.0) (new y (inl refl))
+      | inr other ↦ old z (subst IsSome (get-insert use_total uses y tt z ∙ ap (λ c. cond c (Some tt) (get uses z)) other.1) found)
+    ]) (λ z i. new z (inr i)) x there
+
+job_stays : (jobs : FinMap nat_cmp Job) (job : Option Job) (n : ℕ) → IsSome (get jobs n) → IsSome (get (content.with_job job jobs) n)
+job_stays jobs None n there = there
+job_stays jobs (Some job) n there =
+    subst IsSome (sym (get-insert nat_cmp_total jobs job.act job n)) (either_some (eq_by_cmp nat_cmp n job.act) (get jobs n) there)
+  where
+    either_some : (c : Bool) (found : Option Job) → IsSome found → IsSome (cond c (Some job) found)
+    either_some true found there = refl
+    either_some false found there = there
+
+uses_then : (jobs : FinMap nat_cmp Job) (uses : FinMap use_cmp (Unit {0})) (job : Option Job) (act : Option ℕ) (demands : List Demand) → ((x : JobOrder) → IsSome (get uses x) → IsSome (get jobs x.job))
+    → (x : JobOrder) → IsSome (get (put_uses (uses_of_job job act demands) uses) x) → IsSome (get (content.with_job job jobs) x.job)
+uses_then jobs uses None act demands has x there = has x there
+uses_then jobs uses (Some job) None demands has x there = job_stays jobs (Some job) x.job (has x there)
+uses_then jobs uses (Some job) (Some act) demands has x there =
+    put_all_uses (λ x. IsSome (get (insert jobs job.act job) x.job)) (uses_of job.act demands) uses (λ x there. job_stays jobs (Some job) x.job (has x there))
+    (λ x i. subst (λ n. IsSome (get (insert jobs job.act job) n)) (sym (in_uses job.act demands x i))
+    (subst IsSome (sym (get-insert nat_cmp_total jobs job.act job job.act ∙ ap (λ c. cond c (Some job) (get jobs job.act)) (tied nat_cmp_total nat_cmp-IsAntisymmetric job.act job.act refl))) refl)) x there
+
+-- ---- what a change keeps
+
 -- a change that fits keeps the totals the sums
 pub sums_kept : (b : Books) (change : Change) → HasSums b → Fits b.content change → HasSums (with_change change b)
 sums_kept b change has fits = record {
   there = there_then b change.material change.totals has fits.totals;
   sums = λ code. sums_then b change.totals has code ∙ sym (fits.sums code);
+}
+
+entries_then : (rows : FinMap nat_cmp Entry) (entry : Option Entry) → ((number : ℕ) → IsSome (get rows number) → (1 ≤ number) × (number ≤ len rows)) → IfSome entry (λ e. (e.number ≡ len rows + 1) × (get rows e.number ≡ None))
+    → (number : ℕ) → IsSome (get (content.with_entry entry rows) number) → (1 ≤ number) × (number ≤ len (content.with_entry entry rows))
+entries_then rows None has fits number there = has number there
+entries_then rows (Some e) has fits number there =
+    let more : len (insert rows e.number e) ≡ len rows + 1 = len-insert nat_cmp_total rows e.number e ∙ rw fits.1 refl in
+    elim (key_cases nat_cmp_total nat_cmp-IsAntisymmetric number e.number) [
+      | inl is ↦ let same = is.0 in let next = fits.0 in (omega (arith, same, next), omega (arith, same, next, more))
+      | inr other ↦
+          let was = has number (subst IsSome (get-insert nat_cmp_total rows e.number e number ∙ ap (λ c. cond c (Some e) (get rows number)) other.1) there) in
+          (was.0, let low = was.1 in omega (arith, low, more))
+    ]
+
+-- and that the entries have no gap, and that the orders of jobs are of jobs that are there
+pub trail_kept : (b : Books) (change : Change) → HasTrail b → Fits b.content change → HasTrail (with_change change b)
+trail_kept b change has fits = record {
+  numbers = entries_then b.content.entries change.entry has.numbers (by change.entry fits.entry);
+  uses = uses_then b.content.jobs b.uses change.job change.act change.demands has.uses;
+}
+  where
+    by : (entry : Option Entry) → IfSome entry (IsNewEntry b.content change.kept) → IfSome entry (λ e. (e.number ≡ len b.content.entries + 1) × (get b.content.entries e.number ≡ None))
+    by None h = tt
+    by (Some e) h = (h.next, h.new)
+
+-- where there is no entry and no order of a job
+pub no_trail : (b : Books) → b.content.entries ≡ empty → b.uses ≡ empty → HasTrail b
+no_trail b none unused = record {
+  numbers = λ number there. absurd (let e = subst IsSome (ap (λ rows. get rows number) none ∙ get-empty nat_cmp number) there in cc);
+  uses = λ x there. absurd (let e = subst IsSome (ap (λ rows. get rows x) unused ∙ get-empty use_cmp x) there in cc);
 }
 
 -- the totals of a new material are new, and others are there
@@ -120,18 +201,82 @@ totals_there b (Some material) (Some row) has new fits = has.there row.material 
 pub totals_fit : (b : Books) (change : Change) → HasSums b → Fits b.content change → IfSome change.totals (λ row. is_some (get b.totals row.material) ≡ not (is_some change.material))
 totals_fit b change has fits = totals_there b change.material change.totals has fits.material fits.totals
 
--- ---- a job, whatever messages are kept
+-- ---- a job, whatever messages are kept and entries are there
 
-pub job_fits : (m : Content) (kept : FinMap content.pair_cmp Kept) (job : Option Job) (act : Option ℕ) → IfSome job (λ j. MatchOption act (IsMovedJob m j) (λ number. IsNewJob m number j))
-    → IfSome job (λ j. MatchOption act (IsMovedJob (record m { kept = kept }) j) (λ number. IsNewJob (record m { kept = kept }) number j))
-job_fits m kept None act fits = tt
-job_fits m kept (Some job) None fits = record { before = fits.before; found = fits.found; is = fits.is; part = fits.part }
-job_fits m kept (Some job) (Some act) fits = record {
+pub job_fits : (m : Content) (kept : FinMap content.pair_cmp Kept) (entries : FinMap nat_cmp Entry) (job : Option Job) (act : Option ℕ) → IfSome job (λ j. MatchOption act (IsMovedJob m j) (λ number. IsNewJob m number j))
+    → IfSome job (λ j. MatchOption act (IsMovedJob (record m { kept = kept; entries = entries }) j) (λ number. IsNewJob (record m { kept = kept; entries = entries }) number j))
+job_fits m kept entries None act fits = tt
+job_fits m kept entries (Some job) None fits = record { before = fits.before; found = fits.found; is = fits.is; part = fits.part }
+job_fits m kept entries (Some job) (Some act) fits = record {
   numbered = fits.numbered;
   new = fits.new;
   on = record { row = fits.on.row; found = fits.on.found; material = fits.on.material; known = fits.on.known; width = fits.on.width; height = fits.on.height; kerf = fits.on.kerf };
   kerf = fits.kerf;
 }
+
+-- ---- orders of a new job
+
+apart_uses : (job : ℕ) (demands : List Demand) → Pairwise (λ x y. x ≢ y) (uses_of job demands)
+apart_uses job [] = tt
+apart_uses job (demand ∷ more) =
+    elim (is_ordered demand.order more) as (λ (c : Bool). is_ordered demand.order more ≡ c → Pairwise (λ x y. x ≢ y) (if c then uses_of job more else uses_of job more ++ record { job = job; order = demand.order } ∷ [])) [
+      | true ↦ λ is. apart_uses job more
+      | false ↦ λ is. with_last (uses_of job more) (record { job = job; order = demand.order }) (apart_uses job more) (λ x i same. other_orders more is x i (ap (λ (u : JobOrder). u.order) same))
+    ] refl
+  where
+    pushed : (xs : List JobOrder) (y x : JobOrder) → IsIn x (xs ++ y ∷ []) → IsIn x xs ⊎ (x ≡ y)
+    pushed [] y x (inl is) = inr is
+    pushed [] y x (inr none) = absurd none
+    pushed (z ∷ zs) y x (inl is) = inl (inl is)
+    pushed (z ∷ zs) y x (inr later) = elim (pushed zs y x later) [ inl i ↦ inl (inr i) | inr is ↦ inr is ]
+
+    with_last : (xs : List JobOrder) (y : JobOrder) → Pairwise (λ a b. a ≢ b) xs → ((x : JobOrder) → IsIn x xs → x ≢ y) → Pairwise (λ a b. a ≢ b) (xs ++ y ∷ [])
+    with_last [] y apart far = (λ x none. absurd none, tt)
+    with_last (x ∷ xs) y apart far =
+        (λ z i. elim (pushed xs y z i) [ inl there ↦ apart.0 z there | inr is ↦ λ same. far x (inl refl) (same ∙ is) ], with_last xs y apart.1 (λ z i. far z (inr i)))
+
+    neither : (a b : Bool) → (a || b) ≡ false → (a ≡ false) × (b ≡ false)
+    neither true b h = absurd (true≢false h)
+    neither false b h = (refl, h)
+
+    other_orders : (rows : List Demand) → is_ordered demand.order rows ≡ false → (x : JobOrder) → IsIn x (uses_of job rows) → x.order ≢ demand.order
+    other_orders [] is x i = absurd i
+    other_orders (d ∷ rows) is x i = let two = neither _ _ is in
+        elim (is_ordered d.order rows) as (λ (c : Bool). IsIn x (if c then uses_of job rows else uses_of job rows ++ record { job = job; order = d.order } ∷ []) → x.order ≢ demand.order) [
+          | true ↦ λ there. other_orders rows two.1 x there
+          | false ↦ λ there. elim (pushed (uses_of job rows) (record { job = job; order = d.order }) x there) [
+            | inl before ↦ other_orders rows two.1 x before
+            | inr same ↦ λ e. absurd (true≢false (sym (subst (λ y. pointwise nat_eq d.order y ≡ true) (sym (ap (λ (u : JobOrder). u.order) same) ∙ e) (nat_list_eq_equiv.refl d.order)) ∙ two.0))
+          ]
+        ] i
+
+none_is : {X : Type 0} (found : Option X) → (IsSome found → ⊥) → found ≡ None
+none_is None never = refl
+none_is (Some x) never = absurd (never refl)
+
+-- the orders of a new job are new
+pub uses_new : (b : Books) (change : Change) → HasTrail b → Fits b.content change → (n : Books) → n.uses ≡ b.uses → AreNewUses (new_uses change) n
+uses_new b change has fits n same = by change.job change.act fits.job
+  where
+    by : (job : Option Job) (act : Option ℕ) → IfSome job (λ j. MatchOption act (IsMovedJob b.content j) (λ number. IsNewJob b.content number j)) → AreNewUses (uses_of_job job act change.demands) n
+    by None act h = tt
+    by (Some job) None h = tt
+    by (Some job) (Some act) h =
+        in_turn (λ x m. get m.uses x ≡ None) with_use (λ x y. x ≢ y)
+        (λ x y m apart new. get_other use_total use_same m.uses x tt y (λ e. apart (sym e)) ∙ new) (uses_of job.act change.demands) n
+        (λ x i. ap (λ rows. get rows x) same ∙ none_is _ (λ there. none_there x (in_uses job.act change.demands x i) (has.uses x there) h.new)) (apart_uses job.act change.demands)
+      where
+        none_there : (x : JobOrder) → x.job ≡ job.act → IsSome (get b.content.jobs x.job) → get b.content.jobs job.act ≡ None → ⊥
+        none_there x is there none = let e = subst IsSome (ap (get b.content.jobs) is ∙ none) there in cc
+
+-- ---- an entry
+
+pub entry_new : (m : Content) (change : Change) → Fits m change → IfSome change.entry (λ row. entry_at m row.number ≡ None)
+entry_new m change fits = by change.entry fits.entry
+  where
+    by : (entry : Option Entry) → IfSome entry (IsNewEntry m change.kept) → IfSome entry (λ row. entry_at m row.number ≡ None)
+    by None h = tt
+    by (Some row) h = h.new
 
 -- ---- an import
 

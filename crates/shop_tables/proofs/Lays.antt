@@ -42,11 +42,12 @@ use Rattle.shop_records.specs.declared.records.Demand.{Demand}
 use Rattle.shop_records.specs.declared.records.Totals.{Totals}
 use Rattle.shop_records.specs.declared.imports.ImportRow.{ImportRow}
 use Rattle.shop_records.specs.declared.texts.Kept.{Kept}
-use Rattle.shop_statements.specs.Layout.{Loose, created_all, no_schema, shop_schema, HasShopTables, meta_table, materials_table, parts_table, jobs_table, orders_table, demands_table, kept_table, imports_table, totals_table, totals2_table}
-use Rattle.shop_statements.specs.Rows.{AreRows, IsKeyed, meta_row, meta_entries, material_row, part_row, job_row, order_row, demand_row, kept_row, import_row, totals_row}
+use Rattle.shop_records.specs.declared.journal.Entry.{Entry}
+use Rattle.shop_statements.specs.Layout.{Loose, created_all, no_schema, shop_schema, HasShopTables, meta_table, materials_table, parts_table, jobs_table, orders_table, demands_table, kept_table, imports_table, totals_table, totals2_table, journal_table, uses_table, notes_table, begun_table, halts_table}
+use Rattle.shop_statements.specs.Rows.{AreRows, IsKeyed, meta_row, meta_entries, material_row, part_row, job_row, order_row, demand_row, kept_row, import_row, totals_row, journal_row, use_row, use_cmp}
 use Rattle.shop_tables.specs.Adopting.{IsMadeBeside, MakesTables, with_ours}
 use Rattle.shop_tables.specs.Laying.{Adds, AreRun, Does, IsRun, PutsFirstNumbers}
-use Rattle.shop_tables.specs.declared.laying.TheConstants.{META, MATERIALS, PARTS, JOBS, ORDERS, DEMANDS, KEPT, IMPORTS, TOTALS, TOTALS2, FIRST_NUMBERS}
+use Rattle.shop_tables.specs.declared.laying.TheConstants.{META, MATERIALS, PARTS, JOBS, ORDERS, DEMANDS, KEPT, IMPORTS, TOTALS, TOTALS2, JOURNAL, USES, NOTES, BEGUN, HALTS, FIRST_NUMBERS}
 use Rattle.shop_statements.specs.Shown.{Ran, Shows, fresh_books}
 use Rattle.shop_statements.proofs.Keys.{cast-Int, cast-Null}
 use Rattle.shop_tables.proofs.Behind.{Behind, begins, first_named, first_placed, made_blank, others_behind, others_kept, placed, still_sequence}
@@ -95,6 +96,39 @@ totals2_made : MakesAs TOTALS2.now totals2_table
 unfolding everything
 totals2_made = record { reads = ((refl, refl, refl, refl), refl); plain = refl }
 
+journal_made : MakesAs JOURNAL.now journal_table
+unfolding everything
+journal_made = record { reads = ((refl, refl, refl, refl), refl); plain = refl }
+
+uses_made : MakesAs USES.now uses_table
+unfolding everything
+uses_made = record { reads = ((refl, refl, refl, refl), refl); plain = refl }
+
+notes_made : MakesAs NOTES.now notes_table
+unfolding everything
+notes_made = record { reads = ((refl, refl, refl, refl), refl); plain = refl }
+
+begun_made : MakesAs BEGUN.now begun_table
+unfolding everything
+begun_made = record { reads = ((refl, refl, refl, refl), refl); plain = refl }
+
+halts_made : MakesAs HALTS.now halts_table
+unfolding everything
+halts_made = record { reads = ((refl, refl, refl, refl), refl); plain = refl }
+
+-- the tables that came with version 3, under the texts that make them
+abbrev pub later_steps : List (List ℕ × Table)
+later_steps = (USES.now, uses_table) ∷ (NOTES.now, notes_table) ∷ (BEGUN.now, begun_table) ∷ (HALTS.now, halts_table) ∷ []
+
+pub later_made : AreMade later_steps
+later_made = (uses_made, (notes_made, (begun_made, (halts_made, tt))))
+
+abbrev last_steps : List (List ℕ × Table)
+last_steps = (JOURNAL.now, journal_table) ∷ later_steps
+
+last_made : AreMade last_steps
+last_made = (journal_made, later_made)
+
 -- the tables behind meta's, under the texts that make them
 abbrev steps : List (List ℕ × Table)
 steps =
@@ -107,14 +141,14 @@ steps =
     ∷ (IMPORTS.now, imports_table)
     ∷ (TOTALS.now, totals_table)
     ∷ (TOTALS2.now, totals2_table)
-    ∷ []
+    ∷ last_steps
 
 all_made : AreMade steps
-all_made = (materials_made, (parts_made, (jobs_made, (orders_made, (demands_made, (kept_made, (imports_made, (totals_made, (totals2_made, tt)))))))))
+all_made = (materials_made, (parts_made, (jobs_made, (orders_made, (demands_made, (kept_made, (imports_made, (totals_made, (totals2_made, last_made)))))))))
 
 abbrev meta_terms : List Term
 meta_terms =
-    lit Null ∷ lit (Text (codes "version")) ∷ lit (Int (pos 2)) ∷ lit Null ∷ lit (Text (codes "act")) ∷ lit (Int (pos 0)) ∷ lit Null ∷ lit (Text (codes "demand"))
+    lit Null ∷ lit (Text (codes "version")) ∷ lit (Int (pos 3)) ∷ lit Null ∷ lit (Text (codes "act")) ∷ lit (Int (pos 0)) ∷ lit Null ∷ lit (Text (codes "demand"))
     ∷ lit (Int (pos 0)) ∷ []
 
 -- a table like meta's, wherever it is
@@ -142,10 +176,15 @@ shop_is_shop = record {
   imports = loose imports_table;
   totals = loose totals_table;
   totals2 = loose totals2_table;
+  journal = loose journal_table;
+  uses = loose uses_table;
+  notes = loose notes_table;
+  begun = loose begun_table;
+  halts = loose halts_table;
   others = [];
   tables = refl;
-  bare = ((unlike 1 0 refl, (unlike 3 0 refl, (unlike 5 0 refl, (unlike 8 0 refl, (unlike 10 0 refl, (unlike 12 0 refl, (unlike 14 0 refl, (unlike 16 0 refl, (unlike 18 0 refl, tt))))))))), ((unlike 1 2 refl, (unlike 3 2 refl, (unlike 5 2 refl, (unlike 8 2 refl, (unlike 10 2 refl, (unlike 12 2 refl, (unlike 14 2 refl, (unlike 16 2 refl, (unlike 18 2 refl, tt))))))))), ((unlike 1 4 refl, (unlike 3 4 refl, (unlike 5 4 refl, (unlike 8 4 refl, (unlike 10 4 refl, (unlike 12 4 refl, (unlike 14 4 refl, (unlike 16 4 refl, (unlike 18 4 refl, tt))))))))), ((unlike 1 6 refl, (unlike 3 6 refl, (unlike 5 6 refl, (unlike 8 6 refl, (unlike 10 6 refl, (unlike 12 6 refl, (unlike 14 6 refl, (unlike 16 6 refl, (unlike 18 6 refl, tt))))))))), ((unlike 1 7 refl, (unlike 3 7 refl, (unlike 5 7 refl, (unlike 8 7 refl, (unlike 10 7 refl, (unlike 12 7 refl, (unlike 14 7 refl, (unlike 16 7 refl, (unlike 18 7 refl, tt))))))))), ((unlike 1 9 refl, (unlike 3 9 refl, (unlike 5 9 refl, (unlike 8 9 refl, (unlike 10 9 refl, (unlike 12 9 refl, (unlike 14 9 refl, (unlike 16 9 refl, (unlike 18 9 refl, tt))))))))), ((unlike 1 11 refl, (unlike 3 11 refl, (unlike 5 11 refl, (unlike 8 11 refl, (unlike 10 11 refl, (unlike 12 11 refl, (unlike 14 11 refl, (unlike 16 11 refl, (unlike 18 11 refl, tt))))))))), ((unlike 1 13 refl, (unlike 3 13 refl, (unlike 5 13 refl, (unlike 8 13 refl, (unlike 10 13 refl, (unlike 12 13 refl, (unlike 14 13 refl, (unlike 16 13 refl, (unlike 18 13 refl, tt))))))))), ((unlike 1 15 refl, (unlike 3 15 refl, (unlike 5 15 refl, (unlike 8 15 refl, (unlike 10 15 refl, (unlike 12 15 refl, (unlike 14 15 refl, (unlike 16 15 refl, (unlike 18 15 refl, tt))))))))), ((unlike 1 17 refl, (unlike 3 17 refl, (unlike 5 17 refl, (unlike 8 17 refl, (unlike 10 17 refl, (unlike 12 17 refl, (unlike 14 17 refl, (unlike 16 17 refl, (unlike 18 17 refl, tt))))))))), tt))))))))));
-  rests = (tt, (tt, (((refl, refl), tt), (((refl, refl), tt), (tt, (((refl, refl), ((refl, refl), tt)), (tt, (((refl, refl), tt), (((refl, refl), tt), (((refl, refl), tt), tt))))))))));
+  bare = ((unlike 1 0 refl, (unlike 3 0 refl, (unlike 5 0 refl, (unlike 8 0 refl, (unlike 10 0 refl, (unlike 12 0 refl, (unlike 14 0 refl, (unlike 16 0 refl, (unlike 18 0 refl, (unlike 21 0 refl, (unlike 23 0 refl, tt))))))))))), ((unlike 1 2 refl, (unlike 3 2 refl, (unlike 5 2 refl, (unlike 8 2 refl, (unlike 10 2 refl, (unlike 12 2 refl, (unlike 14 2 refl, (unlike 16 2 refl, (unlike 18 2 refl, (unlike 21 2 refl, (unlike 23 2 refl, tt))))))))))), ((unlike 1 4 refl, (unlike 3 4 refl, (unlike 5 4 refl, (unlike 8 4 refl, (unlike 10 4 refl, (unlike 12 4 refl, (unlike 14 4 refl, (unlike 16 4 refl, (unlike 18 4 refl, (unlike 21 4 refl, (unlike 23 4 refl, tt))))))))))), ((unlike 1 6 refl, (unlike 3 6 refl, (unlike 5 6 refl, (unlike 8 6 refl, (unlike 10 6 refl, (unlike 12 6 refl, (unlike 14 6 refl, (unlike 16 6 refl, (unlike 18 6 refl, (unlike 21 6 refl, (unlike 23 6 refl, tt))))))))))), ((unlike 1 7 refl, (unlike 3 7 refl, (unlike 5 7 refl, (unlike 8 7 refl, (unlike 10 7 refl, (unlike 12 7 refl, (unlike 14 7 refl, (unlike 16 7 refl, (unlike 18 7 refl, (unlike 21 7 refl, (unlike 23 7 refl, tt))))))))))), ((unlike 1 9 refl, (unlike 3 9 refl, (unlike 5 9 refl, (unlike 8 9 refl, (unlike 10 9 refl, (unlike 12 9 refl, (unlike 14 9 refl, (unlike 16 9 refl, (unlike 18 9 refl, (unlike 21 9 refl, (unlike 23 9 refl, tt))))))))))), ((unlike 1 11 refl, (unlike 3 11 refl, (unlike 5 11 refl, (unlike 8 11 refl, (unlike 10 11 refl, (unlike 12 11 refl, (unlike 14 11 refl, (unlike 16 11 refl, (unlike 18 11 refl, (unlike 21 11 refl, (unlike 23 11 refl, tt))))))))))), ((unlike 1 13 refl, (unlike 3 13 refl, (unlike 5 13 refl, (unlike 8 13 refl, (unlike 10 13 refl, (unlike 12 13 refl, (unlike 14 13 refl, (unlike 16 13 refl, (unlike 18 13 refl, (unlike 21 13 refl, (unlike 23 13 refl, tt))))))))))), ((unlike 1 15 refl, (unlike 3 15 refl, (unlike 5 15 refl, (unlike 8 15 refl, (unlike 10 15 refl, (unlike 12 15 refl, (unlike 14 15 refl, (unlike 16 15 refl, (unlike 18 15 refl, (unlike 21 15 refl, (unlike 23 15 refl, tt))))))))))), ((unlike 1 17 refl, (unlike 3 17 refl, (unlike 5 17 refl, (unlike 8 17 refl, (unlike 10 17 refl, (unlike 12 17 refl, (unlike 14 17 refl, (unlike 16 17 refl, (unlike 18 17 refl, (unlike 21 17 refl, (unlike 23 17 refl, tt))))))))))), ((unlike 1 19 refl, (unlike 3 19 refl, (unlike 5 19 refl, (unlike 8 19 refl, (unlike 10 19 refl, (unlike 12 19 refl, (unlike 14 19 refl, (unlike 16 19 refl, (unlike 18 19 refl, (unlike 21 19 refl, (unlike 23 19 refl, tt))))))))))), ((unlike 1 20 refl, (unlike 3 20 refl, (unlike 5 20 refl, (unlike 8 20 refl, (unlike 10 20 refl, (unlike 12 20 refl, (unlike 14 20 refl, (unlike 16 20 refl, (unlike 18 20 refl, (unlike 21 20 refl, (unlike 23 20 refl, tt))))))))))), ((unlike 1 22 refl, (unlike 3 22 refl, (unlike 5 22 refl, (unlike 8 22 refl, (unlike 10 22 refl, (unlike 12 22 refl, (unlike 14 22 refl, (unlike 16 22 refl, (unlike 18 22 refl, (unlike 21 22 refl, (unlike 23 22 refl, tt))))))))))), ((unlike 1 24 refl, (unlike 3 24 refl, (unlike 5 24 refl, (unlike 8 24 refl, (unlike 10 24 refl, (unlike 12 24 refl, (unlike 14 24 refl, (unlike 16 24 refl, (unlike 18 24 refl, (unlike 21 24 refl, (unlike 23 24 refl, tt))))))))))), ((unlike 1 25 refl, (unlike 3 25 refl, (unlike 5 25 refl, (unlike 8 25 refl, (unlike 10 25 refl, (unlike 12 25 refl, (unlike 14 25 refl, (unlike 16 25 refl, (unlike 18 25 refl, (unlike 21 25 refl, (unlike 23 25 refl, tt))))))))))), tt)))))))))))))));
+  rests = (tt, (tt, (((refl, refl), tt), (((refl, refl), tt), (tt, (((refl, refl), ((refl, refl), tt)), (tt, (((refl, refl), tt), (((refl, refl), tt), (((refl, refl), tt), (tt, (tt, (((refl, refl), tt), (((refl, refl), tt), (((refl, refl), tt), tt)))))))))))))));
 }
 
 no_length : {A : Type 0} (xs : List A) → length xs ≡ 0 → xs ≡ []
@@ -155,21 +194,21 @@ no_length (x ∷ xs) h = absurd (cc)
 pub no_entries : {K : Type 0} (R : K → K → Ordering) (X : Type 0) → entries (empty {X = X} {R = R}) ≡ []
 no_entries R X = no_length _ (sym (len-entries (empty {X = X} {R = R})) ∙ len-empty R X)
 
-none : {E : Type 0} (skip : ℕ) (row_of : E → Row) (es : List E) (stored : List Row) → es ≡ [] → stored ≡ [] → AreRows skip (map row_of es) stored
+pub none : {E : Type 0} (skip : ℕ) (row_of : E → Row) (es : List E) (stored : List Row) → es ≡ [] → stored ≡ [] → AreRows skip (map row_of es) stored
 none skip row_of es stored no_es no_rows = rw (no_es, no_rows) (record { same = IsPermutation-refl []; rising = tt; keyed = tt })
 
 abbrev first_rows : List Row
 first_rows =
-    (Int (pos 1) ∷ Text (codes "version") ∷ Int (pos 2) ∷ []) ∷ (Int (pos 2) ∷ Text (codes "act") ∷ Int (pos 0) ∷ []) ∷ (Int (pos 3) ∷ Text (codes "demand") ∷ Int (pos 0) ∷ []) ∷ []
+    (Int (pos 1) ∷ Text (codes "version") ∷ Int (pos 3) ∷ []) ∷ (Int (pos 2) ∷ Text (codes "act") ∷ Int (pos 0) ∷ []) ∷ (Int (pos 3) ∷ Text (codes "demand") ∷ Int (pos 0) ∷ []) ∷ []
 
 abbrev given_rows : List Row
-given_rows = (Null ∷ Text (codes "version") ∷ Int (pos 2) ∷ []) ∷ (Null ∷ Text (codes "act") ∷ Int (pos 0) ∷ []) ∷ (Null ∷ Text (codes "demand") ∷ Int (pos 0) ∷ []) ∷ []
+given_rows = (Null ∷ Text (codes "version") ∷ Int (pos 3) ∷ []) ∷ (Null ∷ Text (codes "act") ∷ Int (pos 0) ∷ []) ∷ (Null ∷ Text (codes "demand") ∷ Int (pos 0) ∷ []) ∷ []
 
 at_rows : (a b : ℕ) → value_cmp (Int (pos a)) (Int (pos b)) ≡ int_cmp (pos a) (pos b)
 at_rows a b = value_cmp-Int (pos a) (pos b)
 
 filled : (stored : List Row) → stored ≡ [] → put_all stored (numbered Chosen stored (map (λ s. cast_row meta_table (drop 0 s)) given_rows)) ≡ first_rows
-filled stored is = rw (is, cast-Null, cast-Int (pos 2), cast-Int (pos 0), at_rows 1 2, at_rows 1 3, at_rows 2 3) refl
+filled stored is = rw (is, cast-Null, cast-Int (pos 3), cast-Int (pos 0), at_rows 1 2, at_rows 1 3, at_rows 2 3) refl
 
 first_meta : AreRows 1 (map meta_row (meta_entries fresh)) first_rows
 first_meta = record { same = IsPermutation-refl _; rising = ((at_rows 1 2, (at_rows 1 3, tt)), ((at_rows 2 3, tt), (tt, tt))); keyed = (refl, (refl, (refl, tt))) }
@@ -184,8 +223,10 @@ fresh_keyed = record {
   jobs = λ number x h. no_key nat_cmp number x _ h;
   demands = λ number x h. no_key nat_cmp number x _ h;
   imports = λ order x h. no_key code_cmp order x _ h;
+  entries = λ number x h. no_key nat_cmp number x _ h;
   codes = λ code x h. no_key code_cmp code x _ h;
   values = λ name x h. no_key name_cmp name x _ h;
+  noted = λ number x h. no_key nat_cmp number x _ h;
 }
 
 -- what the first numbers make of a table like meta's that has no row
@@ -246,6 +287,11 @@ shows_fresh old new has made =
         imports = none 1 import_row (entries empty) (new.now.trees 13) (no_entries code_cmp ImportRow) no.1.1.1.1.1.1.0;
         totals = no.1.1.1.1.1.1.1.0;
         totals2 = none 1 totals_row (entries empty) (new.now.trees 17) (no_entries code_cmp Totals) no.1.1.1.1.1.1.1.1.0;
+        journal = none 0 journal_row (entries empty) (new.now.trees 19) (no_entries nat_cmp Entry) no.1.1.1.1.1.1.1.1.1.0;
+        uses = none 1 use_row (entries empty) (new.now.trees 20) (no_entries use_cmp (Unit {0})) no.1.1.1.1.1.1.1.1.1.1.0;
+        notes = no.1.1.1.1.1.1.1.1.1.1.1.0;
+        begun = no.1.1.1.1.1.1.1.1.1.1.1.1.0;
+        halts = no.1.1.1.1.1.1.1.1.1.1.1.1.1.0;
       };
       keyed = fresh_keyed;
     }
@@ -301,6 +347,21 @@ module _ {S : Type 0} (g : Ghosts S) where
 
   pub totals2_added : Adds g TOTALS2.now totals2_table
   totals2_added = added TOTALS2.now totals2_table totals2_made
+
+  pub journal_added : Adds g JOURNAL.now journal_table
+  journal_added = added JOURNAL.now journal_table journal_made
+
+  pub uses_added : Adds g USES.now uses_table
+  uses_added = added USES.now uses_table uses_made
+
+  pub notes_added : Adds g NOTES.now notes_table
+  notes_added = added NOTES.now notes_table notes_made
+
+  pub begun_added : Adds g BEGUN.now begun_table
+  begun_added = added BEGUN.now begun_table begun_made
+
+  pub halts_added : Adds g HALTS.now halts_table
+  halts_added = added HALTS.now halts_table halts_made
 
   pub numbers_put : Does g FIRST_NUMBERS.now shop_schema PutsFirstNumbers
   numbers_put old new has ran free =

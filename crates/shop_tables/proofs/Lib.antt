@@ -16,6 +16,8 @@ pub mod Ordered
 pub mod AllTotals
 pub mod EarlierRows
 pub mod EarlierParts
+pub mod SecondRows
+pub mod SecondParts
 pub mod RenewedTables
 pub mod Taken
 pub mod LaidTables
@@ -29,3 +31,8 @@ pub mod FromNumber
 pub mod LastNumbers
 pub mod RowsAsShown
 pub mod OrderRows
+pub mod Extended
+pub mod ExtendedBeside
+pub mod Counted
+pub mod EntryRows
+pub mod Strays

@@ -72,6 +72,12 @@ jobs_from_text = codes "SELECT part_act, part_node, tree, state, job FROM jobs W
 abbrev pub jobs_from_terms : List Term
 jobs_from_terms = col 1 2 ∷ col 1 3 ∷ col 1 4 ∷ col 1 5 ∷ col 1 0 ∷ []
 
+abbrev pub entries_from_text : List ℕ
+entries_from_text = codes "SELECT at, terminal, number, word, act, job, ord, part_act, part_node, entry FROM journal WHERE entry >= ?1 ORDER BY entry LIMIT ?2"
+
+abbrev pub entries_from_terms : List Term
+entries_from_terms = col 1 2 ∷ col 1 3 ∷ col 1 4 ∷ col 1 5 ∷ col 1 6 ∷ col 1 7 ∷ col 1 8 ∷ col 1 9 ∷ col 1 10 ∷ col 1 0 ∷ []
+
 abbrev pub part_at_text : List ℕ
 part_at_text = codes "SELECT act, node FROM parts ORDER BY act, node LIMIT 1 OFFSET ?1"
 
@@ -123,6 +129,10 @@ module _ (schema : Schema) (h : HasShopTables schema) where
   unfolding understood everything
   jobs_from_is = record { command = refl; listing = refl; plain = (refl, refl) }
 
+  pub entries_from_is : Reads (shop schema h) entries_from_text (first_of (col 0 1) (from_table 19 from_tests entries_from_terms by_rowid)) (codes "at" ∷ codes "terminal" ∷ codes "number" ∷ codes "word" ∷ codes "act" ∷ codes "job" ∷ codes "ord" ∷ codes "part_act" ∷ codes "part_node" ∷ codes "entry" ∷ [])
+  unfolding understood everything
+  entries_from_is = record { command = refl; listing = refl; plain = (refl, refl) }
+
   pub last_number_is : Reads (shop schema h) last_number_text (first_of (lit (Int (pos 1))) (from_table 11 last_number_tests last_number_terms (falling 2))) (codes "number" ∷ [])
   unfolding understood everything
   last_number_is = record { command = refl; listing = refl; plain = (refl, refl) }
@@ -162,6 +172,10 @@ last_number_selects = refl
 pub demands_from_selects : is_select demands_from_text ≡ true
 unfolding everything
 demands_from_selects = refl
+
+pub entries_from_selects : is_select entries_from_text ≡ true
+unfolding everything
+entries_from_selects = refl
 
 pub jobs_from_selects : is_select jobs_from_text ≡ true
 unfolding everything

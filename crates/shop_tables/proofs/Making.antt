@@ -16,8 +16,9 @@ use Rattle.sqlite.specs.State.{State, Executes, ExecutesIn, HasCleanDisk}
 use Rattle.sqlite.specs.Held.{Held, state}
 use Rattle.sqlite.specs.declared.error.Error.{Error}
 use Rattle.shop_statements.specs.Layout.{shop_schema, created_all}
+use Rattle.shop_statements.specs.Earlier.{ShowsSecond}
 use Rattle.shop_statements.specs.Shown.{Books, Ran, Shows}
-use Rattle.shop_tables.specs.Adopting.{MakesTables}
+use Rattle.shop_tables.specs.Adopting.{MakesSecond, MakesTables}
 use Rattle.shop_tables.specs.Laying.{AreRun, IsAdded, IsRun}
 use Rattle.sqlite.proofs.Callers.{IsPlain, command_of, runs_as, statement_of}
 use Rattle.shop_tables.proofs.Behind.{Behind, goes_on, still_sequence}
@@ -124,8 +125,34 @@ module _ {S : Type 0} (g : Ghosts S) where
   }
   made_when texts old new b (Err e) earlier ran made = tt
 
+  -- what statements make that leave the tables of version 2
+  pub record IsMadeSecond (old new : Held S) (b : Books) : Type 0 where
+    pub was_open : IsTrue (state g old).is_open
+    pub is_open : IsTrue (state g new).is_open
+    pub inside : IsTrue new.in_transaction
+    pub shows : ShowsSecond (state g new) b
+
+  pub made_second_when : (texts : List (List ℕ)) (old new : Held S) (b : Books) (r : Result (Unit {0}) Error) → (HasCleanDisk (state g new) → HasCleanDisk (state g old)) → (HasCleanDisk (state g new) → OnOk r (AreRun g texts old new))
+      → (HasCleanDisk (state g new) → AreRun g texts old new → IsMadeSecond old new b) → OnOk r (MakesSecond (state g old) (state g new) b)
+  made_second_when texts old new b (Ok x) earlier ran made = record {
+    earlier = earlier;
+    on = λ clean. let l = made clean (ran clean) in (l.was_open, l.is_open, l.inside);
+    shows = λ clean. (made clean (ran clean)).shows;
+  }
+  made_second_when texts old new b (Err e) earlier ran made = tt
+
   -- one statement and those after it
   pub first_run : {X : Type 0} (text_of : X → List ℕ) (texts : List X) (first : X) (rest : List X) (old mid new : Held S) (r : Result (Unit {0}) Error) → texts ≡ first ∷ rest → IsRun (text_of first) (state g old) (state g mid)
       → OnOk r (AreRun g (map text_of rest) mid new) → OnOk r (AreRun g (map text_of texts) old new)
   first_run text_of texts first rest old mid new (Ok done) is one more = subst (λ all. AreRun g (map text_of all) old new) (sym is) (mid, one, more)
   first_run text_of texts first rest old mid new (Err e) is one more = tt
+
+-- through version 2
+pub made_second : (old mid new : State) (b : Books) (r : Result (Unit {0}) Error) → MakesSecond old mid b → OnOk r (MakesTables mid new b) → OnOk r (MakesTables old new b)
+made_second old mid new b (Ok x) one two = record {
+  earlier = λ clean. one.earlier (two.earlier clean);
+  on = λ clean. let first = one.on (two.earlier clean) in let last = two.on clean in (first.0, last.1, last.2);
+  shows = two.shows;
+  schema = two.schema;
+}
+made_second old mid new b (Err e) one two = tt

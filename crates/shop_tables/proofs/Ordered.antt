@@ -28,6 +28,7 @@ use Rattle.sqlite.specs.State.{State, HasCleanDisk, Shown}
 use Rattle.sqlite.proofs.Callers.{reads_as}
 use Rattle.cut_measure.specs.Codes.{code_cmp}
 use Rattle.shop_records.specs.declared.records.Material.{Material}
+use Rattle.shop_records.specs.declared.records.Totals.{Totals}
 use Rattle.shop_tables.specs.Listing.{code_row, key_of, listed_row}
 use Rattle.shop_statements.specs.Rows.{AreRows, material_row, totals_row}
 use Rattle.shop_statements.specs.Selecting.{is_select}
@@ -106,22 +107,26 @@ lists_codes_of old new schema has names is m are rows shown =
     one_later [] = refl
     one_later (x ∷ d) = refl
 
+-- and the totals
+pub lists_totals_of : (old new : State) (schema : Schema) (has : old.now.schema ≡ schema) (names : List (List ℕ)) → Reads schema all_totals_text (from_table 17 [] all_totals_terms by_code) names → (sums : FinMap code_cmp Totals)
+    → AreRows 1 (map totals_row (entries sums)) (old.now.trees 17) → (rows : List Row) → Shown all_totals_text [] old new rows → rows ≡ map listed_row (entries sums)
+lists_totals_of old new schema has names is sums are rows shown =
+    let a = (reads_as all_totals_text [] old new schema has _ is.command is.plain is.listing rows shown).answer in
+    in_order code_total code_same 17 [] all_totals_terms by_code (λ e. (Text e.0 ∷ [], listed_row e)) (λ e f. by_first e.0 f.0) 1 old.now.trees [] refl totals_row (λ _. true) (λ _. true) (λ r. refl) (λ e. refl)
+    (λ d. (column d 0 ∷ [], column d 1 ∷ column d 2 ∷ column d 3 ∷ column d 4 ∷ column d 5 ∷ column d 6 ∷ column d 7 ∷ column d 0 ∷ [])) eight_later (λ e. refl) rows sums are a
+    ∙ ap (map listed_row) (filter_true (entries sums))
+  where
+    eight_later : (r : Row) → ◌≡◌ {A = Output} (column r 1 ∷ [], column r 2 ∷ column r 3 ∷ column r 4 ∷ column r 5 ∷ column r 6 ∷ column r 7 ∷ column r 8 ∷ column r 1 ∷ [])
+        (column (drop 1 r) 0 ∷ [], column (drop 1 r) 1 ∷ column (drop 1 r) 2 ∷ column (drop 1 r) 3 ∷ column (drop 1 r) 4 ∷ column (drop 1 r) 5 ∷ column (drop 1 r) 6 ∷ column (drop 1 r) 7 ∷ column (drop 1 r) 0 ∷ [])
+    eight_later [] = refl
+    eight_later (x ∷ d) = refl
+
 module _ (old new : State) (b : Books) (has : Shows old b) where
   pub lists_codes : (rows : List Row) → Shown all_codes_text [] old new rows → rows ≡ map (λ e. code_row (key_of e)) (entries b.content.materials)
   lists_codes = lists_codes_of old new (shop old.now.schema has.schema) (shop_is old.now.schema has.schema) _ (all_codes_is old.now.schema has.schema) b.content.materials has.stands.materials
 
   pub lists_totals : (rows : List Row) → Shown all_totals_text [] old new rows → rows ≡ map listed_row (entries b.totals)
-  lists_totals rows shown =
-      let is = all_totals_is old.now.schema has.schema in
-      let a = (reads_as all_totals_text [] old new (shop old.now.schema has.schema) (shop_is old.now.schema has.schema) _ is.command is.plain is.listing rows shown).answer in
-      in_order code_total code_same 17 [] all_totals_terms by_code (λ e. (Text e.0 ∷ [], listed_row e)) (λ e f. by_first e.0 f.0) 1 old.now.trees [] refl totals_row (λ _. true) (λ _. true) (λ r. refl) (λ e. refl)
-      (λ d. (column d 0 ∷ [], column d 1 ∷ column d 2 ∷ column d 3 ∷ column d 4 ∷ column d 5 ∷ column d 6 ∷ column d 7 ∷ column d 0 ∷ [])) eight_later (λ e. refl) rows b.totals has.stands.totals2 a
-      ∙ ap (map listed_row) (filter_true (entries b.totals))
-    where
-      eight_later : (r : Row) → ◌≡◌ {A = Output} (column r 1 ∷ [], column r 2 ∷ column r 3 ∷ column r 4 ∷ column r 5 ∷ column r 6 ∷ column r 7 ∷ column r 8 ∷ column r 1 ∷ [])
-          (column (drop 1 r) 0 ∷ [], column (drop 1 r) 1 ∷ column (drop 1 r) 2 ∷ column (drop 1 r) 3 ∷ column (drop 1 r) 4 ∷ column (drop 1 r) 5 ∷ column (drop 1 r) 6 ∷ column (drop 1 r) 7 ∷ column (drop 1 r) 0 ∷ [])
-      eight_later [] = refl
-      eight_later (x ∷ d) = refl
+  lists_totals = lists_totals_of old new (shop old.now.schema has.schema) (shop_is old.now.schema has.schema) _ (all_totals_is old.now.schema has.schema) b.totals has.stands.totals2
 
 -- what a query's rows are where this is seen
 pub rows_seen : {E : Type 0} (sql : List ℕ) (params : Row) (old new : State) (Sees : Type 0) (P : List Row → Type 0) (r : Result (Vec Answered Global) E) → (IsTrue old.is_open → Sees)

@@ -39,19 +39,19 @@ use Rattle.sqlite_tied.specs.Compute.{everything}
 use Rattle.cut_measure.specs.Codes.{code_cmp}
 use Rattle.shop_records.specs.Content.{Content}
 use Rattle.shop_records.specs.declared.records.Totals.{Totals}
-use Rattle.shop_statements.specs.Layout.{Rests, shop_schema, HasShopTables, our_tables, meta_table, totals_table, totals2_table}
+use Rattle.shop_statements.specs.Layout.{Rests, our_tables, our_trees, meta_table, totals_table, totals2_table}
 use Rattle.shop_statements.specs.Rows.{AreOrders, AreRows, meta_row, meta_entries, totals_row}
-use Rattle.shop_statements.specs.Shown.{Books, Shows}
-use Rattle.shop_tables.specs.Adopting.{MakesTables}
+use Rattle.shop_statements.specs.Shown.{Books}
+use Rattle.shop_tables.specs.Adopting.{MakesSecond}
 use Rattle.shop_tables.specs.Laying.{AreRun, ClearsTotals, CopiesTotals, Does, IsRun, IsWritten, SetsVersion}
 use Rattle.shop_tables.specs.declared.laying.TheConstants.{TOTALS2}
-use Rattle.shop_tables.specs.declared.renewing.TheConstants.{CLEAR_TOTALS, COPY_TOTALS, SET_VERSION}
-use Rattle.shop_statements.specs.Earlier.{earlier_schema, earlier_entries, earlier_row, HasNoneReturned, ShowsEarlier}
+use Rattle.shop_tables.specs.declared.renewing.TheConstants.{CLEAR_TOTALS, COPY_TOTALS, SET_LAST_VERSION, SET_VERSION}
+use Rattle.shop_statements.specs.Earlier.{earlier_schema, second_schema, second_entries, earlier_entries, earlier_row, HasNoneReturned, ShowsEarlier, ShowsSecond}
 use Rattle.shop_statements.proofs.Finding.{is_word, word_tests, word_later}
 use Rattle.shop_statements.proofs.Keys.{cast-Int, cast-Null, located, news_again, shown_as}
-use Rattle.shop_tables.proofs.Lays.{shop_is_shop, totals2_added}
+use Rattle.shop_tables.proofs.Lays.{totals2_added}
 use Rattle.shop_statements.proofs.Lists.{map-map, map-same}
-use Rattle.shop_tables.proofs.Making.{IsMade, made_when}
+use Rattle.shop_tables.proofs.Making.{IsMadeSecond, made_second_when}
 use Rattle.shop_tables.proofs.Moved.{cleared, collated, filled_from, uncollated, unnumbered}
 use Rattle.shop_tables.proofs.Ordered.{filter_true}
 use Rattle.shop_statements.proofs.Puts.{added}
@@ -90,7 +90,7 @@ led base behind = record { tables = take 9 our_tables ++ behind; indexes = base.
 abbrev pub Rest : List Table → Type 0
 Rest = AllByRecursion (λ t. AllByRecursion Rests t.references)
 
-led_rests : (base : Schema) (behind : List Table) → Rest behind → Rest (led base behind).tables
+pub led_rests : (base : Schema) (behind : List Table) → Rest behind → Rest (led base behind).tables
 led_rests base behind rests = (tt, (tt, (((refl, refl), tt), (((refl, refl), tt), (tt, (((refl, refl), ((refl, refl), tt)), (tt, (((refl, refl), tt), (((refl, refl), tt), rests)))))))))
 
 copy_reads : (base : Schema) (behind : List Table) (tree : ℕ) → ReadsInsert (led base behind) (codes "totals2") (totals2_in tree) (Query (record { lets = []; body = copy_query })) (first COPY_TOTALS.now)
@@ -104,6 +104,13 @@ clear_is base behind = record { command = refl; plain = (refl, refl) }
 number_is : (base : Schema) (behind : List Table) → Writes (led base behind) SET_VERSION.now (Update 0 (record { lets = []; body = from_table 0 number_tests number_terms [] }))
 unfolding understood everything
 number_is base behind = record { command = refl; plain = (refl, refl) }
+
+abbrev last_terms : List Term
+last_terms = col 1 0 ∷ col 1 0 ∷ col 1 1 ∷ lit (Int (pos 3)) ∷ []
+
+last_number_is : (base : Schema) (behind : List Table) → Writes (led base behind) SET_LAST_VERSION.now (Update 0 (record { lets = []; body = from_table 0 number_tests last_terms [] }))
+unfolding understood everything
+last_number_is base behind = record { command = refl; plain = (refl, refl) }
 
 -- the rows of one table were written
 pub record IsPut (schema : Schema) (tree : ℕ) (old new : Database) : Type 0 where
@@ -195,7 +202,7 @@ module _ (base : Schema) (behind : List Table) (rests : Rest behind) (old new : 
   abbrev again : Row → Row
   again r = column r 0 ∷ column r 0 ∷ column r 1 ∷ Int (pos 2) ∷ []
 
-  pub numbers : IsRun SET_VERSION.now old new → IsPut now_is 0 old.now new.now × ((m : Content) → AreRows 1 (map meta_row (earlier_entries m)) (old.now.trees 0) → AreRows 1 (map meta_row (meta_entries m)) (new.now.trees 0))
+  pub numbers : IsRun SET_VERSION.now old new → IsPut now_is 0 old.now new.now × ((m : Content) → AreRows 1 (map meta_row (earlier_entries m)) (old.now.trees 0) → AreRows 1 (map meta_row (second_entries m)) (new.now.trees 0))
   numbers ran =
       let w = runs_as SET_VERSION.now [] old new now_is has _ (number_is base behind).command (number_is base behind).plain ran.count ran.executes in
       let u = updated old.step_limit (mode_of old) [] old.now new.now w.tally 0 meta_table (at_place 0) (statement_of SET_VERSION.now (understood now_is SET_VERSION.now)) (record { lets = []; body = from_table 0 number_tests number_terms [] })
@@ -209,10 +216,39 @@ module _ (base : Schema) (behind : List Table) (rests : Rest behind) (old new : 
             let left = without_rowid at.id (old.now.trees 0) in
             let news = news_again meta_table wrote left (Int at.id) at.id (λ i. Text (codes "version") ∷ cast-Int (pos 2) i ∷ []) refl in
             let free = not_taken _ (subst (λ ns. are_fresh left ns ≡ true) news e.fresh) in
-            subst (AreRows 1 (map meta_row (meta_entries m))) (sym (e.rows ∙ ap (put_all left) news)) (added 1 (Int at.id ∷ wrote) at.id _ _ refl at.rest free),
+            subst (AreRows 1 (map meta_row (second_entries m))) (sym (e.rows ∙ ap (put_all left) news)) (added 1 (Int at.id ∷ wrote) at.id _ _ refl at.rest free),
       )
     where
       shown_again : (r : Row) → drop 1 r ≡ meta_row (codes "version", 1) → again r ≡ rowid r ∷ rowid r ∷ wrote
+      shown_again [] is = absurd (cc)
+      shown_again (v ∷ r) is = rw is refl
+
+  -- ---- the last version is set
+
+  abbrev last_wrote : Row
+  last_wrote = meta_row (codes "version", 3)
+
+  abbrev last_again : Row → Row
+  last_again r = column r 0 ∷ column r 0 ∷ column r 1 ∷ Int (pos 3) ∷ []
+
+  pub last_numbers : IsRun SET_LAST_VERSION.now old new → IsPut now_is 0 old.now new.now × ((m : Content) → AreRows 1 (map meta_row (second_entries m)) (old.now.trees 0) → AreRows 1 (map meta_row (meta_entries m)) (new.now.trees 0))
+  last_numbers ran =
+      let w = runs_as SET_LAST_VERSION.now [] old new now_is has _ (last_number_is base behind).command (last_number_is base behind).plain ran.count ran.executes in
+      let u = updated old.step_limit (mode_of old) [] old.now new.now w.tally 0 meta_table (at_place 0) (statement_of SET_LAST_VERSION.now (understood now_is SET_LAST_VERSION.now)) (record { lets = []; body = from_table 0 number_tests last_terms [] })
+      (idle 0) w.changed in (
+        put _ u.2 w.sound w.frozen.texts,
+        λ m are.
+            let at = located 1 meta_row (λ e. eq_by_cmp code_cmp e.0 (codes "version")) (λ r. list_all (holds ([] ∷ r ∷ [])) number_tests) (is_word (codes "version")) (word_later (codes "version")) (λ e. word_tests e.0 (codes "version") (Int (pos e.1) ∷ [])) (second_entries m) (old.now.trees 0) (codes "version", 2) are refl in
+            let given = selected 0 number_tests last_terms [] old.now.trees [] refl u.0 (selects 0 number_tests last_terms [] old.now.trees [] refl u.0 u.1.answer) in
+            let rows : u.0 ≡ (Int at.id ∷ Int at.id ∷ last_wrote) ∷ [] = one_permutation _ u.0 (subst (λ l. IsPermutation (map last_again l) u.0) at.found given) ∙ ap (λ r. r ∷ []) (shown_again at.row at.is ∙ ap (λ v. v ∷ v ∷ last_wrote) at.key) in
+            let e = subst (λ all. IsEdited old.now new.now (edit_of old.now.trees (bare meta_table) (ids_of all) Given 1 all)) rows u.2 in
+            let left = without_rowid at.id (old.now.trees 0) in
+            let news = news_again meta_table last_wrote left (Int at.id) at.id (λ i. Text (codes "version") ∷ cast-Int (pos 3) i ∷ []) refl in
+            let free = not_taken _ (subst (λ ns. are_fresh left ns ≡ true) news e.fresh) in
+            subst (AreRows 1 (map meta_row (meta_entries m))) (sym (e.rows ∙ ap (put_all left) news)) (added 1 (Int at.id ∷ last_wrote) at.id _ _ refl at.rest free),
+      )
+    where
+      shown_again : (r : Row) → drop 1 r ≡ meta_row (codes "version", 2) → last_again r ≡ rowid r ∷ rowid r ∷ last_wrote
       shown_again [] is = absurd (cc)
       shown_again (v ∷ r) is = rw is refl
 
@@ -221,33 +257,36 @@ module _ (base : Schema) (behind : List Table) (rests : Rest behind) (old new : 
 abbrev pub texts : List (List ℕ)
 texts = TOTALS2.now ∷ COPY_TOTALS.now ∷ CLEAR_TOTALS.now ∷ SET_VERSION.now ∷ []
 
-last_named : table_named shop_schema (codes "totals2") ≡ Some 9
+second_bare : AllByRecursion (IsNoIndex second_schema) (take 10 our_trees)
+second_bare = ((unlike 1 0 refl, (unlike 3 0 refl, (unlike 5 0 refl, (unlike 8 0 refl, (unlike 10 0 refl, (unlike 12 0 refl, (unlike 14 0 refl, (unlike 16 0 refl, (unlike 18 0 refl, tt))))))))), ((unlike 1 2 refl, (unlike 3 2 refl, (unlike 5 2 refl, (unlike 8 2 refl, (unlike 10 2 refl, (unlike 12 2 refl, (unlike 14 2 refl, (unlike 16 2 refl, (unlike 18 2 refl, tt))))))))), ((unlike 1 4 refl, (unlike 3 4 refl, (unlike 5 4 refl, (unlike 8 4 refl, (unlike 10 4 refl, (unlike 12 4 refl, (unlike 14 4 refl, (unlike 16 4 refl, (unlike 18 4 refl, tt))))))))), ((unlike 1 6 refl, (unlike 3 6 refl, (unlike 5 6 refl, (unlike 8 6 refl, (unlike 10 6 refl, (unlike 12 6 refl, (unlike 14 6 refl, (unlike 16 6 refl, (unlike 18 6 refl, tt))))))))), ((unlike 1 7 refl, (unlike 3 7 refl, (unlike 5 7 refl, (unlike 8 7 refl, (unlike 10 7 refl, (unlike 12 7 refl, (unlike 14 7 refl, (unlike 16 7 refl, (unlike 18 7 refl, tt))))))))), ((unlike 1 9 refl, (unlike 3 9 refl, (unlike 5 9 refl, (unlike 8 9 refl, (unlike 10 9 refl, (unlike 12 9 refl, (unlike 14 9 refl, (unlike 16 9 refl, (unlike 18 9 refl, tt))))))))), ((unlike 1 11 refl, (unlike 3 11 refl, (unlike 5 11 refl, (unlike 8 11 refl, (unlike 10 11 refl, (unlike 12 11 refl, (unlike 14 11 refl, (unlike 16 11 refl, (unlike 18 11 refl, tt))))))))), ((unlike 1 13 refl, (unlike 3 13 refl, (unlike 5 13 refl, (unlike 8 13 refl, (unlike 10 13 refl, (unlike 12 13 refl, (unlike 14 13 refl, (unlike 16 13 refl, (unlike 18 13 refl, tt))))))))), ((unlike 1 15 refl, (unlike 3 15 refl, (unlike 5 15 refl, (unlike 8 15 refl, (unlike 10 15 refl, (unlike 12 15 refl, (unlike 14 15 refl, (unlike 16 15 refl, (unlike 18 15 refl, tt))))))))), ((unlike 1 17 refl, (unlike 3 17 refl, (unlike 5 17 refl, (unlike 8 17 refl, (unlike 10 17 refl, (unlike 12 17 refl, (unlike 14 17 refl, (unlike 16 17 refl, (unlike 18 17 refl, tt))))))))), tt))))))))))
+
+last_named : table_named second_schema (codes "totals2") ≡ Some 9
 unfolding everything
 last_named = refl
 
 last_rests : Rest (totals2_table ∷ [])
 last_rests = (((refl, refl), tt), tt)
 
-written : (tree : ℕ) (old new : Database) → IsPut shop_schema tree old new → IsWritten tree old new
-written tree old new put = record { schema_is = put.schema_is; sound = put.sound; others = λ t far bare. put.others t (unlike t tree far) bare }
+pub written : (schema : Schema) (tree : ℕ) (old new : Database) → IsPut schema tree old new → IsWritten schema tree old new
+written schema tree old new put = record { schema_is = put.schema_is; sound = put.sound; others = λ t far bare. put.others t (unlike t tree far) bare }
 
 module _ {S : Type 0} (g : Ghosts S) where
-  pub totals_copied : Does g COPY_TOTALS.now shop_schema CopiesTotals
-  totals_copied old new has ran sums none are free = let it = copies shop_schema (totals2_table ∷ []) last_rests (state g old) (state g new) has 9 17 last_named refl ran in (written 17 _ _ it.0, it.1 (entries sums) none are free)
+  pub totals_copied : Does g COPY_TOTALS.now second_schema CopiesTotals
+  totals_copied old new has ran sums none are free = let it = copies second_schema (totals2_table ∷ []) last_rests (state g old) (state g new) has 9 17 last_named refl ran in (written second_schema 17 _ _ it.0, it.1 (entries sums) none are free)
 
-  pub totals_cleared : Does g CLEAR_TOTALS.now shop_schema ClearsTotals
-  totals_cleared old new has ran ints = let it = clears shop_schema (totals2_table ∷ []) last_rests (state g old) (state g new) has ran in (written 15 _ _ it.0, it.1 ints)
+  pub totals_cleared : Does g CLEAR_TOTALS.now second_schema ClearsTotals
+  totals_cleared old new has ran ints = let it = clears second_schema (totals2_table ∷ []) last_rests (state g old) (state g new) has ran in (written second_schema 15 _ _ it.0, it.1 ints)
 
-  pub version_set : Does g SET_VERSION.now shop_schema SetsVersion
-  version_set old new has ran m are = let it = numbers shop_schema (totals2_table ∷ []) last_rests (state g old) (state g new) has ran in (written 0 _ _ it.0, it.1 m are)
+  pub version_set : Does g SET_VERSION.now second_schema SetsVersion
+  version_set old new has ran m are = let it = numbers second_schema (totals2_table ∷ []) last_rests (state g old) (state g new) has ran in (written second_schema 0 _ _ it.0, it.1 m are)
 
-  renews : (old new : Held S) (b : Books) → ShowsEarlier (state g old) b → AreRun g texts old new → IsMade g old new b
+  renews : (old new : Held S) (b : Books) → ShowsEarlier (state g old) b → AreRun g texts old new → IsMadeSecond g old new b
   renews old new b has a1 =
       let s0 = state g old in
       let s1 = state g a1.0 in
       let made = totals2_added g earlier_schema refl old a1.0 has.schema a1.1 in
       let was = made.others in
-      let bare = shop_is_shop.bare in
+      let bare = second_bare in
       let a2 = a1.2 in
       let s2 = state g a2.0 in
       let two = totals_copied a1.0 a2.0 made.schema_is a2.1 b.totals has.stands.returned (subst (AreRows 1 _) (sym was.1.1.1.1.1.1.1.1.0) has.stands.totals) made.empty in
@@ -259,10 +298,10 @@ module _ {S : Type 0} (g : Ghosts S) where
       let s4 = state g a4.0 in
       let old_meta : s3.now.trees 0 ≡ s0.now.trees 0 = three.0.others 0 refl bare.0 ∙ two.0.others 0 refl bare.0 ∙ was.0 in
       let four = version_set a3.0 a4.0 three.0.schema_is a4.1 b.content (subst (AreRows 1 _) (sym old_meta) has.stands.meta) in
-      let along : (t : ℕ) → (t == 0) ≡ false → (t == 15) ≡ false → (t == 17) ≡ false → IsNoIndex shop_schema t → s1.now.trees t ≡ s0.now.trees t → s4.now.trees t ≡ s0.now.trees t =
+      let along : (t : ℕ) → (t == 0) ≡ false → (t == 15) ≡ false → (t == 17) ≡ false → IsNoIndex second_schema t → s1.now.trees t ≡ s0.now.trees t → s4.now.trees t ≡ s0.now.trees t =
       λ t no_meta no_totals no_new apart was. four.0.others t no_meta apart ∙ three.0.others t no_totals apart ∙ two.0.others t no_new apart ∙ was in
-      let shows : Shows s4 b = record {
-        schema = subst HasShopTables (sym four.0.schema_is) shop_is_shop;
+      let shows : ShowsSecond s4 b = record {
+        schema = four.0.schema_is;
         sound = four.0.sound;
         stands = record {
           meta = four.1;
@@ -275,11 +314,13 @@ module _ {S : Type 0} (g : Ghosts S) where
           imports = subst (AreRows 1 _) (sym (along 13 refl refl refl bare.1.1.1.1.1.1.1.0 was.1.1.1.1.1.1.1.0)) has.stands.imports;
           totals = four.0.others 15 refl bare.1.1.1.1.1.1.1.1.0 ∙ three.1;
           totals2 = subst (AreRows 1 _) (sym (four.0.others 17 refl bare.1.1.1.1.1.1.1.1.1.0 ∙ three.0.others 17 refl bare.1.1.1.1.1.1.1.1.1.0)) two.1;
+          none = has.stands.none;
         };
         keyed = has.keyed;
+        uses = has.uses;
       } in
-      subst (λ (x : Held S). IsMade g old x b) (sym a4.2) (record { was_open = a1.1.was_open; is_open = a4.1.is_open; inside = a4.1.inside; shows = shows; schema = four.0.schema_is })
+      subst (λ (x : Held S). IsMadeSecond g old x b) (sym a4.2) (record { was_open = a1.1.was_open; is_open = a4.1.is_open; inside = a4.1.inside; shows = shows })
 
   pub renews_when : (old new : Held S) (b : Books) (r : Result (Unit {0}) Error) → (HasCleanDisk (state g old) → IsTrue (state g old).is_open → ShowsEarlier (state g old) b) → (HasCleanDisk (state g new) → HasCleanDisk (state g old)) → (HasCleanDisk (state g new) → OnOk r (AreRun g texts old new))
-      → OnOk r (MakesTables (state g old) (state g new) b)
-  renews_when old new b r has earlier ran = made_when g texts old new b r earlier ran (λ clean a1. renews old new b (has (earlier clean) a1.1.was_open) a1)
+      → OnOk r (MakesSecond (state g old) (state g new) b)
+  renews_when old new b r has earlier ran = made_second_when g texts old new b r earlier ran (λ clean a1. renews old new b (has (earlier clean) a1.1.was_open) a1)

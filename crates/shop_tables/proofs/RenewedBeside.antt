@@ -151,3 +151,7 @@ module _ {S : Type 0} (g : Ghosts S) where
 
   pub renews_on : (old new : Held S) (r : Result (Unit {0}) Error) → (HasCleanDisk (state g new) → HasCleanDisk (state g old)) → (HasCleanDisk (state g new) → OnOk r (AreRun g texts old new)) → OnOk r (Ran (state g old) (state g new))
   renews_on = ran_when g Rattle.shop_tables.specs.declared.laying.TheConstants.TOTALS2.now (COPY_TOTALS.now ∷ CLEAR_TOTALS.now ∷ SET_VERSION.now ∷ [])
+
+  pub renews_open : (old new : Held S) (r : Result (Unit {0}) Error) → OnOk r (AreRun g texts old new) → OnOk r (IsTrue (state g old).is_open)
+  renews_open old new (Ok x) ran = ran.1.was_open
+  renews_open old new (Err e) ran = tt

@@ -1,5 +1,5 @@
 -- What the queries that list rows show, whatever rows are in the tables.
-use Rattle.std.proofs.Common.{◌≡◌, ◌+◌, ℕ, pos, Bool, true, List, [], ◌∷◌, ◌++◌, map, filter, Option, Some, None, Ok, Err, Result, Vec, IfOk, IsErr, refl, sym, ap, subst, ◌∙◌, arith, IsPermutation, IsSorted}
+use Rattle.std.proofs.Common.{◌≡◌, ◌+◌, ℕ, pos, Bool, true, List, [], ◌∷◌, ◌++◌, map, filter, Option, Some, None, Ok, Err, Result, Vec, IfOk, IsErr, refl, sym, ap, subst, ◌∙◌, arith, codes, IsPermutation, IsSorted}
 use Rattle.std.specs.List.{list_all}
 use Rattle.std.specs.Option.{option_to_list}
 use Rattle.std.specs.declared.cmp.Ordering.{Ordering}
@@ -32,7 +32,10 @@ use Rattle.shop_statements.specs.Layout.{HasShopTables}
 use Rattle.shop_statements.proofs.Keys.{and_true, none_permutation}
 use Rattle.shop_statements.proofs.Lists.{map-map}
 use Rattle.shop_statements.proofs.Selects.{selects}
-use Rattle.shop_statements.proofs.Terms.{from_table}
+use Rattle.shop_statements.proofs.Terms.{Reads, from_table}
+use Rattle.sqlite_tied.specs.Compute.{everything}
+use Rattle.sqlite.specs.Listing.{understood}
+use Rattle.shop_statements.specs.Earlier.{second_schema}
 use Rattle.shop_statements.proofs.Texts.{shop, shop_is}
 use Rattle.shop_tables.specs.ListedRows.{listed_demand, listed_material, number_row}
 use Rattle.shop_tables.specs.RowsShown.{AreLastRows, AreMaterialRows, AreOrderRows, AreShown, GivesRows, by_columns}
@@ -136,6 +139,18 @@ module _ (old new : State) (h : HasShopTables old.now.schema) where
       nothing_shown (columns_of 1 1) (old.now.trees 15) rows
       (shown_first 15 [] old_totals_terms [] old.now.trees [] refl _ (λ a b. Equal) _ (λ r. refl) (λ a b. refl) (λ r. refl) (lit (Int (pos 1))) 1 refl rows
       (reads_as old_totals_text [] old new over (shop_is old.now.schema h) _ is.command is.plain is.listing rows shown).answer)
+
+second_totals_is : Reads second_schema old_totals_text (first_of (lit (Int (pos 1))) (from_table 15 [] old_totals_terms [])) (codes "material" ∷ [])
+unfolding understood everything
+second_totals_is = record { command = refl; listing = refl; plain = (refl, refl) }
+
+-- the same over tables of version 2
+pub second_totals_shown : (old new : State) → old.now.schema ≡ second_schema → (rows : List Row) → Shown old_totals_text [] old new rows → IsNothing rows (old.now.trees 15)
+second_totals_shown old new has rows shown =
+    let is = second_totals_is in
+    nothing_shown (columns_of 1 1) (old.now.trees 15) rows
+    (shown_first 15 [] old_totals_terms [] old.now.trees [] refl _ (λ a b. Equal) _ (λ r. refl) (λ a b. refl) (λ r. refl) (lit (Int (pos 1))) 1 refl rows
+    (reads_as old_totals_text [] old new second_schema has _ is.command is.plain is.listing rows shown).answer)
 
 -- ---- a query of rows
 

@@ -12,6 +12,7 @@ use Rattle.sqlite_catalog.specs.Change.{is_used}
 use Rattle.sqlite_schema.specs.Names.{table_named}
 use Rattle.sqlite_schema.specs.declared.schema.Schema.{Schema}
 use Rattle.shop_records.specs.Content.{fresh}
+use Rattle.shop_statements.specs.Earlier.{ShowsSecond}
 use Rattle.shop_statements.specs.Found.{IsNumberRow}
 use Rattle.shop_statements.specs.Layout.{no_schema, shop_schema, created_all, our_tables}
 use Rattle.shop_statements.specs.Rows.{AreRows, meta_entries, meta_row}
@@ -20,21 +21,37 @@ use Rattle.shop_statements.specs.Shown.{Books, Shows, StandsIn}
 abbrev pub is_table : Schema → List ℕ → Bool
 is_table schema name = is_some (table_named schema name)
 
+-- no table, index or view has the name of one that came with version 3
+abbrev pub last_are_free : Schema → Bool
+last_are_free schema = not (is_used schema (codes "journal")) && (not (is_used schema (codes "uses")) && (not (is_used schema (codes "notes")) && (not (is_used schema (codes "begun")) && not (is_used schema (codes "halts")))))
+
 -- no table, index or view has a name of ours
 abbrev pub names_are_free : Schema → Bool
-names_are_free schema = not (is_used schema (codes "meta")) && (not (is_used schema (codes "materials")) && (not (is_used schema (codes "parts")) && (not (is_used schema (codes "jobs")) && (not (is_used schema (codes "orders")) && (not (is_used schema (codes "demands")) && (not (is_used schema (codes "kept")) && (not (is_used schema (codes "imports")) && (not (is_used schema (codes "totals")) && (not (is_used schema (codes "totals2")))))))))))
+names_are_free schema = not (is_used schema (codes "meta")) && (not (is_used schema (codes "materials")) && (not (is_used schema (codes "parts")) && (not (is_used schema (codes "jobs")) && (not (is_used schema (codes "orders")) && (not (is_used schema (codes "demands")) && (not (is_used schema (codes "kept")) && (not (is_used schema (codes "imports")) && (not (is_used schema (codes "totals")) && (not (is_used schema (codes "totals2")) && last_are_free schema)))))))))
 
 -- each name of version 1 is that of a table
 abbrev pub first_are_tables : Schema → Bool
 first_are_tables schema = is_table schema (codes "meta") && (is_table schema (codes "materials") && (is_table schema (codes "parts") && (is_table schema (codes "jobs") && (is_table schema (codes "orders") && (is_table schema (codes "demands") && (is_table schema (codes "kept") && (is_table schema (codes "imports") && is_table schema (codes "totals"))))))))
 
+-- each name of version 2 is that of a table
+abbrev pub second_are_tables : Schema → Bool
+second_are_tables schema = first_are_tables schema && is_table schema (codes "totals2")
+
+-- each name that came with version 3 is that of a table
+abbrev pub last_are_tables : Schema → Bool
+last_are_tables schema = is_table schema (codes "journal") && (is_table schema (codes "uses") && (is_table schema (codes "notes") && (is_table schema (codes "begun") && is_table schema (codes "halts"))))
+
 -- each name of ours is that of a table
 abbrev pub names_are_tables : Schema → Bool
-names_are_tables schema = first_are_tables schema && is_table schema (codes "totals2")
+names_are_tables schema = second_are_tables schema && last_are_tables schema
 
--- each name of version 1 is that of a table, and no table, index or view has the name of the one that came with version 2
+-- each name of version 1 is that of a table, and no table, index or view has the name of one that came later
 abbrev pub names_are_earlier : Schema → Bool
-names_are_earlier schema = first_are_tables schema && not (is_used schema (codes "totals2"))
+names_are_earlier schema = first_are_tables schema && (not (is_used schema (codes "totals2")) && last_are_free schema)
+
+-- each name of version 2 is that of a table, and no table, index or view has the name of one that came later
+abbrev pub names_are_second : Schema → Bool
+names_are_second schema = second_are_tables schema && last_are_free schema
 
 -- it has no table, index or view, and nothing is under way
 abbrev pub IsVacant : State → Type 0
@@ -54,6 +71,12 @@ pub record MakesTables (old new : State) (b : Books) : Type 0 where
   pub on : HasCleanDisk new → IsTrue old.is_open × IsTrue new.is_open × IsTrue new.in_transaction
   pub shows : HasCleanDisk new → Shows new b
   pub schema : HasCleanDisk new → new.now.schema ≡ shop_schema
+
+-- The tables became those of version 2 inside a transaction, which goes on, and stand for the books.
+pub record MakesSecond (old new : State) (b : Books) : Type 0 where
+  pub earlier : HasCleanDisk new → HasCleanDisk old
+  pub on : HasCleanDisk new → IsTrue old.is_open × IsTrue new.is_open × IsTrue new.in_transaction
+  pub shows : HasCleanDisk new → ShowsSecond new b
 
 -- ---- beside tables of others
 

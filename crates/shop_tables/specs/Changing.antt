@@ -1,11 +1,12 @@
 -- What the rows of a change make of the books.
-use Rattle.std.specs.Prelude.{◌≡◌, ℕ, ⊤, List, [], ◌∷◌, Option, Some, None, Result, OnOk, unwrap_or}
+use Rattle.std.specs.Prelude.{◌≡◌, ◌≤◌, nat_eq, ◌||◌, ◌++◌, ℕ, Bool, false, ⊤, if◌then◌else◌, IsSome, List, [], ◌∷◌, Option, Some, None, Result, OnOk, unwrap_or}
+use Rattle.std.specs.Cmp.Lexicographic.{pointwise}
 use Rattle.std.specs.declared.cmp.Ordering.{Ordering}
 use Rattle.std.specs.FinMap.{FinMap, get, insert}
 use Rattle.sqlite.specs.State.{State}
 use Rattle.cut_measure.specs.Codes.{code_cmp}
 use Rattle.shop_records.specs.Content as content
-use Rattle.shop_records.specs.Content.{Content, demand_at, totals_of, no_totals, changed}
+use Rattle.shop_records.specs.Content.{Content, demand_at, entry_at, entry_count, job_at, totals_of, no_totals, changed}
 use Rattle.shop_records.specs.Soundness.{Fits}
 use Rattle.shop_records.specs.declared.changes.Change.{Change}
 use Rattle.shop_records.specs.declared.changes.MaterialTotals.{MaterialTotals}
@@ -18,9 +19,12 @@ use Rattle.shop_records.specs.declared.records.Part.{Part}
 use Rattle.shop_records.specs.declared.records.Totals.{Totals}
 use Rattle.shop_tables.specs.Listing.{HaveTotals}
 use Rattle.shop_statements.specs.declared.faults.TableFault.{TableFault}
+use Rattle.shop_records.specs.declared.journal.Entry.{Entry}
 use Rattle.shop_statements.specs.Beside.{Spares}
-use Rattle.shop_statements.specs.Changes.{with_demand}
+use Rattle.shop_statements.specs.Changes.{with_demand, with_use}
 use Rattle.shop_statements.specs.Layout.{our_trees}
+use Rattle.shop_statements.specs.Rows.{use_cmp}
+use Rattle.shop_statements.specs.declared.uses.JobOrder.{JobOrder}
 use Rattle.shop_statements.specs.Shown.{Books, Makes, Went, Within}
 
 -- The rows of totals are those of the known materials, and a code's totals are the sums of its parts.
@@ -28,14 +32,49 @@ pub record HasSums (b : Books) : Type 0 where
   pub there : HaveTotals b
   pub sums : (code : List ℕ) → unwrap_or (get b.totals code) no_totals ≡ totals_of b.content code
 
+-- entries have the numbers from 1 to how many there are
+abbrev pub AreNumbered : Content → Type 0
+AreNumbered m = (number : ℕ) → IsSome (entry_at m number) → (1 ≤ number) × (number ≤ entry_count m)
+
+-- Entries have these numbers, and each order of a job is of a job that is there.
+pub record HasTrail (b : Books) : Type 0 where
+  pub numbers : AreNumbered b.content
+  pub uses : (x : JobOrder) → IsSome (get b.uses x) → IsSome (job_at b.content x.job)
+
 -- the totals with a material's row
 abbrev pub with_row : Option MaterialTotals → FinMap code_cmp Totals → FinMap code_cmp Totals
 with_row None totals = totals
 with_row (Some row) totals = insert totals row.material row.totals
 
+-- whether one of the demands is of the order
+abbrev pub is_ordered : List ℕ → List Demand → Bool
+is_ordered code [] = false
+is_ordered code (demand ∷ more) = pointwise nat_eq demand.order code || is_ordered code more
+
+-- the orders of the demands under a job, each once
+abbrev pub uses_of : ℕ → List Demand → List JobOrder
+uses_of job [] = []
+uses_of job (demand ∷ more) =
+    if is_ordered demand.order more then uses_of job more else uses_of job more ++ record { job = job; order = demand.order } ∷ []
+
+-- A new job is reserved with the demands of which its plan has a piece; a job that is over uses no other orders.
+abbrev pub uses_of_job : Option Job → Option ℕ → List Demand → List JobOrder
+uses_of_job None act demands = []
+uses_of_job (Some job) None demands = []
+uses_of_job (Some job) (Some act) demands = uses_of job.act demands
+
+abbrev pub new_uses : Change → List JobOrder
+new_uses change = uses_of_job change.job change.act change.demands
+
+-- the orders are put one after another
+abbrev pub put_uses : List JobOrder → FinMap use_cmp (Unit {0}) → FinMap use_cmp (Unit {0})
+put_uses [] uses = uses
+put_uses (x ∷ more) uses = put_uses more (insert uses x tt)
+
 -- the books with the rows of a change
 abbrev pub with_change : Change → Books → Books
-with_change change b = record { content = changed b.content change; totals = with_row change.totals b.totals }
+with_change change b =
+    record { content = changed b.content change; totals = with_row change.totals b.totals; uses = put_uses (new_uses change) b.uses }
 
 -- ---- a writing
 
@@ -103,6 +142,12 @@ with_imports row b = record b { content = record b.content { imports = content.w
 abbrev pub with_messages : Option KeptMessage → Books → Books
 with_messages message b = record b { content = record b.content { kept = content.with_kept message b.content.kept } }
 
+abbrev pub with_entries : Option Entry → Books → Books
+with_entries entry b = record b { content = record b.content { entries = content.with_entry entry b.content.entries } }
+
+abbrev pub with_uses : List JobOrder → Books → Books
+with_uses uses b = record b { uses = put_uses uses b.uses }
+
 abbrev pub with_sums : Option MaterialTotals → Books → Books
 with_sums row b = record b { totals = with_row row b.totals }
 
@@ -132,6 +177,10 @@ pub record HasStockOf (change : Change) (b : Books) : Type 0 where
   pub materials : b.content.materials ≡ decided.content.materials
   pub parts : b.content.parts ≡ decided.content.parts
   pub totals : b.totals ≡ decided.totals
+
+-- The orders of a job are new: each stands once among these, and none is there.
+abbrev pub AreNewUses : List JobOrder → Books → Type 0
+AreNewUses uses b = AreInTurn (λ x n. get n.uses x ≡ None) with_use uses b
 
 -- And they have the orders, the imports and the demands.
 pub record HasWorkOf (change : Change) (b : Books) : Type 0 where

@@ -9,34 +9,41 @@ use Rattle.shop_records.specs.Soundness.{HasLines}
 use Rattle.shop_records.specs.declared.records.Totals.{Totals}
 use Rattle.shop_statements.specs.Beside.{IsSameBeside, SparesRows}
 use Rattle.shop_statements.specs.Layout.{our_trees}
+use Rattle.shop_statements.specs.Rows.{use_cmp}
 use Rattle.shop_statements.specs.Shown.{Books, IsSettled, Holds, StandsIn}
-use Rattle.shop_tables.specs.Changing.{HasSums}
+use Rattle.shop_tables.specs.Changing.{HasSums, HasTrail}
 
--- the books of a content and rows of totals
-abbrev pub books : Content → FinMap code_cmp Totals → Books
-books m totals = record { content = m; totals = totals }
+-- the books of a content, rows of totals, and orders of jobs
+abbrev pub books : Content → FinMap code_cmp Totals → FinMap use_cmp (Unit {0}) → Books
+books m totals uses = record { content = m; totals = totals; uses = uses }
 
--- The connection holds the content, whose orders have their lines, and as totals the sums of its parts.
+-- The connection holds the content, whose orders have their lines and whose entries have no gap, as totals the sums of its
+-- parts, and orders of jobs that are there.
 pub record HoldsContent (s : State) (m : Content) : Type 0 where
   pub lines : HasLines m
   pub totals : FinMap code_cmp Totals
-  pub sums : HasSums (books m totals)
-  pub holds : Holds s (books m totals)
+  pub uses : FinMap use_cmp (Unit {0})
+  pub sums : HasSums (books m totals uses)
+  pub trail : HasTrail (books m totals uses)
+  pub holds : Holds s (books m totals uses)
 
--- The connection sees the content, whose orders have their lines, with the sums of its parts as totals, and the last commit is
--- what it sees.
+-- The connection sees the content, so, with the sums of its parts as totals, and the last commit is what it sees.
 pub record IsSettledAt (s : State) (m : Content) : Type 0 where
   pub lines : HasLines m
   pub totals : FinMap code_cmp Totals
-  pub sums : HasSums (books m totals)
-  pub settled : IsSettled s (books m totals)
+  pub uses : FinMap use_cmp (Unit {0})
+  pub sums : HasSums (books m totals uses)
+  pub trail : HasTrail (books m totals uses)
+  pub settled : IsSettled s (books m totals uses)
 
--- The trees stand for the content, whose orders have their lines, and for the sums of its parts as totals.
+-- The trees stand for the content, so, and for the sums of its parts as totals.
 pub record StandsFor (db : Trees) (m : Content) : Type 0 where
   pub lines : HasLines m
   pub totals : FinMap code_cmp Totals
-  pub sums : HasSums (books m totals)
-  pub stands : StandsIn db (books m totals)
+  pub uses : FinMap use_cmp (Unit {0})
+  pub sums : HasSums (books m totals uses)
+  pub trail : HasTrail (books m totals uses)
+  pub stands : StandsIn db (books m totals uses)
 
 -- an open after a crash finds the content
 abbrev pub LeavesOnly : State → Content → Type 0

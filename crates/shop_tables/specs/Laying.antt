@@ -1,4 +1,4 @@
--- What the statements do that make the tables, and those that bring them to version 2.
+-- What the statements do that make the tables, and those that bring them from version 1 to version 2, and from it to version 3.
 use Rattle.std.specs.Prelude.{◌≡◌, ◌==◌, ℕ, false, List, [], ◌∷◌, map, Ok, IsTrue}
 use Rattle.std.specs.List.{AllByRecursion}
 use Rattle.std.specs.FinMap.{FinMap, entries}
@@ -19,7 +19,7 @@ use Rattle.sqlite_catalog.specs.Change.{is_used}
 use Rattle.cut_measure.specs.Codes.{code_cmp}
 use Rattle.shop_records.specs.Content.{Content, fresh}
 use Rattle.shop_records.specs.declared.records.Totals.{Totals}
-use Rattle.shop_statements.specs.Earlier.{earlier_entries, earlier_row, HasNoneReturned}
+use Rattle.shop_statements.specs.Earlier.{earlier_entries, earlier_row, second_entries, second_schema, HasNoneReturned}
 use Rattle.shop_statements.specs.Layout.{shop_schema}
 use Rattle.shop_statements.specs.Rows.{AreRows, meta_entries, meta_row, totals_row}
 
@@ -57,26 +57,32 @@ abbrev pub Adds : {S : Type 0} → Ghosts S → List ℕ → Table → Type 0
 Adds g text table = (schema : Schema) → lacks_sequence schema ≡ false → Does g text schema (IsAdded schema table)
 
 -- the rows of one of our tables were written, and no other table's
-pub record IsWritten (tree : ℕ) (old new : Database) : Type 0 where
-  pub schema_is : new.schema ≡ shop_schema
+pub record IsWritten (schema : Schema) (tree : ℕ) (old new : Database) : Type 0 where
+  pub schema_is : new.schema ≡ schema
   pub sound : IsDatabase new
-  pub others : (t : ℕ) → (t == tree) ≡ false → IsNoIndex shop_schema t → new.trees t ≡ old.trees t
+  pub others : (t : ℕ) → (t == tree) ≡ false → IsNoIndex schema t → new.trees t ≡ old.trees t
 
 -- in a table without rows
 abbrev pub PutsFirstNumbers : Database → Database → Type 0
-PutsFirstNumbers old new = old.trees 0 ≡ [] → IsWritten 0 old new × AreRows 1 (map meta_row (meta_entries fresh)) (new.trees 0)
+PutsFirstNumbers old new = old.trees 0 ≡ [] → IsWritten shop_schema 0 old new × AreRows 1 (map meta_row (meta_entries fresh)) (new.trees 0)
 
 -- the totals of version 1, where nothing was returned, to a table without rows
 abbrev pub CopiesTotals : Database → Database → Type 0
 CopiesTotals old new =
     (sums : FinMap code_cmp Totals) → AllByRecursion HasNoneReturned (entries sums)
     → AreRows 1 (map earlier_row (entries sums)) (old.trees 15) → old.trees 17 ≡ []
-    → IsWritten 17 old new × AreRows 1 (map totals_row (entries sums)) (new.trees 17)
+    → IsWritten second_schema 17 old new × AreRows 1 (map totals_row (entries sums)) (new.trees 17)
 
 abbrev pub ClearsTotals : Database → Database → Type 0
-ClearsTotals old new = AllByRecursion (λ r. IsTrue (is_int (rowid r))) (old.trees 15) → IsWritten 15 old new × (new.trees 15 ≡ [])
+ClearsTotals old new = AllByRecursion (λ r. IsTrue (is_int (rowid r))) (old.trees 15) → IsWritten second_schema 15 old new × (new.trees 15 ≡ [])
 
 abbrev pub SetsVersion : Database → Database → Type 0
 SetsVersion old new =
     (m : Content) → AreRows 1 (map meta_row (earlier_entries m)) (old.trees 0)
-    → IsWritten 0 old new × AreRows 1 (map meta_row (meta_entries m)) (new.trees 0)
+    → IsWritten second_schema 0 old new × AreRows 1 (map meta_row (second_entries m)) (new.trees 0)
+
+-- version 3 in place of version 2, once its tables are made
+abbrev pub SetsLastVersion : Database → Database → Type 0
+SetsLastVersion old new =
+    (m : Content) → AreRows 1 (map meta_row (second_entries m)) (old.trees 0)
+    → IsWritten shop_schema 0 old new × AreRows 1 (map meta_row (meta_entries m)) (new.trees 0)

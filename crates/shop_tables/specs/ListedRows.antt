@@ -6,10 +6,11 @@ use Rattle.shop_records.specs.declared.records.Demand.{Demand}
 use Rattle.shop_records.specs.declared.records.Job.{Job}
 use Rattle.shop_records.specs.declared.records.Material.{Material}
 use Rattle.shop_records.specs.declared.records.Part.{Part}
+use Rattle.shop_records.specs.declared.journal.Entry.{Entry}
 use Rattle.shop_records.specs.Content.{Content}
 use Rattle.shop_records.specs.Lists.{IsLastNumber}
 use Rattle.shop_tables.specs.Listing.{code_row}
-use Rattle.shop_statements.specs.Rows.{demand_columns, job_columns, material_columns, part_row}
+use Rattle.shop_statements.specs.Rows.{demand_columns, entry_columns, job_columns, material_columns, part_row}
 
 abbrev pub number_row : ℕ → Row
 number_row number = Int (pos number) ∷ []
@@ -29,6 +30,10 @@ listed_demand demand = demand_columns demand ++ number_row demand.number
 -- a job's row, its number after it
 abbrev pub listed_job : Job → Row
 listed_job job = job_columns job ++ number_row job.act
+
+-- an entry's row, its number after it
+abbrev pub listed_entry : Entry → Row
+listed_entry entry = entry_columns entry ++ number_row entry.number
 
 -- the row of a terminal's greatest number; there is none where no message is kept
 abbrev pub IsLastRow : Content → ℕ → Option Row → Type 0

@@ -1,9 +1,11 @@
--- Demands and jobs from a number on, and what a job's row tells without its plan.
-use Rattle.std.specs.Prelude.{ℕ, List, filter, nat_le}
+-- Demands, jobs and entries from a number on, and what a job's row tells without its plan.
+use Rattle.std.specs.Prelude.{◌≡◌, ℕ, List, [], filter, IsSome, nat_le}
 use Rattle.std.specs.FinMap.{values}
-use Rattle.shop_records.specs.Content.{Content}
+use Rattle.sqlite_value.specs.Order.{Row}
+use Rattle.shop_records.specs.Content.{Content, entry_at}
 use Rattle.shop_records.specs.declared.records.Demand.{Demand}
 use Rattle.shop_records.specs.declared.records.Job.{Job}
+use Rattle.shop_records.specs.declared.journal.Entry.{Entry}
 use Rattle.shop_tables.specs.declared.valid_rows.StoredJob.{StoredJob}
 
 -- the demands from a number on, rising
@@ -14,6 +16,15 @@ demands_from m from = filter (λ (demand : Demand). nat_le from demand.number) (
 abbrev pub jobs_from : Content → ℕ → List Job
 jobs_from m from = filter (λ (job : Job). nat_le from job.act) (values m.jobs)
 
+-- the entries from a number on, rising
+abbrev pub entries_from : Content → ℕ → List Entry
+entries_from m from = filter (λ (entry : Entry). nat_le from entry.number) (values m.entries)
+
 -- a job without its plan
 abbrev pub stored_job : Job → StoredJob
 stored_job job = record { number = job.act; part = job.part; state = job.state }
+
+-- rows of entries whose numbers don't do: there is none exactly where each entry's number does
+abbrev pub HasNoneBut : (ℕ → Type 0) → Content → List Row → Type 0
+HasNoneBut Does m rows =
+    (((n : ℕ) → IsSome (entry_at m n) → Does n) → rows ≡ []) × (rows ≡ [] → (n : ℕ) → IsSome (entry_at m n) → Does n)

@@ -1,16 +1,16 @@
 //! From a connection to one that holds books.
 
-ghost use Rattle.std.specs.Prelude.{◌≡◌, ◌≢◌, ◌⊎◌, true, false, [], Ok, Err, IfOk, IsTrue, OnOk, OnErr};
+ghost use Rattle.std.specs.Prelude.{◌≡◌, ◌≢◌, true, false, [], Ok, Err, IfOk, IsTrue, OnOk, OnErr};
 ghost use Rattle.sqlite.specs.State.{HasCleanDisk, Survives};
 ghost use Rattle.sqlite.specs.Held.{state};
 ghost use Rattle.sqlite.specs.Does.{lacks_sequence};
 ghost use Rattle.sqlite_catalog.specs.Change.{is_used};
-ghost use Rattle.shop_tables.specs.Adopting.{HasVersion, HoldsBeside, IsAsBefore, IsVacant, LeavesBooks, StandsBeside, first_are_tables, is_table, names_are_free, names_are_tables, names_are_earlier};
-ghost use Rattle.shop_statements.specs.Earlier.{HoldsEarlier, IsSettledEarlier, earlier_schema};
+ghost use Rattle.shop_tables.specs.Adopting.{HasVersion, HoldsBeside, IsAsBefore, IsVacant, LeavesBooks, StandsBeside, first_are_tables, second_are_tables, last_are_tables, last_are_free, is_table, names_are_free, names_are_tables, names_are_earlier, names_are_second};
+ghost use Rattle.shop_statements.specs.Earlier.{HasSomeTables, HoldsEarlier, HoldsSecond, IsSettledEarlier, IsSettledSecond, earlier_schema, second_schema};
 ghost use Rattle.shop_statements.specs.Layout.{no_schema, HasShopTables};
 ghost use Rattle.shop_statements.specs.Shown.{Books, HasShopSchema, Holds, IsSettled, Leaves, StandsIn, fresh_books};
 ghost use Rattle.shop_tables.specs.RowsShown.{SeesCommit};
-ghost use Rattle.shop_tables.specs.declared.adopting.Adopted.TheVariants.{Made, Found, Earlier};
+ghost use Rattle.shop_tables.specs.declared.adopting.Adopted.TheVariants.{Made, Found, Second, Earlier};
 ghost use Rattle.shop_tables.specs.declared.adopting.AdoptFault.TheVariants.{WrongVersion};
 
 use crate::invalid::has_number;
@@ -25,8 +25,10 @@ use sqlite_schema::schema::Schema;
 pub enum Adopted {
     /// The tables of a new shop were made.
     Made,
-    /// There were tables of version 2.
+    /// There were tables of version 3.
     Found,
+    /// There are tables of version 2, to which nothing was done yet.
+    Second,
     /// There are tables of version 1, to which nothing was done yet.
     Earlier,
 }
@@ -70,6 +72,16 @@ fn is_table(schema: &Schema, name: &[u8]) -> bool
     schema.table_named(name).is_some()
 }
 
+// No table, index or view has the name of one that came with version 3.
+fn are_last_free(schema: &Schema) -> bool
+    ensures { result ≡ last_are_free schema.now }
+{
+    !is_used(schema, b"journal")
+        && (!is_used(schema, b"uses")
+            && (!is_used(schema, b"notes")
+                && (!is_used(schema, b"begun") && !is_used(schema, b"halts"))))
+}
+
 // No table, index or view has a name of ours.
 fn are_free(schema: &Schema) -> bool
     ensures { result ≡ names_are_free schema.now }
@@ -83,7 +95,8 @@ fn are_free(schema: &Schema) -> bool
                             && (!is_used(schema, b"kept")
                                 && (!is_used(schema, b"imports")
                                     && (!is_used(schema, b"totals")
-                                        && !is_used(schema, b"totals2")))))))))
+                                        && (!is_used(schema, b"totals2")
+                                            && are_last_free(schema))))))))))
 }
 
 // Each name of version 1 is that of a table.
@@ -101,18 +114,42 @@ fn first_are_tables(schema: &Schema) -> bool
                                     && is_table(schema, b"totals"))))))))
 }
 
-// Each name of ours is that of a table.
-fn are_tables(schema: &Schema) -> bool
-    ensures { result ≡ names_are_tables schema.now }
+// Each name of version 2 is that of a table.
+fn second_are_tables(schema: &Schema) -> bool
+    ensures { result ≡ second_are_tables schema.now }
 {
     first_are_tables(schema) && is_table(schema, b"totals2")
 }
 
-// Each name of version 1 is that of a table, and the one that came with version 2 is free.
+// Each name that came with version 3 is that of a table.
+fn last_are_tables(schema: &Schema) -> bool
+    ensures { result ≡ last_are_tables schema.now }
+{
+    is_table(schema, b"journal")
+        && (is_table(schema, b"uses")
+            && (is_table(schema, b"notes")
+                && (is_table(schema, b"begun") && is_table(schema, b"halts"))))
+}
+
+// Each name of ours is that of a table.
+fn are_tables(schema: &Schema) -> bool
+    ensures { result ≡ names_are_tables schema.now }
+{
+    second_are_tables(schema) && last_are_tables(schema)
+}
+
+// Each name of version 1 is that of a table, and those that came later are free.
 fn are_earlier(schema: &Schema) -> bool
     ensures { result ≡ names_are_earlier schema.now }
 {
-    first_are_tables(schema) && !is_used(schema, b"totals2")
+    first_are_tables(schema) && (!is_used(schema, b"totals2") && are_last_free(schema))
+}
+
+// Each name of version 2 is that of a table, and those that came later are free.
+fn are_second(schema: &Schema) -> bool
+    ensures { result ≡ names_are_second schema.now }
+{
+    second_are_tables(schema) && are_last_free(schema)
 }
 
 // Over a database in which no name of ours is taken: makes the tables, in one transaction.
@@ -158,12 +195,13 @@ fn adopt_version<S: Alter>(
     ensures mode { conn.old.in_transaction ≡ false → conn.new.in_transaction ≡ false }
     ensures only { IfOk result (λ told. told ≡ how) }
     ensures leaves { Leaves (state S.Store conn.old) (state S.Store conn.new) }
-    ensures two { version ≡ 2 → result ≡ Err WrongVersion → HasCleanDisk (state S.Store conn.new)
+    ensures three { version ≡ 3 → result ≡ Err WrongVersion → HasCleanDisk (state S.Store conn.new)
         → (b : Books) → Holds (state S.Store conn.old) b → ⊥ }
+    ensures two { version ≡ 2 → result ≡ Err WrongVersion → HasCleanDisk (state S.Store conn.new)
+        → (b : Books) → HoldsSecond (state S.Store conn.old) b → ⊥ }
     ensures one { version ≡ 1 → result ≡ Err WrongVersion → HasCleanDisk (state S.Store conn.new)
         → (b : Books) → HoldsEarlier (state S.Store conn.old) b → ⊥ }
-    ensures named { HasShopTables conn.old.schema ⊎ (conn.old.schema ≡ earlier_schema)
-        → HasCleanDisk (state S.Store conn.new)
+    ensures named { HasSomeTables conn.old.schema → HasCleanDisk (state S.Store conn.new)
         → OnOk result (HasVersion (state S.Store conn.old) version) }
 {
     match number_row(conn, "version")? {
@@ -178,7 +216,7 @@ fn adopt_version<S: Alter>(
     }
 }
 
-// Over tables with the names of version 2, in which version 1's totals have no row.
+// Over tables with the names of version 3, in which version 1's totals have no row.
 fn adopt_found<S: Alter>(conn: &mut Connection<S>) -> Result<Adopted, AdoptFault>
     ensures mode { conn.old.in_transaction ≡ false → conn.new.in_transaction ≡ false }
     ensures only { IfOk result (λ told. told ≡ Found) }
@@ -186,12 +224,33 @@ fn adopt_found<S: Alter>(conn: &mut Connection<S>) -> Result<Adopted, AdoptFault
     ensures neither { result ≡ Err WrongVersion → HasCleanDisk (state S.Store conn.new)
         → (b : Books) → Holds (state S.Store conn.old) b → ⊥ }
     ensures named { HasShopTables conn.old.schema → HasCleanDisk (state S.Store conn.new)
-        → OnOk result (HasVersion (state S.Store conn.old) 2) }
+        → OnOk result (HasVersion (state S.Store conn.old) 3) }
     ensures no_old_totals { HasShopTables conn.old.schema → HasCleanDisk (state S.Store conn.new)
         → SeesCommit (state S.Store conn.old)
         → OnOk result ((state S.Store conn.old).now.trees 15 ≡ []) }
 {
-    let how = adopt_version(conn, 2, Adopted::Found)?;
+    let how = adopt_version(conn, 3, Adopted::Found)?;
+    if has_no_old_totals(conn)? {
+        Ok(how)
+    } else {
+        Err(AdoptFault::WrongVersion)
+    }
+}
+
+// Over tables with the names of version 2, in which version 1's totals have no row.
+fn adopt_second<S: Alter>(conn: &mut Connection<S>) -> Result<Adopted, AdoptFault>
+    ensures mode { conn.old.in_transaction ≡ false → conn.new.in_transaction ≡ false }
+    ensures only { IfOk result (λ told. told ≡ Second) }
+    ensures leaves { Leaves (state S.Store conn.old) (state S.Store conn.new) }
+    ensures neither { result ≡ Err WrongVersion → HasCleanDisk (state S.Store conn.new)
+        → (b : Books) → HoldsSecond (state S.Store conn.old) b → ⊥ }
+    ensures named { conn.old.schema ≡ second_schema → HasCleanDisk (state S.Store conn.new)
+        → OnOk result (HasVersion (state S.Store conn.old) 2) }
+    ensures no_old_totals { conn.old.schema ≡ second_schema → HasCleanDisk (state S.Store conn.new)
+        → SeesCommit (state S.Store conn.old)
+        → OnOk result ((state S.Store conn.old).now.trees 15 ≡ []) }
+{
+    let how = adopt_version(conn, 2, Adopted::Second)?;
     if has_no_old_totals(conn)? {
         Ok(how)
     } else {
@@ -211,18 +270,32 @@ fn adopt_taken<S: Alter>(conn: &mut Connection<S>) -> Result<Adopted, AdoptFault
     ensures one_only { conn.old.schema ≡ earlier_schema → IfOk result (λ how. how ≡ Earlier) }
     ensures one_neither { result ≡ Err WrongVersion → HasCleanDisk (state S.Store conn.new)
         → (b : Books) → IsSettledEarlier (state S.Store conn.old) b → ⊥ }
-    ensures named { HasShopTables conn.old.schema → HasCleanDisk (state S.Store conn.new)
+    ensures two { result ≡ Ok Second → ¬ HasShopTables conn.old.schema }
+    ensures two_only { conn.old.schema ≡ second_schema → IfOk result (λ how. how ≡ Second) }
+    ensures two_neither { result ≡ Err WrongVersion → HasCleanDisk (state S.Store conn.new)
+        → (b : Books) → IsSettledSecond (state S.Store conn.old) b → ⊥ }
+    ensures two_named { conn.old.schema ≡ second_schema → HasCleanDisk (state S.Store conn.new)
         → OnOk result (HasVersion (state S.Store conn.old) 2) }
+    ensures two_old_totals { conn.old.schema ≡ second_schema → HasCleanDisk (state S.Store conn.new)
+        → SeesCommit (state S.Store conn.old)
+        → OnOk result ((state S.Store conn.old).now.trees 15 ≡ []) }
+    ensures named { HasShopTables conn.old.schema → HasCleanDisk (state S.Store conn.new)
+        → OnOk result (HasVersion (state S.Store conn.old) 3) }
     ensures no_old_totals { HasShopTables conn.old.schema → HasCleanDisk (state S.Store conn.new)
         → SeesCommit (state S.Store conn.old)
         → OnOk result ((state S.Store conn.old).now.trees 15 ≡ []) }
     ensures one_named { conn.old.schema ≡ earlier_schema → HasCleanDisk (state S.Store conn.new)
         → OnOk result (HasVersion (state S.Store conn.old) 1) }
+    ensures second_names { names_are_second conn.old.schema ≡ true
+        → IfOk result (λ how. how ≡ Second) }
     ensures earlier_names { names_are_earlier conn.old.schema ≡ true
         → IfOk result (λ how. how ≡ Earlier) }
 {
     if are_earlier(conn.schema()) {
         return adopt_version(conn, 1, Adopted::Earlier);
+    }
+    if are_second(conn.schema()) {
+        return adopt_second(conn);
     }
     if !are_tables(conn.schema()) {
         return Err(AdoptFault::WrongVersion);
@@ -230,8 +303,8 @@ fn adopt_taken<S: Alter>(conn: &mut Connection<S>) -> Result<Adopted, AdoptFault
     adopt_found(conn)
 }
 
-/// Makes the tables where none of their names is taken, in one transaction, goes on with tables of version 2, and tells where
-/// there are tables of version 1. It answers `WrongVersion` where a name is taken and they aren't there, or are of another
+/// Makes the tables where none of their names is taken, in one transaction, goes on with tables of version 3, and tells where
+/// there are tables of version 2 or 1. It answers `WrongVersion` where a name is taken and they aren't there, or are of another
 /// version, or the totals of version 1 have a row, and writes nothing then.
 pub fn adopt_tables<S: Alter>(conn: &mut Connection<S>) -> Result<Adopted, AdoptFault>
     requires outside { conn.old.in_transaction ≡ false }
@@ -268,8 +341,19 @@ pub fn adopt_tables<S: Alter>(conn: &mut Connection<S>) -> Result<Adopted, Adopt
         → Leaves (state S.Store conn.old) (state S.Store conn.new) }
     ensures one_neither { result ≡ Err WrongVersion → HasCleanDisk (state S.Store conn.new)
         → (b : Books) → IsSettledEarlier (state S.Store conn.old) b → ⊥ }
-    ensures named { HasShopTables conn.old.schema → HasCleanDisk (state S.Store conn.new)
+    ensures two { result ≡ Ok Second → (conn.old.schema ≢ no_schema) × (¬ HasShopTables conn.old.schema)
+        × Leaves (state S.Store conn.old) (state S.Store conn.new) }
+    ensures two_leaves { conn.old.schema ≡ second_schema
+        → Leaves (state S.Store conn.old) (state S.Store conn.new) }
+    ensures two_only { conn.old.schema ≡ second_schema → IfOk result (λ how. how ≡ Second) }
+    ensures two_neither { result ≡ Err WrongVersion → HasCleanDisk (state S.Store conn.new)
+        → (b : Books) → IsSettledSecond (state S.Store conn.old) b → ⊥ }
+    ensures two_named { conn.old.schema ≡ second_schema → HasCleanDisk (state S.Store conn.new)
         → OnOk result (HasVersion (state S.Store conn.old) 2) }
+    ensures two_old_totals { conn.old.schema ≡ second_schema → HasCleanDisk (state S.Store conn.new)
+        → OnOk result ((state S.Store conn.old).now.trees 15 ≡ []) }
+    ensures named { HasShopTables conn.old.schema → HasCleanDisk (state S.Store conn.new)
+        → OnOk result (HasVersion (state S.Store conn.old) 3) }
     ensures no_old_totals { HasShopTables conn.old.schema → HasCleanDisk (state S.Store conn.new)
         → OnOk result ((state S.Store conn.old).now.trees 15 ≡ []) }
     ensures one_named { conn.old.schema ≡ earlier_schema → HasCleanDisk (state S.Store conn.new)
@@ -284,6 +368,9 @@ pub fn adopt_tables<S: Alter>(conn: &mut Connection<S>) -> Result<Adopted, Adopt
         × (result ≢ Err WrongVersion) }
     ensures taken { names_are_free conn.old.schema ≡ false
         → Leaves (state S.Store conn.old) (state S.Store conn.new) }
+    ensures second_names { names_are_second conn.old.schema ≡ true
+        → IfOk result (λ how. how ≡ Second)
+        × Leaves (state S.Store conn.old) (state S.Store conn.new) }
     ensures earlier_names { names_are_earlier conn.old.schema ≡ true
         → IfOk result (λ how. how ≡ Earlier)
         × Leaves (state S.Store conn.old) (state S.Store conn.new) }

@@ -1,7 +1,7 @@
 //! What a change writes, inside a transaction. Its kept message comes first, and where it has none the store is asked all
 //! the same whether it is open.
 
-ghost use Rattle.std.specs.Prelude.{◌≡◌, ⊤, None, is_some, not, IfSome, MatchOption, OnOk};
+ghost use Rattle.std.specs.Prelude.{◌≡◌, ⊤, IfOk, None, is_some, not, IfSome, MatchOption, OnOk};
 ghost use Rattle.std.specs.FinMap.{get};
 ghost use Rattle.sqlite.specs.Held.{state};
 ghost use Rattle.shop_records.specs.Content.{kept_at};
@@ -9,14 +9,16 @@ ghost use Rattle.shop_records.specs.Soundness.{Fits, IsMovedJob, IsNewJob};
 ghost use Rattle.shop_statements.specs.Beside.{Spares};
 ghost use Rattle.shop_statements.specs.Layout.{our_trees};
 ghost use Rattle.shop_statements.specs.Shown.{Books, Makes, Ran, Within};
-ghost use Rattle.shop_tables.specs.Changing.{HasSums, AreDemandsFit, HasStockOf, HasWorkOf, Writes, with_change, with_jobs, with_demands, with_messages, with_sums, with_stock, with_work, with_numbers};
+ghost use Rattle.shop_tables.specs.Changing.{HasSums, HasTrail, AreDemandsFit, AreNewUses, is_ordered, uses_of, uses_of_job, with_uses, HasStockOf, HasWorkOf, Writes, with_change, with_jobs, with_demands, with_messages, with_sums, with_stock, with_work, with_numbers};
 
 use crate::writing::{Known, LastAct, LastDemand, New, write_all, write_some};
 use cut_measure::Code;
-use shop_records::{Change, Demand, ImportRow, Job, KeptMessage, Material, MaterialTotals, Part};
-use shop_statements::{TableFault, move_job, put_job, put_kept, put_totals, set_totals};
+use shop_records::{
+    Change, Demand, Entry, ImportRow, Job, KeptMessage, Material, MaterialTotals, Part,
+};
+use shop_statements::{JobOrder, TableFault, move_job, put_job, put_kept, put_totals, set_totals};
 use sqlite::{Alter, Transaction};
-use std::alloc::Global;
+use std::alloc::{AllocError, Global};
 
 // Keeps the message; it runs a statement in any case.
 fn keep<S: Alter>(
@@ -128,6 +130,72 @@ fn write_work<S: Alter>(tx: &mut Transaction<'_, S>, change: &Change) -> Result<
     write_demands(tx, change.order, change.demands.as_slice())
 }
 
+// The orders of the demands under a job, each once.
+fn uses_of(alloc: Global, job: u32, demands: &[Demand]) -> Result<Vec<JobOrder>, AllocError>
+    ensures { IfOk result (λ uses. uses.items ≡ uses_of job demands.now) }
+{
+    let Some((first, more)) = demands.split_first() else {
+        return Ok(Vec::new(alloc));
+    };
+    let mut uses = uses_of(alloc, job, more)?;
+    if is_ordered(first.order, more) {
+        return Ok(uses);
+    }
+    uses.push(JobOrder {
+        job,
+        order: first.order,
+    })?;
+    Ok(uses)
+}
+
+// Whether one of the demands is of the order.
+fn is_ordered(order: Code, demands: &[Demand]) -> bool
+    ensures { result ≡ is_ordered order demands.now }
+{
+    let Some((first, more)) = demands.split_first() else {
+        return false;
+    };
+    first.order == order || is_ordered(order, more)
+}
+
+// The orders of the demands under a job.
+#[tactic(auto, using(crate::proofs::InTurn::stops, shop_statements::proofs::Steps::within_itself))]
+fn put_uses<S: Alter>(
+    alloc: Global,
+    tx: &mut Transaction<'_, S>,
+    job: u32,
+    demands: &[Demand],
+) -> Result<(), TableFault>
+    ensures same_reference { tx.new.conn.ghost_name ≡ tx.old.conn.ghost_name }
+    ensures writes { Writes (state S.Store tx.old.conn.now) (state S.Store tx.new.conn.now) result
+        (AreNewUses (uses_of job demands.now)) (with_uses (uses_of job demands.now)) }
+{
+    let uses = uses_of(alloc, job, demands)?;
+    write_all::<New, JobOrder, S>(tx, &uses)
+}
+
+// The orders of a new job.
+fn write_uses<S: Alter>(
+    alloc: Global,
+    tx: &mut Transaction<'_, S>,
+    job: &Option<Job>,
+    act: Option<u32>,
+    demands: &[Demand],
+) -> Result<(), TableFault>
+    ensures same_reference { tx.new.conn.ghost_name ≡ tx.old.conn.ghost_name }
+    ensures writes { Writes (state S.Store tx.old.conn.now) (state S.Store tx.new.conn.now) result
+        (AreNewUses (uses_of_job job.now act demands.now))
+        (with_uses (uses_of_job job.now act demands.now)) }
+{
+    let Some(job) = job else {
+        return Ok(());
+    };
+    match act {
+        None => Ok(()),
+        Some(_) => put_uses(alloc, tx, job.act, demands),
+    }
+}
+
 // The numbers that were given.
 #[tactic(auto, using(crate::proofs::InTurn::stops, shop_statements::proofs::Steps::within_then))]
 fn write_numbers<S: Alter>(tx: &mut Transaction<'_, S>, change: &Change) -> Result<(), TableFault>
@@ -151,11 +219,19 @@ pub(crate) fn write_change<S: Alter>(
     ensures ran { OnOk result
         (Ran (state S.Store tx.old.conn.now) (state S.Store tx.new.conn.now)) }
     ensures writes { Writes (state S.Store tx.old.conn.now) (state S.Store tx.new.conn.now) result
-        (λ b. HasSums b × Fits b.content change.now) (with_change change.now) }
+        (λ b. HasSums b × HasTrail b × Fits b.content change.now) (with_change change.now) }
 {
     keep(tx, &change.kept)?;
+    write_some::<New, Entry, S>(tx, &change.entry)?;
     write_job(alloc, tx, &change.job, change.act)?;
     write_stock(tx, change)?;
     write_work(tx, change)?;
+    write_uses(
+        alloc,
+        tx,
+        &change.job,
+        change.act,
+        change.demands.as_slice(),
+    )?;
     write_numbers(tx, change)
 }

@@ -4,10 +4,10 @@ ghost use Rattle.std.specs.Prelude.{◌≡◌, false, map, OnOk};
 ghost use Rattle.sqlite.specs.State.{HasCleanDisk};
 ghost use Rattle.sqlite.specs.Does.{lacks_sequence};
 ghost use Rattle.sqlite.specs.Held.{state};
-ghost use Rattle.shop_statements.specs.Layout.{no_schema, shop_schema, meta_table, materials_table, parts_table, jobs_table, orders_table, demands_table, kept_table, imports_table, totals_table, totals2_table};
+ghost use Rattle.shop_statements.specs.Layout.{no_schema, shop_schema, meta_table, materials_table, parts_table, jobs_table, orders_table, demands_table, kept_table, imports_table, totals_table, totals2_table, journal_table, uses_table, notes_table, begun_table, halts_table};
 ghost use Rattle.shop_tables.specs.Adopting.{IsMadeBeside, MakesTables};
 ghost use Rattle.shop_tables.specs.Laying.{Adds, AreRun, Does, IsRun, PutsFirstNumbers};
-ghost use Rattle.shop_tables.specs.declared.laying.TheConstants.{META, MATERIALS, PARTS, JOBS, ORDERS, DEMANDS, KEPT, IMPORTS, TOTALS, TOTALS2, FIRST_NUMBERS};
+ghost use Rattle.shop_tables.specs.declared.laying.TheConstants.{META, MATERIALS, PARTS, JOBS, ORDERS, DEMANDS, KEPT, IMPORTS, TOTALS, TOTALS2, JOURNAL, USES, NOTES, BEGUN, HALTS, FIRST_NUMBERS};
 ghost use Rattle.shop_statements.specs.Shown.{fresh_books, Ran, Within};
 
 use sqlite::{Alter, Error, Transaction};
@@ -51,12 +51,32 @@ const TOTALS: &str =
 pub(crate) const TOTALS2: &str =
     "CREATE TABLE totals2 (material TEXT NOT NULL PRIMARY KEY REFERENCES materials (code), received INTEGER NOT NULL, stock INTEGER NOT NULL, rack INTEGER NOT NULL, pieces INTEGER NOT NULL, kerf INTEGER NOT NULL, scrap INTEGER NOT NULL, returned INTEGER NOT NULL) STRICT";
 
+// Entries by their numbers.
+pub(crate) const JOURNAL: &str =
+    "CREATE TABLE journal (entry INTEGER NOT NULL PRIMARY KEY, at INTEGER NOT NULL, terminal INTEGER NOT NULL, number INTEGER NOT NULL, word TEXT NOT NULL, act INTEGER NOT NULL, job INTEGER NOT NULL, ord TEXT NOT NULL, part_act INTEGER NOT NULL, part_node INTEGER NOT NULL) STRICT";
+
+// The orders of which a job's plan has a piece.
+pub(crate) const USES: &str =
+    "CREATE TABLE uses (job INTEGER NOT NULL, ord TEXT NOT NULL, PRIMARY KEY (job, ord)) STRICT";
+
+// What is said of orders; nothing yet.
+pub(crate) const NOTES: &str =
+    "CREATE TABLE notes (ord TEXT NOT NULL PRIMARY KEY REFERENCES orders (ord), due INTEGER NOT NULL, body TEXT NOT NULL) STRICT";
+
+// Who has begun to cut a job; nothing yet.
+pub(crate) const BEGUN: &str =
+    "CREATE TABLE begun (job INTEGER NOT NULL PRIMARY KEY REFERENCES jobs (job), terminal INTEGER NOT NULL) STRICT";
+
+// Where jobs were broken off; nothing yet.
+pub(crate) const HALTS: &str =
+    "CREATE TABLE halts (job INTEGER NOT NULL PRIMARY KEY REFERENCES jobs (job), body TEXT NOT NULL) STRICT";
+
 // The numbers of a shop in which nothing was done yet.
 const FIRST_NUMBERS: &str =
-    "INSERT INTO meta (name, value) VALUES ('version', 2), ('act', 0), ('demand', 0)";
+    "INSERT INTO meta (name, value) VALUES ('version', 3), ('act', 0), ('demand', 0)";
 
 // All of them, in the order in which they run.
-const TEXTS: [&str; 11] = [
+const TEXTS: [&str; 16] = [
     META,
     MATERIALS,
     PARTS,
@@ -67,6 +87,11 @@ const TEXTS: [&str; 11] = [
     IMPORTS,
     TOTALS,
     TOTALS2,
+    JOURNAL,
+    USES,
+    NOTES,
+    BEGUN,
+    HALTS,
     FIRST_NUMBERS,
 ];
 
@@ -82,6 +107,11 @@ pub fn statements_make_tables<S: Alter>()
     ensures imports { Adds S.Store IMPORTS.now imports_table }
     ensures totals { Adds S.Store TOTALS.now totals_table }
     ensures totals2 { Adds S.Store TOTALS2.now totals2_table }
+    ensures journal { Adds S.Store JOURNAL.now journal_table }
+    ensures uses { Adds S.Store USES.now uses_table }
+    ensures notes { Adds S.Store NOTES.now notes_table }
+    ensures begun { Adds S.Store BEGUN.now begun_table }
+    ensures halts { Adds S.Store HALTS.now halts_table }
     ensures numbers { Does S.Store FIRST_NUMBERS.now shop_schema PutsFirstNumbers }
 {}
 

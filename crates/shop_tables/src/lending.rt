@@ -4,7 +4,7 @@ ghost use Rattle.std.specs.Prelude.{◌≡◌, ◌≢◌, true, false, IfOk, IfS
 ghost use Rattle.sqlite.specs.Held.{state};
 ghost use Rattle.sqlite.specs.Values.{bound};
 ghost use Rattle.std.specs.FinMap.{values};
-ghost use Rattle.shop_statements.specs.Earlier.{OnBooksEarlier};
+ghost use Rattle.shop_statements.specs.Earlier.{OnBooksEarlier, OnBooksSecond};
 ghost use Rattle.shop_tables.specs.Lending.{IsLent, IsReadOf, gone_through};
 ghost use Rattle.shop_statements.specs.Selecting.{is_select};
 ghost use Rattle.shop_statements.specs.Shown.{Leaves, OnBooks};
@@ -106,7 +106,13 @@ pub fn lend_all_parts<S: Alter, V: PartVisitor>(
         (λ what. OnBooksEarlier (state S.Store conn.old) (state S.Store conn.new)
         (λ books. what (values books.content.parts))) visitor.old
         (gone_through result) visitor.new }
+    ensures second { IsVisit V.looks
+        (λ what. OnBooksSecond (state S.Store conn.old) (state S.Store conn.new)
+        (λ books. what (values books.content.parts))) visitor.old
+        (gone_through result) visitor.new }
     ensures earlier_invalid { OnBooksEarlier (state S.Store conn.old) (state S.Store conn.new)
+        (λ _. IfOk result (λ how. how ≢ Invalid)) }
+    ensures second_invalid { OnBooksSecond (state S.Store conn.old) (state S.Store conn.new)
         (λ _. IfOk result (λ how. how ≢ Invalid)) }
     ensures leaves { Leaves (state S.Store conn.old) (state S.Store conn.new) }
     ensures mode { conn.old.in_transaction ≡ false → conn.new.in_transaction ≡ false }

@@ -5,6 +5,7 @@ mod adopting;
 mod changing;
 mod chunks;
 mod committing;
+mod entries;
 mod invalid;
 mod kept_counts;
 mod last_numbers;
@@ -22,9 +23,10 @@ mod valid_rows;
 mod writing;
 
 pub use adopting::{AdoptFault, Adopted, adopt_tables};
-pub use chunks::{demand_rows_from, job_rows_from, part_key_at};
+pub use chunks::{demand_rows_from, entry_rows_from, job_rows_from, part_key_at};
 pub use committing::commit_change;
-pub use kept_counts::count_kept;
+pub use entries::{count_entries, entries_after, find_last_entry, stray_entry};
+pub use kept_counts::{count_kept, count_texts};
 pub use last_numbers::find_last_number;
 pub use laws::lending_limits;
 pub use laying::statements_make_tables;
@@ -32,9 +34,12 @@ pub use lending::{Lent, lend_all_parts};
 pub use listing::list_totals;
 pub use material_lists::material_rows;
 pub use order_lists::order_rows;
-pub use renewing::{list_earlier_totals, renew_shop, steps_renew_tables};
+pub use renewing::{extend_shop, list_earlier_totals, renew_shop, steps_renew_tables};
 pub use reopening::left_contents_are_found;
-pub use shop_statements::{TableFault, find_import, find_kept, find_last_act, find_last_demand};
+pub use shop_statements::{
+    TableFault, find_entry, find_import, find_kept, find_last_act, find_last_demand, read_entry,
+    read_listed_entry,
+};
 pub use valid_rows::{
     NoRow, StoredJob, demand_key_of, demand_of_row, job_key_of, job_of_row, material_key_of,
     material_of_row, plan_of_row,

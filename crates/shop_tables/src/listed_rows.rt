@@ -66,3 +66,13 @@ pub(crate) fn at_most(most: usize) -> Result<Limit, TableFault>
         Err(_) => Err(TableFault::Store),
     }
 }
+
+/// A number, below 9223372036854775808.
+pub(crate) fn up_to(number: u64) -> Result<Limit, TableFault>
+    ensures { IfOk result (λ limit. limit.rows ≡ pos number) }
+{
+    match i64::try_from(number) {
+        Ok(rows) => Ok(Limit { rows }),
+        Err(_) => Err(TableFault::Store),
+    }
+}

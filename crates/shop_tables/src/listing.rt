@@ -4,7 +4,7 @@ ghost use Rattle.std.specs.Prelude.{◌≡◌, ◌≢◌, [], ◌∷◌, ℕ, Li
 ghost use Rattle.std.specs.FinMap.{entries};
 ghost use Rattle.sqlite.specs.Held.{state};
 ghost use Rattle.shop_records.specs.declared.records.Totals.{Totals as TotalsRecord};
-ghost use Rattle.shop_statements.specs.Earlier.{OnBooksEarlier};
+ghost use Rattle.shop_statements.specs.Earlier.{OnBooksEarlier, OnBooksSecond};
 ghost use Rattle.shop_tables.specs.Listing.{AreAllTotals, AreCodes, code_row, key_of, listed_row, named};
 ghost use Rattle.shop_statements.specs.Shown.{Leaves, OnBooks};
 
@@ -22,9 +22,14 @@ pub(crate) fn material_rows<S: Alter>(conn: &mut Connection<S>) -> Result<Vec<Ro
     ensures earlier { OnBooksEarlier (state S.Store conn.old) (state S.Store conn.new)
         (λ books. IfOk result (λ rows. rows.items
         ≡ map (λ e. code_row (key_of e)) (entries books.content.materials))) }
+    ensures second { OnBooksSecond (state S.Store conn.old) (state S.Store conn.new)
+        (λ books. IfOk result (λ rows. rows.items
+        ≡ map (λ e. code_row (key_of e)) (entries books.content.materials))) }
     ensures coded { OnBooks (state S.Store conn.old) (state S.Store conn.new)
         (λ books. IfOk result (λ _. AreCodes (map key_of (entries books.content.materials)))) }
     ensures earlier_coded { OnBooksEarlier (state S.Store conn.old) (state S.Store conn.new)
+        (λ books. IfOk result (λ _. AreCodes (map key_of (entries books.content.materials)))) }
+    ensures second_coded { OnBooksSecond (state S.Store conn.old) (state S.Store conn.new)
         (λ books. IfOk result (λ _. AreCodes (map key_of (entries books.content.materials)))) }
     ensures leaves { Leaves (state S.Store conn.old) (state S.Store conn.new) }
     ensures mode { conn.old.in_transaction ≡ false → conn.new.in_transaction ≡ false }
@@ -34,6 +39,8 @@ pub(crate) fn material_rows<S: Alter>(conn: &mut Connection<S>) -> Result<Vec<Ro
 
 fn totals_rows<S: Alter>(conn: &mut Connection<S>) -> Result<Vec<Row>, Error>
     ensures rows { OnBooks (state S.Store conn.old) (state S.Store conn.new)
+        (λ books. IfOk result (λ rows. rows.items ≡ map listed_row (entries books.totals))) }
+    ensures second { OnBooksSecond (state S.Store conn.old) (state S.Store conn.new)
         (λ books. IfOk result (λ rows. rows.items ≡ map listed_row (entries books.totals))) }
     ensures leaves { Leaves (state S.Store conn.old) (state S.Store conn.new) }
     ensures mode { conn.old.in_transaction ≡ false → conn.new.in_transaction ≡ false }
@@ -95,6 +102,8 @@ pub fn list_totals<S: Alter>(
     conn: &mut Connection<S>,
 ) -> Result<Option<Vec<MaterialTotals>>, TableFault>
     ensures rows { OnBooks (state S.Store conn.old) (state S.Store conn.new)
+        (λ books. IfOk result (AreAllTotals books)) }
+    ensures second { OnBooksSecond (state S.Store conn.old) (state S.Store conn.new)
         (λ books. IfOk result (AreAllTotals books)) }
     ensures leaves { Leaves (state S.Store conn.old) (state S.Store conn.new) }
     ensures mode { conn.old.in_transaction ≡ false → conn.new.in_transaction ≡ false }

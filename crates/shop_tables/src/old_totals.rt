@@ -4,6 +4,7 @@ ghost use Rattle.std.specs.Prelude.{◌≡◌, false, [], IfOk, IsTrue};
 ghost use Rattle.std.specs.Bool.{Decides};
 ghost use Rattle.sqlite.specs.Held.{state};
 ghost use Rattle.sqlite.specs.State.{HasCleanDisk};
+ghost use Rattle.shop_statements.specs.Earlier.{second_schema};
 ghost use Rattle.shop_statements.specs.Layout.{HasShopTables};
 ghost use Rattle.shop_statements.specs.Shown.{Leaves};
 
@@ -13,6 +14,8 @@ use sqlite::{Alter, Connection, Error};
 /// Whether the table of version 1's totals has no row.
 pub fn has_no_old_totals<S: Alter>(conn: &mut Connection<S>) -> Result<bool, Error>
     ensures stands { HasCleanDisk (state S.Store conn.new) → HasShopTables conn.old.schema
+        → IfOk result (λ none. Decides none ((state S.Store conn.old).now.trees 15 ≡ [])) }
+    ensures second { HasCleanDisk (state S.Store conn.new) → conn.old.schema ≡ second_schema
         → IfOk result (λ none. Decides none ((state S.Store conn.old).now.trees 15 ≡ [])) }
     ensures was_open { HasCleanDisk (state S.Store conn.new)
         → IfOk result (λ _. IsTrue (state S.Store conn.old).is_open) }

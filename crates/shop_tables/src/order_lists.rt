@@ -2,7 +2,7 @@
 
 ghost use Rattle.std.specs.Prelude.{◌≡◌, false, map, take, None, IfOk};
 ghost use Rattle.sqlite.specs.Held.{state};
-ghost use Rattle.shop_statements.specs.Earlier.{OnBooksEarlier};
+ghost use Rattle.shop_statements.specs.Earlier.{OnBooksEarlier, OnBooksSecond};
 ghost use Rattle.shop_records.specs.Lists.{orders_after};
 ghost use Rattle.shop_tables.specs.Listing.{code_row};
 ghost use Rattle.shop_tables.specs.RowsShown.{AreOrderRows, GivesRows};
@@ -17,6 +17,9 @@ pub fn order_rows<S: Alter>(conn: &mut Connection<S>, most: usize) -> Result<Vec
         (λ books rows. rows ≡ map code_row (take most (orders_after books.content None)))
         (λ db. AreOrderRows most (db 7)) }
     ensures earlier { OnBooksEarlier (state S.Store conn.old) (state S.Store conn.new)
+        (λ books. IfOk result (λ rows. rows.items
+        ≡ map code_row (take most (orders_after books.content None)))) }
+    ensures second { OnBooksSecond (state S.Store conn.old) (state S.Store conn.new)
         (λ books. IfOk result (λ rows. rows.items
         ≡ map code_row (take most (orders_after books.content None)))) }
     ensures mode { conn.old.in_transaction ≡ false → conn.new.in_transaction ≡ false }

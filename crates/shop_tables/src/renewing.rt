@@ -1,20 +1,20 @@
-//! Tables of version 1, read and brought to version 2.
+//! Tables of version 1, read and brought to version 2, and tables of version 2, brought to version 3.
 
 ghost use Rattle.std.specs.Prelude.{◌≡◌, false, map, IfOk, IsTrue, OnErr, OnOk};
 ghost use Rattle.std.specs.FinMap.{entries};
 ghost use Rattle.sqlite.specs.State.{HasCleanDisk, Survives};
 ghost use Rattle.sqlite.specs.Held.{state};
-ghost use Rattle.shop_tables.specs.Adopting.{IsAsBefore, LeavesBooks, MakesTables};
-ghost use Rattle.shop_tables.specs.Renewing.{HoldsRenewed, IsRenewed, SeesEarlier, StandsRenewed};
-ghost use Rattle.shop_tables.specs.Laying.{Adds, ClearsTotals, CopiesTotals, Does, SetsVersion};
+ghost use Rattle.shop_tables.specs.Adopting.{IsAsBefore, LeavesBooks, MakesSecond, MakesTables};
+ghost use Rattle.shop_tables.specs.Renewing.{HoldsExtended, HoldsRenewed, IsBroughtOn, IsExtended, IsRenewed, SeesEarlier, StandsExtended, StandsRenewed};
+ghost use Rattle.shop_tables.specs.Laying.{Adds, ClearsTotals, CopiesTotals, Does, SetsLastVersion, SetsVersion};
 ghost use Rattle.shop_tables.specs.declared.laying.TheConstants.{TOTALS2};
-ghost use Rattle.shop_tables.specs.declared.renewing.TheConstants.{COPY_TOTALS, CLEAR_TOTALS, SET_VERSION};
+ghost use Rattle.shop_tables.specs.declared.renewing.TheConstants.{COPY_TOTALS, CLEAR_TOTALS, SET_LAST_VERSION, SET_VERSION};
 ghost use Rattle.shop_statements.specs.Layout.{shop_schema, totals2_table};
-ghost use Rattle.shop_statements.specs.Earlier.{HoldsEarlier, OnBooksEarlier, ShowsEarlier};
+ghost use Rattle.shop_statements.specs.Earlier.{HoldsEarlier, HoldsSecond, OnBooksEarlier, ShowsEarlier, ShowsSecond, second_schema};
 ghost use Rattle.shop_tables.specs.Listing.{AreAllTotals, listed_row};
 ghost use Rattle.shop_statements.specs.Shown.{Books, HasShopSchema, Holds, Leaves, Ran, StandsIn, Within};
 
-use crate::laying::{TOTALS2, run_all};
+use crate::laying::{BEGUN, HALTS, JOURNAL, NOTES, TOTALS2, USES, run_all};
 use crate::listing::{material_rows, read_all};
 use shop_records::MaterialTotals;
 use shop_statements::{TableFault, all_rows};
@@ -58,19 +58,68 @@ const CLEAR_TOTALS: &str = "DELETE FROM totals";
 
 const SET_VERSION: &str = "UPDATE meta SET value = 2 WHERE name = 'version'";
 
+const SET_LAST_VERSION: &str = "UPDATE meta SET value = 3 WHERE name = 'version'";
+
 // The steps from version 1 to version 2, in the order in which they run.
 const STEPS: [&str; 4] = [TOTALS2, COPY_TOTALS, CLEAR_TOTALS, SET_VERSION];
 
-/// What each step from version 1 to version 2 does.
+// The steps from version 2 to version 3, in the order in which they run.
+const LAST_STEPS: [&str; 6] = [JOURNAL, USES, NOTES, BEGUN, HALTS, SET_LAST_VERSION];
+
+/// What each step from version 1 to version 2 does, and the last from version 2 to version 3; those before it make tables.
 pub fn steps_renew_tables<S: Alter>()
     ensures totals2 { Adds S.Store TOTALS2.now totals2_table }
-    ensures copy { Does S.Store COPY_TOTALS.now shop_schema CopiesTotals }
-    ensures clear { Does S.Store CLEAR_TOTALS.now shop_schema ClearsTotals }
-    ensures version { Does S.Store SET_VERSION.now shop_schema SetsVersion }
+    ensures copy { Does S.Store COPY_TOTALS.now second_schema CopiesTotals }
+    ensures clear { Does S.Store CLEAR_TOTALS.now second_schema ClearsTotals }
+    ensures version { Does S.Store SET_VERSION.now second_schema SetsVersion }
+    ensures last { Does S.Store SET_LAST_VERSION.now shop_schema SetsLastVersion }
 {}
 
 /// Brings tables of version 1 to version 2: the totals move to a table of their own, where 0 of each material was returned.
 pub(crate) fn renew_tables<S: Alter>(tx: &mut Transaction<'_, S>) -> Result<(), Error>
+    ensures same_reference { tx.new.conn.ghost_name ≡ tx.old.conn.ghost_name }
+    ensures renewed { (b : Books)
+        → (HasCleanDisk (state S.Store tx.old.conn.now)
+        → IsTrue (state S.Store tx.old.conn.now).is_open
+        → ShowsEarlier (state S.Store tx.old.conn.now) b)
+        → OnOk result
+        (MakesSecond (state S.Store tx.old.conn.now) (state S.Store tx.new.conn.now) b) }
+    ensures ran { OnOk result (Ran (state S.Store tx.old.conn.now)
+        (state S.Store tx.new.conn.now)) }
+    ensures beside { SeesEarlier (state S.Store tx.old.conn.now)
+        → HasCleanDisk (state S.Store tx.new.conn.now)
+        → OnOk result (IsRenewed (state S.Store tx.old.conn.now).now
+        (state S.Store tx.new.conn.now).now) }
+    ensures was_open { HasCleanDisk (state S.Store tx.new.conn.now)
+        → OnOk result (IsTrue (state S.Store tx.old.conn.now).is_open) }
+    ensures within { Within (state S.Store tx.old.conn.now) (state S.Store tx.new.conn.now) }
+{
+    run_all(tx, &STEPS)
+}
+
+/// Brings tables of version 2 to version 3, whose tables are made empty.
+pub(crate) fn extend_tables<S: Alter>(tx: &mut Transaction<'_, S>) -> Result<(), Error>
+    ensures same_reference { tx.new.conn.ghost_name ≡ tx.old.conn.ghost_name }
+    ensures extended { (b : Books)
+        → (HasCleanDisk (state S.Store tx.old.conn.now)
+        → IsTrue (state S.Store tx.old.conn.now).is_open
+        → ShowsSecond (state S.Store tx.old.conn.now) b)
+        → OnOk result
+        (MakesTables (state S.Store tx.old.conn.now) (state S.Store tx.new.conn.now) b) }
+    ensures ran { OnOk result (Ran (state S.Store tx.old.conn.now)
+        (state S.Store tx.new.conn.now)) }
+    ensures beside { SeesEarlier (state S.Store tx.old.conn.now)
+        → HasCleanDisk (state S.Store tx.new.conn.now)
+        → OnOk result (IsExtended (state S.Store tx.old.conn.now).now
+        (state S.Store tx.new.conn.now).now) }
+    ensures within { Within (state S.Store tx.old.conn.now) (state S.Store tx.new.conn.now) }
+{
+    run_all(tx, &LAST_STEPS)
+}
+
+// Brings tables of version 1 to version 2, and from it to version 3.
+#[tactic(auto, using(shop_statements::proofs::Steps::within_then))]
+fn bring_on<S: Alter>(tx: &mut Transaction<'_, S>) -> Result<(), Error>
     ensures same_reference { tx.new.conn.ghost_name ≡ tx.old.conn.ghost_name }
     ensures renewed { (b : Books)
         → (HasCleanDisk (state S.Store tx.old.conn.now)
@@ -82,14 +131,15 @@ pub(crate) fn renew_tables<S: Alter>(tx: &mut Transaction<'_, S>) -> Result<(), 
         (state S.Store tx.new.conn.now)) }
     ensures beside { SeesEarlier (state S.Store tx.old.conn.now)
         → HasCleanDisk (state S.Store tx.new.conn.now)
-        → OnOk result (IsRenewed (state S.Store tx.old.conn.now).now
+        → OnOk result (IsBroughtOn (state S.Store tx.old.conn.now).now
         (state S.Store tx.new.conn.now).now) }
     ensures within { Within (state S.Store tx.old.conn.now) (state S.Store tx.new.conn.now) }
 {
-    run_all(tx, &STEPS)
+    renew_tables(tx)?;
+    extend_tables(tx)
 }
 
-/// Brings tables of version 1 to version 2 in one transaction: as a whole, or not at all.
+/// Brings tables of version 1 to version 2 and from it to version 3, in one transaction: as a whole, or not at all.
 pub fn renew_shop<S: Alter>(conn: &mut Connection<S>) -> Result<(), TableFault>
     requires outside { conn.old.in_transaction ≡ false }
     ensures mode { conn.new.in_transaction ≡ false }
@@ -114,7 +164,37 @@ pub fn renew_shop<S: Alter>(conn: &mut Connection<S>) -> Result<(), TableFault>
 {
     let _outside = conn.is_autocommit();
     let mut tx = conn.transaction();
-    renew_tables(&mut tx)?;
+    bring_on(&mut tx)?;
+    tx.commit()?;
+    Ok(())
+}
+
+/// Brings tables of version 2 to version 3 in one transaction: as a whole, or not at all.
+pub fn extend_shop<S: Alter>(conn: &mut Connection<S>) -> Result<(), TableFault>
+    requires outside { conn.old.in_transaction ≡ false }
+    ensures mode { conn.new.in_transaction ≡ false }
+    ensures earlier { HasCleanDisk (state S.Store conn.new)
+        → HasCleanDisk (state S.Store conn.old) }
+    ensures extended { (b : Books) → HoldsSecond (state S.Store conn.old) b
+        → OnOk result (Holds (state S.Store conn.new) b) }
+    ensures as_before { (b : Books) → HoldsSecond (state S.Store conn.old) b
+        → OnErr result (HoldsSecond (state S.Store conn.new) b) }
+    ensures crash { (b : Books) → HoldsSecond (state S.Store conn.old) b
+        → Survives (state S.Store conn.old) (state S.Store conn.new) (λ db. StandsIn db b) }
+    ensures after { (b : Books) → HoldsSecond (state S.Store conn.old) b
+        → OnOk result (LeavesBooks (state S.Store conn.new) b) }
+    ensures schema { (b : Books) → HoldsSecond (state S.Store conn.old) b
+        → OnOk result (HasShopSchema (state S.Store conn.new)) }
+    ensures beside { SeesEarlier (state S.Store conn.old)
+        → OnOk result (HoldsExtended (state S.Store conn.old) (state S.Store conn.new)) }
+    ensures undone { OnErr result (IsAsBefore (state S.Store conn.old) (state S.Store conn.new)) }
+    ensures beside_crash { SeesEarlier (state S.Store conn.old)
+        → Survives (state S.Store conn.old) (state S.Store conn.new)
+        (StandsExtended (state S.Store conn.old)) }
+{
+    let _before = conn.is_autocommit();
+    let mut tx = conn.transaction();
+    extend_tables(&mut tx)?;
     tx.commit()?;
     Ok(())
 }

@@ -39,6 +39,8 @@ pub enum NoRow {
     Order(Option<Code>),
     /// A demand, by its number.
     Demand(Option<i64>),
+    /// An entry, by its number.
+    Entry(Option<i64>),
 }
 
 /// The material of a row, its code after it; None if the row is no material's.

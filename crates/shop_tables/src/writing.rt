@@ -1,19 +1,20 @@
 //! Statements that write a row, and what writes a row that may be there, or rows one after another.
 
 ghost use Rattle.std.specs.Prelude.{◌≡◌, ⊤, false, None, IfSome, OnOk};
+ghost use Rattle.std.specs.FinMap.{get};
 ghost use Rattle.sqlite.specs.Held.{state};
-ghost use Rattle.shop_records.specs.Content.{material_at, part_at, has_order, demand_at, import_at, in_state};
+ghost use Rattle.shop_records.specs.Content.{material_at, part_at, has_order, demand_at, entry_at, import_at, in_state};
 ghost use Rattle.shop_statements.specs.Beside.{Spares};
 ghost use Rattle.shop_statements.specs.Layout.{our_trees};
-ghost use Rattle.shop_statements.specs.Changes.{with_material, with_part, with_order, with_demand, with_import, with_last_act, with_last_demand};
+ghost use Rattle.shop_statements.specs.Changes.{with_material, with_part, with_order, with_demand, with_import, with_entry, with_use, with_last_act, with_last_demand};
 ghost use Rattle.shop_statements.specs.Shown.{Books, Makes, Ran, Within};
 ghost use Rattle.shop_tables.specs.Changing.{AreInTurn, IsOver, Writes, recounted, with_all, with_some};
 
 use cut_measure::Code;
-use shop_records::{Demand, ImportRow, Material, Part};
+use shop_records::{Demand, Entry, ImportRow, Material, Part};
 use shop_statements::{
-    TableFault, count_demand, move_part, put_demand, put_import, put_material, put_order, put_part,
-    set_last_act, set_last_demand,
+    JobOrder, TableFault, count_demand, move_part, put_demand, put_entry, put_import, put_material,
+    put_order, put_part, put_use, set_last_act, set_last_demand,
 };
 use sqlite::{Alter, Transaction};
 
@@ -117,6 +118,26 @@ impl Writing<Demand> for Known {
 
     fn write<S: Alter>(tx: &mut Transaction<'_, S>, row: &Demand) -> Result<(), TableFault> {
         count_demand(tx, row)
+    }
+}
+
+impl Writing<Entry> for New {
+    ghost needs = { λ row b. entry_at b.content row.number ≡ None };
+
+    ghost makes = { with_entry };
+
+    fn write<S: Alter>(tx: &mut Transaction<'_, S>, row: &Entry) -> Result<(), TableFault> {
+        put_entry(tx, row)
+    }
+}
+
+impl Writing<JobOrder> for New {
+    ghost needs = { λ row b. get b.uses row ≡ None };
+
+    ghost makes = { with_use };
+
+    fn write<S: Alter>(tx: &mut Transaction<'_, S>, row: &JobOrder) -> Result<(), TableFault> {
+        put_use(tx, row)
     }
 }
 

@@ -10,7 +10,7 @@ use Rattle.shop_records.specs.declared.refusals.Refusal.{Refusal}
 use Rattle.shop_records.specs.declared.refusals.Refusal.TheVariants.{BadMessage, NoMemory, StoreFault}
 use Rattle.shop_records.specs.Messages.{IsMessage, pair_of}
 use Rattle.shop_records.specs.Content.{Content, kept_at}
-use Rattle.shop_machine.specs.Machine.{Step}
+use Rattle.shop_machine.specs.Machine.{Step, StepAt}
 use Rattle.shop_answers.specs.Queries.{Answers}
 use Rattle.shop_records.specs.Soundness.{IsSound}
 use Rattle.shop_forms.specs.Forms.{json_texts}
@@ -19,7 +19,6 @@ use Rattle.shop_book.specs.declared.books.TheConstants.{MOST_FAILURES}
 use Rattle.shop_book.specs.Failures.{one_more_failure}
 use Rattle.shop_desk.specs.Faults.{CountsUp, StoreFailed}
 use Rattle.shop_desk.specs.Handled.{HasAccount, LeftBy}
-use Rattle.shop_desk.proofs.Steps.{fault_step}
 use Rattle.shop_desk.proofs.Blame.{up_reply}
 use Rattle.shop_desk.proofs.Accounts.{account_same, account_step}
 use Rattle.shop_text.specs.Printing.{CountsRefusal, IsFailure, IsTextMade}
@@ -27,21 +26,21 @@ use Rattle.shop_text.specs.Tickets.{ticket_of}
 use Rattle.shop_text.specs.Yields.{yield_of}
 use Rattle.shop_text.proofs.ToldTickets.{ticket_told, report_told}
 use Rattle.shop_request.specs.declared.routes.Route.{Route}
-use Rattle.shop_request.specs.declared.routes.Route.TheVariants.{Message, Plan, Plans, Bound, Backup, Totals, Rack, Trace, Demand, Ticket, Yield, Materials, Parts, PartsAfter, Demands, DemandsOf, Orders, OrdersAfter, OrderLines, Jobs, Job, Terminal}
+use Rattle.shop_request.specs.declared.routes.Route.TheVariants.{Message, Plan, Plans, Bound, Backup, Totals, Rack, Trace, Demand, Ticket, Yield, Materials, Parts, PartsAfter, Demands, DemandsOf, Orders, OrdersAfter, OrderLines, Jobs, Job, Terminal, Shop, History, OrderStory, JobStory, PartStory}
 use Rattle.shop_request.specs.Requests.{asking}
 use Rattle.shop_wire.specs.AnswerBytes.{Telling, replied, printed}
 use Rattle.shop_wire.specs.Replays.{ExchangesLead, IsNoMessage, PlansStep, line_message, with_reply}
-use Rattle.shop_wire.specs.Serves.{AskStep, HasServedInput, MessageStep, PrintStep, TellsText, asked_at, body_plans, code_at, numbered, text_at}
+use Rattle.shop_wire.specs.Serves.{AskStep, HasServedInput, IsInputHandledAt, MessageStep, PrintStep, TellsText, asked_at, body_plans, code_at, numbered, parse_message, text_at}
 use Rattle.shop_wire.specs.Tellings.{IsToldOf, IsUnread, PrintsCounted, TellsCounted}
 use Rattle.shop_wire.proofs.Answered.{told_reply, unread_not_store}
-use Rattle.shop_wire.proofs.Crashes.{leads_one, leads_unread}
+use Rattle.shop_wire.proofs.Crashes.{leads_one, leads_unread, no_memory_step}
 
 -- ---- messages
 
 -- want of memory may be answered to any body
 message_no_memory : (m : Content) (o : Option MessageOf) → MatchOption o (IsNoMessage m (Refused NoMemory) m) (λ message. Step json_texts m message (Refused NoMemory) m)
 message_no_memory m None = ((λ some. absurd (some refl)), refl)
-message_no_memory m (Some message) = fault_step json_texts m message NoMemory (kept_at m (pair_of message)) (λ n s. n refl)
+message_no_memory m (Some message) = no_memory_step json_texts m message (kept_at m (pair_of message))
 
 message_unread : (m : Content) (body : List ℕ) (refusal : Refusal) → IsUnread refusal (line_message body) → MessageStep m body (Refused refusal) m
 message_unread m body refusal (inl is) = subst (λ r. MessageStep m body (Refused r) m) (sym is) (message_no_memory m (line_message body))
@@ -163,6 +162,50 @@ module _ {B : Type 0} (book : Ghosts B) (before after : B) (m : Content) where
         account = refused_account m refusal (line_message body);
       }
 
+  -- ---- messages that were given a time
+
+  module _ (at : ℕ) where
+    pub message_timed : (body : List ℕ) (message : MessageOf) (reply : Reply) (next : Content) → line_message body ≡ Some message → StepAt json_texts at m message reply next → book.holds after next
+        → IsInputHandledAt book after at m (line_message body)
+    message_timed body message reply next is step held = subst (IsInputHandledAt book after at m) (sym is) (reply, next, step, held)
+
+    out_of_memory : (o : Option MessageOf) → book.holds after m → IsInputHandledAt book after at m o
+    out_of_memory None held = tt
+    out_of_memory (Some message) held = (Refused NoMemory, m, no_memory_step json_texts m message (kept_at m (pair_of message)), held)
+
+    pub unread_timed : (o : Option MessageOf) (refusal : Refusal) → IsUnread refusal o → book.holds after m → IsInputHandledAt book after at m o
+    unread_timed o refusal (inl is) held = out_of_memory o held
+    unread_timed o refusal (inr why) held = subst (IsInputHandledAt book after at m) (sym why.1) tt
+
+    pub else_timed : (route : Route) (text : List ℕ) → route ≢ Message → IsInputHandledAt book after at m (parse_message (asking route text))
+    else_timed Message text other = absurd (other refl)
+    else_timed Plan text other = tt
+    else_timed Plans text other = tt
+    else_timed Bound text other = tt
+    else_timed Backup text other = tt
+    else_timed Totals text other = tt
+    else_timed Rack text other = tt
+    else_timed Trace text other = tt
+    else_timed Demand text other = tt
+    else_timed Ticket text other = tt
+    else_timed Yield text other = tt
+    else_timed Materials text other = tt
+    else_timed Parts text other = tt
+    else_timed PartsAfter text other = tt
+    else_timed Demands text other = tt
+    else_timed DemandsOf text other = tt
+    else_timed Orders text other = tt
+    else_timed OrdersAfter text other = tt
+    else_timed OrderLines text other = tt
+    else_timed Jobs text other = tt
+    else_timed Job text other = tt
+    else_timed Terminal text other = tt
+    else_timed Shop text other = tt
+    else_timed History text other = tt
+    else_timed OrderStory text other = tt
+    else_timed JobStory text other = tt
+    else_timed PartStory text other = tt
+
   -- ---- what changes nothing
 
   module _ (held : book.holds after m) (sound : IsSound json_texts m) (keeps : (left : book.Left) → book.may_leave after left → book.may_leave before left) where
@@ -190,6 +233,11 @@ module _ {B : Type 0} (book : Ghosts B) (before after : B) (m : Content) where
     asked_served Jobs text reply a b c d step blame = record { next = m; step = step; held = held; sound = sound; crash = (refl, keeps); blame = λ e. blame (told_reply reply (Refused StoreFault) e); account = account_same json_texts m m refl }
     asked_served Job text reply a b c d step blame = record { next = m; step = step; held = held; sound = sound; crash = (refl, keeps); blame = λ e. blame (told_reply reply (Refused StoreFault) e); account = account_same json_texts m m refl }
     asked_served Terminal text reply a b c d step blame = record { next = m; step = step; held = held; sound = sound; crash = (refl, keeps); blame = λ e. blame (told_reply reply (Refused StoreFault) e); account = account_same json_texts m m refl }
+    asked_served Shop text reply a b c d step blame = record { next = m; step = step; held = held; sound = sound; crash = (refl, keeps); blame = λ e. blame (told_reply reply (Refused StoreFault) e); account = account_same json_texts m m refl }
+    asked_served History text reply a b c d step blame = record { next = m; step = step; held = held; sound = sound; crash = (refl, keeps); blame = λ e. blame (told_reply reply (Refused StoreFault) e); account = account_same json_texts m m refl }
+    asked_served OrderStory text reply a b c d step blame = record { next = m; step = step; held = held; sound = sound; crash = (refl, keeps); blame = λ e. blame (told_reply reply (Refused StoreFault) e); account = account_same json_texts m m refl }
+    asked_served JobStory text reply a b c d step blame = record { next = m; step = step; held = held; sound = sound; crash = (refl, keeps); blame = λ e. blame (told_reply reply (Refused StoreFault) e); account = account_same json_texts m m refl }
+    asked_served PartStory text reply a b c d step blame = record { next = m; step = step; held = held; sound = sound; crash = (refl, keeps); blame = λ e. blame (told_reply reply (Refused StoreFault) e); account = account_same json_texts m m refl }
 
     pub plans_served : (body : List ℕ) (telling : Telling) → PlansStep m (body_plans body) telling m → (telling ≡ replied (Refused StoreFault) → StoreFailed (book.failed before) (book.failed after))
         → HasServedInput book before after m (asking Plans body) telling

@@ -27,14 +27,13 @@ use Rattle.shop_plans.specs.Questions.{plans_query_of}
 use Rattle.shop_planning.specs.Questions.{AnswersPlans}
 use Rattle.shop_desk.specs.Faults.{StoreFailed, TellOfFailures}
 use Rattle.shop_desk.specs.Handled.{HasAccount, LeftBy}
-use Rattle.shop_desk.proofs.Steps.{fault_step}
 use Rattle.shop_desk.proofs.Blame.{tell_one}
 use Rattle.shop_desk.proofs.Accounts.{account_same, account_step}
 use Rattle.shop_wire.specs.Lines.{kept_of, longest_line}
 use Rattle.shop_wire.specs.Tellings.{IsRead, IsUnread}
 use Rattle.shop_wire.specs.AnswerBytes.{Telling, replied, printed}
 use Rattle.shop_wire.specs.Replays.{data_of, IsNoMessage, IsReplied, PlansStep, TellsPlans, ValueStep, LineStep, line_message, replies_in, with_reply, ExchangesLead, HasAnswered}
-use Rattle.shop_wire.proofs.Crashes.{leads_one, leads_unread}
+use Rattle.shop_wire.proofs.Crashes.{leads_one, leads_unread, no_memory_step}
 
 pub not_store : (refusal : Refusal) → refusal ≡ BadMessage → refusal ≢ StoreFault
 not_store refusal is e = cc
@@ -108,7 +107,7 @@ of_no_memory old d = by_message (message_of d)
 
     by_message : (o : Option Message) → Whole old old d (replied (Refused NoMemory)) o
     by_message None = by_query (query_of d)
-    by_message (Some message) = fault_step json_texts old message NoMemory (kept_at old (pair_of message)) (λ n s. n refl)
+    by_message (Some message) = no_memory_step json_texts old message (kept_at old (pair_of message))
 
 -- ---- lines
 

@@ -1,19 +1,27 @@
 -- What a crash may leave, a message after another.
 use Rattle.std.proofs.Common.{◌≡◌, List, [], ◌∷◌, ◌++◌, map, Option, Some, None, inl, inr, refl, sym, subst}
+use Rattle.std.specs.Prelude.{MatchOption}
+use Rattle.shop_records.specs.declared.texts.Kept.{Kept}
 use Rattle.shop_records.specs.declared.messages.Message.{Message}
 use Rattle.shop_records.specs.declared.messages.Reply.{Reply}
 use Rattle.shop_records.specs.declared.messages.Reply.TheVariants.{Refused}
 use Rattle.shop_records.specs.declared.refusals.Refusal.{Refusal}
 use Rattle.shop_records.specs.declared.refusals.Refusal.TheVariants.{NoMemory}
-use Rattle.shop_records.specs.Messages.{Texts}
-use Rattle.shop_records.specs.Content.{Content}
+use Rattle.shop_records.specs.Messages.{Texts, pair_of}
+use Rattle.shop_records.specs.Content.{Content, kept_at}
 use Rattle.shop_records.specs.Soundness.{IsSound}
-use Rattle.shop_machine.specs.Machine.{Step}
-use Rattle.shop_desk.specs.Handled.{LeftBy, Leads}
-use Rattle.shop_desk.proofs.Steps.{faulted, left_more}
+use Rattle.shop_machine.specs.Machine.{Step, StepAgain, StepNew}
+use Rattle.shop_desk.specs.Handled.{LeftBy, LeftByNew, Leads}
+use Rattle.shop_desk.proofs.Steps.{left_more}
 use Rattle.shop_wire.specs.AnswerBytes.{replied}
 use Rattle.shop_wire.specs.Replays.{with_reply}
 use Rattle.shop_wire.specs.Tellings.{IsUnread}
+
+-- want of memory refuses any message
+pub no_memory_step : (texts : Texts) (m : Content) (message : Message) (found : Option Kept)
+    → MatchOption found (StepNew texts m message (Refused NoMemory) m) (λ row. StepAgain texts row message (Refused NoMemory) × (m ≡ m))
+no_memory_step texts m message None = ((λ n s. absurd (n refl)), refl)
+no_memory_step texts m message (Some row) = ((λ n s. absurd (n refl)), refl)
 
 module _ (texts : Texts) {Left : Type 0} (stands : Left → Content → Type 0) where
   -- one message
@@ -21,14 +29,20 @@ module _ (texts : Texts) {Left : Type 0} (stands : Left → Content → Type 0) 
       → ((left : Left) → after left → LeftBy texts stands before old message answer next left) → Leads texts stands before old (message ∷ []) (answer ∷ []) next after
   leads_one before after old next message answer step crash = (next, step, (refl, crash))
 
+  -- after want of memory what could be left before
+  left_refused : (before : Left → Type 0) (m : Content) (message : Message) (left : Left) (found : Option Kept) → before left
+      → MatchOption found (LeftByNew texts stands before m message (Refused NoMemory) m left) (λ (row : Kept). before left)
+  left_refused before m message left None it = inl it
+  left_refused before m message left (Some row) it = it
+
   -- what wasn't read as a message, though it may be one: nothing was done, and it was refused
   pub leads_unread : (before after : Left → Type 0) (m : Content) (refusal : Refusal) (o : Option Message) → IsUnread refusal o → IsSound texts m → ((left : Left) → after left → before left)
       → Leads texts stands before m (map (λ e. e.0) (with_reply o (replied (Refused refusal)))) (map (λ e. e.1) (with_reply o (replied (Refused refusal)))) m after
   leads_unread before after m refusal None why sound keeps = (refl, keeps)
   leads_unread before after m refusal (Some message) (inl is) sound keeps =
-      let done = faulted texts stands before after (λ c. c ≡ m) m message NoMemory (λ n s. n refl) sound refl keeps in
-      let leads = leads_one before after m done.next message (Refused NoMemory) done.step done.crash in
-      subst (λ r. Leads texts stands before m (message ∷ []) (Refused r ∷ []) m after) (sym is) (subst (λ c. Leads texts stands before m (message ∷ []) (Refused NoMemory ∷ []) c after) done.held leads)
+      subst (λ r. Leads texts stands before m (message ∷ []) (Refused r ∷ []) m after) (sym is)
+      (leads_one before after m m message (Refused NoMemory) (no_memory_step texts m message (kept_at m (pair_of message)))
+      (λ left it. left_refused before m message left (kept_at m (pair_of message)) (keeps left it)))
   leads_unread before after m refusal (Some message) (inr why) sound keeps = absurd (cc why.1)
 
   -- what may be left grows with what could be left before

@@ -1,5 +1,5 @@
 -- What a request does to a content, and what is told and written.
-use Rattle.std.specs.Prelude.{◌≡◌, ◌⊎◌, ◌&&◌, ◌==◌, ℕ, Bool, true, false, List, ◌++◌, map, nat_le, bytes_eq, Option, Some, None, Result, Ok, Err, MatchOption, option_map, option_and_then, IfSome, if◌then◌else◌}
+use Rattle.std.specs.Prelude.{◌≡◌, ◌⊎◌, ◌&&◌, ◌==◌, ℕ, Bool, true, false, List, ◌++◌, map, nat_le, bytes_eq, ⊤, Option, Some, None, Result, Ok, Err, MatchOption, option_map, option_and_then, IfSome, if◌then◌else◌}
 use Rattle.std.specs.Fmt.{decimal}
 use Rattle.std.specs.List.{after_first, before_first}
 use Rattle.std.specs.Str.{is_utf8}
@@ -8,6 +8,7 @@ use Rattle.std.specs.Io.KnownBytes.{Appends}
 use Rattle.cut_measure.specs.declared.ranges.TheConstants.{MOST_NUMBERS}
 use Rattle.cut_measure.specs.Codes.{code_of}
 use Rattle.cut_measure.specs.Names.{Name, spelled_name}
+use Rattle.shop_records.specs.declared.journal.Subject.TheVariants as subject
 use Rattle.shop_records.specs.declared.refusals.Refusal.{Refusal}
 use Rattle.shop_records.specs.declared.refusals.Refusal.TheVariants.{NoMemory, StoreFault}
 use Rattle.shop_records.specs.declared.messages.Message.{Message as MessageOf}
@@ -16,7 +17,7 @@ use Rattle.shop_records.specs.declared.messages.Query.TheVariants as query
 use Rattle.shop_records.specs.declared.messages.Reply.{Reply}
 use Rattle.shop_records.specs.declared.messages.Reply.TheVariants.{Refused}
 use Rattle.shop_records.specs.Content.{Content}
-use Rattle.shop_machine.specs.Machine.{Step}
+use Rattle.shop_machine.specs.Machine.{Step, StepAt}
 use Rattle.shop_answers.specs.Queries.{Answers}
 use Rattle.shop_records.specs.Soundness.{IsSound}
 use Rattle.shop_forms.specs.Forms.{query_of, json_texts}
@@ -31,7 +32,7 @@ use Rattle.shop_desk.specs.Handled.{HasAccount}
 use Rattle.shop_text.specs.Tickets.{ticket_of}
 use Rattle.shop_text.specs.Yields.{yield_of}
 use Rattle.shop_request.specs.declared.routes.Route.{Route}
-use Rattle.shop_request.specs.declared.routes.Route.TheVariants.{Message, Plan, Plans, Bound, Backup, Totals, Rack, Trace, Demand, Ticket, Yield, Materials, Parts, PartsAfter, Demands, DemandsOf, Orders, OrdersAfter, OrderLines, Jobs, Job, Terminal}
+use Rattle.shop_request.specs.declared.routes.Route.TheVariants.{Message, Plan, Plans, Bound, Backup, Totals, Rack, Trace, Demand, Ticket, Yield, Materials, Parts, PartsAfter, Demands, DemandsOf, Orders, OrdersAfter, OrderLines, Jobs, Job, Terminal, Shop, History, OrderStory, JobStory, PartStory}
 use Rattle.shop_request.specs.Routes.{takes_body}
 use Rattle.shop_request.specs.Requests.{ParseResult, silent, faulty, asking, ParsesTo}
 use Rattle.shop_wire.specs.Replays.{ExchangesLead, data_of, line_message, IsNoMessage, IsReplied, PlansStep, with_reply}
@@ -55,6 +56,10 @@ number_before text = ranged 0 MOST_NUMBERS text
 -- a terminal: from 0 to 4294967295
 abbrev pub terminal_of : List ℕ → Option ℕ
 terminal_of text = ranged 0 4294967295 text
+
+-- a node: from 0 to 4294967295
+abbrev pub node_of : List ℕ → Option ℕ
+node_of text = ranged 0 4294967295 text
 
 -- the code that bytes are
 abbrev pub code_at : List ℕ → Option (List ℕ)
@@ -80,6 +85,22 @@ parts_asked text =
 abbrev pub demands_asked : List ℕ → Option Query
 demands_asked text =
     option_and_then (λ after. option_map (λ code. query.Demands after (Some code)) (code_of (after_slash text))) (number_before (before_slash text))
+
+-- the entries about an order after a number: the bytes are its code and the number, with a slash between
+abbrev pub order_story_asked : List ℕ → Option Query
+order_story_asked text =
+    option_and_then (λ code. option_map (λ after. query.Story (subject.Order code) after) (number_before (after_slash text))) (code_of (before_slash text))
+
+-- those about a job, by its number
+abbrev pub job_story_asked : List ℕ → Option Query
+job_story_asked text =
+    option_and_then (λ job. option_map (λ after. query.Story (subject.Job job) after) (number_before (after_slash text))) (numbered (before_slash text))
+
+-- those about a part: its act, its node and the number, with slashes between
+abbrev pub part_story_asked : List ℕ → Option Query
+part_story_asked text =
+    option_and_then (λ act. option_and_then (λ node. option_map (λ after. query.Story (subject.Part (record { act = act; node = node })) after) (number_before (after_slash (after_slash text))))
+    (node_of (before_slash (after_slash text)))) (numbered (before_slash text))
 
 abbrev pub is_plan : Route → Bool
 is_plan Plan = true
@@ -120,6 +141,11 @@ path_query OrderLines part = option_map (λ code. query.Lines code) (code_at par
 path_query Jobs part = option_map (λ after. query.Jobs after) (number_before part)
 path_query Job part = option_map (λ number. query.Job number) (numbered part)
 path_query Terminal part = option_map (λ terminal. query.Terminal terminal) (terminal_of part)
+path_query Shop part = Some query.Shop
+path_query History part = option_map (λ after. query.History after) (number_before part)
+path_query OrderStory part = if is_utf8 part then order_story_asked part else None
+path_query JobStory part = if is_utf8 part then job_story_asked part else None
+path_query PartStory part = if is_utf8 part then part_story_asked part else None
 path_query _ part = None
 
 -- the query that is asked
@@ -172,6 +198,11 @@ RequestStep old OrderLines text telling new = IsReplied telling (λ reply. AskSt
 RequestStep old Jobs text telling new = IsReplied telling (λ reply. AskStep old (asked_at Jobs text) reply new)
 RequestStep old Job text telling new = IsReplied telling (λ reply. AskStep old (asked_at Job text) reply new)
 RequestStep old Terminal text telling new = IsReplied telling (λ reply. AskStep old (asked_at Terminal text) reply new)
+RequestStep old Shop text telling new = IsReplied telling (λ reply. AskStep old (asked_at Shop text) reply new)
+RequestStep old History text telling new = IsReplied telling (λ reply. AskStep old (asked_at History text) reply new)
+RequestStep old OrderStory text telling new = IsReplied telling (λ reply. AskStep old (asked_at OrderStory text) reply new)
+RequestStep old JobStory text telling new = IsReplied telling (λ reply. AskStep old (asked_at JobStory text) reply new)
+RequestStep old PartStory text telling new = IsReplied telling (λ reply. AskStep old (asked_at PartStory text) reply new)
 RequestStep old Ticket text telling new = PrintStep old (text_at old Ticket text) telling new
 RequestStep old Yield text telling new = PrintStep old (text_at old Yield text) telling new
 
@@ -204,6 +235,16 @@ pub record HasServedInput {B : Type 0} (book : Ghosts B) (before after : B) (old
   pub blame : telling ≡ replied (Refused StoreFault) → StoreFailed (book.failed before) (book.failed after)
   pub account : HasAccount json_texts old (map (λ e. e.0) (exchanged parsed telling)) (map (λ e. e.1) (exchanged parsed telling)) next
 
+-- A message, where one came, was handled as one that was given this time: the book holds what such a step leaves of old.
+abbrev pub IsInputHandledAt : {B : Type 0} → Ghosts B → B → (at : ℕ) → Content → Option MessageOf → Type 0
+IsInputHandledAt book after at old came =
+    MatchOption came ⊤ (λ message. (reply : Reply) × (next : Content) × StepAt json_texts at old message reply next × book.holds after next)
+
+-- the same of each sound content that a book with a clean disk held before, and of the message that an input is
+abbrev pub HandlesInputAt : {B : Type 0} → Ghosts B → B → B → (at : ℕ) → ParseResult → Type 0
+HandlesInputAt book before after at parsed =
+    OnContent book before after (λ m. IsSound json_texts m → IsInputHandledAt book after at m (parse_message parsed))
+
 -- An input of this parse was served, and the answer written but for some last bytes; this is said of what was told.
 pub record IsAnswerWritten (says : Telling → Type 0) (held_old held_new : Option (List ℕ)) (parsed : ParseResult) (unwritten : List ℕ) : Type 0 where
   pub telling : Telling
@@ -221,6 +262,11 @@ IsServedAs book before after held_old held_new parsed unwritten =
 abbrev pub IsServed : {B : Type 0} → Ghosts B → B → B → Option (List ℕ) → Option (List ℕ) → Option (List ℕ) → List ℕ → Type 0
 IsServed book before after left held_old held_new unwritten =
     (parsed : ParseResult) × IfSome left (λ input. ParsesTo input parsed) × IsServedAs book before after held_old held_new parsed unwritten
+
+-- the message that an input is, where it is one, was handled as one that was given this time
+abbrev pub HandlesReadAt : {B : Type 0} → Ghosts B → B → B → (at : ℕ) → (left : Option (List ℕ)) → Type 0
+HandlesReadAt book before after at left =
+    (parsed : ParseResult) × IfSome left (λ input. ParsesTo input parsed) × HandlesInputAt book before after at parsed
 
 -- The question for plans that an input asks at /plans, for whoever thinks about it: a book with a clean disk holds what it
 -- held, each such content was asked it, and the book is left as it was.

@@ -11,16 +11,18 @@ ghost use Rattle.shop_request.specs.Requests.{asking};
 ghost use Rattle.shop_request.specs.declared.routes.Route.TheVariants.{Message as AtMessage, Ticket as AtTicket, Yield as AtYield};
 ghost use Rattle.shop_wire.specs.AnswerBytes.{replied};
 ghost use Rattle.shop_wire.specs.Replays.{line_message};
-ghost use Rattle.shop_wire.specs.Serves.{AskStep, HasServedInput, asked_at, body_query, code_at, is_of, name_at, numbered, path_query, text_at};
+ghost use Rattle.shop_wire.specs.Serves.{AskStep, HandlesInputAt, HasServedInput, asked_at, body_query, code_at, is_of, name_at, path_query, text_at};
 ghost use Rattle.shop_wire.specs.Tellings.{HasPrintedText, IsRead, PrintsCounted, telling_of};
 
 use crate::answers::value_in;
-use crate::paths::{demands_at, number_before, number_of, parts_at, terminal_in};
+use crate::paths::{
+    demands_at, job_story_at, number_before, number_in, order_story_at, part_story_at, parts_at,
+    terminal_in,
+};
 use crate::plans::body_told;
 use crate::told::{Told, refused, told_of};
-use cut_measure::MOST_NUMBERS;
 use shop_book::Book;
-use shop_desk::{ask, handle_with_text};
+use shop_desk::{ask, handle_with_text_at};
 use shop_request::Route;
 use shop_rules::{Code, Message, PartName, Query, Refusal, Reply, Text, read_message, read_query};
 use shop_text::{report_text, ticket_text};
@@ -41,31 +43,38 @@ fn message_in(alloc: Global, body: &[u8]) -> Result<Message, Refusal>
     }
 }
 
-// The reply to a body as a message, and its text, where it was written to be kept.
-fn message_reply<B: Book>(alloc: Global, book: &mut B, body: &[u8]) -> (Reply, Option<Text>)
+// The reply to a body as a message that is given this time, and its text, where it was written to be kept.
+fn message_reply<B: Book>(
+    alloc: Global,
+    book: &mut B,
+    body: &[u8],
+    at: u64,
+) -> (Reply, Option<Text>)
     ensures served { OnContent B.Book book.old book.new
         (λ m. IsSound json_texts m
         → HasServedInput B.Book book.old book.new m (asking AtMessage body.now) (replied result.0)) }
+    ensures timed { HandlesInputAt B.Book book.old book.new at (asking AtMessage body.now) }
     ensures told { IfSome result.1 (λ text. text ≡ json_texts.of_reply result.0) }
     ensures clean_disk { B.has_clean_disk book.new → B.has_clean_disk book.old }
     ensures failures { CountsUp (B.failed book.old) (B.failed book.new) }
 {
     match message_in(alloc, body) {
-        Ok(message) => handle_with_text(alloc, book, &message),
+        Ok(message) => handle_with_text_at(alloc, book, &message, at),
         Err(refusal) => (Reply::Refused(refusal), None),
     }
 }
 
-// What a body is told as a message.
-fn message_told<B: Book>(alloc: Global, book: &mut B, body: &[u8]) -> Told
+// What a body is told as a message that is given this time.
+fn message_told<B: Book>(alloc: Global, book: &mut B, body: &[u8], at: u64) -> Told
     ensures served { OnContent B.Book book.old book.new
         (λ m. IsSound json_texts m
         → HasServedInput B.Book book.old book.new m (asking AtMessage body.now) (telling_of result)) }
+    ensures timed { HandlesInputAt B.Book book.old book.new at (asking AtMessage body.now) }
     ensures printed { HasPrintedText result }
     ensures clean_disk { B.has_clean_disk book.new → B.has_clean_disk book.old }
     ensures failures { CountsUp (B.failed book.old) (B.failed book.new) }
 {
-    let (reply, text) = message_reply(alloc, book, body);
+    let (reply, text) = message_reply(alloc, book, body, at);
     Told::Reply(reply, text)
 }
 
@@ -90,13 +99,6 @@ fn query_in(alloc: Global, route: Route, body: &[u8]) -> Result<Query, Refusal>
         return Err(Refusal::BadMessage);
     }
     Ok(query)
-}
-
-// The number that a path says.
-fn number_in(part: &[u8]) -> Option<u32>
-    ensures { result ≡ numbered part.now }
-{
-    number_of(part, 1, MOST_NUMBERS)
 }
 
 // The code that a path says.
@@ -145,6 +147,11 @@ fn query_at(route: Route, part: &[u8]) -> Option<Query>
         Route::Jobs => number_before(part).map(|after| Query::Jobs { after }),
         Route::Job => number_in(part).map(|job| Query::Job { job }),
         Route::Terminal => terminal_in(part).map(|terminal| Query::Terminal { terminal }),
+        Route::Shop => Some(Query::Shop),
+        Route::History => number_before(part).map(|after| Query::History { after }),
+        Route::OrderStory => order_story_at(part),
+        Route::JobStory => job_story_at(part),
+        Route::PartStory => part_story_at(part),
         _ => None,
     }
 }
@@ -204,17 +211,24 @@ fn yield_told<B: Book>(alloc: Global, book: &mut B, part: &[u8]) -> Told
     }
 }
 
-/// What a request is told.
-pub(crate) fn respond<B: Book>(alloc: Global, book: &mut B, route: Route, text: &[u8]) -> Told
+/// What a request is told. A message is given this time.
+pub(crate) fn respond<B: Book>(
+    alloc: Global,
+    book: &mut B,
+    route: Route,
+    text: &[u8],
+    at: u64,
+) -> Told
     ensures served { OnContent B.Book book.old book.new
         (λ m. IsSound json_texts m
         → HasServedInput B.Book book.old book.new m (asking route text.now) (telling_of result)) }
+    ensures timed { HandlesInputAt B.Book book.old book.new at (asking route text.now) }
     ensures printed { HasPrintedText result }
     ensures clean_disk { B.has_clean_disk book.new → B.has_clean_disk book.old }
     ensures failures { CountsUp (B.failed book.old) (B.failed book.new) }
 {
     match route {
-        Route::Message => message_told(alloc, book, text),
+        Route::Message => message_told(alloc, book, text, at),
         Route::Plans => body_told(alloc, book, text),
         Route::Ticket => ticket_told(alloc, book, text),
         Route::Yield => yield_told(alloc, book, text),

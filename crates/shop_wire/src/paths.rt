@@ -1,17 +1,19 @@
 //! Numbers, terminals and queries of two parts, as the paths of requests say them.
 
-ghost use Rattle.std.specs.Prelude.{◌≡◌};
+ghost use Rattle.std.specs.Prelude.{◌≡◌, ◌≤◌, IfSome};
 ghost use Rattle.shop_wire.specs.Serves as serves;
 ghost use Rattle.shop_wire.specs.Serves.{after_slash, before_slash, path_query, ranged};
-ghost use Rattle.shop_request.specs.declared.routes.Route.TheVariants.{DemandsOf, PartsAfter};
+ghost use Rattle.cut_measure.specs.declared.ranges.TheConstants.{MOST_NUMBERS};
+ghost use Rattle.shop_request.specs.declared.routes.Route.TheVariants.{DemandsOf, JobStory, OrderStory, PartStory, PartsAfter};
 
 use cut_measure::{MOST_NUMBERS, read_number};
-use shop_rules::{Code, PartName, Query};
+use shop_rules::{Code, PartName, Query, Subject};
 use std::str;
 
 /// The number of a range that a path says.
 pub(crate) fn number_of(part: &[u8], least: u32, most: u32) -> Option<u32>
-    ensures { result ≡ ranged least most part.now }
+    ensures value { result ≡ ranged least most part.now }
+    ensures range { IfSome result (λ number. (least ≤ number) × (number ≤ most)) }
 {
     let number = read_number(part)?;
     if number < least || number > most {
@@ -27,9 +29,24 @@ pub(crate) fn number_before(part: &[u8]) -> Option<u32>
     number_of(part, 0, MOST_NUMBERS)
 }
 
+/// The number from 1 on that a path says.
+pub(crate) fn number_in(part: &[u8]) -> Option<u32>
+    ensures value { result ≡ serves.numbered part.now }
+    ensures range { IfSome result (λ number. (1 ≤ number) × (number ≤ MOST_NUMBERS)) }
+{
+    number_of(part, 1, MOST_NUMBERS)
+}
+
 /// The terminal that a path says.
 pub(crate) fn terminal_in(part: &[u8]) -> Option<u32>
     ensures { result ≡ serves.terminal_of part.now }
+{
+    number_of(part, 0, u32::MAX)
+}
+
+// The node that a path says.
+fn node_in(part: &[u8]) -> Option<u32>
+    ensures { result ≡ serves.node_of part.now }
 {
     number_of(part, 0, u32::MAX)
 }
@@ -94,6 +111,74 @@ pub(crate) fn demands_at(part: &[u8]) -> Option<Query>
 {
     match str::from_utf8(part) {
         Ok(text) => demands_asked(text),
+        Err(_) => None,
+    }
+}
+
+// The query for the entries about an order after a number, in a text that says both.
+fn order_story_asked(text: &str) -> Option<Query>
+    ensures { result ≡ serves.order_story_asked text.now }
+{
+    let order = Code::read(before_slash(text))?;
+    let after = number_before(after_slash(text).as_bytes())?;
+    Some(Query::Story {
+        about: Subject::Order(order),
+        after,
+    })
+}
+
+/// The query for the entries about an order after a number, that a path says.
+pub(crate) fn order_story_at(part: &[u8]) -> Option<Query>
+    ensures { result ≡ path_query OrderStory part.now }
+{
+    match str::from_utf8(part) {
+        Ok(text) => order_story_asked(text),
+        Err(_) => None,
+    }
+}
+
+// The query for the entries about a job after a number, in a text that says both.
+fn job_story_asked(text: &str) -> Option<Query>
+    ensures { result ≡ serves.job_story_asked text.now }
+{
+    let job = number_in(before_slash(text).as_bytes())?;
+    let after = number_before(after_slash(text).as_bytes())?;
+    Some(Query::Story {
+        about: Subject::Job(job),
+        after,
+    })
+}
+
+/// The query for the entries about a job after a number, that a path says.
+pub(crate) fn job_story_at(part: &[u8]) -> Option<Query>
+    ensures { result ≡ path_query JobStory part.now }
+{
+    match str::from_utf8(part) {
+        Ok(text) => job_story_asked(text),
+        Err(_) => None,
+    }
+}
+
+// The query for the entries about a part after a number, in a text that says its act, its node and the number.
+fn part_story_asked(text: &str) -> Option<Query>
+    ensures { result ≡ serves.part_story_asked text.now }
+{
+    let act = number_in(before_slash(text).as_bytes())?;
+    let rest = after_slash(text);
+    let node = node_in(before_slash(rest).as_bytes())?;
+    let after = number_before(after_slash(rest).as_bytes())?;
+    Some(Query::Story {
+        about: Subject::Part(PartName::new(act, node)),
+        after,
+    })
+}
+
+/// The query for the entries about a part after a number, that a path says.
+pub(crate) fn part_story_at(part: &[u8]) -> Option<Query>
+    ensures { result ≡ path_query PartStory part.now }
+{
+    match str::from_utf8(part) {
+        Ok(text) => part_story_asked(text),
         Err(_) => None,
     }
 }

@@ -9,7 +9,7 @@ ghost use Rattle.shop_wire.specs.AnswerBytes.{answer_bytes, fault_answer};
 ghost use Rattle.shop_planning.specs.Thoughts.{posed_in};
 ghost use Rattle.shop_planning.specs.declared.thought.Thought.{Thought as ThoughtOf};
 ghost use Rattle.shop_request.specs.declared.routes.Route.TheVariants.{Plans as AtPlans};
-ghost use Rattle.shop_wire.specs.Serves.{IsBegun, IsServed, IsServedAs};
+ghost use Rattle.shop_wire.specs.Serves.{HandlesInputAt, HandlesReadAt, IsBegun, IsServed, IsServedAs};
 ghost use Rattle.shop_wire.specs.declared.faults.WireFault.TheVariants.{Read, Write, NoMemory};
 
 use crate::asking::respond;
@@ -59,19 +59,21 @@ fn answer_fault<W: Sink>(alloc: Global, fault: RequestFault, sink: &mut W) -> Re
     write_made(sink, fault_text(alloc, fault))
 }
 
-// Answers a request.
+// Answers a request. A message is given this time.
 fn answer_request<W: Sink, B: Book>(
     alloc: Global,
     route: Route,
     text: &[u8],
     sink: &mut W,
     book: &mut B,
+    at: u64,
 ) -> Result<(), WireFault>
     ensures ok { OnOk result (IsServedAs B.Book book.old book.new (W.held sink.old)
         (W.held sink.new) (asking route text.now) []) }
     ensures err { OnErr result
         ((unwritten : List ℕ) × IsServedAs B.Book book.old book.new (W.held sink.old)
         (W.held sink.new) (asking route text.now) unwritten) }
+    ensures timed { HandlesInputAt B.Book book.old book.new at (asking route text.now) }
     ensures clean_disk { B.has_clean_disk book.new → B.has_clean_disk book.old }
     ensures failures { CountsUp (B.failed book.old) (B.failed book.new) }
     ensures fault { IfErr result
@@ -79,25 +81,27 @@ fn answer_request<W: Sink, B: Book>(
         × HasFailed (W.failed sink.old) (W.failed sink.new)) }
     ensures worked { OnOk result (W.failed sink.new ≡ W.failed sink.old) }
 {
-    let told = respond(alloc, book, route, text);
+    let told = respond(alloc, book, route, text, at);
     match write_made(sink, told_text(alloc, route, told)) {
         Ok(()) => Ok(()),
         Err(fault) => Err(fault),
     }
 }
 
-// Answers what was read.
+// Answers what was read. A message is given this time.
 fn answer_inbound<W: Sink, B: Book>(
     alloc: Global,
     inbound: &Inbound,
     sink: &mut W,
     book: &mut B,
+    at: u64,
 ) -> Result<(), WireFault>
     ensures ok { OnOk result (IsServedAs B.Book book.old book.new (W.held sink.old)
         (W.held sink.new) (parse_of inbound.now) []) }
     ensures err { OnErr result
         ((unwritten : List ℕ) × IsServedAs B.Book book.old book.new (W.held sink.old)
         (W.held sink.new) (parse_of inbound.now) unwritten) }
+    ensures timed { HandlesInputAt B.Book book.old book.new at (parse_of inbound.now) }
     ensures clean_disk { B.has_clean_disk book.new → B.has_clean_disk book.old }
     ensures failures { CountsUp (B.failed book.old) (B.failed book.new) }
     ensures fault { IfErr result
@@ -108,7 +112,7 @@ fn answer_inbound<W: Sink, B: Book>(
     match *inbound {
         Inbound::Silence => Ok(()),
         Inbound::Faulty(fault) => answer_fault(alloc, fault, sink),
-        Inbound::Asks(route, text) => answer_request(alloc, route, text, sink, book),
+        Inbound::Asks(route, text) => answer_request(alloc, route, text, sink, book, at),
     }
 }
 
@@ -133,7 +137,8 @@ fn read_one<'b, S: Source>(
 }
 
 /// Reads one request, does what it asks for and writes the answer. What the bytes of the source stand for is answered, in
-/// whatever pieces they come; where no byte comes nothing is written. At most 139264 reads are made.
+/// whatever pieces they come; where no byte comes nothing is written. A message is given the time `at`, in seconds since
+/// 1970-01-01 00:00 UTC, or 0 where none is known. At most 139264 reads are made.
 ///
 /// `Read` where the source failed: then nothing changed, and nothing was written. `Write` where the sink failed and
 /// `NoMemory` for want of memory: then what was asked for may be done, and a first part of the answer was written; a message
@@ -144,12 +149,14 @@ pub fn serve_request<S: Source, W: Sink, B: Book>(
     source: &mut S,
     sink: &mut W,
     book: &mut B,
+    at: u64,
 ) -> Result<(), WireFault>
     ensures ok { OnOk result (IsServed B.Book book.old book.new (S.left source.old)
         (W.held sink.old) (W.held sink.new) []) }
     ensures err { OnErr result (((book.new ≡ book.old) × (sink.new ≡ sink.old))
         ⊎ ((unwritten : List ℕ) × IsServed B.Book book.old book.new (S.left source.old)
         (W.held sink.old) (W.held sink.new) unwritten)) }
+    ensures timed { OnOk result (HandlesReadAt B.Book book.old book.new at (S.left source.old)) }
     ensures clean_disk { B.has_clean_disk book.new → B.has_clean_disk book.old }
     ensures failures { CountsUp (B.failed book.old) (B.failed book.new) }
     ensures reads { S.reads source.new ≤ S.reads source.old + most_request_reads }
@@ -163,7 +170,7 @@ pub fn serve_request<S: Source, W: Sink, B: Book>(
         Ok(inbound) => inbound,
         Err(fault) => return Err(fault),
     };
-    match answer_inbound(alloc, &inbound, sink, book) {
+    match answer_inbound(alloc, &inbound, sink, book, at) {
         Ok(()) => Ok(()),
         Err(fault) => Err(fault),
     }
@@ -226,6 +233,7 @@ pub fn begin_inbound<W: Sink, B: Book>(
     inbound: &Inbound,
     sink: &mut W,
     book: &mut B,
+    at: u64,
 ) -> Result<Option<Thought>, WireFault>
     ensures begun { (left : Option (List ℕ))
         → IfSome left (λ input. ParsesTo input (parse_of inbound.now))
@@ -237,6 +245,7 @@ pub fn begin_inbound<W: Sink, B: Book>(
     ensures err { OnErr result
         ((unwritten : List ℕ) × IsServedAs B.Book book.old book.new (W.held sink.old)
         (W.held sink.new) (parse_of inbound.now) unwritten) }
+    ensures timed { HandlesInputAt B.Book book.old book.new at (parse_of inbound.now) }
     ensures clean_disk { B.has_clean_disk book.new → B.has_clean_disk book.old }
     ensures failures { CountsUp (B.failed book.old) (B.failed book.new) }
     ensures fault { IfErr result
@@ -247,7 +256,7 @@ pub fn begin_inbound<W: Sink, B: Book>(
     if let Some(body) = plans_body(inbound) {
         return begin_plans(alloc, body, sink, book);
     }
-    match answer_inbound(alloc, inbound, sink, book) {
+    match answer_inbound(alloc, inbound, sink, book, at) {
         Ok(()) => Ok(None),
         Err(fault) => Err(fault),
     }
@@ -263,6 +272,7 @@ pub fn begin_request<S: Source, W: Sink, B: Book>(
     source: &mut S,
     sink: &mut W,
     book: &mut B,
+    at: u64,
 ) -> Result<Option<Thought>, WireFault>
     ensures begun { (thought : ThoughtOf) → result ≡ Ok (Some thought)
         → IsBegun B.Book book.old book.new (S.left source.old) (posed_in thought)
@@ -273,6 +283,7 @@ pub fn begin_request<S: Source, W: Sink, B: Book>(
     ensures err { OnErr result (((book.new ≡ book.old) × (sink.new ≡ sink.old))
         ⊎ ((unwritten : List ℕ) × IsServed B.Book book.old book.new (S.left source.old)
         (W.held sink.old) (W.held sink.new) unwritten)) }
+    ensures timed { OnOk result (HandlesReadAt B.Book book.old book.new at (S.left source.old)) }
     ensures clean_disk { B.has_clean_disk book.new → B.has_clean_disk book.old }
     ensures failures { CountsUp (B.failed book.old) (B.failed book.new) }
     ensures reads { S.reads source.new ≤ S.reads source.old + most_request_reads }
@@ -286,7 +297,7 @@ pub fn begin_request<S: Source, W: Sink, B: Book>(
         Ok(inbound) => inbound,
         Err(fault) => return Err(fault),
     };
-    match begin_inbound(alloc, &inbound, sink, book) {
+    match begin_inbound(alloc, &inbound, sink, book, at) {
         Ok(begun) => Ok(begun),
         Err(fault) => Err(fault),
     }
@@ -298,12 +309,14 @@ pub fn serve_one<S: Source, W: Sink, B: Book>(
     source: &mut S,
     sink: &mut W,
     book: &mut B,
+    at: u64,
 ) -> Result<(), WireFault>
     ensures ok { OnOk result (IsServed B.Book book.old book.new (S.left source.old)
         (W.held sink.old) (W.held sink.new) []) }
     ensures err { OnErr result (((book.new ≡ book.old) × (sink.new ≡ sink.old))
         ⊎ ((unwritten : List ℕ) × IsServed B.Book book.old book.new (S.left source.old)
         (W.held sink.old) (W.held sink.new) unwritten)) }
+    ensures timed { OnOk result (HandlesReadAt B.Book book.old book.new at (S.left source.old)) }
     ensures clean_disk { B.has_clean_disk book.new → B.has_clean_disk book.old }
     ensures failures { CountsUp (B.failed book.old) (B.failed book.new) }
     ensures reads { S.reads source.new ≤ S.reads source.old + most_request_reads }
@@ -313,7 +326,7 @@ pub fn serve_one<S: Source, W: Sink, B: Book>(
     ensures worked { OnOk result (W.failed sink.new ≡ W.failed sink.old) }
 {
     match Routes::new(alloc) {
-        Ok(routes) => serve_request(alloc, &routes, source, sink, book),
+        Ok(routes) => serve_request(alloc, &routes, source, sink, book, at),
         Err(_) => Err(WireFault::NoMemory),
     }
 }

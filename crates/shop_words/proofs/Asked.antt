@@ -7,12 +7,12 @@ use Rattle.cut_measure.specs.declared.ranges.TheConstants.{MOST_KERF}
 use Rattle.shop_words.specs.declared.words.OrderPlan.{OrderPlan}
 use Rattle.shop_words.specs.declared.words.Serving.{Serving}
 use Rattle.shop_words.specs.declared.words.Request.{Request}
-use Rattle.shop_words.specs.declared.words.Request.TheVariants.{Replay, Plan, PlanOrder, PlanLines, Orders, Serve, Ticket, Yield, Restore}
+use Rattle.shop_words.specs.declared.words.Request.TheVariants.{Replay, Plan, PlanOrder, PlanLines, Orders, Serve, Ticket, Yield, History, Audit, Restore}
 use Rattle.shop_words.specs.declared.words.Word.{Word}
 use Rattle.shop_words.specs.declared.words.Word.TheVariants as word
 use Rattle.shop_words.specs.declared.words.ImportAs.{ImportAs}
-use Rattle.shop_words.specs.declared.words.TheConstants.{MOST_CONNECTIONS}
-use Rattle.shop_words.specs.CommandLine.{names_message, names_stock, AsAsked, HasNumber, IsLimit, IsNumber, IsWhole, IsWholeAsked, IsSingleAsked, IsImportAs, IsLinesAsked, IsOrderPlan, IsOrdersAsked, IsPlanAsked, IsProblemAsked, IsRestoreAsked, IsServeAsked, IsServing, IsTicketAsked, IsYieldAsked, IsCode, IsAsked, AsksFor, AsksNothing, word_text}
+use Rattle.shop_words.specs.declared.words.TheConstants.{MOST_AFTER, MOST_CONNECTIONS}
+use Rattle.shop_words.specs.CommandLine.{names_message, names_stock, AsAsked, HasNumber, IsLimit, IsNumber, IsWhole, IsWholeAsked, IsSingleAsked, IsImportAs, IsLinesAsked, MayHaveNumber, IsOrderPlan, IsOrdersAsked, IsPlanAsked, IsProblemAsked, IsAuditAsked, IsHistoryAsked, IsRestoreAsked, IsServeAsked, IsServing, IsTicketAsked, IsYieldAsked, IsCode, IsAsked, AsksFor, AsksNothing, word_text}
 
 nothing : {X : Type 0} (found : Option X) (x : X) → found ≡ None → found ≡ Some x → ⊥
 nothing found x none some = subst (λ (o : Option _). IfSome o (λ _. ⊥)) (sym (sym some ∙ none)) tt
@@ -100,6 +100,8 @@ no_lines rows none (Orders file shop (Some told)) asked = asked
 no_lines rows none (Serve serving) asked = asked
 no_lines rows none (Ticket store job read_only) asked = asked
 no_lines rows none (Yield store material read_only) asked = asked
+no_lines rows none (History store after read_only) asked = asked
+no_lines rows none (Audit store read_only) asked = asked
 no_lines rows none (Restore store from) asked = asked
 
 -- nothing is served, and so no such request
@@ -113,6 +115,8 @@ no_serving rows none (Orders file shop (Some told)) asked = asked
 no_serving rows none (Serve serving) asked = none serving asked
 no_serving rows none (Ticket store job read_only) asked = asked
 no_serving rows none (Yield store material read_only) asked = asked
+no_serving rows none (History store after read_only) asked = asked
+no_serving rows none (Audit store read_only) asked = asked
 no_serving rows none (Restore store from) asked = asked
 
 -- the texts behind an option
@@ -138,6 +142,8 @@ no_orders_file rows none (Orders file shop (Some told)) asked = nothing (first_o
 no_orders_file rows none (Serve serving) asked = asked
 no_orders_file rows none (Ticket store job read_only) asked = asked
 no_orders_file rows none (Yield store material read_only) asked = asked
+no_orders_file rows none (History store after read_only) asked = asked
+no_orders_file rows none (Audit store read_only) asked = asked
 no_orders_file rows none (Restore store from) asked = asked
 
 -- some of the options are there, and no message is made of them
@@ -151,6 +157,8 @@ no_orders_message rows some none (Orders file shop (Some told)) asked = none tol
 no_orders_message rows some none (Serve serving) asked = asked
 no_orders_message rows some none (Ticket store job read_only) asked = asked
 no_orders_message rows some none (Yield store material read_only) asked = asked
+no_orders_message rows some none (History store after read_only) asked = asked
+no_orders_message rows some none (Audit store read_only) asked = asked
 no_orders_message rows some none (Restore store from) asked = asked
 
 -- the limit's number is out of range
@@ -169,6 +177,8 @@ no_ticket_store rows none (Orders file shop (Some told)) asked = asked
 no_ticket_store rows none (Serve serving) asked = asked
 no_ticket_store rows none (Ticket store job read_only) asked = nothing (first_of (codes "store") rows) store.now none asked.0
 no_ticket_store rows none (Yield store material read_only) asked = asked
+no_ticket_store rows none (History store after read_only) asked = asked
+no_ticket_store rows none (Audit store read_only) asked = asked
 no_ticket_store rows none (Restore store from) asked = asked
 
 pub no_yield_store : (rows : List Row) → first_of (codes "store") rows ≡ None → (request : Request) → IsYieldAsked rows request → ⊥
@@ -181,6 +191,8 @@ no_yield_store rows none (Orders file shop (Some told)) asked = asked
 no_yield_store rows none (Serve serving) asked = asked
 no_yield_store rows none (Ticket store job read_only) asked = asked
 no_yield_store rows none (Yield store material read_only) asked = nothing (first_of (codes "store") rows) store.now none asked.0
+no_yield_store rows none (History store after read_only) asked = asked
+no_yield_store rows none (Audit store read_only) asked = asked
 no_yield_store rows none (Restore store from) asked = asked
 
 pub no_yield_code : (rows : List Row) → ((code : List ℕ) → IsCode (first_of (codes "MATERIAL") rows) code → ⊥) → (request : Request) → IsYieldAsked rows request → ⊥
@@ -193,7 +205,52 @@ no_yield_code rows none (Orders file shop (Some told)) asked = asked
 no_yield_code rows none (Serve serving) asked = asked
 no_yield_code rows none (Ticket store job read_only) asked = asked
 no_yield_code rows none (Yield store material read_only) asked = none material asked.1
+no_yield_code rows none (History store after read_only) asked = asked
+no_yield_code rows none (Audit store read_only) asked = asked
 no_yield_code rows none (Restore store from) asked = asked
+
+pub no_history_store : (rows : List Row) → first_of (codes "store") rows ≡ None → (request : Request) → IsHistoryAsked rows request → ⊥
+no_history_store rows none Replay asked = asked
+no_history_store rows none (Plan file kerf step) asked = asked
+no_history_store rows none (PlanOrder file kerf step calls stages) asked = asked
+no_history_store rows none (PlanLines plan) asked = asked
+no_history_store rows none (Orders file shop None) asked = asked
+no_history_store rows none (Orders file shop (Some told)) asked = asked
+no_history_store rows none (Serve serving) asked = asked
+no_history_store rows none (Ticket store job read_only) asked = asked
+no_history_store rows none (Yield store material read_only) asked = asked
+no_history_store rows none (History store after read_only) asked = nothing (first_of (codes "store") rows) store.now none asked.0
+no_history_store rows none (Audit store read_only) asked = asked
+no_history_store rows none (Restore store from) asked = asked
+
+-- the number behind which entries are asked for is out of range
+pub no_history_after : (rows : List Row) → ((after : Option ℕ) → MayHaveNumber (codes "after") rows 0 MOST_AFTER after → ⊥) → (request : Request) → IsHistoryAsked rows request → ⊥
+no_history_after rows none Replay asked = asked
+no_history_after rows none (Plan file kerf step) asked = asked
+no_history_after rows none (PlanOrder file kerf step calls stages) asked = asked
+no_history_after rows none (PlanLines plan) asked = asked
+no_history_after rows none (Orders file shop None) asked = asked
+no_history_after rows none (Orders file shop (Some told)) asked = asked
+no_history_after rows none (Serve serving) asked = asked
+no_history_after rows none (Ticket store job read_only) asked = asked
+no_history_after rows none (Yield store material read_only) asked = asked
+no_history_after rows none (History store after read_only) asked = none after asked.1
+no_history_after rows none (Audit store read_only) asked = asked
+no_history_after rows none (Restore store from) asked = asked
+
+pub no_audit_store : (rows : List Row) → first_of (codes "store") rows ≡ None → (request : Request) → IsAuditAsked rows request → ⊥
+no_audit_store rows none Replay asked = asked
+no_audit_store rows none (Plan file kerf step) asked = asked
+no_audit_store rows none (PlanOrder file kerf step calls stages) asked = asked
+no_audit_store rows none (PlanLines plan) asked = asked
+no_audit_store rows none (Orders file shop None) asked = asked
+no_audit_store rows none (Orders file shop (Some told)) asked = asked
+no_audit_store rows none (Serve serving) asked = asked
+no_audit_store rows none (Ticket store job read_only) asked = asked
+no_audit_store rows none (Yield store material read_only) asked = asked
+no_audit_store rows none (History store after read_only) asked = asked
+no_audit_store rows none (Audit store read_only) asked = nothing (first_of (codes "store") rows) store.now none asked.0
+no_audit_store rows none (Restore store from) asked = asked
 
 pub no_restore_store : (rows : List Row) → first_of (codes "store") rows ≡ None → (request : Request) → IsRestoreAsked rows request → ⊥
 no_restore_store rows none Replay asked = asked
@@ -205,6 +262,8 @@ no_restore_store rows none (Orders file shop (Some told)) asked = asked
 no_restore_store rows none (Serve serving) asked = asked
 no_restore_store rows none (Ticket store job read_only) asked = asked
 no_restore_store rows none (Yield store material read_only) asked = asked
+no_restore_store rows none (History store after read_only) asked = asked
+no_restore_store rows none (Audit store read_only) asked = asked
 no_restore_store rows none (Restore store from) asked = nothing (first_of (codes "store") rows) store.now none asked.0
 
 pub no_restore_from : (rows : List Row) → first_of (codes "from") rows ≡ None → (request : Request) → IsRestoreAsked rows request → ⊥
@@ -217,15 +276,18 @@ no_restore_from rows none (Orders file shop (Some told)) asked = asked
 no_restore_from rows none (Serve serving) asked = asked
 no_restore_from rows none (Ticket store job read_only) asked = asked
 no_restore_from rows none (Yield store material read_only) asked = asked
+no_restore_from rows none (History store after read_only) asked = asked
+no_restore_from rows none (Audit store read_only) asked = asked
 no_restore_from rows none (Restore store from) asked = nothing (first_of (codes "from") rows) from.now none asked.1
 
--- ---- the words of the commands differ: each has another third letter
+-- ---- the words of the commands differ: each has another first letter, or two of them another third one
 
 word_at : Text → Word
 word_at text =
-    let third = slice_index text 2 in
-    if third == 112 then word.Replay else (if third == 97 then word.Plan else (if third == 100 then word.Orders else (if third == 114 then word.Serve
-    else (if third == 99 then word.Ticket else (if third == 101 then word.Yield else word.Restore)))))
+    let first = slice_index text 0 in
+    if first == 112 then word.Plan else (if first == 111 then word.Orders else (if first == 115 then word.Serve else (if first == 116 then word.Ticket
+    else (if first == 121 then word.Yield else (if first == 104 then word.History else (if first == 97 then word.Audit
+    else (if slice_index text 2 == 112 then word.Replay else word.Restore)))))))
 
 word_at-text : (w : Word) → word_at (word_text w) ≡ w
 unfolding word_at
@@ -235,6 +297,8 @@ word_at-text word.Orders = refl
 word_at-text word.Serve = refl
 word_at-text word.Ticket = refl
 word_at-text word.Yield = refl
+word_at-text word.History = refl
+word_at-text word.Audit = refl
 word_at-text word.Restore = refl
 
 one_word : (v w : Word) → word_text v ≡ word_text w → v ≡ w

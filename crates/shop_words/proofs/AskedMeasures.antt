@@ -5,7 +5,7 @@ use Rattle.cut_measure.specs.declared.ranges.TheConstants.{MOST_KERF}
 use Rattle.shop_words.specs.declared.words.TheConstants.{LEAST_STAGES, MOST_STAGES}
 use Rattle.shop_words.specs.declared.words.OrderPlan.{OrderPlan}
 use Rattle.shop_words.specs.declared.words.Request.{Request}
-use Rattle.shop_words.specs.declared.words.Request.TheVariants.{Replay, Plan, PlanOrder, PlanLines, Orders, Serve, Ticket, Yield, Restore}
+use Rattle.shop_words.specs.declared.words.Request.TheVariants.{Replay, Plan, PlanOrder, PlanLines, Orders, Serve, Ticket, Yield, History, Audit, Restore}
 use Rattle.shop_words.specs.declared.words.Word.{Word}
 use Rattle.shop_words.specs.declared.words.Word.TheVariants as word
 use Rattle.shop_words.specs.CommandLine.{AsksFor, HasMeasures, HasStages, IsAsked, IsProblemAsked, MayHaveNumber}
@@ -31,6 +31,8 @@ one_asked word.Orders rows file kerf step asked = absurd asked
 one_asked word.Serve rows file kerf step asked = absurd asked
 one_asked word.Ticket rows file kerf step asked = absurd asked
 one_asked word.Yield rows file kerf step asked = absurd asked
+one_asked word.History rows file kerf step asked = absurd asked
+one_asked word.Audit rows file kerf step asked = absurd asked
 one_asked word.Restore rows file kerf step asked = absurd asked
 
 all_asked : (w : Word) (rows : List Row) (file : Bor Text) (kerf : ℕ) (step calls stages : Option ℕ) → IsAsked w rows (PlanOrder file kerf step calls stages) → (kerf ≤ MOST_KERF) × HasStages stages
@@ -41,6 +43,8 @@ all_asked word.Orders rows file kerf step calls stages asked = absurd asked
 all_asked word.Serve rows file kerf step calls stages asked = absurd asked
 all_asked word.Ticket rows file kerf step calls stages asked = absurd asked
 all_asked word.Yield rows file kerf step calls stages asked = absurd asked
+all_asked word.History rows file kerf step calls stages asked = absurd asked
+all_asked word.Audit rows file kerf step calls stages asked = absurd asked
 all_asked word.Restore rows file kerf step calls stages asked = absurd asked
 
 no_problem : {A : Type 0} (rows : List Row) (plan : OrderPlan) → IsProblemAsked rows (PlanLines plan) → A
@@ -55,6 +59,8 @@ lines_asked word.Orders rows plan asked = absurd asked
 lines_asked word.Serve rows plan asked = absurd asked
 lines_asked word.Ticket rows plan asked = absurd asked
 lines_asked word.Yield rows plan asked = absurd asked
+lines_asked word.History rows plan asked = absurd asked
+lines_asked word.Audit rows plan asked = absurd asked
 lines_asked word.Restore rows plan asked = absurd asked
 
 pub measured : (found : Option (Text × List Row)) (request : Request) → AsksFor found request → HasMeasures request
@@ -67,4 +73,6 @@ measured (Some (name, rows)) (Orders file shop told) asked = tt
 measured (Some (name, rows)) (Serve serving) asked = tt
 measured (Some (name, rows)) (Ticket store job read_only) asked = tt
 measured (Some (name, rows)) (Yield store material read_only) asked = tt
+measured (Some (name, rows)) (History store after read_only) asked = tt
+measured (Some (name, rows)) (Audit store read_only) asked = tt
 measured (Some (name, rows)) (Restore store from) asked = tt

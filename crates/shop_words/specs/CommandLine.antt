@@ -15,12 +15,12 @@ use Rattle.clap.specs.declared.builder.value_parser.ValueParser.{ValueParser}
 use Rattle.clap.specs.declared.builder.value_parser.ValueParser.TheVariants.{Signed}
 use Rattle.cut_measure.specs.Codes.{code_of}
 use Rattle.cut_measure.specs.declared.ranges.TheConstants.{MOST_KERF, MOST_NUMBERS}
-use Rattle.shop_words.specs.declared.words.TheConstants.{LEAST_STAGES, LONGEST_STEP, MOST_CALLS, MOST_STAGES, LAST_PORT, MOST_CONNECTIONS, MOST_KEPT, MOST_NAMES, MOST_PAIR, MOST_SIZES}
+use Rattle.shop_words.specs.declared.words.TheConstants.{LEAST_STAGES, LONGEST_STEP, MOST_CALLS, MOST_STAGES, LAST_PORT, MOST_AFTER, MOST_CONNECTIONS, MOST_KEPT, MOST_NAMES, MOST_PAIR, MOST_SIZES}
 use Rattle.shop_words.specs.declared.words.ImportAs.{ImportAs}
 use Rattle.shop_words.specs.declared.words.OrderPlan.{OrderPlan}
 use Rattle.shop_words.specs.declared.words.Serving.{Serving}
 use Rattle.shop_words.specs.declared.words.Request.{Request}
-use Rattle.shop_words.specs.declared.words.Request.TheVariants.{Replay, Plan, PlanOrder, PlanLines, Orders, Serve, Ticket, Yield, Restore}
+use Rattle.shop_words.specs.declared.words.Request.TheVariants.{Replay, Plan, PlanOrder, PlanLines, Orders, Serve, Ticket, Yield, History, Audit, Restore}
 use Rattle.shop_words.specs.declared.words.Word.{Word}
 use Rattle.shop_words.specs.declared.words.Word.TheVariants as word
 use Rattle.shop_words.specs.declared.words.Argument.{Argument}
@@ -125,6 +125,9 @@ read_only_rule = flag_rule (codes "read-only")
 abbrev pub keep_rule : Rule
 keep_rule = record (option_rule (codes "keep")) { parser = Some (Signed (pos 1) (pos 10000)) }
 
+abbrev pub after_rule : Rule
+after_rule = record (option_rule (codes "after")) { parser = Some (Signed (pos 0) (pos 4294967295)) }
+
 abbrev pub calls_rule : Rule
 calls_rule = record (option_rule (codes "calls")) { parser = Some (Signed (pos 1) (pos 5000)) }
 
@@ -167,6 +170,14 @@ ticket_app = app_with (codes "ticket") (store_rule ∷ job_rule ∷ read_only_ru
 abbrev pub yield_app : App
 yield_app = app_with (codes "yield") (store_rule ∷ word_rule (codes "MATERIAL") ∷ read_only_rule ∷ [])
 
+-- `history --store FILE [--after N] [--read-only]`
+abbrev pub history_app : App
+history_app = app_with (codes "history") (store_rule ∷ after_rule ∷ read_only_rule ∷ [])
+
+-- `audit --store FILE [--read-only]`
+abbrev pub audit_app : App
+audit_app = app_with (codes "audit") (store_rule ∷ read_only_rule ∷ [])
+
 -- `restore --store FILE --from FOLDER/N`
 abbrev pub restore_app : App
 restore_app = app_with (codes "restore") (store_rule ∷ from_rule ∷ [])
@@ -203,6 +214,8 @@ argument_rule argument.Host = host_rule
 argument_rule argument.Origin = origin_rule
 argument_rule argument.Job = job_rule
 argument_rule argument.Material = word_rule (codes "MATERIAL")
+argument_rule argument.KeptStore = store_rule
+argument_rule argument.After = after_rule
 argument_rule argument.ReadOnly = read_only_rule
 argument_rule argument.From = from_rule
 
@@ -222,15 +235,17 @@ word_app word.Orders = orders_app
 word_app word.Serve = serve_app
 word_app word.Ticket = ticket_app
 word_app word.Yield = yield_app
+word_app word.History = history_app
+word_app word.Audit = audit_app
 word_app word.Restore = restore_app
 
 -- a program with the command of a word more
 abbrev pub with_word : App → Word → App
 with_word app w = with_subcommand app (word_app w).top
 
--- one of the seven commands
+-- one of the nine commands
 abbrev pub shop_app : App
-shop_app = added_in_turn with_word program_app (word.Replay ∷ word.Plan ∷ word.Orders ∷ word.Serve ∷ word.Ticket ∷ word.Yield ∷ word.Restore ∷ [])
+shop_app = added_in_turn with_word program_app (word.Replay ∷ word.Plan ∷ word.Orders ∷ word.Serve ∷ word.Ticket ∷ word.Yield ∷ word.History ∷ word.Audit ∷ word.Restore ∷ [])
 
 -- an argument of this rule that isn't global
 abbrev pub IsArg : Rule → Arg → Type 0
@@ -410,6 +425,17 @@ IsYieldAsked rows (Yield store material read_only) =
     (first_of (codes "store") rows ≡ Some store.now) × IsCode (first_of (codes "MATERIAL") rows) material × (IsTrue read_only ↔ HasFlag (codes "read-only") rows)
 IsYieldAsked rows _ = ⊥
 
+abbrev pub IsHistoryAsked : List Row → Request → Type 0
+IsHistoryAsked rows (History store after read_only) =
+    (first_of (codes "store") rows ≡ Some store.now) × MayHaveNumber (codes "after") rows 0 MOST_AFTER after
+    × (IsTrue read_only ↔ HasFlag (codes "read-only") rows)
+IsHistoryAsked rows _ = ⊥
+
+abbrev pub IsAuditAsked : List Row → Request → Type 0
+IsAuditAsked rows (Audit store read_only) =
+    (first_of (codes "store") rows ≡ Some store.now) × (IsTrue read_only ↔ HasFlag (codes "read-only") rows)
+IsAuditAsked rows _ = ⊥
+
 abbrev pub IsRestoreAsked : List Row → Request → Type 0
 IsRestoreAsked rows (Restore store from) = (first_of (codes "store") rows ≡ Some store.now) × (first_of (codes "from") rows ≡ Some from.now)
 IsRestoreAsked rows _ = ⊥
@@ -422,6 +448,8 @@ word_text word.Orders = codes "orders"
 word_text word.Serve = codes "serve"
 word_text word.Ticket = codes "ticket"
 word_text word.Yield = codes "yield"
+word_text word.History = codes "history"
+word_text word.Audit = codes "audit"
 word_text word.Restore = codes "restore"
 
 -- a command with these values asks for this
@@ -432,6 +460,8 @@ IsAsked word.Orders rows request = IsOrdersAsked rows request
 IsAsked word.Serve rows request = IsServeAsked rows request
 IsAsked word.Ticket rows request = IsTicketAsked rows request
 IsAsked word.Yield rows request = IsYieldAsked rows request
+IsAsked word.History rows request = IsHistoryAsked rows request
+IsAsked word.Audit rows request = IsAuditAsked rows request
 IsAsked word.Restore rows request = IsRestoreAsked rows request
 
 -- a limit of stages, if there is one, is in range

@@ -6,7 +6,7 @@ mod words;
 
 pub use mistakes::{Mistake, mistake_text};
 pub use words::{
-    ImportAs, LAST_PORT, LEAST_STAGES, LONGEST_STEP, MOST_CALLS, MOST_CONNECTIONS, MOST_KEPT,
-    MOST_NAMES, MOST_PAIR, MOST_SIZES, MOST_STAGES, OrderPlan, Reading, Request, Serving, VERSION,
-    request_of,
+    ImportAs, LAST_PORT, LEAST_STAGES, LONGEST_STEP, MOST_AFTER, MOST_CALLS, MOST_CONNECTIONS,
+    MOST_KEPT, MOST_NAMES, MOST_PAIR, MOST_SIZES, MOST_STAGES, OrderPlan, Reading, Request,
+    Serving, VERSION, request_of,
 };

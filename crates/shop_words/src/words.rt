@@ -40,6 +40,9 @@ pub const MOST_CONNECTIONS: u32 = 1_000_000;
 /// The greatest terminal, and the greatest number of a message.
 pub const MOST_PAIR: u32 = 4_294_967_295;
 
+/// The greatest number of an entry behind which entries are asked for.
+pub const MOST_AFTER: u32 = 4_294_967_295;
+
 /// The most backups of which `--keep` says that they stay.
 pub const MOST_KEPT: u32 = 10_000;
 
@@ -150,6 +153,20 @@ pub enum Request<'a> {
         /// Whether the store's files are only read.
         read_only: bool,
     },
+    /// Print the entries of a store's history.
+    History {
+        store: &'a str,
+        /// Only those with greater numbers, 0 to 4294967295. None: all.
+        after: Option<u32>,
+        /// Whether the store's files are only read.
+        read_only: bool,
+    },
+    /// Tell whether a store is whole.
+    Audit {
+        store: &'a str,
+        /// Whether the store's files are only read.
+        read_only: bool,
+    },
     /// Put a backup in the place of a store.
     Restore {
         store: &'a str,
@@ -174,6 +191,8 @@ pub(crate) enum Word {
     Serve,
     Ticket,
     Yield,
+    History,
+    Audit,
     Restore,
 }
 
@@ -206,18 +225,22 @@ enum Argument {
     Origin,
     Job,
     Material,
+    KeptStore,
+    After,
     ReadOnly,
     From,
 }
 
 // The words, in the order in which help lists their commands.
-const WORDS: [Word; 7] = [
+const WORDS: [Word; 9] = [
     Word::Replay,
     Word::Plan,
     Word::Orders,
     Word::Serve,
     Word::Ticket,
     Word::Yield,
+    Word::History,
+    Word::Audit,
     Word::Restore,
 ];
 
@@ -273,6 +296,25 @@ fn store_arg<'a>(alloc: Global) -> Arg<'a>
         "store",
         "The file that keeps the shop's book; it is made where it isn't there",
     )
+}
+
+// The store of a command that makes none.
+fn kept_store_arg<'a>(alloc: Global) -> Arg<'a>
+    ensures { line.IsArg line.store_rule result }
+{
+    path_arg(alloc, "store", "The file that keeps the shop's book")
+}
+
+fn after_arg<'a>(alloc: Global) -> Arg<'a>
+    ensures { line.IsArg line.after_rule result }
+{
+    option_arg(
+        alloc,
+        "after",
+        "N",
+        "Only the entries with greater numbers: 0 to 4294967295. Without it all are printed",
+    )
+    .value_parser(value_parser!(u32).range(0..=4294967295))
 }
 
 fn kerf_arg<'a>(alloc: Global) -> Arg<'a>
@@ -602,6 +644,8 @@ fn arg_of<'a>(alloc: Global, argument: Argument) -> Arg<'a>
         Argument::Origin => origin_arg(alloc),
         Argument::Job => job_arg(alloc),
         Argument::Material => word_arg(alloc, "MATERIAL", "The material's code"),
+        Argument::KeptStore => kept_store_arg(alloc),
+        Argument::After => after_arg(alloc),
         Argument::ReadOnly => read_only_arg(alloc),
         Argument::From => from_arg(alloc),
     }
@@ -723,6 +767,30 @@ fn yield_command<'a>(alloc: Global) -> Result<Command<'a>, AllocError>
     )
 }
 
+fn history_command<'a>(alloc: Global) -> Result<Command<'a>, AllocError>
+    ensures { IfOk result (line.IsAppCommand line.history_app) }
+{
+    new_command(
+        alloc,
+        "history",
+        "Prints the entries of a shop's history, one a line: what was accepted, when, and what was told",
+        "Examples:\n  cutshop history --store shop.db\n  cutshop history --store shop.db --after 812",
+        &[Argument::KeptStore, Argument::After, Argument::ReadOnly],
+    )
+}
+
+fn audit_command<'a>(alloc: Global) -> Result<Command<'a>, AllocError>
+    ensures { IfOk result (line.IsAppCommand line.audit_app) }
+{
+    new_command(
+        alloc,
+        "audit",
+        "Tells whether a store is whole: does its history anew in memory, and compares all replies and rows",
+        "Example:\n  cutshop audit --store backups/3/shop.db",
+        &[Argument::KeptStore, Argument::ReadOnly],
+    )
+}
+
 fn restore_command<'a>(alloc: Global) -> Result<Command<'a>, AllocError>
     ensures { IfOk result (line.IsAppCommand line.restore_app) }
 {
@@ -746,6 +814,8 @@ fn command_for<'a>(alloc: Global, word: Word) -> Result<Command<'a>, AllocError>
         Word::Serve => serve_command(alloc),
         Word::Ticket => ticket_command(alloc),
         Word::Yield => yield_command(alloc),
+        Word::History => history_command(alloc),
+        Word::Audit => audit_command(alloc),
         Word::Restore => restore_command(alloc),
     }
 }
@@ -774,7 +844,7 @@ fn program<'a>(alloc: Global) -> Command<'a>
     Command::new(alloc, "cutshop")
         .about("The books and the plans of a cutting shop")
         .after_help(
-            "Units: messages, replies, problem files, --kerf and --step count tenths of a millimetre; shop files, order files, tickets and reports say millimetres.\n\nExamples:\n  cutshop replay < lines.txt\n  cutshop plan sheet.txt --kerf 30 --step 10\n  cutshop plan sheet.txt --kerf 30 --whole\n  cutshop orders orders.csv\n  cutshop serve --port 8017 --store shop.db --shop shop.toml\n  cutshop ticket --store shop.db 2\n  cutshop yield --store shop.db STEEL\n  cutshop restore --store shop.db --from backups/3",
+            "Units: messages, replies, problem files, --kerf and --step count tenths of a millimetre; shop files, order files, tickets and reports say millimetres.\n\nExamples:\n  cutshop replay < lines.txt\n  cutshop plan sheet.txt --kerf 30 --step 10\n  cutshop plan sheet.txt --kerf 30 --whole\n  cutshop orders orders.csv\n  cutshop serve --port 8017 --store shop.db --shop shop.toml\n  cutshop ticket --store shop.db 2\n  cutshop yield --store shop.db STEEL\n  cutshop history --store shop.db --after 812\n  cutshop audit --store backups/3/shop.db\n  cutshop restore --store shop.db --from backups/3",
         )
         .subcommand_required(true)
         .version(VERSION)
@@ -1212,6 +1282,27 @@ fn yield_request<'a>(report: &ArgMatches<'a>) -> Option<Request<'a>>
     })
 }
 
+fn history_request<'a>(history: &ArgMatches<'a>) -> Option<Request<'a>>
+    ensures { line.AsAsked result (line.IsHistoryAsked (rows_of (found_of history.now))) }
+{
+    let store = history.get_str("store")?;
+    let after = number_if_any(history, "after", 0, MOST_AFTER)?;
+    let read_only = has_flag(history, "read-only");
+    Some(Request::History {
+        store,
+        after,
+        read_only,
+    })
+}
+
+fn audit_request<'a>(audit: &ArgMatches<'a>) -> Option<Request<'a>>
+    ensures { line.AsAsked result (line.IsAuditAsked (rows_of (found_of audit.now))) }
+{
+    let store = audit.get_str("store")?;
+    let read_only = has_flag(audit, "read-only");
+    Some(Request::Audit { store, read_only })
+}
+
 fn restore_request<'a>(restore: &ArgMatches<'a>) -> Option<Request<'a>>
     ensures { line.AsAsked result (line.IsRestoreAsked (rows_of (found_of restore.now))) }
 {
@@ -1236,6 +1327,10 @@ pub(crate) fn word_of(name: &str) -> Option<Word>
         Some(Word::Ticket)
     } else if name == "yield" {
         Some(Word::Yield)
+    } else if name == "history" {
+        Some(Word::History)
+    } else if name == "audit" {
+        Some(Word::Audit)
     } else if name == "restore" {
         Some(Word::Restore)
     } else {
@@ -1259,6 +1354,8 @@ fn request_in<'a>(
         Word::Serve => serve_request(alloc, values),
         Word::Ticket => Ok(ticket_request(values)),
         Word::Yield => Ok(yield_request(values)),
+        Word::History => Ok(history_request(values)),
+        Word::Audit => Ok(audit_request(values)),
         Word::Restore => Ok(restore_request(values)),
     }
 }

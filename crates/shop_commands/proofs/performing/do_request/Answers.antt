@@ -77,3 +77,9 @@ returns-in-Restore-clause-ok g c = rw c.in-Restore.is c.restore.ensures.ok
 
 pub returns-in-Restore-clause-err : goal.returns-in-Restore-clause-err
 returns-in-Restore-clause-err g c = rw c.in-Restore.is c.restore.ensures.err
+
+pub returns-in-Audit-clause-ok : goal.returns-in-Audit-clause-ok
+returns-in-Audit-clause-ok g c = rw c.in-Audit.is c.audit_store.ensures.ok
+
+pub returns-in-Audit-clause-err : goal.returns-in-Audit-clause-err
+returns-in-Audit-clause-err g c = rw c.in-Audit.is c.audit_store.ensures.err

@@ -10,6 +10,9 @@ returns-in-Ok-clause-ok g c =
       counted = c.kept_count.new.self;
       count = c.kept_count.result;
       keeps = c.kept_count.ensures.keeps;
+      dated = c.last_entry-last.new.self;
+      last = c.last_entry-last.result;
+      dates = c.last_entry-last.ensures.keeps;
       served = c.in-Ok.ensures.ok;
     }
 
@@ -22,5 +25,8 @@ returns-clause-err g c =
       counted = c.kept_count.new.self;
       count = c.kept_count.result;
       keeps = c.kept_count.ensures.keeps;
+      dated = c.last_entry-last.new.self;
+      last = c.last_entry-last.result;
+      dates = c.last_entry-last.ensures.keeps;
       left = c.in-Err.ensures.err;
     })))

@@ -1,22 +1,44 @@
 use Rattle.std.proofs.Common.{◌∙◌, inr, refl, sym}
-use Rattle.shop_serve.proofs.Turns.{no_route, none_served, one_ruled}
+use Rattle.shop_serve.proofs.Turns.{no_route, one_ruled}
+use Rattle.shop_serve.proofs.Dated.{unrouted_timed}
 use Rattle.shop_serve.proofs.answers.answer_of.Goals as goal
 
-pub returns-in-Ok-clause-made : goal.returns-in-Ok-clause-made
-returns-in-Ok-clause-made g c =
+pub returns-in-Some-clause-made : goal.returns-in-Some-clause-made
+returns-in-Some-clause-made g c =
+    let told = c.in-Some.ensures.made in
     inr (
       c.rule-ruling.result,
-      c.args.failed,
+      told.0,
       c.rule-ruling.ensures,
       no_route c.rule-ruling.result (sym c.is_routed.ensures ∙ c.if-is_routed.false),
-      c.in-Ok.ensures,
-      refl,
+      told.1,
+      told.2,
     )
 
-pub returns-in-Ok-clause-step : goal.returns-in-Ok-clause-step
-returns-in-Ok-clause-step g c =
-    one_ruled c.args.site.now g.B.Book c.args.book.now c.args.received.now c.rule-ruling.result c.requires.some c.rule-ruling.ensures
+pub returns-in-Some-clause-step : goal.returns-in-Some-clause-step
+returns-in-Some-clause-step g c =
+    let asked = c.ruled_answer.ensures.asked in
+    one_ruled c.args.site.now g.B.Book c.args.book.now c.ruled_answer.new.book c.args.received.now c.rule-ruling.result asked.0 c.requires.some c.rule-ruling.ensures
+    (no_route c.rule-ruling.result (sym c.is_routed.ensures ∙ c.if-is_routed.false)) asked.1.1
+
+pub returns-in-None-clause-step : goal.returns-in-None-clause-step
+returns-in-None-clause-step g c =
+    let asked = c.ruled_answer.ensures.asked in
+    one_ruled c.args.site.now g.B.Book c.args.book.now c.ruled_answer.new.book c.args.received.now c.rule-ruling.result asked.0 c.requires.some c.rule-ruling.ensures
+    (no_route c.rule-ruling.result (sym c.is_routed.ensures ∙ c.if-is_routed.false)) asked.1.1
+
+pub returns-in-Some-clause-timed : goal.returns-in-Some-clause-timed
+returns-in-Some-clause-timed g c =
+    unrouted_timed c.args.site.now g.B.Book c.args.book.now c.ruled_answer.new.book c.args.at c.args.received.now c.rule-ruling.result c.rule-ruling.ensures
     (no_route c.rule-ruling.result (sym c.is_routed.ensures ∙ c.if-is_routed.false))
 
-pub returns-in-Err-clause-step : goal.returns-in-Err-clause-step
-returns-in-Err-clause-step g c = none_served c.args.site.now g.B.Book c.args.book.now 1
+pub returns-in-None-clause-timed : goal.returns-in-None-clause-timed
+returns-in-None-clause-timed g c =
+    unrouted_timed c.args.site.now g.B.Book c.args.book.now c.ruled_answer.new.book c.args.at c.args.received.now c.rule-ruling.result c.rule-ruling.ensures
+    (no_route c.rule-ruling.result (sym c.is_routed.ensures ∙ c.if-is_routed.false))
+
+pub returns-in-Some-clause-clean_disk : goal.returns-in-Some-clause-clean_disk
+returns-in-Some-clause-clean_disk g c = c.ruled_answer.ensures.asked.1.1.0.clean_disk
+
+pub returns-in-None-clause-clean_disk : goal.returns-in-None-clause-clean_disk
+returns-in-None-clause-clean_disk g c = c.ruled_answer.ensures.asked.1.1.0.clean_disk

@@ -6,3 +6,6 @@ returns-clause-number g c clean b was = c.number_of.ensures.number clean b was b
 
 pub returns-clause-earlier : goal.returns-clause-earlier
 returns-clause-earlier g c clean b was = c.number_of.ensures.earlier clean b was b.content.last_demand refl
+
+pub returns-clause-second : goal.returns-clause-second
+returns-clause-second g c clean b was = c.number_of.ensures.second clean b was b.content.last_demand refl

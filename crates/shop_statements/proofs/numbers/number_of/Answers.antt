@@ -19,6 +19,9 @@ returns-clause-number g c clean b was n once = number_is c.number_in.result c.in
 pub returns-clause-earlier : goal.returns-clause-earlier
 returns-clause-earlier g c clean b was n once = number_is c.number_in.result c.in-Some.row n (rw c.in-Some.is at (c.in_ok-row.ensures.earlier clean b was n once)) c.number_in.ensures
 
+pub returns-clause-second : goal.returns-clause-second
+returns-clause-second g c clean b was n once = number_is c.number_in.result c.in-Some.row n (rw c.in-Some.is at (c.in_ok-row.ensures.second clean b was n once)) c.number_in.ensures
+
 pub returns-clause-stands : goal.returns-clause-stands
 returns-clause-stands g c clean h =
     IfOk-weaker c.number_in.result _ _ (λ number at. number_read (state g.S.Store c.args.conn.now) c.args.word.now c.in-Some.row (Int (pos number)) (rw c.in-Some.is at (c.in_ok-row.ensures.stands clean (inl h))) at) c.number_in.ensures

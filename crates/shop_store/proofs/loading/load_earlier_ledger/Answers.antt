@@ -12,4 +12,4 @@ pub returns-clause-loaded : goal.returns-clause-loaded
 returns-clause-loaded g c clean b was =
     let before : HasCleanDisk (state g.S.Store c.list_earlier_totals.new.conn) = let l = c.load_behind.ensures.leaves.survives.clean in omega (arith, l, clean) in
     let totals = rw c.in-Some.is at (c.in_ok-totals.ensures.rows before b was) in
-    c.load_behind.ensures.loaded clean b (inr (stays_earlier (state g.S.Store c.args.conn.now) (state g.S.Store c.list_earlier_totals.new.conn) b c.list_earlier_totals.ensures.leaves was)) (totals.0, c.deref.ensures.value ∙ totals.1)
+    c.load_behind.ensures.loaded clean b (inr (inr (stays_earlier (state g.S.Store c.args.conn.now) (state g.S.Store c.list_earlier_totals.new.conn) b c.list_earlier_totals.ensures.leaves was))) (totals.0, c.deref.ensures.value ∙ totals.1)

@@ -1,6 +1,7 @@
-use Rattle.std.proofs.Common.{◌∙◌, inl, arith}
+use Rattle.std.proofs.Common.{◌∙◌, inl, inr, arith}
 use Rattle.sqlite.specs.Held.{state}
 use Rattle.sqlite.specs.State.{HasCleanDisk}
+use Rattle.shop_tables.proofs.EarlierRows.{stays_second}
 use Rattle.shop_statements.proofs.Reading.{leaves_then}
 use Rattle.shop_store.proofs.loading.load_ledger.Goals as goal
 
@@ -12,3 +13,9 @@ returns-clause-loaded g c clean b was =
     let before : HasCleanDisk (state g.S.Store c.list_totals.new.conn) = let l = c.load_behind.ensures.leaves.survives.clean in omega (arith, l, clean) in
     let totals = rw c.in-Some.is at (c.in_ok-totals.ensures.rows before b was) in
     c.load_behind.ensures.loaded clean b (inl (c.list_totals.ensures.leaves.stays b was)) (totals.0, c.deref.ensures.value ∙ totals.1)
+
+pub returns-clause-second : goal.returns-clause-second
+returns-clause-second g c clean b was =
+    let before : HasCleanDisk (state g.S.Store c.list_totals.new.conn) = let l = c.load_behind.ensures.leaves.survives.clean in omega (arith, l, clean) in
+    let totals = rw c.in-Some.is at (c.in_ok-totals.ensures.second before b was) in
+    c.load_behind.ensures.loaded clean b (inr (inl (stays_second (state g.S.Store c.args.conn.now) (state g.S.Store c.list_totals.new.conn) b c.list_totals.ensures.leaves was))) (totals.0, c.deref.ensures.value ∙ totals.1)

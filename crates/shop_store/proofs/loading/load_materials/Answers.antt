@@ -18,5 +18,5 @@ pub returns-clause-loaded : goal.returns-clause-loaded
 returns-clause-loaded g c clean b was =
     let before : HasCleanDisk (state g.S.Store c.args.conn.now) = let l = c.material_rows.ensures.gives.leaves.survives.clean in omega (arith, l, clean) in
     let keyed = keyed_either (state g.S.Store c.args.conn.now) b before (c.in_ok-rows.ensures.gives.was_open clean) was in
-    let rows = either was (c.in_ok-rows.ensures.gives.rows clean b) (c.in_ok-rows.ensures.earlier clean b) in
+    let rows = either was (c.in_ok-rows.ensures.gives.rows clean b) (c.in_ok-rows.ensures.second clean b) (c.in_ok-rows.ensures.earlier clean b) in
     IfOk-weaker c.load_each.result _ _ (λ none it. (it.0, it.1, keyed)) (c.load_each.ensures (materials_of b.content) (c.deref.ensures.value ∙ rows) (all_fit put_material (materials_of b.content) _))

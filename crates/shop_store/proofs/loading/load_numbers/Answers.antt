@@ -19,7 +19,7 @@ pub returns-clause-loaded : goal.returns-clause-loaded
 returns-clause-loaded g c clean b was =
     let m = content_in c.args.ledger.now in
     let before : HasCleanDisk (state g.S.Store c.find_last_act.new.conn) = let l = c.find_last_demand.ensures.leaves.survives.clean in omega (arith, l, clean) in
-    let act = either was (c.in_ok-act.ensures.number before b) (c.in_ok-act.ensures.earlier before b) in
+    let act = either was (c.in_ok-act.ensures.number before b) (c.in_ok-act.ensures.second before b) (c.in_ok-act.ensures.earlier before b) in
     let still = stays_either (state g.S.Store c.args.conn.now) (state g.S.Store c.find_last_act.new.conn) b c.find_last_act.ensures.leaves was in
-    let demand = either still (c.in_ok-demand.ensures.number clean b) (c.in_ok-demand.ensures.earlier clean b) in
+    let demand = either still (c.in_ok-demand.ensures.number clean b) (c.in_ok-demand.ensures.second clean b) (c.in_ok-demand.ensures.earlier clean b) in
     c.in_ok-load.ensures.ok ∙ ap bare (c.numbers_alone.ensures m) ∙ (λ i. record m { last_act = act i; last_demand = demand i })

@@ -17,7 +17,7 @@ returns-clause-leaves g c = c.order_rows.ensures.gives.leaves
 
 pub returns-clause-loaded : goal.returns-clause-loaded
 returns-clause-loaded g c clean b was =
-    let rows = either was (c.in_ok-rows.ensures.gives.rows clean b) (c.in_ok-rows.ensures.earlier clean b) in
+    let rows = either was (c.in_ok-rows.ensures.gives.rows clean b) (c.in_ok-rows.ensures.second clean b) (c.in_ok-rows.ensures.earlier clean b) in
     let few : length c.in_ok-rows.rows.items < MOST_ORDERS = omega (arith, c.if-len-ge-MOST_ORDERS.false) in
     let whole = not_cut_off code_row (orders_after b.content None) c.in_ok-rows.rows.items MOST_ORDERS rows few ∙ filter_true (order_codes b.content) in
     c.load_each.ensures (order_codes b.content) (c.deref.ensures.value ∙ rows ∙ ap (map code_row) whole) (all_fit put_order (order_codes b.content) _)

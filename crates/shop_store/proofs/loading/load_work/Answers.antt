@@ -4,6 +4,7 @@ use Rattle.sqlite.specs.Held.{state}
 use Rattle.sqlite.specs.State.{HasCleanDisk}
 use Rattle.shop_records.specs.Content.{Content}
 use Rattle.shop_records.specs.Lists.{order_codes}
+use Rattle.shop_statements.proofs.Reading.{leaves_then}
 use Rattle.shop_book.specs.Ledgers.{content_in}
 use Rattle.shop_store.specs.Loading.{put_demand, put_order, with_each}
 use Rattle.shop_store.proofs.HeldEither.{stays_either}
@@ -45,3 +46,6 @@ returns-in-Some-3-clause-loaded g c clean b was keyed materials parts =
     let held = stays_either (state g.S.Store c.load_numbered.new.conn) (state g.S.Store c.load_orders.new.conn) b c.load_orders.ensures.leaves with_jobs in
     let demands = c.in_ok-row-3.ensures.loaded clean b held (all_fit put_demand (values b.content.demands) _) in
     absurd (let none : Some c.in-Some-3.row ≡ None = rw c.in-Some-3.is at demands.0 in cc)
+
+pub returns-clause-leaves : goal.returns-clause-leaves
+returns-clause-leaves g c = leaves_then _ _ _ (leaves_then _ _ _ (leaves_then _ _ _ c.load_numbered.ensures.leaves c.load_orders.ensures.leaves) c.load_numbered-2.ensures.leaves) c.load_numbers.ensures.leaves

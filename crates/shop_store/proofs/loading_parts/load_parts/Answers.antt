@@ -22,7 +22,7 @@ returns-in-All-clause-loaded g c clean b was list =
     let parts = values b.content.parts in
     let visited = gone_through c.lend_all_parts.result in
     let went = ap gone_through (c.in_ok-lend_all_parts.was ∙ ap Ok c.in-All.is) in
-    let visit : IsVisitOf parts old visited new = held_visit (state g.S.Store c.args.conn.now) (state g.S.Store c.lend_all_parts.new.conn) b old new visited clean was c.lend_all_parts.ensures.visit c.lend_all_parts.ensures.earlier in
+    let visit : IsVisitOf parts old visited new = held_visit (state g.S.Store c.args.conn.now) (state g.S.Store c.lend_all_parts.new.conn) b old new visited clean was c.lend_all_parts.ensures.visit c.lend_all_parts.ensures.second c.lend_all_parts.ensures.earlier in
     let put = all_put parts old new visited went visit in
     let added = adder_visit parts old new visited visit (λ off. absurd (true≢false (sym put.0 ∙ off))) in
     let none = c.in_ok-loader.ensures.none in
@@ -39,7 +39,7 @@ returns-in-Stopped-clause-loaded g c clean b was list =
     let parts = values b.content.parts in
     let visited = gone_through c.lend_all_parts.result in
     let went = ap gone_through (c.in_ok-lend_all_parts.was ∙ ap Ok c.in-Stopped.is) in
-    let visit : IsVisitOf parts old visited new = held_visit (state g.S.Store c.args.conn.now) (state g.S.Store c.lend_all_parts.new.conn) b old new visited clean was c.lend_all_parts.ensures.visit c.lend_all_parts.ensures.earlier in
+    let visit : IsVisitOf parts old visited new = held_visit (state g.S.Store c.args.conn.now) (state g.S.Store c.lend_all_parts.new.conn) b old new visited clean was c.lend_all_parts.ensures.visit c.lend_all_parts.ensures.second c.lend_all_parts.ensures.earlier in
     let none = c.in_ok-loader.ensures.none in
     let there = c.in_ok-loader.ensures.there in
     IfOk-weaker c.stopped.result _ _

@@ -13,9 +13,14 @@ returns-in-Ok-adopt g c m was =
     record {
       lines = taken.lines;
       totals = taken.totals;
+      uses = taken.uses;
       sums = taken.sums;
-      settled = found_settled c.into_connection.result c.in-Ok.conn c.in_ok-files.files (books m taken.totals) c.in_ok-files.ensures.copied c.in-Ok.ensures.opened c.in-Ok.ensures.found taken.holds (c.in-Ok-adopt.ensures.earlier clean);
+      trail = taken.trail;
+      settled = found_settled c.into_connection.result c.in-Ok.conn c.in_ok-files.files (books m taken.totals taken.uses) c.in_ok-files.ensures.copied c.in-Ok.ensures.opened c.in-Ok.ensures.found taken.holds (c.in-Ok-adopt.ensures.earlier clean);
     } in (
-      holds_when (file_state c.in-Ok-adopt.again.storage.conn) m taken.lines taken.totals taken.sums (λ clean up. c.in-Ok-adopt.ensures.held m (settled clean)),
+      (
+        holds_when (file_state c.in-Ok-adopt.again.storage.conn) m taken.lines taken.totals taken.uses taken.sums taken.trail (λ clean up. c.in-Ok-adopt.ensures.held m (settled clean)),
+        λ clean. c.in-Ok-adopt.ensures.last m (settled clean) clean,
+      ),
       λ clean. c.in-Ok-adopt.ensures.loaded m (settled clean) clean,
     )

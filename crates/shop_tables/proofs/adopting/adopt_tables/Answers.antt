@@ -1,7 +1,7 @@
 use Rattle.std.proofs.Common.{◌∙◌, true≢false, sym, ap}
 use Rattle.std.specs.Prelude.{not}
 use Rattle.shop_tables.specs.Adopting.{names_are_free}
-use Rattle.shop_tables.proofs.Taken.{taken, earlier_taken}
+use Rattle.shop_tables.proofs.Taken.{taken, earlier_taken, second_taken}
 use Rattle.shop_tables.proofs.adopting.adopt_tables.Goals as goal
 
 pub returns-then-are_free-clause-held : goal.returns-then-are_free-clause-held
@@ -51,3 +51,18 @@ returns-then-are_free-clause-no_old_totals g c it = absurd (true≢false (sym c.
 
 pub returns-else-are_free-clause-no_old_totals : goal.returns-else-are_free-clause-no_old_totals
 returns-else-are_free-clause-no_old_totals g c it clean = c.adopt_taken.ensures.no_old_totals it clean (c.is_autocommit-outside.ensures.settled (c.is_autocommit-outside.ensures.value ∙ ap not c.requires.outside))
+
+pub returns-then-are_free-clause-two_only : goal.returns-then-are_free-clause-two_only
+returns-then-are_free-clause-two_only g c is = absurd (true≢false (sym c.if-are_free.true ∙ c.are_free.ensures ∙ ap names_are_free c.schema.ensures.value ∙ second_taken c.args.conn.now.schema is))
+
+pub returns-then-are_free-clause-two_leaves : goal.returns-then-are_free-clause-two_leaves
+returns-then-are_free-clause-two_leaves g c is = absurd (true≢false (sym c.if-are_free.true ∙ c.are_free.ensures ∙ ap names_are_free c.schema.ensures.value ∙ second_taken c.args.conn.now.schema is))
+
+pub returns-then-are_free-clause-two_named : goal.returns-then-are_free-clause-two_named
+returns-then-are_free-clause-two_named g c is = absurd (true≢false (sym c.if-are_free.true ∙ c.are_free.ensures ∙ ap names_are_free c.schema.ensures.value ∙ second_taken c.args.conn.now.schema is))
+
+pub returns-then-are_free-clause-two_old_totals : goal.returns-then-are_free-clause-two_old_totals
+returns-then-are_free-clause-two_old_totals g c is = absurd (true≢false (sym c.if-are_free.true ∙ c.are_free.ensures ∙ ap names_are_free c.schema.ensures.value ∙ second_taken c.args.conn.now.schema is))
+
+pub returns-else-are_free-clause-two_old_totals : goal.returns-else-are_free-clause-two_old_totals
+returns-else-are_free-clause-two_old_totals g c is clean = c.adopt_taken.ensures.two_old_totals is clean (c.is_autocommit-outside.ensures.settled (c.is_autocommit-outside.ensures.value ∙ ap not c.requires.outside))

@@ -9,8 +9,9 @@ use Rattle.shop_tables.proofs.ListTexts.{demands_from_text, demands_from_selects
 use Rattle.shop_statements.specs.declared.faults.TableFault.{TableFault}
 use Rattle.shop_statements.proofs.Kept.{shown_open}
 use Rattle.shop_statements.proofs.Reading.{leaves_itself}
-use Rattle.shop_statements.specs.Earlier.{earlier_schema}
+use Rattle.shop_statements.specs.Earlier.{earlier_schema, second_schema}
 use Rattle.shop_tables.proofs.EarlierRows.{earlier_demands_from_is, held_given_earlier}
+use Rattle.shop_tables.proofs.SecondRows.{second_demands_from_is, held_given_second}
 use Rattle.shop_tables.proofs.chunks.demand_rows_from.Goals as goal
 
 pub returns-in_err-first-clause-leaves : goal.returns-in_err-first-clause-leaves
@@ -41,3 +42,10 @@ returns-clause-earlier g c clean b was =
     let new = state g.S.Store c.all_rows.new.conn in
     held_given_earlier {E = TableFault} demands_from_text (Int (pos c.args.from) ∷ Int (pos c.args.most) ∷ []) old new demands_from_selects c.all_rows.ensures.leaves b (λ rows. rows ≡ map listed_demand (take c.args.most (demands_from b.content c.args.from))) (Ok c.in_ok-rows.rows) clean was
     (λ rows has given. lists_demands_from_of old new earlier_schema has.schema _ b.content has.keyed c.args.from c.args.most earlier_demands_from_is has.stands.demands rows given) (rw (c.params-to_sql.ensures, c.params-to_sql-2.ensures, c.in_ok-first.ensures, c.in_ok-limit.ensures) at (c.in_ok-rows.ensures.rows clean))
+
+pub returns-clause-second : goal.returns-clause-second
+returns-clause-second g c clean b was =
+    let old = state g.S.Store c.args.conn.now in
+    let new = state g.S.Store c.all_rows.new.conn in
+    held_given_second {E = TableFault} demands_from_text (Int (pos c.args.from) ∷ Int (pos c.args.most) ∷ []) old new demands_from_selects c.all_rows.ensures.leaves b (λ rows. rows ≡ map listed_demand (take c.args.most (demands_from b.content c.args.from))) (Ok c.in_ok-rows.rows) clean was
+    (λ rows has given. lists_demands_from_of old new second_schema has.schema _ b.content has.keyed c.args.from c.args.most second_demands_from_is has.stands.demands rows given) (rw (c.params-to_sql.ensures, c.params-to_sql-2.ensures, c.in_ok-first.ensures, c.in_ok-limit.ensures) at (c.in_ok-rows.ensures.rows clean))

@@ -39,8 +39,8 @@ module _ (g : _) (c : After-commit g) where
   within = subst (λ h. Within (state g.S.Store h) done) c.transaction-tx.ensures.begun c.write_change.ensures.writes.within
 
   made : (m : Content) (was : HoldsContent (state g.S.Store c.args.conn.now) m) → Fits m c.args.change.now
-      → Makes (begun g.S.Store c.args.conn.now) done (books m was.totals) (with_change c.args.change.now (books m was.totals))
-  made m was fits = subst (λ h. Makes (state g.S.Store h) done (books m was.totals) (with_change c.args.change.now (books m was.totals))) c.transaction-tx.ensures.begun (c.in_ok-write_change.ensures.writes.put (books m was.totals) (was.sums, fits))
+      → Makes (begun g.S.Store c.args.conn.now) done (books m was.totals was.uses) (with_change c.args.change.now (books m was.totals was.uses))
+  made m was fits = subst (λ h. Makes (state g.S.Store h) done (books m was.totals was.uses) (with_change c.args.change.now (books m was.totals was.uses))) c.transaction-tx.ensures.begun (c.in_ok-write_change.ensures.writes.put (books m was.totals was.uses) (was.sums, was.trail, fits))
 
   spares : Spares our_trees (begun g.S.Store c.args.conn.now) done
   spares = subst (λ h. Spares our_trees (state g.S.Store h) done) c.transaction-tx.ensures.begun c.in_ok-write_change.ensures.writes.others

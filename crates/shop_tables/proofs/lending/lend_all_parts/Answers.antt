@@ -2,6 +2,7 @@ use Rattle.std.proofs.Common.{[], arith}
 use Rattle.sqlite.specs.Held.{state}
 use Rattle.sqlite.specs.State.{HasCleanDisk}
 use Rattle.shop_tables.proofs.EarlierParts.{not_invalid_earlier, visited_earlier}
+use Rattle.shop_tables.proofs.SecondParts.{not_invalid_second, visited_second}
 use Rattle.std.specs.FinMap.{values}
 use Rattle.shop_tables.proofs.Listed.{all_there, first_there, none_stranger, not_invalid, visited}
 use Rattle.shop_tables.proofs.ListTexts.{all_parts_text, all_parts_selects}
@@ -29,3 +30,13 @@ pub returns-clause-earlier_invalid : goal.returns-clause-earlier_invalid
 returns-clause-earlier_invalid g c =
     let before : HasCleanDisk (state g.S.Store c.lend.new.conn) → HasCleanDisk (state g.S.Store c.args.conn.now) = λ clean. omega (arith, c.lend.ensures.leaves.survives.clean) in
     not_invalid_earlier g.S.Store c.args.conn.now c.lend.new.conn before g.V.PartVisitor.looks c.args.visitor.now c.lend.new.visitor c.lend.result c.lend.ensures.lent
+
+pub returns-clause-second : goal.returns-clause-second
+returns-clause-second g c =
+    let before : HasCleanDisk (state g.S.Store c.lend.new.conn) → HasCleanDisk (state g.S.Store c.args.conn.now) = λ clean. omega (arith, c.lend.ensures.leaves.survives.clean) in
+    visited_second g.S.Store c.args.conn.now c.lend.new.conn before g.V.PartVisitor.looks c.args.visitor.now c.lend.new.visitor c.lend.result c.lend.ensures.lent
+
+pub returns-clause-second_invalid : goal.returns-clause-second_invalid
+returns-clause-second_invalid g c =
+    let before : HasCleanDisk (state g.S.Store c.lend.new.conn) → HasCleanDisk (state g.S.Store c.args.conn.now) = λ clean. omega (arith, c.lend.ensures.leaves.survives.clean) in
+    not_invalid_second g.S.Store c.args.conn.now c.lend.new.conn before g.V.PartVisitor.looks c.args.visitor.now c.lend.new.visitor c.lend.result c.lend.ensures.lent

@@ -5,7 +5,7 @@ use Rattle.sqlite.specs.Held.{state}
 use Rattle.sqlite_value.specs.Order.{Row}
 use Rattle.shop_statements.proofs.Kept.{shown_open}
 use Rattle.shop_tables.proofs.ListTexts.{old_totals_selects, old_totals_text}
-use Rattle.shop_tables.proofs.RowsAsShown.{old_totals_shown}
+use Rattle.shop_tables.proofs.RowsAsShown.{old_totals_shown, second_totals_shown}
 use Rattle.shop_tables.proofs.old_totals.has_no_old_totals.Goals as goal
 
 pub returns-in_err-rows-clause-leaves : goal.returns-in_err-rows-clause-leaves
@@ -25,4 +25,9 @@ decides_none answer (row ∷ given) stored is none = (λ yes. absurd (let e = eq
 pub returns-clause-stands : goal.returns-clause-stands
 returns-clause-stands g c clean h =
     let none = old_totals_shown (state g.S.Store c.args.conn.now) (state g.S.Store c.all_rows.new.conn) h c.in_ok-rows.rows.items (c.in_ok-rows.ensures.rows clean) in
+    decides_none c.is_empty.result c.in_ok-rows.rows.items ((state g.S.Store c.args.conn.now).now.trees 15) (c.is_empty.ensures ∙ ap (λ n. n == 0) c.in_ok-rows.rows.ok.0) none
+
+pub returns-clause-second : goal.returns-clause-second
+returns-clause-second g c clean h =
+    let none = second_totals_shown (state g.S.Store c.args.conn.now) (state g.S.Store c.all_rows.new.conn) h c.in_ok-rows.rows.items (c.in_ok-rows.ensures.rows clean) in
     decides_none c.is_empty.result c.in_ok-rows.rows.items ((state g.S.Store c.args.conn.now).now.trees 15) (c.is_empty.ensures ∙ ap (λ n. n == 0) c.in_ok-rows.rows.ok.0) none

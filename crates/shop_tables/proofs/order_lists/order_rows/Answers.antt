@@ -6,10 +6,11 @@ use Rattle.shop_tables.proofs.OrderRows.{lists_first_orders, lists_first_orders_
 use Rattle.shop_tables.proofs.RowsAsShown.{gives, gives_none, first_orders_shown}
 use Rattle.shop_statements.proofs.Reading.{leaves_itself}
 use Rattle.shop_records.specs.Lists.{orders_after}
-use Rattle.shop_statements.specs.Earlier.{earlier_schema}
+use Rattle.shop_statements.specs.Earlier.{earlier_schema, second_schema}
 use Rattle.shop_statements.specs.declared.faults.TableFault.{TableFault}
 use Rattle.shop_tables.specs.Listing.{code_row}
 use Rattle.shop_tables.proofs.EarlierRows.{earlier_first_orders_is, held_given_earlier}
+use Rattle.shop_tables.proofs.SecondRows.{second_first_orders_is, held_given_second}
 use Rattle.shop_tables.proofs.order_lists.order_rows.Goals as goal
 
 pub returns-in_err-limit-clause-gives : goal.returns-in_err-limit-clause-gives
@@ -31,3 +32,10 @@ returns-clause-earlier g c clean b was =
     let new = state g.S.Store c.all_rows.new.conn in
     held_given_earlier {E = TableFault} first_orders_text (Int (pos c.args.most) ∷ []) old new first_orders_selects c.all_rows.ensures.leaves b (λ rows. rows ≡ map code_row (take c.args.most (orders_after b.content None))) (Ok c.in_ok-rows.rows) clean was
     (λ rows has given. lists_first_orders_of old new earlier_schema has.schema _ b.content has.stands.orders c.args.most earlier_first_orders_is rows given) (rw (c.params-to_sql.ensures, c.in_ok-limit.ensures) at (c.in_ok-rows.ensures.rows clean))
+
+pub returns-clause-second : goal.returns-clause-second
+returns-clause-second g c clean b was =
+    let old = state g.S.Store c.args.conn.now in
+    let new = state g.S.Store c.all_rows.new.conn in
+    held_given_second {E = TableFault} first_orders_text (Int (pos c.args.most) ∷ []) old new first_orders_selects c.all_rows.ensures.leaves b (λ rows. rows ≡ map code_row (take c.args.most (orders_after b.content None))) (Ok c.in_ok-rows.rows) clean was
+    (λ rows has given. lists_first_orders_of old new second_schema has.schema _ b.content has.stands.orders c.args.most second_first_orders_is rows given) (rw (c.params-to_sql.ensures, c.in_ok-limit.ensures) at (c.in_ok-rows.ensures.rows clean))

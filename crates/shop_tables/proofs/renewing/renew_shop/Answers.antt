@@ -4,7 +4,7 @@ use Rattle.sqlite.specs.State.{State, HasCleanDisk, Survives}
 use Rattle.sqlite.specs.Held.{state}
 use Rattle.sqlite.specs.Effect.{Database}
 use Rattle.shop_tables.specs.Adopting.{IsAsBefore, LeavesBooks, MakesTables}
-use Rattle.shop_tables.specs.Renewing.{HoldsRenewed, IsRenewed, SeesEarlier, StandsRenewed}
+use Rattle.shop_tables.specs.Renewing.{HoldsRenewed, IsBroughtOn, SeesEarlier, StandsRenewed}
 use Rattle.shop_statements.specs.Earlier.{HoldsEarlier, ShowsEarlier}
 use Rattle.shop_statements.specs.Shown.{Books, HasShopSchema, Holds, Ran, StandsIn, Within}
 use Rattle.shop_tables.proofs.Commits.{begun, failed, stands_in}
@@ -14,22 +14,22 @@ use Rattle.shop_statements.proofs.Steps.{on_err}
 use Rattle.shop_tables.proofs.renewing.renew_shop.Goals as goal
 use Rattle.shop_tables.proofs.renewing.renew_shop.Goals.{After-commit}
 
-pub returns-in_err-renew_tables-clause-as_before : goal.returns-in_err-renew_tables-clause-as_before
-returns-in_err-renew_tables-clause-as_before g c b was =
-    let ends : c.drop-tx.new.self.0 ≡ c.conn-1.given.0 = sym (c.conn-1.given.1 (sym (c.renew_tables.ensures.same_reference ∙ c.transaction-tx.ensures.same_reference))) in
-    let done = state g.S.Store c.renew_tables.new.tx.conn.now in
+pub returns-in_err-bring_on-clause-as_before : goal.returns-in_err-bring_on-clause-as_before
+returns-in_err-bring_on-clause-as_before g c b was =
+    let ends : c.drop-tx.new.self.0 ≡ c.conn-1.given.0 = sym (c.conn-1.given.1 (sym (c.bring_on.ensures.same_reference ∙ c.transaction-tx.ensures.same_reference))) in
+    let done = state g.S.Store c.bring_on.new.tx.conn.now in
     let last = state g.S.Store c.drop-tx.new.self.0 in
-    let within = subst (λ h. Within (state g.S.Store h) done) c.transaction-tx.ensures.begun c.renew_tables.ensures.within in
+    let within = subst (λ h. Within (state g.S.Store h) done) c.transaction-tx.ensures.begun c.bring_on.ensures.within in
     let late : HasCleanDisk last → HasCleanDisk done = λ clean. let s = c.drop-tx.ensures.survives.clean in omega (arith, s, clean) in
     on_err _ (subst (λ h. HoldsEarlier (state g.S.Store h) b) ends (undone_earlier g.S.Store c.args.conn.now b was done last late within c.drop-tx.ensures.undone))
 
-pub returns-in_err-renew_tables-clause-undone : goal.returns-in_err-renew_tables-clause-undone
-returns-in_err-renew_tables-clause-undone g c =
+pub returns-in_err-bring_on-clause-undone : goal.returns-in_err-bring_on-clause-undone
+returns-in_err-bring_on-clause-undone g c =
     let settled = c.is_autocommit-outside.ensures.settled (c.is_autocommit-outside.ensures.value ∙ ap not c.requires.outside) in
-    let ends : c.drop-tx.new.self.0 ≡ c.conn-1.given.0 = sym (c.conn-1.given.1 (sym (c.renew_tables.ensures.same_reference ∙ c.transaction-tx.ensures.same_reference))) in
-    let done = state g.S.Store c.renew_tables.new.tx.conn.now in
+    let ends : c.drop-tx.new.self.0 ≡ c.conn-1.given.0 = sym (c.conn-1.given.1 (sym (c.bring_on.ensures.same_reference ∙ c.transaction-tx.ensures.same_reference))) in
+    let done = state g.S.Store c.bring_on.new.tx.conn.now in
     let last = state g.S.Store c.drop-tx.new.self.0 in
-    let within = subst (λ h. Within (state g.S.Store h) done) c.transaction-tx.ensures.begun c.renew_tables.ensures.within in
+    let within = subst (λ h. Within (state g.S.Store h) done) c.transaction-tx.ensures.begun c.bring_on.ensures.within in
     let late : HasCleanDisk last → HasCleanDisk done = λ clean. let s = c.drop-tx.ensures.survives.clean in omega (arith, s, clean) in
     on_err _ (subst (λ h. IsAsBefore (state g.S.Store c.args.conn.now) (state g.S.Store h)) ends (goes_back_as g.S.Store c.args.conn.now done last late settled within c.drop-tx.ensures.undone))
 
@@ -37,61 +37,61 @@ returns-in_err-renew_tables-clause-undone g c =
 
 module _ (g : _) (c : After-commit g) where
   abbrev done : State
-  done = state g.S.Store c.renew_tables.new.tx.conn.now
+  done = state g.S.Store c.bring_on.new.tx.conn.now
 
   abbrev last : State
   last = state g.S.Store c.commit.new.self.0
 
   within : Within (begun g.S.Store c.args.conn.now) done
-  within = subst (λ h. Within (state g.S.Store h) done) c.transaction-tx.ensures.begun c.renew_tables.ensures.within
+  within = subst (λ h. Within (state g.S.Store h) done) c.transaction-tx.ensures.begun c.bring_on.ensures.within
 
   renewed : (b : Books) → HoldsEarlier (state g.S.Store c.args.conn.now) b → MakesTables (begun g.S.Store c.args.conn.now) done b
-  renewed b was = subst (λ h. (HasCleanDisk (state g.S.Store h) → IsTrue (state g.S.Store h).is_open → ShowsEarlier (state g.S.Store h) b) → MakesTables (state g.S.Store h) done b) c.transaction-tx.ensures.begun (c.in_ok-renew_tables.ensures.renewed b) (begins g.S.Store c.args.conn.now b was)
+  renewed b was = subst (λ h. (HasCleanDisk (state g.S.Store h) → IsTrue (state g.S.Store h).is_open → ShowsEarlier (state g.S.Store h) b) → MakesTables (state g.S.Store h) done b) c.transaction-tx.ensures.begun (c.in_ok-bring_on.ensures.renewed b) (begins g.S.Store c.args.conn.now b was)
 
   late : HasCleanDisk last → HasCleanDisk done
   late clean = let s = c.commit.ensures.survives.clean in omega (arith, s, clean)
 
   ran : Ran (begun g.S.Store c.args.conn.now) done
-  ran = subst (λ h. Ran (state g.S.Store h) done) c.transaction-tx.ensures.begun c.in_ok-renew_tables.ensures.ran
+  ran = subst (λ h. Ran (state g.S.Store h) done) c.transaction-tx.ensures.begun c.in_ok-bring_on.ensures.ran
 
-  made : SeesEarlier (state g.S.Store c.args.conn.now) → HasCleanDisk done → IsRenewed (state g.S.Store c.args.conn.now).now done.now
-  made sees = subst (λ h. SeesEarlier (state g.S.Store h) → HasCleanDisk done → IsRenewed (state g.S.Store h).now done.now) c.transaction-tx.ensures.begun c.in_ok-renew_tables.ensures.beside (λ clean up. sees clean up)
+  made : SeesEarlier (state g.S.Store c.args.conn.now) → HasCleanDisk done → IsBroughtOn (state g.S.Store c.args.conn.now).now done.now
+  made sees = subst (λ h. SeesEarlier (state g.S.Store h) → HasCleanDisk done → IsBroughtOn (state g.S.Store h).now done.now) c.transaction-tx.ensures.begun c.in_ok-bring_on.ensures.beside (λ clean up. sees clean up)
 
 pub returns-in_err-commit-clause-as_before : goal.returns-in_err-commit-clause-as_before
 returns-in_err-commit-clause-as_before g c b was =
     let a = (goal.at.returns-in_err-commit-clause-as_before g c).After-commit in
-    let ends : c.commit.new.self.0 ≡ c.conn-2-1.given.0 = sym (c.conn-2-1.given.1 (sym (c.renew_tables.ensures.same_reference ∙ c.transaction-tx.ensures.same_reference))) in
+    let ends : c.commit.new.self.0 ≡ c.conn-2-1.given.0 = sym (c.conn-2-1.given.1 (sym (c.bring_on.ensures.same_reference ∙ c.transaction-tx.ensures.same_reference))) in
     on_err _ (subst (λ h. HoldsEarlier (state g.S.Store h) b) ends
     (undone_earlier g.S.Store c.args.conn.now b was (done g a) (last g a) (late g a) (within g a) (tables_undone g.S.Store c.args.conn.now b (done g a) (last g a) (late g a) (renewed g a b was) _ c.in_err-commit.ensures.err)))
 
 pub returns-in_err-commit-clause-crash : goal.returns-in_err-commit-clause-crash
 returns-in_err-commit-clause-crash g c b was =
     let a = (goal.at.returns-in_err-commit-clause-crash g c).After-commit in
-    let ends : c.commit.new.self.0 ≡ c.conn-2-1.given.0 = sym (c.conn-2-1.given.1 (sym (c.renew_tables.ensures.same_reference ∙ c.transaction-tx.ensures.same_reference))) in
+    let ends : c.commit.new.self.0 ≡ c.conn-2-1.given.0 = sym (c.conn-2-1.given.1 (sym (c.bring_on.ensures.same_reference ∙ c.transaction-tx.ensures.same_reference))) in
     subst (λ h. Survives (state g.S.Store c.args.conn.now) (state g.S.Store h) (λ db. StandsIn db b)) ends (tables_survive g.S.Store c.args.conn.now b (done g a) (last g a) (late g a) (renewed g a b was) (within g a) c.commit.ensures.survives)
 
 pub returns-clause-crash : goal.returns-clause-crash
 returns-clause-crash g c b was =
     let a = (goal.at.returns-clause-crash g c).After-commit in
-    let ends : c.commit.new.self.0 ≡ c.conn-2-1.given.0 = sym (c.conn-2-1.given.1 (sym (c.renew_tables.ensures.same_reference ∙ c.transaction-tx.ensures.same_reference))) in
+    let ends : c.commit.new.self.0 ≡ c.conn-2-1.given.0 = sym (c.conn-2-1.given.1 (sym (c.bring_on.ensures.same_reference ∙ c.transaction-tx.ensures.same_reference))) in
     subst (λ h. Survives (state g.S.Store c.args.conn.now) (state g.S.Store h) (λ db. StandsIn db b)) ends (tables_survive g.S.Store c.args.conn.now b (done g a) (last g a) (late g a) (renewed g a b was) (within g a) c.commit.ensures.survives)
 
 pub returns-clause-renewed : goal.returns-clause-renewed
 returns-clause-renewed g c b was =
     let a = (goal.at.returns-clause-renewed g c).After-commit in
-    let ends : c.commit.new.self.0 ≡ c.conn-2-1.given.0 = sym (c.conn-2-1.given.1 (sym (c.renew_tables.ensures.same_reference ∙ c.transaction-tx.ensures.same_reference))) in
+    let ends : c.commit.new.self.0 ≡ c.conn-2-1.given.0 = sym (c.conn-2-1.given.1 (sym (c.bring_on.ensures.same_reference ∙ c.transaction-tx.ensures.same_reference))) in
     subst (λ h. Holds (state g.S.Store h) b) ends (tables_committed g.S.Store c.args.conn.now b (done g a) (last g a) (late g a) (renewed g a b was) (λ clean. (c.in_ok-commit.ensures.ok clean).1))
 
 pub returns-clause-schema : goal.returns-clause-schema
 returns-clause-schema g c b was =
     let a = (goal.at.returns-clause-schema g c).After-commit in
-    let ends : c.commit.new.self.0 ≡ c.conn-2-1.given.0 = sym (c.conn-2-1.given.1 (sym (c.renew_tables.ensures.same_reference ∙ c.transaction-tx.ensures.same_reference))) in
+    let ends : c.commit.new.self.0 ≡ c.conn-2-1.given.0 = sym (c.conn-2-1.given.1 (sym (c.bring_on.ensures.same_reference ∙ c.transaction-tx.ensures.same_reference))) in
     subst (λ h. HasShopSchema (state g.S.Store h)) ends (tables_schema g.S.Store c.args.conn.now b (done g a) (last g a) (late g a) (renewed g a b was) (λ clean. (c.in_ok-commit.ensures.ok clean).1))
 
 pub returns-clause-after : goal.returns-clause-after
 returns-clause-after g c b was =
     let a = (goal.at.returns-clause-after g c).After-commit in
-    let ends : c.commit.new.self.0 ≡ c.conn-2-1.given.0 = sym (c.conn-2-1.given.1 (sym (c.renew_tables.ensures.same_reference ∙ c.transaction-tx.ensures.same_reference))) in
+    let ends : c.commit.new.self.0 ≡ c.conn-2-1.given.0 = sym (c.conn-2-1.given.1 (sym (c.bring_on.ensures.same_reference ∙ c.transaction-tx.ensures.same_reference))) in
     subst (λ h. LeavesBooks (state g.S.Store h) b) ends
     (λ clean db left.
     let e = (c.in_ok-commit.ensures.ok clean).1 in
@@ -103,27 +103,27 @@ pub returns-in_err-commit-clause-undone : goal.returns-in_err-commit-clause-undo
 returns-in_err-commit-clause-undone g c =
     let settled = c.is_autocommit-outside.ensures.settled (c.is_autocommit-outside.ensures.value ∙ ap not c.requires.outside) in
     let a = (goal.at.returns-in_err-commit-clause-undone g c).After-commit in
-    let ends : c.commit.new.self.0 ≡ c.conn-2-1.given.0 = sym (c.conn-2-1.given.1 (sym (c.renew_tables.ensures.same_reference ∙ c.transaction-tx.ensures.same_reference))) in
+    let ends : c.commit.new.self.0 ≡ c.conn-2-1.given.0 = sym (c.conn-2-1.given.1 (sym (c.bring_on.ensures.same_reference ∙ c.transaction-tx.ensures.same_reference))) in
     on_err _ (subst (λ h. IsAsBefore (state g.S.Store c.args.conn.now) (state g.S.Store h)) ends
     (goes_back_as g.S.Store c.args.conn.now (done g a) (last g a) (late g a) settled (within g a) (failed g.S.Store c.args.conn.now (done g a) (last g a) (late g a) (ran g a) _ c.in_err-commit.ensures.err)))
 
 pub returns-in_err-commit-clause-beside_crash : goal.returns-in_err-commit-clause-beside_crash
 returns-in_err-commit-clause-beside_crash g c sees =
     let a = (goal.at.returns-in_err-commit-clause-beside_crash g c).After-commit in
-    let ends : c.commit.new.self.0 ≡ c.conn-2-1.given.0 = sym (c.conn-2-1.given.1 (sym (c.renew_tables.ensures.same_reference ∙ c.transaction-tx.ensures.same_reference))) in
+    let ends : c.commit.new.self.0 ≡ c.conn-2-1.given.0 = sym (c.conn-2-1.given.1 (sym (c.bring_on.ensures.same_reference ∙ c.transaction-tx.ensures.same_reference))) in
     subst (λ h. Survives (state g.S.Store c.args.conn.now) (state g.S.Store h) (StandsRenewed (state g.S.Store c.args.conn.now))) ends
-    (made_survives g.S.Store c.args.conn.now (done g a) (last g a) (late g a) IsRenewed (made g a sees) (λ clean. ((ran g a).on clean refl).0) (within g a) c.commit.ensures.survives)
+    (made_survives g.S.Store c.args.conn.now (done g a) (last g a) (late g a) IsBroughtOn (made g a sees) (λ clean. ((ran g a).on clean refl).0) (within g a) c.commit.ensures.survives)
 
 pub returns-clause-beside_crash : goal.returns-clause-beside_crash
 returns-clause-beside_crash g c sees =
     let a = (goal.at.returns-clause-beside_crash g c).After-commit in
-    let ends : c.commit.new.self.0 ≡ c.conn-2-1.given.0 = sym (c.conn-2-1.given.1 (sym (c.renew_tables.ensures.same_reference ∙ c.transaction-tx.ensures.same_reference))) in
+    let ends : c.commit.new.self.0 ≡ c.conn-2-1.given.0 = sym (c.conn-2-1.given.1 (sym (c.bring_on.ensures.same_reference ∙ c.transaction-tx.ensures.same_reference))) in
     subst (λ h. Survives (state g.S.Store c.args.conn.now) (state g.S.Store h) (StandsRenewed (state g.S.Store c.args.conn.now))) ends
-    (made_survives g.S.Store c.args.conn.now (done g a) (last g a) (late g a) IsRenewed (made g a sees) (λ clean. ((ran g a).on clean refl).0) (within g a) c.commit.ensures.survives)
+    (made_survives g.S.Store c.args.conn.now (done g a) (last g a) (late g a) IsBroughtOn (made g a sees) (λ clean. ((ran g a).on clean refl).0) (within g a) c.commit.ensures.survives)
 
 pub returns-clause-beside : goal.returns-clause-beside
 returns-clause-beside g c sees =
     let a = (goal.at.returns-clause-beside g c).After-commit in
-    let ends : c.commit.new.self.0 ≡ c.conn-2-1.given.0 = sym (c.conn-2-1.given.1 (sym (c.renew_tables.ensures.same_reference ∙ c.transaction-tx.ensures.same_reference))) in
+    let ends : c.commit.new.self.0 ≡ c.conn-2-1.given.0 = sym (c.conn-2-1.given.1 (sym (c.bring_on.ensures.same_reference ∙ c.transaction-tx.ensures.same_reference))) in
     subst (λ h. HoldsRenewed (state g.S.Store c.args.conn.now) (state g.S.Store h)) ends
-    (made_committed g.S.Store c.args.conn.now (done g a) (last g a) (late g a) IsRenewed (made g a sees) (λ clean. ((ran g a).on clean refl).0) (g.met.S.Store.settled (c.commit.new.self.0).store) (λ clean. (c.in_ok-commit.ensures.ok clean).1))
+    (made_committed g.S.Store c.args.conn.now (done g a) (last g a) (late g a) IsBroughtOn (made g a sees) (λ clean. ((ran g a).on clean refl).0) (g.met.S.Store.settled (c.commit.new.self.0).store) (λ clean. (c.in_ok-commit.ensures.ok clean).1))

@@ -1,5 +1,6 @@
 use Rattle.shop_tables.proofs.Lays.{totals2_added}
 use Rattle.shop_tables.proofs.Renewed.{totals_cleared, totals_copied, version_set}
+use Rattle.shop_tables.proofs.Extended.{last_version_set}
 use Rattle.shop_tables.proofs.renewing.steps_renew_tables.Goals as goal
 
 pub returns : goal.returns
@@ -8,4 +9,5 @@ returns g c = record {
   copy = totals_copied g.S.Store;
   clear = totals_cleared g.S.Store;
   version = version_set g.S.Store;
+  last = last_version_set g.S.Store;
 }

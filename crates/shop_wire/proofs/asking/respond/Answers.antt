@@ -1,9 +1,9 @@
 use Rattle.std.proofs.Common.{sym, subst}
 use Rattle.shop_desk.proofs.Blame.{up_reply}
 use Rattle.shop_request.specs.Requests.{asking}
-use Rattle.shop_wire.specs.Serves.{HasServedInput}
+use Rattle.shop_wire.specs.Serves.{HasServedInput, IsInputHandledAt, parse_message}
 use Rattle.shop_wire.specs.Tellings.{telling_of}
-use Rattle.shop_wire.proofs.Acted.{asked_served, ticket_served, yield_served}
+use Rattle.shop_wire.proofs.Acted.{asked_served, else_timed, ticket_served, yield_served}
 use Rattle.shop_wire.proofs.asking.respond.Goals as goal
 
 pub returns-in-Message-clause-served : goal.returns-in-Message-clause-served
@@ -35,3 +35,22 @@ returns-in_default-clause-served g c = λ clean_disk m held sound.
 
 pub returns-in_default-clause-failures : goal.returns-in_default-clause-failures
 returns-in_default-clause-failures g c = up_reply (g.B.Book.failed c.args.book.now) (g.B.Book.failed c.ask_reply.new.book) c.ask_reply.result c.ask_reply.ensures.keeps.failures
+
+pub returns-in-Message-clause-timed : goal.returns-in-Message-clause-timed
+returns-in-Message-clause-timed g c = λ clean_disk m held sound.
+    subst (λ r. IsInputHandledAt g.B.Book c.message_told.new.book c.args.at m (parse_message (asking r c.args.text.now))) (sym c.in-Message.is) (c.message_told.ensures.timed clean_disk m held sound)
+
+pub returns-in-Plans-clause-timed : goal.returns-in-Plans-clause-timed
+returns-in-Plans-clause-timed g c = λ clean_disk m held sound.
+    subst (λ r. IsInputHandledAt g.B.Book c.body_told.new.book c.args.at m (parse_message (asking r c.args.text.now))) (sym c.in-Plans.is) tt
+
+pub returns-in-Ticket-clause-timed : goal.returns-in-Ticket-clause-timed
+returns-in-Ticket-clause-timed g c = λ clean_disk m held sound.
+    subst (λ r. IsInputHandledAt g.B.Book c.ticket_told.new.book c.args.at m (parse_message (asking r c.args.text.now))) (sym c.in-Ticket.is) tt
+
+pub returns-in-Yield-clause-timed : goal.returns-in-Yield-clause-timed
+returns-in-Yield-clause-timed g c = λ clean_disk m held sound.
+    subst (λ r. IsInputHandledAt g.B.Book c.yield_told.new.book c.args.at m (parse_message (asking r c.args.text.now))) (sym c.in-Yield.is) tt
+
+pub returns-in_default-clause-timed : goal.returns-in_default-clause-timed
+returns-in_default-clause-timed g c = λ clean_disk m held sound. else_timed g.B.Book c.args.book.now c.ask_reply.new.book m c.args.at c.args.route c.args.text.now c.in_default.not-Message

@@ -1,5 +1,6 @@
-use Rattle.std.proofs.Common.{ap}
+use Rattle.std.proofs.Common.{ap, sym, subst}
 use Rattle.shop_request.specs.Requests.{parse_of}
+use Rattle.shop_wire.specs.Serves.{HandlesInputAt}
 use Rattle.shop_wire.proofs.Written.{silent_told, fault_ok, fault_err}
 use Rattle.shop_wire.proofs.serving.answer_inbound.Goals as goal
 
@@ -16,3 +17,9 @@ pub returns-in-Faulty-clause-err : goal.returns-in-Faulty-clause-err
 returns-in-Faulty-clause-err g c =
     fault_err g.B.Book c.args.book.now (g.W.Sink.held c.args.sink.now) (g.W.Sink.held c.answer_fault.new.sink) c.in-Faulty.fault (parse_of c.args.inbound.now) (ap parse_of c.in-Faulty.is)
     c.answer_fault.result c.answer_fault.ensures.err
+
+pub returns-in-Silence-clause-timed : goal.returns-in-Silence-clause-timed
+returns-in-Silence-clause-timed g c = subst (HandlesInputAt g.B.Book c.args.book.now c.args.book.now c.args.at) (sym (ap parse_of c.in-Silence.is)) (λ clean_disk m held sound. tt)
+
+pub returns-in-Faulty-clause-timed : goal.returns-in-Faulty-clause-timed
+returns-in-Faulty-clause-timed g c = subst (HandlesInputAt g.B.Book c.args.book.now c.args.book.now c.args.at) (sym (ap parse_of c.in-Faulty.is)) (λ clean_disk m held sound. tt)

@@ -1,21 +1,25 @@
-use Rattle.std.proofs.Common.{List, sym, ap, subst}
+use Rattle.std.proofs.Common.{rules, ◌≡◌, List, sym, ap, subst}
 use Rattle.std.specs.Prelude.{IsTrue}
 use Rattle.std.specs.FinMap.{from_sorted, is_sorted}
 use Rattle.cut_measure.specs.Codes.{code_cmp}
 use Rattle.shop_records.specs.Content.{pair_cmp}
 use Rattle.shop_records.specs.declared.imports.ImportRow.{ImportRow}
 use Rattle.shop_records.specs.declared.texts.Pair.{Pair}
+use Rattle.shop_records.specs.declared.journal.Entry.{Entry}
+use Rattle.std.specs.Ordering.{nat_cmp}
 use Rattle.shop_records.specs.declared.texts.Kept.{Kept}
-use Rattle.shop_rows.specs.Keys.{import_key}
+use Rattle.shop_rows.specs.Keys.{entry_key, import_key}
 use Rattle.shop_rows.specs.Rows.{map_of, rise}
 use Rattle.shop_book.proofs.mem_storage.MemStorage.copy.Goals as goal
 
 pub invariant_of-result : goal.invariant_of-result
 invariant_of-result c =
     let old = c.args.self.now in
+    let entries : c.in_ok-entries.entries.items ≡ old.entries.items = search rules in
     record {
       kept_rise = subst (λ (es : List (Pair × Kept)). IsTrue (is_sorted pair_cmp es)) (sym c.in_ok-kept.ensures) old.kept_rise;
       imports_rise = subst (λ (rows : List ImportRow). IsTrue (rise import_key code_cmp rows)) (sym c.in_ok-imports.ensures) old.imports_rise;
+      entries_rise = subst (λ (rows : List Entry). IsTrue (rise entry_key nat_cmp rows)) (sym entries) old.entries_rise;
     }
 
 pub returns-clause-kept : goal.returns-clause-kept
@@ -23,3 +27,8 @@ returns-clause-kept c = ap (λ (es : List (Pair × Kept)). from_sorted {R = pair
 
 pub returns-clause-imports : goal.returns-clause-imports
 returns-clause-imports c = ap (map_of import_key code_cmp) c.in_ok-imports.ensures
+
+pub returns-clause-entries : goal.returns-clause-entries
+returns-clause-entries c =
+    let same : c.in_ok-entries.entries.items ≡ c.args.self.now.entries.items = search rules in
+    ap (map_of entry_key nat_cmp) same

@@ -16,4 +16,4 @@ returns-clause-rising g c clean b was =
     IfOk-weaker c.demand_rows_from.result _ _ (λ rows up. let keyed = keyed_either (state g.S.Store c.args.conn.now) b before up was in values_rise nat_cmp nat_cmp_total nat_cmp-IsAntisymmetric demand_key b.content.demands keyed.demands) (c.demand_rows_from.ensures.was_open clean)
 
 pub returns-clause-rows : goal.returns-clause-rows
-returns-clause-rows g c clean b was = either was (c.demand_rows_from.ensures.rows clean b) (c.demand_rows_from.ensures.earlier clean b)
+returns-clause-rows g c clean b was = either was (c.demand_rows_from.ensures.rows clean b) (c.demand_rows_from.ensures.second clean b) (c.demand_rows_from.ensures.earlier clean b)

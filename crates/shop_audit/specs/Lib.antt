@@ -1,0 +1,4 @@
+pub mod Whole
+pub mod Compared
+pub mod Lines
+pub mod Rows

@@ -1,0 +1,32 @@
+-- How a row is told by its table and its key.
+use Rattle.std.specs.Prelude.{List, ℕ, ◌++◌, codes}
+use Rattle.std.specs.Fmt.{decimal}
+use Rattle.shop_audit.specs.declared.rows.Row.{Row}
+use Rattle.shop_audit.specs.declared.rows.Row.TheVariants.{Demand, Import, OtherImport, Job, Journal, Kept, Material, LastAct, LastDemand, Order, Part}
+
+abbrev pub row_table : Row → List ℕ
+row_table (Demand number) = codes "demands"
+row_table (Import order) = codes "imports"
+row_table OtherImport = codes "imports"
+row_table (Job number) = codes "jobs"
+row_table (Journal number) = codes "journal"
+row_table (Kept pair) = codes "kept"
+row_table (Material code) = codes "materials"
+row_table LastAct = codes "meta"
+row_table LastDemand = codes "meta"
+row_table (Order code) = codes "orders"
+row_table (Part name) = codes "parts"
+
+-- its columns are joined by `/`
+abbrev pub row_key : Row → List ℕ
+row_key (Demand number) = decimal number
+row_key (Import order) = order
+row_key OtherImport = codes "an order that isn't there"
+row_key (Job number) = decimal number
+row_key (Journal number) = decimal number
+row_key (Kept pair) = decimal pair.terminal ++ codes "/" ++ decimal pair.number
+row_key (Material code) = code
+row_key LastAct = codes "act"
+row_key LastDemand = codes "demand"
+row_key (Order code) = code
+row_key (Part name) = decimal name.act ++ codes "/" ++ decimal name.node

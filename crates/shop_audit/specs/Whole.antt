@@ -1,0 +1,36 @@
+-- When a content is whole, and when a book holds what messages gave it that were done anew.
+use Rattle.std.specs.Prelude.{◌≡◌, ℕ, List, Some, length}
+use Rattle.shop_records.specs.Messages.{Texts}
+use Rattle.shop_records.specs.Content.{Content, entry_at, kept_at}
+use Rattle.shop_records.specs.Soundness.{IsSound}
+use Rattle.shop_records.specs.declared.journal.Entry.{Entry as EntryRow}
+use Rattle.shop_records.specs.declared.texts.Kept.{Kept}
+use Rattle.shop_records.specs.declared.texts.Pair.{Pair}
+use Rattle.shop_machine.specs.History.{Entry, GivesAll, entered_pairs, pairs_of}
+use Rattle.shop_book.specs.declared.books.Book.{Ghosts}
+
+-- A content is whole where a history gives it of which no entry was forgotten, so that the messages of its entries, in their
+-- order, are that history's: both are told here from the newest on.
+pub record IsWhole (texts : Texts) (content : Content) : Type 0 where
+  pub history : List Entry
+  pub gives : GivesAll texts history content
+  pub entries : pairs_of history ≡ entered_pairs content
+
+-- a history gives the content, and no entry of it was forgotten
+pub record IsGiven (texts : Texts) (content : Content) : Type 0 where
+  pub history : List Entry
+  pub gives : GivesAll texts history content
+  pub sound : IsSound texts content
+
+-- the entries of a content, and what it keeps of messages, are in another one
+pub record IsWithin (one other : Content) : Type 0 where
+  pub entries : (number : ℕ) (entry : EntryRow) → entry_at one number ≡ Some entry → entry_at other number ≡ Some entry
+  pub kept : (pair : Pair) (row : Kept) → kept_at one pair ≡ Some row → kept_at other pair ≡ Some row
+
+-- the book holds a content that a history of so many messages gives, whose entries and what it keeps of them are in this one
+pub record HoldsPart {F : Type 0} (texts : Texts) (book : Ghosts F) (whole : Content) (held : F) (count : ℕ) : Type 0 where
+  pub content : Content
+  pub given : IsGiven texts content
+  pub many : length given.history ≡ count
+  pub within : IsWithin content whole
+  pub holds : book.holds held content

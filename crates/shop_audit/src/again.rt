@@ -1,0 +1,278 @@
+//! The messages of the entries are done anew, and what comes of each is compared with what is kept.
+
+ghost use Rattle.std.specs.Prelude.{◌≡◌, ℕ, ◌+◌, IfOk, None, Some, true};
+ghost use Rattle.shop_records.specs.Content.{Content, entry_at, fresh, kept_at};
+ghost use Rattle.shop_records.specs.Messages.{pair_of, refusal_in};
+ghost use Rattle.shop_forms.specs.Forms.{json_texts};
+ghost use Rattle.shop_book.specs.Equal.{same_entry};
+ghost use Rattle.shop_book.specs.Kept.{OnContent};
+ghost use Rattle.shop_audit.specs.Compared.{IsLookedAt};
+ghost use Rattle.shop_audit.specs.Whole.{HoldsPart};
+ghost use Rattle.shop_audit.specs.declared.again.Again.TheVariants.{Same as AllSame};
+ghost use Rattle.shop_audit.specs.declared.again.Found.TheVariants.{Same};
+
+use shop_book::{Book, BookFault};
+use shop_desk::handle_with_text_at;
+use shop_messages::kept_message;
+use shop_records::{Entry, Kept, Message, Refusal, Reply, Text};
+use shop_replies::reply_text;
+use std::alloc::{AllocError, Global};
+
+/// What came of one message that was done anew.
+#[derive(Clone, Copy)]
+enum Found {
+    /// It isn't accepted, as no repeat, with the reply that is kept.
+    Other,
+    /// It is; the entry or what is kept of it differs.
+    Differs,
+    /// The entry and what is kept of it are the same, too.
+    Same,
+}
+
+/// What came of all messages that were done anew.
+#[derive(Clone, Copy)]
+pub(crate) enum Again {
+    /// The message of this entry is the first that isn't accepted with the reply that is kept.
+    Other(u64),
+    /// All are; an entry or what is kept of one differs.
+    Differ,
+    /// The entries and what is kept of them are the same, too.
+    Same,
+}
+
+// Why a message was refused, if it was.
+fn refusal_of(reply: &Reply) -> Option<Refusal>
+    ensures { result ≡ refusal_in reply.now }
+{
+    match reply {
+        Reply::Refused(refusal) => Some(*refusal),
+        _ => None,
+    }
+}
+
+// Whether this is the text of a reply, which may have been written.
+fn is_text_of(
+    alloc: Global,
+    reply: &Reply,
+    written: Option<Text>,
+    text: &Text,
+) -> Result<bool, AllocError> {
+    let told = match written {
+        Some(told) => told,
+        None => reply_text(alloc, reply)?,
+    };
+    Ok(told.as_str() == text.as_str())
+}
+
+// Whether a message was accepted with a reply of this text. The reply's own text may have been written.
+fn is_told(
+    alloc: Global,
+    reply: &Reply,
+    written: Option<Text>,
+    text: &Text,
+) -> Result<bool, BookFault>
+    ensures { IfOk result (λ same. same ≡ true → refusal_in reply.now ≡ None) }
+{
+    match refusal_of(reply) {
+        Some(Refusal::NoMemory) => Err(BookFault::NoMemory),
+        Some(_) => Ok(false),
+        None => {
+            let same = is_text_of(alloc, reply, written, text)?;
+            Ok(same)
+        }
+    }
+}
+
+// Whether nothing is kept of a message yet.
+fn is_new<F: Book>(alloc: Global, anew: &mut F, message: &Message) -> Result<bool, BookFault>
+    ensures given { F.has_clean_disk anew.new → (c : Content) → F.holds anew.old c
+        → F.holds anew.new c × IfOk result (λ new. new ≡ true → kept_at c (pair_of message.now) ≡ None) }
+    ensures clean_disk { F.has_clean_disk anew.new → F.has_clean_disk anew.old }
+{
+    let kept = anew.kept(alloc, message.terminal, message.number)?;
+    Ok(kept.is_none())
+}
+
+fn is_same_entry(a: &Entry, b: &Entry) -> bool
+    ensures { result ≡ same_entry a.now b.now }
+{
+    a.number == b.number
+        && a.pair == b.pair
+        && a.at == b.at
+        && a.word.name() == b.word.name()
+        && a.act == b.act
+        && a.job == b.job
+        && a.order == b.order
+        && a.part == b.part
+}
+
+// Whether this entry was found.
+fn is_entry(found: &Option<Entry>, entry: &Entry) -> bool
+    ensures { result ≡ true → found.now ≡ Some entry.now }
+{
+    match found {
+        Some(one) => is_same_entry(one, entry),
+        None => false,
+    }
+}
+
+// Whether this was found of a message.
+fn is_kept(found: &Option<Kept>, kept: &Kept) -> bool
+    ensures { result ≡ true → found.now ≡ Some kept.now }
+{
+    match found {
+        Some(one) => one == kept,
+        None => false,
+    }
+}
+
+// Whether a book has this entry under its number.
+fn has_entry<F: Book>(anew: &mut F, number: u64, entry: &Entry) -> Result<bool, BookFault>
+    ensures same { OnContent F.Book anew.old anew.new
+        (λ c. IfOk result (λ same. same ≡ true → entry_at c number ≡ Some entry.now)) }
+    ensures keeps { IsLookedAt F.Book anew.old anew.new }
+{
+    let found = anew.entry(number)?;
+    Ok(is_entry(&found, entry))
+}
+
+// Whether a book keeps this of the message of an entry.
+fn has_kept<F: Book>(
+    alloc: Global,
+    anew: &mut F,
+    entry: &Entry,
+    kept: &Kept,
+) -> Result<bool, BookFault>
+    ensures same { OnContent F.Book anew.old anew.new
+        (λ c. IfOk result (λ same. same ≡ true → kept_at c entry.now.pair ≡ Some kept.now)) }
+    ensures keeps { IsLookedAt F.Book anew.old anew.new }
+{
+    let found = anew.kept(alloc, entry.pair.terminal, entry.pair.number)?;
+    Ok(is_kept(&found, kept))
+}
+
+// What came of a message that was accepted anew with the reply that is kept.
+fn written<F: Book>(
+    alloc: Global,
+    anew: &mut F,
+    number: u64,
+    entry: &Entry,
+    kept: &Kept,
+) -> Result<Found, BookFault>
+    ensures same { OnContent F.Book anew.old anew.new (λ c. IfOk result (λ found. found ≡ Same
+        → (entry_at c number ≡ Some entry.now) × (kept_at c entry.now.pair ≡ Some kept.now))) }
+    ensures keeps { IsLookedAt F.Book anew.old anew.new }
+{
+    let entered = has_entry(anew, number, entry)?;
+    if !entered {
+        return Ok(Found::Differs);
+    }
+    let told = has_kept(alloc, anew, entry, kept)?;
+    if told {
+        Ok(Found::Same)
+    } else {
+        Ok(Found::Differs)
+    }
+}
+
+// Does the message of an entry anew, of which this is kept.
+fn does_again<F: Book>(
+    alloc: Global,
+    anew: &mut F,
+    message: &Message,
+    number: u64,
+    entry: &Entry,
+    kept: &Kept,
+) -> Result<Found, BookFault>
+    ensures given { F.has_clean_disk anew.new → (m : Content) (count : ℕ) → number ≡ count + 1
+        → entry_at m number ≡ Some entry.now → kept_at m entry.now.pair ≡ Some kept.now
+        → HoldsPart json_texts F.Book m anew.old count
+        → IfOk result (λ found. found ≡ Same → HoldsPart json_texts F.Book m anew.new number) }
+    ensures clean_disk { F.has_clean_disk anew.new → F.has_clean_disk anew.old }
+{
+    let new = is_new(alloc, anew, message)?;
+    if !new {
+        return Ok(Found::Other);
+    }
+    let (reply, text) = handle_with_text_at(alloc, anew, message, entry.at);
+    let told = is_told(alloc, &reply, text, &kept.reply)?;
+    if !told {
+        return Ok(Found::Other);
+    }
+    written(alloc, anew, number, entry, kept)
+}
+
+// Does the message of an entry anew, over the messages of those before.
+fn is_again<B: Book, F: Book>(
+    alloc: Global,
+    book: &mut B,
+    anew: &mut F,
+    number: u64,
+) -> Result<Found, BookFault>
+    ensures given { OnContent B.Book book.old book.new (λ m. F.has_clean_disk anew.new → (count : ℕ)
+        → number ≡ count + 1 → HoldsPart json_texts F.Book m anew.old count
+        → IfOk result (λ found. found ≡ Same → HoldsPart json_texts F.Book m anew.new number)) }
+    ensures clean_disk { F.has_clean_disk anew.new → F.has_clean_disk anew.old }
+    ensures keeps { IsLookedAt B.Book book.old book.new }
+{
+    let Some(entry) = book.entry(number)? else {
+        return Ok(Found::Other);
+    };
+    let Some(kept) = book.kept(alloc, entry.pair.terminal, entry.pair.number)? else {
+        return Ok(Found::Other);
+    };
+    let Some(message) = kept_message(alloc, kept.command.as_str())? else {
+        return Ok(Found::Other);
+    };
+    does_again(alloc, anew, &message, number, &entry, &kept)
+}
+
+// What is known after one more message that was accepted with the reply that is kept.
+fn with_found(same: bool, found: Found) -> bool
+    ensures kept { result ≡ true → same ≡ true }
+    ensures found { result ≡ true → found ≡ Same }
+{
+    match found {
+        Found::Other => false,
+        Found::Differs => false,
+        Found::Same => same,
+    }
+}
+
+// Whether a message isn't accepted with the reply that is kept.
+fn is_other(found: Found) -> bool {
+    match found {
+        Found::Other => true,
+        Found::Differs => false,
+        Found::Same => false,
+    }
+}
+
+/// Does the messages of all entries anew on a fresh book, in their order, each entry with its time.
+pub(crate) fn all_again<B: Book, F: Book>(
+    alloc: Global,
+    book: &mut B,
+    anew: &mut F,
+    entries: u64,
+) -> Result<Again, BookFault>
+    requires { F.holds anew.old fresh }
+    ensures given { OnContent B.Book book.old book.new (λ m. F.has_clean_disk anew.new
+        → IfOk result (λ all. all ≡ AllSame → HoldsPart json_texts F.Book m anew.new entries)) }
+    ensures clean_disk { F.has_clean_disk anew.new → F.has_clean_disk anew.old }
+    ensures keeps { IsLookedAt B.Book book.old book.new }
+{
+    let mut same = true;
+    for before in 0..entries {
+        let number = before + 1;
+        let found = is_again(alloc, book, anew, number)?;
+        if is_other(found) {
+            return Ok(Again::Other(number));
+        }
+        same = with_found(same, found);
+    }
+    if same {
+        Ok(Again::Same)
+    } else {
+        Ok(Again::Differ)
+    }
+}

@@ -1,0 +1,279 @@
+//! Which row two books differ by first, the tables by their names and each by its key.
+
+use crate::rows::Row;
+use cut_measure::{Code, MOST_NUMBERS, PartName};
+use shop_book::{Book, BookFault, Ledger};
+use shop_records::{Entry, Material, Pair};
+use std::alloc::Global;
+use std::cmp::Ordering;
+
+/// More parts than bear the number of an act.
+const MOST_NODES: u32 = 1024;
+
+fn first_demand<B: Book, F: Book>(book: &mut B, anew: &mut F) -> Result<Option<Row>, BookFault> {
+    let behind = book.next_demand()?.max(anew.next_demand()?);
+    for number in 1..behind {
+        if book.demand(number)? != anew.demand(number)? {
+            return Ok(Some(Row::Demand(number)));
+        }
+    }
+    Ok(None)
+}
+
+fn first_job<B: Book, F: Book>(
+    alloc: Global,
+    book: &mut B,
+    anew: &mut F,
+) -> Result<Option<Row>, BookFault> {
+    let behind = book.next_act()?.max(anew.next_act()?);
+    for number in 1..behind {
+        if book.job(alloc, number)? != anew.job(alloc, number)? {
+            return Ok(Some(Row::Job(number)));
+        }
+    }
+    Ok(None)
+}
+
+// The first of the orders of one book of whose import the books don't keep the same.
+fn first_import_of<B: Book, F: Book>(
+    alloc: Global,
+    book: &mut B,
+    anew: &mut F,
+    codes: &[Code],
+) -> Result<Option<Code>, BookFault> {
+    for code in codes {
+        if book.import(alloc, *code)? != anew.import(alloc, *code)? {
+            return Ok(Some(*code));
+        }
+    }
+    Ok(None)
+}
+
+// The one of two codes that stands first.
+fn lesser(one: Option<Code>, other: Option<Code>) -> Option<Code> {
+    match (one, other) {
+        (Some(a), Some(b)) => match a.order(&b) {
+            Ordering::Greater => Some(b),
+            _ => Some(a),
+        },
+        (Some(a), None) => Some(a),
+        (None, found) => found,
+    }
+}
+
+fn first_import<B: Book, F: Book>(
+    alloc: Global,
+    book: &mut B,
+    anew: &mut F,
+) -> Result<Option<Row>, BookFault> {
+    let codes = book.first_orders(alloc, None, usize::MAX)?;
+    let one = first_import_of(alloc, book, anew, codes.as_slice())?;
+    let codes = anew.first_orders(alloc, None, usize::MAX)?;
+    let other = first_import_of(alloc, book, anew, codes.as_slice())?;
+    match lesser(one, other) {
+        Some(code) => Ok(Some(Row::Import(code))),
+        None => Ok(None),
+    }
+}
+
+fn first_entry<B: Book, F: Book>(
+    book: &mut B,
+    anew: &mut F,
+    entries: u64,
+) -> Result<Option<Row>, BookFault> {
+    for before in 0..entries {
+        let number = before + 1;
+        if book.entry(number)? != anew.entry(number)? {
+            return Ok(Some(Row::Journal(number)));
+        }
+    }
+    Ok(None)
+}
+
+// The pair that stands first, of one that was found and of one that may differ.
+fn earlier(found: Option<Pair>, pair: Pair) -> Pair {
+    let Some(least) = found else {
+        return pair;
+    };
+    if least.terminal < pair.terminal {
+        return least;
+    }
+    if least.terminal == pair.terminal && least.number < pair.number {
+        return least;
+    }
+    pair
+}
+
+// Whether the books don't keep the same of an entry's message.
+fn is_kept_otherwise<B: Book, F: Book>(
+    alloc: Global,
+    book: &mut B,
+    anew: &mut F,
+    pair: Pair,
+) -> Result<bool, BookFault> {
+    let one = book.kept(alloc, pair.terminal, pair.number)?;
+    let other = anew.kept(alloc, pair.terminal, pair.number)?;
+    Ok(one != other)
+}
+
+// The message of an entry, where the books don't keep the same of it and it stands before one that was found.
+fn least_kept<B: Book, F: Book>(
+    alloc: Global,
+    book: &mut B,
+    anew: &mut F,
+    found: Option<Pair>,
+    entry: Option<Entry>,
+) -> Result<Option<Pair>, BookFault> {
+    let Some(entry) = entry else {
+        return Ok(found);
+    };
+    if is_kept_otherwise(alloc, book, anew, entry.pair)? {
+        return Ok(Some(earlier(found, entry.pair)));
+    }
+    Ok(found)
+}
+
+fn first_kept<B: Book, F: Book>(
+    alloc: Global,
+    book: &mut B,
+    anew: &mut F,
+    entries: u64,
+) -> Result<Option<Row>, BookFault> {
+    let mut found = None;
+    for before in 0..entries {
+        let entry = anew.entry(before + 1)?;
+        found = least_kept(alloc, book, anew, found, entry)?;
+    }
+    match found {
+        Some(pair) => Ok(Some(Row::Kept(pair))),
+        None => Ok(None),
+    }
+}
+
+// The code of the material of a place in a list, if there is one.
+fn code_at(materials: &[Material], at: usize) -> Option<Code> {
+    match materials.get(at) {
+        Some(material) => Some(material.code),
+        None => None,
+    }
+}
+
+fn first_material<B: Book, F: Book>(
+    alloc: Global,
+    book: &mut B,
+    anew: &mut F,
+) -> Result<Option<Row>, BookFault> {
+    let one = book.materials(alloc)?;
+    let other = anew.materials(alloc)?;
+    let most = one.as_slice().len().max(other.as_slice().len());
+    for at in 0..most {
+        if one.as_slice().get(at) != other.as_slice().get(at) {
+            let first = lesser(code_at(one.as_slice(), at), code_at(other.as_slice(), at));
+            return match first {
+                Some(code) => Ok(Some(Row::Material(code))),
+                None => Ok(None),
+            };
+        }
+    }
+    Ok(None)
+}
+
+fn first_order<B: Book, F: Book>(
+    alloc: Global,
+    book: &mut B,
+    anew: &mut F,
+) -> Result<Option<Row>, BookFault> {
+    let one = book.first_orders(alloc, None, usize::MAX)?;
+    let other = anew.first_orders(alloc, None, usize::MAX)?;
+    let most = one.as_slice().len().max(other.as_slice().len());
+    for at in 0..most {
+        let a = one.as_slice().get(at).copied();
+        let b = other.as_slice().get(at).copied();
+        if a != b {
+            return match lesser(a, b) {
+                Some(code) => Ok(Some(Row::Order(code))),
+                None => Ok(None),
+            };
+        }
+    }
+    Ok(None)
+}
+
+fn first_part_of(one: &Ledger, other: &Ledger, act: u32) -> Option<Row> {
+    if act < 1 {
+        return None;
+    }
+    if act > MOST_NUMBERS {
+        return None;
+    }
+    for node in 0..MOST_NODES {
+        let name = PartName::new(act, node);
+        if one.part(name) != other.part(name) {
+            return Some(Row::Part(name));
+        }
+    }
+    None
+}
+
+fn first_part(one: &Ledger, other: &Ledger, behind: u32) -> Option<Row> {
+    for act in 1..behind {
+        if let Some(row) = first_part_of(one, other, act) {
+            return Some(row);
+        }
+    }
+    None
+}
+
+// The first row of the tables whose names stand before `meta`.
+fn first_before_meta<B: Book, F: Book>(
+    alloc: Global,
+    book: &mut B,
+    anew: &mut F,
+    entries: u64,
+) -> Result<Option<Row>, BookFault> {
+    if let Some(row) = first_demand(book, anew)? {
+        return Ok(Some(row));
+    }
+    if let Some(row) = first_import(alloc, book, anew)? {
+        return Ok(Some(row));
+    }
+    if book.text_counts()?.1 != anew.text_counts()?.1 {
+        return Ok(Some(Row::OtherImport));
+    }
+    if let Some(row) = first_job(alloc, book, anew)? {
+        return Ok(Some(row));
+    }
+    if let Some(row) = first_entry(book, anew, entries)? {
+        return Ok(Some(row));
+    }
+    if let Some(row) = first_kept(alloc, book, anew, entries)? {
+        return Ok(Some(row));
+    }
+    first_material(alloc, book, anew)
+}
+
+/// The first row by which two books with so many entries differ, where their contents do.
+pub fn first_row<B: Book, F: Book>(
+    alloc: Global,
+    book: &mut B,
+    anew: &mut F,
+    entries: u64,
+) -> Result<Row, BookFault> {
+    if let Some(row) = first_before_meta(alloc, book, anew, entries)? {
+        return Ok(row);
+    }
+    if book.next_act()? != anew.next_act()? {
+        return Ok(Row::LastAct);
+    }
+    if book.next_demand()? != anew.next_demand()? {
+        return Ok(Row::LastDemand);
+    }
+    if let Some(row) = first_order(alloc, book, anew)? {
+        return Ok(row);
+    }
+    let behind = book.next_act()?.max(anew.next_act()?);
+    match first_part(book.rows(), anew.rows(), behind) {
+        Some(row) => Ok(row),
+        None => Ok(Row::LastAct),
+    }
+}

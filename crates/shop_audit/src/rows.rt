@@ -1,0 +1,69 @@
+//! The rows by which two books may differ.
+
+ghost use Rattle.std.specs.Prelude.{◌≡◌, ◌++◌, OnOk, string_bytes};
+ghost use Rattle.shop_audit.specs.Rows.{row_key, row_table};
+
+use cut_measure::{Code, PartName};
+use shop_records::Pair;
+use std::alloc::AllocError;
+
+/// A row of a store's tables, by its key.
+#[derive(Clone, Copy, Debug, PartialEq)]
+pub enum Row {
+    Demand(u32),
+    /// The import of this order.
+    Import(Code),
+    /// An import that no order has.
+    OtherImport,
+    Job(u32),
+    /// The entry of this number.
+    Journal(u64),
+    Kept(Pair),
+    Material(Code),
+    /// The last number of an act.
+    LastAct,
+    /// The last number of a demand.
+    LastDemand,
+    Order(Code),
+    Part(PartName),
+}
+
+impl Row {
+    /// The name of its table.
+    pub fn table(&self) -> &'static str
+        ensures { result.now ≡ row_table self.now }
+    {
+        match self {
+            Row::Demand(_) => "demands",
+            Row::Import(_) => "imports",
+            Row::OtherImport => "imports",
+            Row::Job(_) => "jobs",
+            Row::Journal(_) => "journal",
+            Row::Kept(_) => "kept",
+            Row::Material(_) => "materials",
+            Row::LastAct => "meta",
+            Row::LastDemand => "meta",
+            Row::Order(_) => "orders",
+            Row::Part(_) => "parts",
+        }
+    }
+
+    /// Appends its key, the columns of which are joined by `/`.
+    pub fn write_key(self, text: &mut String) -> Result<(), AllocError>
+        ensures { OnOk result (string_bytes text.new ≡ string_bytes text.old ++ row_key self) }
+    {
+        match self {
+            Row::Demand(number) => write!(text, "{number}"),
+            Row::Import(code) => code.write(text),
+            Row::OtherImport => text.push_str("an order that isn't there"),
+            Row::Job(number) => write!(text, "{number}"),
+            Row::Journal(number) => write!(text, "{number}"),
+            Row::Kept(pair) => write!(text, "{}/{}", pair.terminal, pair.number),
+            Row::Material(code) => code.write(text),
+            Row::LastAct => text.push_str("act"),
+            Row::LastDemand => text.push_str("demand"),
+            Row::Order(code) => code.write(text),
+            Row::Part(name) => write!(text, "{}/{}", name.act(), name.node()),
+        }
+    }
+}

@@ -1,0 +1,149 @@
+"""Each key of each message and query: left out, beside another one, and with values of another type or form."""
+
+import json
+
+from kit.case import case
+from kit.lines import over_both, refused
+
+BAD = refused(10, "BadMessage")
+
+NUMBERS = ["-1", "1.0", "1e0", "-0", "4294967296", '"1"', "null", "[1]", "true", "{}"]
+FLAGS = ["0", "1", '"true"', "null", "[]"]
+TEXTS = ["1", "null", '["r"]', "true", "{}"]
+CODES = ["1", "null", '""', '"a"', '"ABCDEFGHIJKLMNOPQ"', '"A B"', '"A_1"', '"\\u00c4"', '"A/1"', '["A"]']
+NAMES = ["1", "null", '""', '"1"', '"/1"', '"1/"', '"0/1"', '"01/1"', '"1/01"', '"1/0 "', '"1/-1"', '"1/0/0"', '["1/0"]']
+NAMES += ['"2147483648/0"', '"1/4294967296"', '"+1/0"']
+LISTS = ["1", "null", "{}", '"1"']
+
+# What a good value is, and what is none.
+NUMBER, FLAG, TEXT, CODE, NAME = ("1", NUMBERS), ("false", FLAGS), ('"r"', TEXTS), ('"A"', CODES), ('"9/9"', NAMES)
+KIND = '"bar"', ['"Bar"', '"rod"', '""', "0", "null", '["bar"]']
+FORM = ['"CSV"', '"pdf"', '""', "0", "null", '["csv"]']
+LIST = "[1]", LISTS + [f"[{it}]" for it in NUMBERS]
+LINE = {"line": NUMBER, "material": CODE, "w": NUMBER, "h": NUMBER, "turn": FLAG, "count": NUMBER, "worth": NUMBER}
+
+
+def written(members):
+    return "{" + ",".join(f'"{key}":{it}' for key, it in members.items()) + "}"
+
+
+def goods(form):
+    return {key: good for key, (good, _) in form.items()}
+
+
+def changed(form):
+    """The members of an object of this form, in each way that it isn't one."""
+    good = goods(form)
+    for key, (_, bad) in form.items():
+        yield {other: it for other, it in good.items() if other != key}
+        yield from ({**good, key: it} for it in bad)
+    yield {**good, "unit": "1"}
+    yield {**good, "": "null"}
+
+
+LINES = f"[{written(goods(LINE))}]", LISTS + ["[1]", "[null]", "[[]]"] + [f"[{written(it)}]" for it in changed(LINE)]
+# (behind a good line)
+LINES[1].append(f"[{written(goods(LINE))},{written({**goods(LINE), 'turn': '0'})}]")
+
+DOES = {
+    "material": {"material": CODE, "kind": KIND, "kerf": NUMBER, "min_long": NUMBER, "min_short": NUMBER},
+    "receive": {"material": CODE, "batch": CODE, "w": NUMBER, "h": NUMBER, "count": NUMBER},
+    "order": {"order": CODE, "lines": LINES},
+    "reserve": {"part": NAME, "tree": TEXT},
+    "done": {"job": NUMBER},
+    "release": {"job": NUMBER},
+    "break": {"job": NUMBER, "cuts": ("1", [it for it in NUMBERS if it != "[1]"]), "lost": ("false", FLAGS)},
+    "scrap": {"part": NAME},
+    "return": {"part": NAME},
+    "import": {"order": CODE, "form": ('"cgcut"', ['"csv"', *FORM]), "text": TEXT, "material": CODE},
+    "amend": {"demand": NUMBER, "wanted": NUMBER},
+}
+ASKS = {
+    "totals": {"material": CODE},
+    "rack": {"material": CODE},
+    "trace": {"part": NAME},
+    "demand": {"demand": NUMBER},
+    "plan": {"part": NAME, "step": NUMBER, "demands": LIST},
+    "bound": {"material": CODE, "w": NUMBER, "h": NUMBER, "step": NUMBER, "demands": LIST},
+    "materials": {},
+    "parts": {"material": CODE, "after": ('"9/9"', [it for it in NAMES if it != '""'])},
+    "demands": {"after": NUMBER},
+    "jobs": {"after": NUMBER},
+    "job": {"job": NUMBER},
+    "terminal": {"terminal": NUMBER},
+    "orders": {"after": ('"A"', [it for it in CODES if it != '""'])},
+    "lines": {"order": CODE},
+}
+PAIR = {"terminal": ("1", ["0", *NUMBERS]), "number": NUMBER}
+
+
+def bad_lines(word, forms, more):
+    for name, form in forms.items():
+        for members in changed({**form, **more}):
+            yield written({word: f'"{name}"', **members})
+
+
+@case(
+    "every key of every message",
+    "Each key of each message left out, with each value of another type or form, and another key beside them: 10.",
+)
+def every_message(trial):
+    bad = list(bad_lines("do", DOES, PAIR))
+    bad += [written({"ask": f'"{name}"', **goods({**form, **PAIR})}) for name, form in DOES.items()]
+    # (a file of lines has no material)
+    bad += [written({"do": '"import"', **goods({**DOES["import"], **PAIR}), "form": '"csv"'})]
+    for it in bad:
+        json.loads(it)
+    over_both(trial, [(it, BAD) for it in bad])
+
+
+@case(
+    "every key of every query",
+    "The same of each query, and of its keys beside those of a message.",
+)
+def every_query(trial):
+    bad = list(bad_lines("ask", ASKS, {}))
+    bad += [written({"do": f'"{name}"', **goods(form)}) for name, form in ASKS.items()]
+    bad += [written({"do": f'"{name}"', **goods({**PAIR, **form})}) for name, form in ASKS.items() if name != "material"]
+    bad += [written({"ask": '"demands"', "after": "0", "material": it}) for it in CODES]
+    for it in bad:
+        json.loads(it)
+    over_both(trial, [(it, BAD) for it in bad])
+
+
+@case(
+    "forms that are good to the letter",
+    "With its good values each message and query is read, and refused for what isn't there or answered: never 10.",
+)
+def good_forms(trial):
+    nothing = {
+        "material": '{"material":"A","ok":"material"}',
+        "receive": '{"act":1,"count":1,"ok":"receive"}',
+        "order": '{"count":1,"first":1,"ok":"order","order":"A"}',
+        "reserve": refused(50, "NoPart"),
+        "done": refused(70, "NoJob"),
+        "release": refused(70, "NoJob"),
+        "break": refused(70, "NoJob"),
+        "scrap": refused(50, "NoPart"),
+        "return": refused(50, "NoPart"),
+        "import": refused(40, "OrderExists"),
+        "amend": '{"demand":1,"ok":"amend","wanted":1}',
+    }
+    steps = []
+    for number, (name, form) in enumerate(DOES.items(), 1):
+        steps.append((written({"do": f'"{name}"', **goods({**form, **PAIR}), "number": str(number)}), nothing[name]))
+    told = {
+        "rack": '{"material":"A","ok":"rack","parts":[]}',
+        "trace": refused(50, "NoPart"),
+        "job": refused(70, "NoJob"),
+        "jobs": '{"jobs":[],"more":false,"ok":"jobs"}',
+        "parts": '{"material":"A","more":false,"ok":"parts","parts":[]}',
+        "demands": '{"demands":[],"more":false,"ok":"demands"}',
+        "orders": '{"more":false,"ok":"orders","orders":[]}',
+        "plan": refused(50, "NoPart"),
+        "bound": '{"best":1,"ok":"bound","units":1}',
+        "terminal": '{"last":11,"ok":"terminal","terminal":1}',
+    }
+    # (the import was refused, and the amend is the last that was kept)
+    steps += [(written({"ask": f'"{name}"', **goods(ASKS[name])}), reply) for name, reply in told.items()]
+    over_both(trial, steps)
