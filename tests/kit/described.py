@@ -209,7 +209,7 @@ def fault_of_answer(method, template, status, kind, allowed, text):
     if kind not in content:
         return f"{method} {template}: {status} has {kind}, and not one of {sorted(content)}"
     judge = of_operation(method, template, status, kind)
-    fault = wrong_with(judge, value_of(text) if kind == "application/json" else text.decode())
+    fault = wrong_with(judge, value_of(text) if kind == "application/json" else text.decode(errors="replace"))
     return fault and f"{method} {template}: {status}: {fault}"
 
 
