@@ -5,7 +5,6 @@
 
 mod cuts;
 mod measures;
-mod orders;
 mod plans;
 mod trees;
 mod wants;
@@ -39,8 +38,6 @@ fn wanted_told(alloc: Global, name: &str, numbers: [u32; 8], text: &str) -> Resu
         "sheet-cuts" => wants::cuts_told(alloc, unit, a, &wants),
         "bar-bound" => wants::bound_told(alloc, Kind::Bar, unit, a, &wants),
         "sheet-bound" => wants::bound_told(alloc, Kind::Sheet, unit, a, &wants),
-        "bar-order" => orders::order_told(alloc, Kind::Bar, unit, a, &wants),
-        "sheet-order" => orders::order_told(alloc, Kind::Sheet, unit, a, &wants),
         "alike" => wants::alike_told(alloc, unit),
         "table" => wants::table_told(alloc),
         "bar-size" => measures::size_told(alloc, Kind::Bar, w, h),

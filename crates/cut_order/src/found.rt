@@ -13,7 +13,7 @@ use crate::question::Question;
 use crate::rests::largest_rest;
 use cut_bound::{CheckFault, CheckedOrder, MOST_UNITS, PlannedUnit, check_order, is_staged};
 use cut_measure::{Axis, MOST_KERF, MOST_NUMBERS, Size};
-use cut_search::search::FoundUnit;
+use cut_search_bars::found::FoundUnit;
 use cut_tree::{MOST_CUTS, Node, Plan};
 use std::alloc::{AllocError, Global};
 

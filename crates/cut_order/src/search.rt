@@ -16,7 +16,8 @@ use crate::seek::search_for;
 use cut_bound::{StockSize, order_fault};
 use cut_measure::{Kind, MOST_KERF};
 use cut_plan::{PlanFault, Want};
-use cut_search::search::{Found, FoundUnit, Search};
+use cut_search::search::Search;
+use cut_search_bars::found::{Found, FoundUnit};
 use std::alloc::{AllocError, Global};
 
 // Prices that are still to be rated.

@@ -4,7 +4,7 @@
 use crate::question::Question;
 use cut_bound::StockSize;
 use cut_search::search::Search;
-use cut_search::stock::SearchSize;
+use cut_search_bars::stock::SearchSize;
 use std::alloc::{AllocError, Global};
 
 // The sizes as a search takes them.

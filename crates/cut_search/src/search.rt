@@ -1,10 +1,10 @@
 //! The search for plans of a whole order, of bars or of sheets.
 
-use crate::bars::BarSearch;
-pub use crate::found::{Found, FoundUnit};
 use crate::sheets::search::SheetSearch;
-use crate::stock::SearchSize;
 use cut_measure::Kind;
+use cut_search_bars::bars::BarSearch;
+use cut_search_bars::found::Found;
+use cut_search_bars::stock::SearchSize;
 use cut_wants::wants::Want;
 use std::alloc::{AllocError, Global};
 

@@ -7,30 +7,23 @@ mod desk;
 mod lines;
 mod messages;
 mod rules;
-mod stopping;
-mod stores;
 
 use anyhow::{Error, Result};
 use std::alloc::Global;
 use std::io::{self, BufRead, BufReader, BufWriter, Write};
 
-// Does the check of books or of stores that has this name.
+// Does the check of books that has this name.
 fn check(alloc: Global, name: &str) -> Result<()> {
     match name {
         "copies" => books::compare_copies(alloc),
         "visits" => books::stop_visits(alloc),
         "parts" => books::compare_parts(alloc),
-        "opened-again" => stores::open_again(alloc),
         "refused-changes" => books::refuse_changes(alloc),
-        "stopped-messages" => stopping::stop_messages(alloc),
-        "stopped-adopts" => stopping::stop_adopts(alloc),
-        "stopped-renewals" => stopping::stop_renewals(alloc),
-        "stopped-extensions" => stopping::stop_extensions(alloc),
         _ => Err(Error::msg("no check has this name")),
     }
 }
 
-// What comes of a check of values, or else of one of books or of stores, which holds.
+// What comes of a check of values, or else of one of books, which holds.
 fn told(alloc: Global, name: &str, given: &str) -> Result<String> {
     match name {
         "messages" => desk::run_over_both(alloc, given),

@@ -221,7 +221,6 @@ FAILED = re.compile(r"\b(?:TableFault|AdoptFault|BookFault|Refusal)::(Store|Stor
 FAULTED = {
     "shop_book/src/books.rt from StoreFault": (2, "hands on a book's fault"),
     "shop_desk/src/desk_calls.rt answer_again StoreFault": (1, "the kept reply is none"),
-    "shop_examples/src/stores.rt book_over Store": (1, "a connection within a transaction"),
     "shop_machine/src/ending.rt work_of StoreFault": (3, "a job without its part or its material, or rows that don't bear its end, by its contract"),
     "shop_machine/src/importing.rt decide_again StoreFault": (1, "the reply of an import is none, by its contract"),
     "shop_machine/src/receiving.rt decide_receive StoreFault": (1, "more cells in stock than were received, by its contract"),
@@ -379,7 +378,7 @@ def numbers(trial):
 
 
 # Crates whose answers are hints, and programs of the gate: what limits them is promised to nobody.
-HINTING = {"cut_search", "cut_master", "cut_fill_bars", "cut_fill_sheets", "shop_examples", "cut_example"}
+HINTING = {"cut_search", "cut_search_bars", "cut_master", "cut_fill_bars", "cut_fill_sheets", "shop_examples", "cut_example"}
 
 # The number of each other constant that no law has, the functions that use it, and what it would change that no clause says.
 LAWLESS = {

@@ -1,9 +1,9 @@
 //! The best plan that was found.
 
-use crate::found::FoundUnit;
 use crate::sheets::job::Job;
 use crate::sheets::rest::rest_of;
 use crate::sheets::units::Units;
+use cut_search_bars::found::FoundUnit;
 use std::alloc::{AllocError, Global};
 
 /// The best plan so far.

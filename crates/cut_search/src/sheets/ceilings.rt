@@ -1,8 +1,6 @@
 //! The bound: a program (Gilmore and Gomory 1961) whose columns are read from tables over classes of
 //! sides. Each table is a bound of the cost as well.
 
-use crate::order::{Order, Rated, rounded_up};
-use crate::relax::{empty_master, offered_sizes};
 use crate::sheets::job::Job;
 use crate::sheets::table::Table;
 use crate::sheets::units::Plan;
@@ -10,6 +8,8 @@ use crate::sheets::worker::{MOST_WORK, Worker};
 use cut_master::column::Plan as Column;
 use cut_master::fixed::ONE;
 use cut_master::master::{End, LEAST_GAIN, Master};
+use cut_search_bars::order::{Order, Rated, rounded_up};
+use cut_search_bars::relax::{empty_master, offered_sizes};
 use std::alloc::{AllocError, Global};
 use std::rc::Rc;
 

@@ -1,12 +1,12 @@
 //! A dive: the program of plans rounded down, or its greatest column taken once, and solved again
 //! for what is left, until nothing is.
 
-use crate::draft::{have_some, times_within};
-use crate::round::{greatest_first, whole_units};
 use crate::sheets::program::{Program, plan_of};
 use crate::sheets::units::{Plan, Units};
 use crate::sheets::worker::{WIDE_BEAM, Worker};
 use cut_master::master::Taken;
+use cut_search_bars::draft::{have_some, times_within};
+use cut_search_bars::round::{greatest_first, whole_units};
 use std::alloc::{AllocError, Global};
 use std::rc::Rc;
 

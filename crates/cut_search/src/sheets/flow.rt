@@ -2,7 +2,6 @@
 //! prices, a dive, units given up, and a large rest. A course uses one size alone, or all that it
 //! may.
 
-use crate::order::Rated;
 use crate::sheets::best::Best;
 use crate::sheets::ceilings::Ceilings;
 use crate::sheets::dive::Dive;
@@ -15,6 +14,7 @@ use crate::sheets::rest::Pack;
 use crate::sheets::settle::Settle;
 use crate::sheets::units::{MOST_UNITS, Plan, Units};
 use crate::sheets::worker::{BEAM, PLAIN_BEAM, WIDE_BEAM, Worker};
+use cut_search_bars::order::Rated;
 use std::alloc::{AllocError, Global};
 use std::rc::Rc;
 
@@ -84,7 +84,7 @@ pub enum Told {
 }
 
 /// How far the course is.
-#[derive(Clone, Copy, PartialEq, Eq)]
+#[derive(Clone, Copy)]
 enum Stage {
     /// A plain plan.
     Quick,
@@ -243,7 +243,7 @@ impl Flow {
 
     /// Whether no more will be found.
     pub fn has_ended(&self) -> bool {
-        self.stage == Stage::Ended
+        matches!(self.stage, Stage::Ended)
     }
 
     /// What all costs at least by its room, where it uses one size alone.
@@ -351,7 +351,7 @@ impl Flow {
             return Ok(());
         }
         if self.round == 0 {
-            self.values = if self.stage == Stage::Priced {
+            self.values = if matches!(self.stage, Stage::Priced) {
                 self.priced(alloc, &worker.hints)?
             } else {
                 Vec::from_slice(alloc, &worker.hints.cells)?
@@ -394,7 +394,7 @@ impl Flow {
 
     /// Begins the bound's program, with the plans that are known or without.
     fn begin_bound(&mut self, alloc: Global, worker: &Worker) -> Result<(), AllocError> {
-        let is_fine = self.stage == Stage::Fine;
+        let is_fine = matches!(self.stage, Stage::Fine);
         let points = if is_fine { FINE } else { COARSE };
         let tables = match (self.only.is_some(), is_fine) {
             (true, false) => COARSE_TABLES,
@@ -458,7 +458,7 @@ impl Flow {
 
     /// Goes on where no more units are given up.
     fn end_gains(&mut self, worker: &Worker) {
-        let next = if self.stage == Stage::More || self.is_met(worker) {
+        let next = if matches!(self.stage, Stage::More) || self.is_met(worker) {
             Stage::Packs
         } else if self.needs_fine(worker) {
             Stage::Fine
@@ -470,7 +470,7 @@ impl Flow {
 
     /// Whether units are given up no more in this stage.
     fn is_enough(&self, worker: &Worker) -> bool {
-        let most = if self.stage == Stage::Gains {
+        let most = if matches!(self.stage, Stage::Gains) {
             self.begun.saturating_add(FIRST_GAINS)
         } else if self.only.is_some() {
             MOST_FILLINGS
@@ -784,7 +784,7 @@ impl Flow {
     fn keep_worths(&mut self, rated: Option<Rated>) {
         if let Some(rated) = rated {
             self.worths = rated.worths;
-            self.points = if self.stage == Stage::Fine {
+            self.points = if matches!(self.stage, Stage::Fine) {
                 FINE
             } else {
                 COARSE
@@ -868,7 +868,7 @@ impl Flow {
         next: GiveUp,
         given: Given,
     ) -> Result<Told, AllocError> {
-        if self.stage == Stage::Rest {
+        if matches!(self.stage, Stage::Rest) {
             return self.after_rest(alloc, worker, next, given);
         }
         let is_full = next.units.batches.len() >= MOST_BATCHES;
@@ -1055,7 +1055,7 @@ impl Flow {
         worker: &mut Worker,
         goal: u64,
     ) -> Result<Told, AllocError> {
-        if self.stage == Stage::Ended {
+        if matches!(self.stage, Stage::Ended) {
             return Ok(Told::Ended);
         }
         let before = worker.fillings;

@@ -1,10 +1,10 @@
 //! Units are given up, and their pieces are fitted into the others: some units are taken apart and
 //! filled again, again and again, and what is left out may not grow much.
 
-use crate::draft::have_some;
 use crate::sheets::job::{Job, sum_of};
 use crate::sheets::units::{Plan, Units, give, take};
 use crate::sheets::worker::{BEAM, Worker};
+use cut_search_bars::draft::have_some;
 use std::alloc::{AllocError, Global};
 use std::rc::Rc;
 

@@ -2,11 +2,11 @@
 //! Where values are corrected (Belov and Scheithauer 2007, after Mukhacheva), the pieces of each unit
 //! get new ones by what of it was lost.
 
-use crate::correct::{Loss, corrected};
-use crate::draft::{have_some, times_within};
 use crate::sheets::job::{Job, is_within, sum_of};
 use crate::sheets::units::{MOST_UNITS, Plan, Units};
 use crate::sheets::worker::{PLAIN_BEAM, Worker};
+use cut_search_bars::correct::{Loss, corrected};
+use cut_search_bars::draft::{have_some, times_within};
 use std::alloc::{AllocError, Global};
 use std::rc::Rc;
 

@@ -1,8 +1,8 @@
 //! What pieces and sizes are worth, by their room and by the prices of the bound.
 
-use crate::order::Order;
 use crate::sheets::ceilings::Ceilings;
 use crate::sheets::job::Job;
+use cut_search_bars::order::Order;
 use std::alloc::{AllocError, Global};
 
 /// Values count 1024ths of a cell.

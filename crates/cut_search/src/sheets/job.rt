@@ -1,10 +1,10 @@
 //! What is to be cut of which sheets, in added sides: each side has the kerf added, so that pieces
 //! tile.
 
-use crate::order::Order;
-use crate::stock::SearchSize;
 use cut_fill_sheets::Piece;
 use cut_measure::Size;
+use cut_search_bars::order::Order;
+use cut_search_bars::stock::SearchSize;
 use cut_wants::wants::Want;
 use std::alloc::{AllocError, Global};
 

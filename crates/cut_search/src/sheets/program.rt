@@ -1,13 +1,13 @@
 //! The program of plans (Gilmore and Gomory 1961) of one size: its columns are fillings, asked for
 //! by its prices, until none gains.
 
-use crate::draft::times_within;
 use crate::sheets::units::Plan;
 use crate::sheets::worker::{WIDE_BEAM, Worker};
 use cut_fill_sheets::Shape;
 use cut_master::column::Plan as Column;
 use cut_master::fixed::ONE;
 use cut_master::master::{End, LEAST_GAIN, Master, Size, Taken};
+use cut_search_bars::draft::times_within;
 use std::alloc::{AllocError, Global};
 use std::rc::Rc;
 
@@ -72,12 +72,13 @@ impl Program {
         fillings: u32,
     ) -> Result<Option<Program>, AllocError> {
         let sizes = [Size { cost: ONE, number }];
+        let copied = Vec::from_slice(alloc, left)?;
         let Some(master) = Master::new(alloc, left, &sizes)? else {
             return Ok(None);
         };
         Ok(Some(Program {
             master,
-            left: Vec::from_slice(alloc, left)?,
+            left: copied,
             plans: Vec::new(alloc),
             size,
             fillings,

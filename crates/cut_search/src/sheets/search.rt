@@ -1,13 +1,13 @@
 //! The search for plans of whole orders of sheets: courses that take turns.
 
-use crate::found::{Found, FoundUnit};
 use crate::sheets::best::{Best, found_units};
 use crate::sheets::flow::{Flow, Told};
 use crate::sheets::hints::Hints;
 use crate::sheets::job::Job;
 use crate::sheets::units::Units;
 use crate::sheets::worker::{MOST_WORK, Worker};
-use crate::stock::SearchSize;
+use cut_search_bars::found::{Found, FoundUnit};
+use cut_search_bars::stock::SearchSize;
 use cut_wants::wants::Want;
 use std::alloc::{AllocError, Global};
 

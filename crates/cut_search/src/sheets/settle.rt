@@ -1,10 +1,10 @@
 //! A plan is made whole and cheaper: while something is missing that a free unit holds, that unit is
 //! filled; and the pieces of each unit go to the cheapest free size that holds them.
 
-use crate::draft::{have_some, times_within};
 use crate::sheets::job::Job;
 use crate::sheets::units::Units;
 use crate::sheets::worker::{WIDE_BEAM, Worker};
+use cut_search_bars::draft::{have_some, times_within};
 use std::alloc::{AllocError, Global};
 use std::rc::Rc;
 

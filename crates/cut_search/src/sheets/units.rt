@@ -56,16 +56,20 @@ pub fn take(left: &mut [u32], counts: &[u32], times: u32) {
 impl Units {
     /// No units, of a stock of which so many are free.
     pub fn new(alloc: Global, job: &Job, free: &[u32]) -> Result<Units, AllocError> {
+        let missing = Vec::from_slice(alloc, &job.order.left)?;
+        let free = Vec::from_slice(alloc, free)?;
         Ok(Units {
             batches: Vec::new(alloc),
-            missing: Vec::from_slice(alloc, &job.order.left)?,
-            free: Vec::from_slice(alloc, free)?,
+            missing,
+            free,
             cost: 0,
         })
     }
 
     /// The same again; the plans are shared.
     pub fn copy(&self, alloc: Global) -> Result<Units, AllocError> {
+        let missing = Vec::from_slice(alloc, &self.missing)?;
+        let free = Vec::from_slice(alloc, &self.free)?;
         let mut batches = Vec::new(alloc);
         for batch in &self.batches {
             batches.push(Batch {
@@ -75,8 +79,8 @@ impl Units {
         }
         Ok(Units {
             batches,
-            missing: Vec::from_slice(alloc, &self.missing)?,
-            free: Vec::from_slice(alloc, &self.free)?,
+            missing,
+            free,
             cost: self.cost,
         })
     }
