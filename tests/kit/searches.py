@@ -45,3 +45,13 @@ def is_idle(shop, seconds):
         if shop.busy() - before < 0.05:
             return True
     return False
+
+
+def goes_on(shop, seconds):
+    """Whether the shop thinks: it takes a fifth of a second of a processor within so many seconds, few as they are beside others."""
+    begin, limit = shop.busy(), time.monotonic() + seconds
+    while time.monotonic() < limit:
+        time.sleep(0.1)
+        if shop.busy() - begin > 0.2:
+            return True
+    return False

@@ -7,7 +7,7 @@ import time
 from kit import crowds
 from kit.case import case
 from kit.questions import checked_answer, compact, content_of
-from kit.searches import all_answered, endless, is_idle, small
+from kit.searches import all_answered, endless, goes_on, is_idle, small
 from kit.shop import request_of
 
 # A question behind others is answered within so many seconds.
@@ -72,7 +72,7 @@ def silent_ones(trial):
     large, alone = crowds.large_question(5000, STEP), PLACES * time_of(shop, CALLS)
     with crowds.thinking(shop, PLACES, large) as held:
         time.sleep(1.2 * alone)
-        trial.holds(not is_idle(shop, 1), "nothing is thought about, though no question waits")
+        trial.holds(goes_on(shop, BEHIND), "nothing is thought about, though no question waits")
         asked_behind(trial, shop, asked, BEHIND, "behind eight that had their calls")
         came = select.select(held, [], [], BEHIND)[0]
         trial.holds(came, "none of the eight was told what was found")

@@ -10,7 +10,7 @@ from kit import crowds, tables
 from kit.beside import SOON, TERMINALS, work, work_alone
 from kit.case import case
 from kit.questions import checked_answer, compact, content_of
-from kit.searches import all_answered, answers_of, endless, is_idle, small
+from kit.searches import all_answered, answers_of, endless, goes_on, is_idle, small
 from kit.shop import is_silent, read_all, request_of
 from kit.terminals import Terminal, at_once, independent, stopped_at
 from kit.yards import Yard, question, reservations
@@ -122,7 +122,7 @@ def go_away(trial):
     yard.fill(trial, shop)
     with crowds.thinking(shop, 8, endless(shop)) as held:
         time.sleep(1)
-        trial.holds(not is_idle(shop, 0.5), "nothing is thought about")
+        trial.holds(goes_on(shop, 2 * SOON), "nothing is thought about")
         for it in held[::2]:
             it.setsockopt(socket.SOL_SOCKET, socket.SO_LINGER, b"\1\0\0\0\0\0\0\0")
             it.close()
@@ -179,7 +179,7 @@ def changes(trial):
     yard = crowds.large_yard(12)
     yard.receive(crowds.LARGE, crowds.LARGE_W, crowds.LARGE_H, 3)
     lines, shop = yard.replay(trial), yard.serve(trial)
-    asked = question(crowds.LARGE, calls=200, step=crowds.fitting_step(shop))
+    asked = question(crowds.LARGE, calls=60, step=crowds.fitting_step(shop))
     wanted = lines.reply(compact(asked))
     news = Yard(97)
     for node in range(3):
