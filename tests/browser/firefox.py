@@ -11,7 +11,8 @@ from contextlib import suppress
 
 from kit.case import Failed, Skipped
 
-SECONDS = 120
+# What a page is to show comes within so many seconds; the browser itself may take longer to begin, the first time.
+SECONDS, BEGIN_SECONDS = 120, 300
 
 # The port is chosen by the browser; nothing is asked of another machine.
 PREFERENCES = {
@@ -26,13 +27,14 @@ PREFERENCES = {
     "toolkit.telemetry.enabled": False,
 }
 
-# What the console has of a page: faults and warnings of its scripts and styles, and what it wrote there itself.
+# What the console has of a page: faults and warnings of its scripts and styles.
 CONSOLE = """
-const of = arguments[0], told = Services.console.getMessageArray().filter(it => it instanceof Ci.nsIScriptError && it.sourceName.startsWith(of));
-const written = Cc["@mozilla.org/consoleAPI-storage;1"].getService(Ci.nsIConsoleAPIStorage).getEvents().filter(it => (it.filename || "").startsWith(of));
-return [...told.map(it => `${it.errorMessage} (${it.lineNumber})`), ...written.map(it => it.arguments.map(String).join(" "))];
+const told = Services.console.getMessageArray().filter(it => it instanceof Ci.nsIScriptError && it.sourceName.startsWith(arguments[0]));
+return told.map(it => `${it.errorMessage} (${it.lineNumber})`);
 """
 
+# What the page writes on its console as a fault from here on becomes one of its scripts.
+THROWN = "void (console.error = (...words) => setTimeout(() => { throw new Error(words.join(' ')); }, 0))"
 
 # An expression is tried by a script of the page's own, whose policy takes no other.
 ASK = """
@@ -65,10 +67,18 @@ class Firefox:
         self.process = subprocess.Popen(
             words, stdin=subprocess.DEVNULL, stdout=subprocess.DEVNULL, stderr=subprocess.DEVNULL, env={**os.environ, "HOME": self.home}
         )
-        self.last, self.buffer = 0, b""
+        self.last, self.buffer, self.socket = 0, b"", None
 
     def __enter__(self):
-        told, end = os.path.join(self.home, "MarionetteActivePort"), time.monotonic() + SECONDS
+        try:
+            self.begin()
+        except BaseException:
+            self.end(0)
+            raise
+        return self
+
+    def begin(self):
+        told, end = os.path.join(self.home, "MarionetteActivePort"), time.monotonic() + BEGIN_SECONDS
         while not (os.path.exists(told) and os.path.getsize(told)):
             if self.process.poll() is not None or time.monotonic() > end:
                 raise RuntimeError(f"firefox doesn't begin, status {self.process.poll()}")
@@ -77,14 +87,18 @@ class Firefox:
             self.socket = socket.create_connection(("127.0.0.1", int(file.read())), timeout=SECONDS)
         self.read()
         self.call("WebDriver:NewSession", capabilities={})
-        return self
 
     def __exit__(self, *_):
         with suppress(RuntimeError, OSError, ValueError):
             self.call("Marionette:Quit", flags=["eForceQuit"])
-        self.socket.close()
+        self.end(10)
+
+    def end(self, seconds):
+        """Waits until the browser has ended, at most so long."""
+        if self.socket:
+            self.socket.close()
         try:
-            self.process.wait(10)
+            self.process.wait(seconds)
         except subprocess.TimeoutExpired:
             self.process.kill()
             self.process.wait()
@@ -114,6 +128,7 @@ class Firefox:
 
     def go(self, address):
         self.call("WebDriver:Navigate", url=address)
+        self.value(THROWN)
 
     def size(self, width, height=800):
         self.call("WebDriver:SetWindowRect", width=width, height=height)

@@ -2,8 +2,8 @@
 
 from browser.firefox import Firefox
 from browser.terminal import by_id
-from cases.page_shown import shop_with_jobs
 from kit.case import case
+from kit.page_saw import shop_with_jobs
 
 # By the address of each view, what it shows.
 SHOWN = {

@@ -7,21 +7,10 @@ from browser.terminal import Terminal, by_id, open_shop
 from kit.case import case
 from kit.page import is_quiet
 from kit.page_answers import answering, plans
-from kit.page_saw import BAR, LINES, sender
+from kit.page_saw import BAR, LINES, sender, shop_with_jobs
 
 HASH = "location.hash"
 HAPPENED = "(document.getElementById('happened').hidden ? '' : happenedList.textContent)"
-
-
-def shop_with_jobs(trial, count=3, tree=BAR):
-    """A shop with bars, two sheets, the order A-1 and so many waiting jobs of one plan: 3, 4 and so on."""
-    shop = open_shop(trial)
-    send = sender(shop)
-    send(do="receive", material="STEEL", batch="S-1", w=6000, h=1, count=count + 3)
-    send(do="receive", material="GLASS", batch="G-1", w=12000, h=8000, count=2)
-    send(do="order", order="A-1", lines=LINES)
-    jobs = [send(do="reserve", part=f"1/{place}", tree=tree)["job"] for place in range(count)]
-    return shop, send, jobs
 
 
 def opened(it, address):
