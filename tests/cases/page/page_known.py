@@ -5,7 +5,7 @@ import time
 
 from browser.terminal import Terminal, by_id, exchange, open_shop
 from kit.case import case
-from kit.page import TIME, is_quiet
+from kit.page import TIME, is_quiet, open_tab
 from kit.page_away import begun_again, copied, restored
 from kit.page_saw import BAR, LINES, sender
 
@@ -13,9 +13,9 @@ STOCK = {"do": "receive", "material": "STEEL", "batch": "S-1", "w": 6000, "h": 1
 
 
 def alone(it):
-    """The page asks nothing by itself any more."""
+    """The page asks nothing by itself any more, and its notices stay."""
     it.until("!refresh.running && shop.isKnown")
-    it.value("(clearTimeout(refresh.timer), window.pass = refreshPass, refreshPass = () => {}, 0)")
+    it.value("(clearTimeout(refresh.timer), window.pass = refreshPass, refreshPass = () => {}, forgetRead = foldNotices, 0)")
 
 
 def notices(it, kind):
@@ -91,9 +91,19 @@ def stranger(trial):
         it.receive("STEEL", "S-1", "6000", None, 1)
         it.says("1 unit received")
         it.until("facts.last.entry === 3")
+        first = it.session
+        open_tab(it, "stock")
+        it.receive("STEEL", "S-2", "6000", None, 1)
+        it.says("1 unit received")
+        it.session = first
+        it.call("Page.bringToFront")
+        it.until("facts.last.entry === 4")
+        it.value("pause(LATE + 1000)")
         trial.equal(notices(it, "refusals"), [])
-        exchange(shop, "/message", {**STOCK, "count": 1, "number": 2, "terminal": 7})
-        it.says("Another device is terminal 7, too: it sent message 2. Choose another number for one of them.")
+        exchange(shop, "/message", {**STOCK, "count": 1, "number": 3, "terminal": 7})
+        words = "Another device is terminal 7, too: it sent message 3. Choose another number for one of them."
+        it.says(words)
+        trial.equal(notices(it, "refusals"), [words])
         is_quiet(it)
 
 

@@ -397,8 +397,9 @@ def left_alone(trial):
         for view in ("tocut", "saw", "orders", "stock", "yield", "happened"):
             it.view(view)
             settled(it)
-            asked = it.value("queue.sent")
-            time.sleep(30)
-            asked = it.value("queue.sent") - asked
-            trial.holds(asked <= 15, f"{view}: {asked} requests in half a minute")
+            before, begin = it.value("[queue.sent, performance.now()]")
+            time.sleep(20)
+            asked, end = it.value("[queue.sent, performance.now()]")
+            most = (end - begin) / 2000 + 1
+            trial.holds(asked - before <= most, f"{view}: {asked - before} requests in {(end - begin) / 1000:.1f} seconds")
         is_quiet(it)
