@@ -1,5 +1,6 @@
 """What the page knows of the shop, and what others do there meanwhile: its values are of the page's law and of what was sent."""
 
+import json
 import re
 import time
 
@@ -162,4 +163,71 @@ def markup(trial):
             it.value(f"void (location.hash = '{address}'), refreshNow()")
             it.until(f"{by_id(holder)}.textContent.includes({bad!r})")
             trial.equal(it.value("document.querySelectorAll('main img').length"), 0)
+        is_quiet(it)
+
+
+SHEET = "x4000 y3000 p2 r r"
+FILE = "line,material,length,width,turn,count,worth\n1,STEEL,100.0,0.1,no,3,1000\n"
+WIRE = {"do": "material", "material": "WIRE", "kind": "bar", "kerf": 0, "min_long": 1000, "min_short": 1}
+
+# Messages of another terminal, with what each surely leaves as it was.
+DAY = (
+    ({**STOCK, "count": 6}, ["/parts/GLASS", "/totals/GLASS", "/demands/0", "/jobs/0", "/orders", "/materials"]),
+    ({**STOCK, "material": "GLASS", "batch": "G-1", "w": 12000, "h": 8000, "count": 2}, ["/parts/STEEL", "/totals/STEEL", "/demands/0", "/jobs/0"]),
+    ({"do": "order", "order": "A-1", "lines": LINES}, ["/parts/STEEL", "/totals/GLASS", "/jobs/0"]),
+    ({"do": "order", "order": "B-1", "lines": LINES[:1]}, ["/order/A-1", "/demands/0/GLASS", "/parts/STEEL"]),
+    ({"do": "import", "order": "C-1", "form": "csv", "text": FILE}, ["/order/A-1", "/jobs/0"]),
+    ({"do": "import", "order": "C-1", "form": "csv", "text": FILE}, ["/order/A-1", "/materials"]),
+    ({"do": "reserve", "part": "1/0", "tree": BAR}, ["/order/B-1", "/parts/GLASS", "/totals/GLASS"]),
+    ({"do": "reserve", "part": "2/0", "tree": SHEET}, ["/order/B-1", "/parts/STEEL", "/demands/0/STEEL"]),
+    ({"do": "reserve", "part": "1/1", "tree": BAR}, ["/job/3", "/job/4", "/order/C-1"]),
+    ({"do": "done", "job": 3}, ["/job/4", "/parts/GLASS", "/demands/0/GLASS"]),
+    ({"do": "break", "job": 4, "cuts": [0], "lost": False}, ["/job/3", "/job/5", "/parts/STEEL"]),
+    ({"do": "release", "job": 5}, ["/job/3", "/job/4", "/parts/GLASS"]),
+    ({"do": "amend", "demand": 1, "wanted": 39}, ["/order/B-1", "/parts/STEEL", "/jobs/0"]),
+    ({"do": "scrap", "part": "1/3"}, ["/order/A-1", "/demands/0", "/jobs/0", "/job/3"]),
+    ({"do": "return", "part": "1/4"}, ["/order/A-1", "/demands/0", "/jobs/0", "/job/3"]),
+    (WIRE, ["/order/A-1", "/parts/STEEL", "/jobs/0", "/totals/GLASS"]),
+)
+
+# What a page may ask for. (What isn't there is refused, and so isn't known.)
+PATHS = [
+    *("/materials", "/jobs/0", "/orders", "/demands/0", "/history/0"),
+    *(f"/{what}{code}" for code in ("STEEL", "GLASS", "WIRE") for what in ("demands/0/", "parts/", "totals/")),
+    *(f"/{what}{order}{behind}" for order in ("A-1", "B-1", "C-1") for what, behind in (("order/", ""), ("story/order/", "/0"))),
+    *(f"/demand/{demand}" for demand in range(1, 5)),
+    *(f"/{what}{job}{behind}" for job in (3, 4, 5) for what, behind in (("job/", ""), ("story/job/", "/0"))),
+    *(f"/{what}{part}{behind}" for part in ("1/0", "1/1", "1/3", "1/4", "2/0", "3/1", "4/1", "4/2") for what, behind in (("trace/", ""), ("story/part/", "/0"))),
+]
+
+LOOK = """(async paths => {
+  await lookAtShop();
+  const stayed = [...facts.by.keys()];
+  for (const path of paths) await askCalmly(path).catch(() => 0);
+  learnLines(factOf("/demands/0").demands);
+  return [stayed, [...facts.by].map(([path, {reply}]) => [path, reply])];
+})"""
+
+
+@case(
+    "what the page knows is what the shop says",
+    "Behind each kind of message of another terminal all that the page still holds as known is what the shop answers by then; what the "
+    "message leaves as it was stays known. A word that the page doesn't know makes all stale.",
+)
+def as_said(trial):
+    shop = open_shop(trial)
+    send = sender(shop)
+    with Terminal(trial, shop) as it:
+        it.begin(7)
+        alone(it)
+        look = f"{LOOK}({json.dumps(PATHS)})"
+        it.value(look)
+        for message, left in DAY:
+            send(**message)
+            stayed, known = it.value(look)
+            trial.equal([path for path in left if path not in stayed], [], f"dropped behind {message}")
+            for path, reply in known:
+                trial.equal(reply, exchange(shop, path), f"{path} behind {message}")
+        trial.holds(len(known) > 40, f"only {len(known)} answers are known")
+        trial.equal(it.value(f"{json.dumps(PATHS)}.filter(path => !isStaleBy({{do: 'unheard', job: 3}}, {{orders: [], materials: []}}, path))"), [])
         is_quiet(it)

@@ -102,7 +102,7 @@ def week(trial):
         it.until(f"shop.demands.length === {lines}")
         rows = [([f"1/{bar}"], 0, tree_of(bar), 60000, 1) for bar in range(BARS_PLANNED)]
         # (of over 100 lines the others are asked for by a question of their own)
-        both = {True: plans(rows, BARS_PLANNED, BARS_PLANNED, proved=True), False: plans([], 0, 0)}
+        both = {True: plans(rows, BARS_PLANNED, BARS_PLANNED, proved=True), False: plans([], 0, 0, proved=True)}
         with answering(it, "/plans", lambda asked: (200, both[1 in asked["demands"]])):
             it.click(by_id("planAll"))
             it.until("!toCut.planning && toCut.found?.plans.length")
