@@ -165,13 +165,15 @@ async function lastNumber(sender) {
   return sending.last.number;
 }
 
-// The numbers under which this browser sent messages, the latest ones. An entry of this terminal under another one comes from another
-// device.
-const SENT = "cutshop.sent", MOST_SENT = 500;
+// The numbers under which this browser sent messages, as ranges [terminal, first, last], the latest ones. An entry of this terminal
+// under another one comes from another device.
+const SENT = "cutshop.sent", MOST_SENT = 200;
 
 function noteSent({terminal: sender, number}) {
+  const ranges = storage.read(SENT, []), [of, first, last] = ranges[ranges.length - 1] || [];
+  const isNext = of === sender && last === number - 1;
   try {
-    storage.write(SENT, [...storage.read(SENT, []), `${sender} ${number}`].slice(-MOST_SENT));
+    storage.write(SENT, isNext ? [...ranges.slice(0, -1), [of, first, number]] : [...ranges, [sender, number, number]].slice(-MOST_SENT));
   } catch { return; }  // (then the message itself can't be kept either)
 }
 
@@ -186,8 +188,9 @@ async function findStranger(entries) {
 }
 
 function strangerOf(entries) {
-  const name = message => `${message.terminal} ${message.number}`, sent = new Set([...storage.read(SENT, []), ...terminal.messages().map(name)]);
-  return entries.map(({message}) => message).find(message => message.terminal === terminal.number && !sent.has(name(message)));
+  const ranges = [...storage.read(SENT, []), ...terminal.messages().map(({terminal: sender, number}) => [sender, number, number])];
+  const isSent = ({terminal: sender, number}) => ranges.some(([of, first, last]) => of === sender && first <= number && number <= last);
+  return entries.map(({message}) => message).find(message => message.terminal === terminal.number && !isSent(message));
 }
 
 function spentWords(number) {

@@ -12,7 +12,7 @@ const VIEWS = {
 
 // The pause between two passes, each of which asks what happened, and nothing else where nothing did; longer where nobody does
 // anything and nothing changes.
-const MINUTE = 60000, PAUSE = 2000, PAUSES = [[10 * MINUTE, PAUSE], [Infinity, 5 * PAUSE]], MANY_WAIT = 4;
+const MINUTE = 60000, PAUSE = 2000, PAUSES = [[10 * MINUTE, PAUSE], [Infinity, 5 * PAUSE]];
 // lively: when something was done or changed; ended: when the last pass ended; lost: the shop didn't answer since it was looked what
 // happened.
 const refresh = {
@@ -74,9 +74,9 @@ function waitForPass(time = pauseOf()) {
   refresh.timer = setTimeout(passOrWait, Math.max(0, refresh.ended + time - performance.now()));
 }
 
-// While many messages of a press are answered one behind another, what is shown is read behind the last.
+// While messages of one press are answered one behind another, what is shown is read behind the last.
 function passOrWait() {
-  if (!sending.busy || terminal.kept().length < MANY_WAIT) return refreshPass();
+  if (!sending.busy || !terminal.kept().some(message => message.many)) return refreshPass();
   refresh.timer = setTimeout(passOrWait, PAUSE);
 }
 
