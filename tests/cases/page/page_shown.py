@@ -131,9 +131,9 @@ def one_row(trial):
     shop, _, _ = shop_with_jobs(trial)
     for language in ("en", "de-DE"):
         with Terminal(trial, shop, language) as it:
-            it.begin(7)
+            it.begin(4294967295)
             it.value("(storage.write('cutshop.name', 'Glaserei Obermaier und Toechter'.slice(0, 30)), showView())")
-            for words in ("", "showLink(false)"):
+            for words in ("", "showLink(false), jobCount.textContent = '100+', jobCount.hidden = false"):
                 for width in (700, 768, 999, 1000, 1024, 1280):
                     it.size(width)
                     it.value(words)
