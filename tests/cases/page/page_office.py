@@ -829,7 +829,7 @@ def many_jobs(trial):
             it.type(by_id("tracePart"), name)
             it.key("Enter")
             it.until(f"{by_id('traceWords')}.firstChild?.textContent.startsWith('{name}, ') && document.querySelector('#tracePicture svg')")
-            trial.equal(it.value(f"[...{by_id('traceWords')}.children].map(e => e.textContent)"), [f"{name}, {state}", *rest])
+            trial.equal(it.value(f"[...{by_id('traceWords')}.children].map(e => e.textContent)"), [f"{name}, {state}", *rest, "What happened"])
             told = it.ask(f"/trace/{name}")
             unit, drawn = it.value(f"['unit', '{fate}'].map({SIDES_DRAWN})")
             corner = [place - other for place, other in zip(drawn[:2], unit[:2])]
