@@ -137,7 +137,7 @@ def week(trial):
         pages.at("office")
         it.receive("GLASS", "G-1", "1200", "800", 2)
         begun_again(shop)
-        it.says("2 units received")
+        it.says(": 2 units received")
         pages.at("second").until("!terminal.kept().length")
         trial.equal((it.ask(f"/job/{jobs[1]}")["state"], it.ask("/totals/GLASS")["received"]), ("done", 2 * 12000 * 8000))
         shows_what_is(trial, pages, shop)
@@ -146,7 +146,7 @@ def week(trial):
         begun_again(shop)
         pages.at("office").until(f"{by_id('link')}.textContent === 'connected' && !refresh.lost")
         it.receive("STEEL", "S-2", "5000", None, 1)
-        it.says("1 unit received")
+        it.says(": 1 unit received")
         sender(shop)(do="scrap", part=f"1/{BARS_PLANNED}")
         for name in pages.sessions:
             pages.at(name).until("facts.last?.entry === %d && !refresh.running" % it.ask("/shop")["entries"])
