@@ -666,7 +666,7 @@ const GERMAN = new Map(Object.entries({
   "{0} scrapped": "{0} ist Ausschuss",
   "{0} returned": "{0} zurückgegeben",
   "job {0} broken off, {1} made{2}": "Abbruch von Job {0}, {1} gemacht{2}",
-  ", which was there: nothing done": ", den es schon gab: nichts getan",
+  ", which was there: nothing done": ", war schon da: nichts getan",
   "Of order": "Zu Auftrag",
   "{0} It doesn't have: {1}.": "{0} Es hat nicht: {1}.",
   "no time is known": "ohne Zeit",
