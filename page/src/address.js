@@ -12,7 +12,8 @@ const ADDRESSES = {
   stock: {view: "stock", of: CODE},
   part: {view: "stock", of: PART_NAME, has: true},
   batch: {view: "stock", of: CODE, has: true},
-  yield: {view: "yield"}
+  yield: {view: "yield"},
+  happened: {view: "happened", of: /^([1-9]\d{0,8}|order\/[A-Z0-9-]{1,16}|job\/[1-9]\d{0,8}|part\/[1-9]\d{0,8}\/(0|[1-9]\d{0,8}))$/}
 };
 
 // An address read: its word and what stands behind it; an unknown one is that of the first view.
@@ -54,6 +55,7 @@ function followAddress() {
   if (word === "cut" || word === "stock") followMaterial(of);
   if (word === "stock") forgetTrace();
   if (word === "saw") followJob(Number(of));
+  if (word !== "happened") leaveHappened();
   if (word === "orders" && inOrders.found) forgetFound();
   if (word === "order" && of !== inOrders.found && of !== inOrders.sought) showOrder(of);
   if (word === "part" && of !== traced.name) trace(of);

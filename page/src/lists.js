@@ -151,6 +151,7 @@ async function saveCsv(view) {
   const {name, heads, read} = CSV_LISTS[view], file = `${word(name)}-${new Date().toLocaleDateString("sv-SE")}.csv`;
   say(tr`${file} is being read`);
   try {
+    await lookAtShop();
     const rows = await read();
     saveFile(file, csvText([heads.map(word), ...rows], CSV_FORMS[csvForm()]));
     tell(`${file}: ${count(rows.length, "row")}`, "good");

@@ -69,7 +69,7 @@ function keepCommand({what, command, many}, accepted, known = terminal.keptHere(
   const {run} = running, sender = terminal.number;
   if (!same)
     terminal.keep(
-      {mark, terminal: sender, number: 0, what, command, end: endOf(command), many, run, rows: rowsShown(command)});
+      {mark, terminal: sender, number: 0, what, command, end: endOf(command), many, run, seen: facts.last});
   whenAccepted.set(mark, accepted);
   return mark;
 }
@@ -153,6 +153,7 @@ async function numbered(message) {
   waiting.number = Math.max(last, ...kept.map(other => other.number)) + 1;
   if (waiting.number > MAX_NUMBER) throw new NumbersSpent();
   terminal.keep(waiting);
+  noteSent(waiting);
   sending.last = {terminal: waiting.terminal, number: waiting.number};
   return waiting;
 }
@@ -162,6 +163,34 @@ async function lastNumber(sender) {
   if (sending.last?.terminal !== sender || !navigator.locks)
     sending.last = {terminal: sender, number: (await ask(`/terminal/${sender}`)).last};
   return sending.last.number;
+}
+
+// The numbers under which this browser sent messages, as ranges [terminal, first, last], the latest ones. An entry of this terminal
+// under another one comes from another device.
+const SENT = "cutshop.sent", MOST_SENT = 200;
+
+function noteSent({terminal: sender, number}) {
+  const ranges = storage.read(SENT, []), [of, first, last] = ranges[ranges.length - 1] || [];
+  const isNext = of === sender && last === number - 1;
+  try {
+    storage.write(SENT, isNext ? [...ranges.slice(0, -1), [of, first, number]] : [...ranges, [sender, number, number]].slice(-MOST_SENT));
+  } catch { return; }  // (then the message itself can't be kept either)
+}
+
+// What another tab kept last may take a moment to be seen here: so it is looked twice.
+const LATE = 2000;
+
+async function findStranger(entries) {
+  if (!strangerOf(entries)) return;
+  await pause(LATE);
+  const other = strangerOf(entries);
+  if (other) tell(tr`Another device is terminal ${other.terminal}, too: it sent message ${other.number}. Choose another number for one of them.`, "refused");
+}
+
+function strangerOf(entries) {
+  const ranges = [...storage.read(SENT, []), ...terminal.messages().map(({terminal: sender, number}) => [sender, number, number])];
+  const isSent = ({terminal: sender, number}) => ranges.some(([of, first, last]) => of === sender && first <= number && number <= last);
+  return entries.map(({message}) => message).find(message => message.terminal === terminal.number && !isSent(message));
 }
 
 function spentWords(number) {
@@ -178,20 +207,25 @@ function moveUnsent(number) {
 
 // Keeps an answer in place of its command, and tells it.
 async function answered({mark, terminal: sender, number, what, command, end, many, run}, reply) {
-  const isRefused = reply.refused !== undefined, why = isRefused ? await refusalWords(reply, command) : "";
-  const words = isRefused ? tr`Refused: ${what}: ${why}` : `${what}: ${outcomeWords(command, reply, end)}`;
-  terminal.keep({mark, terminal: sender, number, words, reply, many, run});
+  const quicker = reply.refused === undefined ? null : await quickerOf(command, reply), isRefused = isRefusal(reply, quicker);
+  const why = isRefused ? await refusalWords(reply, command, quicker?.words) : "";
+  const words = isRefused ? tr`Refused: ${what}: ${why}` : quicker?.words || `${what}: ${outcomeWords(command, reply, end)}`;
+  if (!isRefused) dropStale(command);
+  terminal.keep({mark, terminal: sender, number, words, reply, many, run, isSame: Boolean(quicker?.isSame)});
   if (many)
     changeMany(many, told => {
       if (isRefused) told.refused.push([command.part || what, why]);
       else told.done++;
     });
   for (const {mark: old} of terminal.answered().slice(0, -MOST_ANSWERED)) terminal.forget(old);
-  tellAnswer({mark, words, reply, many});
+  tellAnswer({mark, words, reply, many, isSame: quicker?.isSame});
 }
 
-function tellAnswer({mark, words, reply, many}) {
-  const isRefused = reply.refused !== undefined;
+// Whether an answer is a refusal of what was wanted: another may have done the same before.
+function isRefusal({refused}, other) { return refused !== undefined && !other?.isSame; }
+
+function tellAnswer({mark, words, reply, many, isSame}) {
+  const isRefused = isRefusal(reply, {isSame});
   const link = isRefused ? whenRefused.get(mark)?.() : linkOf(reply);
   if (!many) tell(words, isRefused ? "refused" : "good", link);
   if (!isRefused) whenAccepted.get(mark)?.(reply);

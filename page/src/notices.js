@@ -89,8 +89,9 @@ function showKept() {
   const kept = terminal.kept().filter(message => Date.now() - timeOf(message.mark) >= SLOW), doubted = kept.filter(isDoubted);
   const sure = kept.filter(message => !isDoubted(message)), shown = waitingRows().length;
   const rows = sure.map(message => [message, sending.dropping.has(message.mark)]);
-  fill($("keptNotice"), [rows, doubted, terminal.trouble, terminal.isSpent], () => kept.length && el("div", {class: "notice kept"},
-    el("div", {}, ...(doubted.length ? doubtRows(doubted) : []), sure.length ? el("span", {text: keptWords(sure)}) : null,
+  const away = running.away && Date.now() - running.away >= AWAY ? running.away : 0, hasWords = sure.length > 0 || away > 0;
+  fill($("keptNotice"), [rows, doubted, terminal.trouble, terminal.isSpent, away], () => (kept.length || away) && el("div", {class: "notice kept"},
+    el("div", {}, ...(doubted.length ? doubtRows(doubted) : []), hasWords ? el("span", {text: keptWords(sure, away)}) : null,
       ...keptRows(rows)),
     terminal.isSpent ? el("button", {class: "small", text: tr`Another number`, on: {click: chooseTerminal}}) : null));
   if (waitingRows().length > shown) bringUp(waitingRows()[waitingRows().length - 1]);
@@ -107,9 +108,11 @@ function keptRows(rows) {
 
 function waitingRows() { return $("keptNotice").querySelectorAll(".waiting"); }
 
-function keptWords(kept) {
+function keptWords(kept, away) {
   if (terminal.isSpent) return tr`${spentWords(terminal.number)} Choose another number: what waits is sent under it.`;
-  const trouble = terminal.trouble ? tr` Last time ${terminal.trouble}.` : "";
+  const trouble = terminal.trouble ? tr` Last time ${terminal.trouble}.` : "", since = momentText(away / 1000);
+  if (away && !kept.length) return tr`No connection since ${since}.`;
+  if (away) return tr`No connection since ${since}; ${count(kept.length, "message")} ${kept.length === 1 ? "waits" : "wait"}.${trouble}`;
   return tr`… ${count(kept.length, "message")} without an answer, sent again until it comes.${trouble}`;
 }
 

@@ -1,15 +1,13 @@
 // ---- Which orders there are, and how many pieces of their lines are wanted.
 
-// sums: of open orders the sums over all their lines; lines: of orders that are unfolded all lines, as they were told last; seen: of
-// these the open lines behind which they were read; read: when the open lines were read last; turn: whose lines are read anew though
-// nothing of them is seen to have changed; folds: which orders a person opened or closed; typed: of demands the numbers that were typed; found: the order that was looked for;
-// sought: what is looked for; note: what came of that; isListed: whether the list of all was read.
+// sums: of open orders the sums over all their lines; lines: of orders that are unfolded all lines, as they were told last; isRead:
+// whether the open lines were read; folds: which orders a person opened or closed; typed: of demands the numbers that were typed;
+// found: the order that was looked for; sought: what is looked for; note: what came of that; isListed: whether the list of all was
+// read.
 const inOrders = {
   sums: new Map(),
   lines: new Map(),
-  seen: new Map(),
-  read: 0,
-  turn: 0,
+  isRead: false,
   folds: new Map(),
   typed: new Map(),
   found: "",
@@ -33,24 +31,17 @@ async function readOrders() {
     if (order && !open.has(order) && !await readIfThere(order)) inOrders.found = "";
 }
 
-// The open orders with their sums; of unfolded ones all lines, which are read anew where an open one changed or isn't read, behind a
-// pause, and else in turn.
+// The open orders with their sums; of unfolded ones all lines.
 async function readOpenOrders() {
-  const now = performance.now();
-  if (now - inOrders.read > 2 * LONGEST_PAUSE) inOrders.seen.clear();
   const [rows, more] = await readPages("/demands/0", "demands", MOST_PAGES, row => `/demands/${row.demand}`);
   learnLines(rows);
   const orders = groupsOf(rows, row => row.order);
   inOrders.sums = await readSums(orders.map(([{order}]) => order));
   [shop.orders, shop.moreOrders] = [rows, more];
   const shown = new Set(ordersToShow().filter(([, isOpen]) => isOpen).map(([row]) => row.order));
-  const unfolded = orders.filter(([{order}]) => shown.has(order)), turn = inOrders.turn++ % (unfolded.length || 1);
-  for (const [i, open] of unfolded.entries()) {
-    const [{order}] = open, text = JSON.stringify(open);
-    if (i === turn || inOrders.seen.get(order) !== text) await readLines(order);
-    inOrders.seen.set(order, text);
-  }
-  inOrders.read = now;
+  for (const [{order}] of orders)
+    if (shown.has(order)) await readLines(order);
+  inOrders.isRead = true;
 }
 
 // The sums of orders: the list of all is asked behind the greatest code below one that isn't told yet.
@@ -102,7 +93,7 @@ function showOrders() {
   const rows = ordersToShow(), {found, note, lines} = inOrders, going = [...shop.amending];
   const more = isFinishedToo() ? shop.moreAllOrders : shop.moreOrders;
   const shown = rows.map(([row, isOpen]) => [row, isOpen, isOpen && lines.get(row.order)]);
-  fill($("orderList"), [shown, more, isFinishedToo(), shop.materials, going, inOrders.read > 0, inOrders.isListed],
+  fill($("orderList"), [shown, more, isFinishedToo(), shop.materials, going, inOrders.isRead, inOrders.isListed],
     () => orderRows(rows, more));
   fill($("foundOrder"), [found, note, lines.get(found), shop.materials, going], foundRows);
 }
@@ -116,7 +107,7 @@ function ordersToShow() {
 }
 
 function orderRows(rows, more) {
-  const isRead = isFinishedToo() ? inOrders.isListed : inOrders.read;
+  const isRead = isFinishedToo() ? inOrders.isListed : inOrders.isRead;
   if (!rows.length) return [quiet(!isRead ? "…" : isFinishedToo() ? tr`There is no order.` : tr`No order is open.`)];
   return [
     quiet(tr`How many pieces of a line are wanted can be changed to more or fewer, down to what is made and reserved.`),
@@ -156,7 +147,7 @@ function orderCard(row, isOpen, title, key) {
   return el("div", {class: "ordered"},
     el("h3", {}, title, el("span", {class: "quiet", text: stateOf(sums)}),
       leftOf(sums) ? cancelButton(`${key}o${order}`, tr`Cancel order`, tr`Cancel order ${order}`, go) : null),
-    drawProgress(sums), quiet(progressWords(sums)), ...shown);
+    drawProgress(sums), quiet(progressWords(sums)), ...shown, isOpen ? storyLink("order", order) : null);
 }
 
 function cancelButton(key, text, words, go) {
@@ -258,7 +249,6 @@ async function cancel(what, rows) {
 function noteAmended({demand, wanted}) {
   for (const [order, lines] of inOrders.lines)
     inOrders.lines.set(order, lines.map(row => row.demand === demand ? {...row, wanted} : row));
-  inOrders.seen.clear();
   showView();
 }
 

@@ -37,11 +37,37 @@ const REFUSALS = {
 
 // What a refusal says, with its number; of 63 also which demand it is or what is the least, of 61 and 62 nothing that isn't
 // told.
-async function refusalWords(reply, command = {}) {
-  let words = REFUSALS[reply.refused] || tr`the shop refused it`;
+async function refusalWords(reply, command = {}, quicker = "") {
+  let words = quicker || REFUSALS[reply.refused] || tr`the shop refused it`;
   if (command.do === "amend") words = await amendFault(command, reply) || words;
   else if (reply.refused === 63) words = await overdrawnWords(countPieces(command.tree)) || words;
   return `${words} (${reply.refused} ${reply.name})`;
+}
+
+// What ended a job or took a part before, by whom and when, and whether that is what was wanted; nothing where no entry tells it.
+async function quickerOf({do: wanted, job, part}, {refused}) {
+  const ofJob = refused === 71, path = ofJob ? `/story/job/${job}` : refused === 51 && part ? `/story/part/${part}` : "";
+  const rows = path ? await entriesTo(path, 0, Infinity).catch(() => []) : [];
+  const entry = rows.find(({message}) => Object.hasOwn(BEFORE, message.do) && !(ofJob && message.do === "reserve"));
+  if (!entry) return null;
+  const {at, message} = entry, was = !ofJob && ["done", "break"].includes(message.do) ? tr`cut up` : BEFORE[message.do];
+  const by = tr`${was} by terminal ${message.terminal}, ${momentText(at)}`;
+  return {words: `${ofJob ? tr`Job ${job}` : tr`Part ${part}`}: ${by}`, isSame: message.do === wanted && ["done", "release", "scrap", "return"].includes(wanted)};
+}
+
+const BEFORE = {
+  done: tr`done`,
+  break: tr`broken off`,
+  release: tr`given back`,
+  reserve: tr`reserved`,
+  scrap: tr`scrapped`,
+  return: tr`returned`
+};
+
+// A time of today, or a day with its time.
+function momentText(at) {
+  const time = at * 1000;
+  return new Date(time).toDateString() === new Date().toDateString() ? clockText(at) : at ? timeText(time) : tr`no time is known`;
 }
 
 async function overdrawnWords(counts) {

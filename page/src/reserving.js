@@ -39,10 +39,14 @@ function reserved(part, tree, {job, cuts}, found) {
 
 // The plan of a job that was reserved here is known without a question.
 function noteJob(part, tree, job, cuts) {
-  const row = [...known.values()].flatMap(of => of.parts).find(other => other.part === part), material = materialOf(row?.material);
-  if (!material) return;
-  const {w, h} = row, told = {ok: "job", job, part, tree, cuts, state: "waiting", material: material.material, kerf: material.kerf, w, h};
-  toldJobs.set(`/job/${job}`, told);
+  const row = [...known.values()].flatMap(of => of.parts).find(other => other.part === part);
+  if (row) noteWaiting({...row, job, cuts}, tree);
+}
+
+// A waiting job is known by its row and its plan.
+function noteWaiting({job, part, cuts, material, w, h}, tree) {
+  const {kerf} = materialOf(material) || {};
+  if (kerf !== undefined) noteFact(`/job/${job}`, {ok: "job", job, part, tree, cuts, state: "waiting", material, kerf, w, h});
 }
 
 // Some that were refused are told, and what is left is planned anew by one press.

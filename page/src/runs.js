@@ -2,12 +2,14 @@
 // may be another one whenever it was away. No answer is read before it is known whether it comes from the shop that is shown.
 
 // run: the last one that was told, "" where none is told, null where none was asked for yet; isMet: whether it is known to be the
-// one that answers; isOver: whether it was told that another one answers; meeting: the question that is under way.
+// one that answers; isOver: whether it was told that another one answers; meeting: the question that is under way; away: since when
+// nothing of the shop answers, 0 where it does.
 const running = {
   run: null,
   isMet: false,
   isOver: false,
-  meeting: null
+  meeting: null,
+  away: 0
 };
 
 function meetShop() {
@@ -17,17 +19,44 @@ function meetShop() {
   return running.meeting;
 }
 
-// While its store fails a program tells no run: it has the one that it had, unless that is over.
+// While its store fails a program tells no run: it has the one that it had, unless that is over. Under another run the shop may be
+// another one; where it isn't, what was shown stays, and is read anew.
 async function greetShop() {
   const {status, reply} = await fetchAlone({path: "/health", patience: 20000});
   if (!reply && status !== 404) throw new NoAnswer(strangeWords(status));
   const before = running.run, same = reply && !running.isOver ? before ?? "" : "";
-  const run = typeof reply?.run === "string" ? reply.run : same;
+  const run = typeof reply?.run === "string" ? reply.run : same, isNew = before !== null && !(run && run === before);
+  const isKnown = !isNew || await readNews(path => getAlone(path, run), false);
   Object.assign(running, {run, isMet: true, isOver: false});
-  if (before === null || (run && run === before)) return;
+  if (!isNew) return;
   doubts.clear();
+  facts.by = new Map();
+  if (isKnown) refresh.lost = true;
+  else meetOther();
+}
+
+// What the shop that answers says, before it is known whether it is the one that is shown.
+async function getAlone(path, run) {
+  const {status, reply} = await fetchAlone({path, patience: 20000, run});
+  if (!reply || reply.refused !== undefined) throw new NoAnswer(strangeWords(status));
+  return reply;
+}
+
+// The shop is another one than was shown, or is as it was before: all that is known is dropped.
+function meetOther() {
   forgetShop();
-  tell(tr`The shop was away, or its program was started anew. What was shown is dropped and read anew.`, "good");
+  tellOther().catch(() => {});
+}
+
+// Tells as when the shop is, and which messages that were answered here it doesn't have.
+async function tellOther() {
+  const {last} = await ask("/shop"), lost = [];
+  for (const message of terminal.answered().filter(({reply, isLost}) => reply.ok && !isLost))
+    if (message.number > (await ask(`/terminal/${message.terminal}`)).last) lost.push(message);
+  for (const message of lost) terminal.keep({...message, isLost: true});
+  const when = last ? tr`The shop is as it was at ${momentText(last)}.` : tr`The shop has no entry.`;
+  const words = tr`${when} What was shown is dropped and read anew.`;
+  tell(lost.length ? tr`${words} It doesn't have: ${lost.map(message => message.words).join("; ")}.` : words, "refused");
 }
 
 // Another run answers than the one that was asked.
@@ -40,13 +69,15 @@ function leaveRun() {
 // into the forms stays, and so does what waits.
 function forgetShop() {
   const {lines, totals, open, left, kindOfJob} = shop;
-  for (const it of [known, lines, totals, open, left, kindOfJob, toldJobs, halts, imports.before, inStock.wanted]) it.clear();
-  for (const it of ["sums", "lines", "seen", "typed"]) inOrders[it].clear();
+  for (const it of [known, lines, totals, open, left, kindOfJob, halts, imports.before, inStock.wanted]) it.clear();
+  Object.assign(facts, {by: new Map(), last: null, shops: facts.shops + 1});
+  for (const it of ["sums", "lines", "typed"]) inOrders[it].clear();
   Object.assign(shop, {isKnown: false, orders: [], allOrders: [], jobs: []});
   Object.assign(shop, {moreOrders: false, moreAllOrders: false, moreJobs: false});
-  Object.assign(inOrders, {read: 0, found: "", sought: "", note: "", isListed: false});
+  Object.assign(inOrders, {isRead: false, found: "", sought: "", note: "", isListed: false});
   Object.assign(atSaw, {plans: new Map(), told: null, opening: 0, breaking: false, lost: null, canvas: null});
   forgetTrace();
+  leaveHappened();
   owner.report = imports.last = held.target = null;
   shop.changes++;
   refresh.lost = true;
@@ -69,28 +100,6 @@ function isDoubted(message) { return doubts.has(message.run); }
 // Whether a message was typed for the shop that is shown. (One that was typed before any run was told is for the one that is met.)
 function isTypedHere({run}) { return (run ?? null) === null || run === running.run; }
 
-// So many of the latest rows of a kind are kept with a message, and so many of the pieces that it names.
-const MOST_LATEST = 4, MOST_NAMED = 12;
-
-// What the shop showed when a command was typed, to know it again: paths, each with what its answer has to say. The latest rows
-// tell most, as a shop that was restored lacks them; and so do those that the command names.
-function rowsShown(command) {
-  const latest = numbers => [...numbers].sort((a, b) => b - a).slice(0, MOST_LATEST);
-  const job = [atSaw.told, toldJobs.get(`/job/${command.job}`)].find(told => told && told.job === command.job);
-  const pieces = command.tree || job?.tree ? [...countPieces(command.tree || job.tree).keys()] : [command.demand];
-  const demands = new Set([...pieces.slice(0, MOST_NAMED), ...latest(shop.lines.keys())]);
-  const jobs = new Set(latest(shop.jobs.map(row => row.job)));
-  const late = [...shop.parts].sort((a, b) => parseInt(b.part) - parseInt(a.part)).slice(0, MOST_LATEST);
-  const parts = shop.parts.filter(row => row.part === command.part || late.includes(row));
-  return [
-    ...[...demands].filter(demand => shop.lines.has(demand)).map(demand => [`/demand/${demand}`, shop.lines.get(demand)]),
-    ...shop.jobs.filter(row => jobs.has(row.job)).map(({job: number, material, part, w, h, cuts}) =>
-      [`/job/${number}`, {material, part, w, h, cuts}]),
-    ...parts.map(({part, batch, w, h}) => [`/trace/${part}`, {batch, w, h}]),
-    ...job ? [[`/job/${job.job}`, {material: job.material, part: job.part, w: job.w, h: job.h, kerf: job.kerf, tree: job.tree}]] : []
-  ];
-}
-
 // Whether all that waits may be sent to the shop that answers.
 async function isForThisShop() {
   if (!running.isMet) await meetShop();
@@ -104,23 +113,15 @@ async function isForThisShop() {
 }
 
 // Whether the shop that answers is the one in which these messages were typed under one run: the terminal's last number isn't
-// below one that was answered then, and the rows that were shown are as they were. It isn't, too, where nothing was shown.
+// below one that was answered then, and the last entry that was known then is there. It isn't, too, where none was known.
 async function isShopOf(messages) {
   const [{run, terminal: sender}] = messages, {last} = await ask(`/terminal/${sender}`);
   const answered = terminal.answered().filter(other => other.run === run && other.terminal === sender && other.reply.ok);
   if (answered.some(({number}) => number > last)) return false;
-  const rows = new Map(messages.flatMap(message => message.rows || []).map(row => [JSON.stringify(row), row]));
-  for (const [path, was] of rows.values())
-    if (!await isAsShown(path, was)) return false;
-  return rows.size > 0;
-}
-
-async function isAsShown(path, was) {
-  const row = await ask(path).catch(error => {
-    if (![42, 50, 70].includes(error.reply?.refused)) throw error;
-    return {};
-  });
-  return Object.entries(was).every(([key, value]) => row[key] === value);
+  const seen = messages.map(message => message.seen?.entry ? message.seen : null).reduce((a, b) => a && b && b.entry > a.entry ? b : b && a);
+  if (!seen) return false;
+  const {entries: [row]} = await ask(`/history/${seen.entry - 1}`);
+  return Boolean(row) && isSameEntry(row, seen);
 }
 
 // What waits still of these messages goes on under the run that answers.

@@ -61,8 +61,26 @@ function waitingJobs() {
 async function readPlans() {
   const alike = groupsOf(shop.jobs, row => [row.material, row.w, row.h, row.cuts].join(" ")).filter(rows => rows.length > 1);
   const plans = new Map();
+  await learnPlans(alike.flat().filter(({job}) => !factOf(`/job/${job}`)));
   for (const {job} of alike.flat()) plans.set(job, (await askCalmly(`/job/${job}`)).tree);
   atSaw.plans = plans;
+}
+
+// Of many jobs the plans come from the entries that reserved them, back from the newest; the others are asked for one by one.
+const MANY_PLANS = 3, MOST_BACK = 20;
+
+async function learnPlans(rows) {
+  const lacking = new Map(rows.map(row => [row.job, row]));
+  let end = facts.last?.entry || 0;
+  for (let page = 0; page < MOST_BACK && end && lacking.size > MANY_PLANS; page++) {
+    const after = Math.max(0, end - ENTRIES);
+    for (const {message, reply} of (await askCalmly(`/history/${after}`)).entries) {
+      if (message.do !== "reserve" || !lacking.has(reply.job)) continue;
+      noteWaiting(lacking.get(reply.job), message.tree);
+      lacking.delete(reply.job);
+    }
+    end = after;
+  }
 }
 
 // Waiting jobs of one plan: the same material, sides and cuts for the same demands.
@@ -93,7 +111,7 @@ function foldJobs() {
 }
 
 // What is known of a waiting job's plan.
-function planOfJob({job}) { return atSaw.plans.get(job) || toldJobs.get(`/job/${job}`)?.tree || ""; }
+function planOfJob({job}) { return atSaw.plans.get(job) || factOf(`/job/${job}`)?.tree || ""; }
 
 // Waiting jobs of one plan, as one row: what it cuts, how often, and which jobs these are.
 function jobRow(rows) {
@@ -274,6 +292,7 @@ function showJob() {
   fill($("jobFigures"), shown, () => jobFigures(work));
   fill($("nextCut"), shown, () => nextCut(work));
   fill($("jobPieces"), shown, () => jobPieces(work, same));
+  fill($("jobStory"), told.job, () => storyLink("job", told.job));
   fill($("cutList"), shown, () => cutsOf(told.root).map(cut => el("li", {}, cutRow(cut, work))));
   fill($("jobSheet"), shown, () => jobSheet(work));
   fill($("jobPicture"), shown, () => []);
@@ -510,7 +529,6 @@ async function finishAll() {
   const isHere = command => atSaw.told?.job === command.job;
   sendMany(what, jobs.map(job => [tr`Job ${job} done`, {do: "done", job}]), command => {
     ticks.forget(command.job);
-    toldJobs.delete(`/job/${command.job}`);
     if (isHere(command)) atSaw.told = {...atSaw.told, state: "done"};
     showView();
   });
@@ -542,7 +560,6 @@ function endJob(told, command, what) {
   send(command, what, () => {
     if (command.do === "break") halts.set(keyOf(told), haltOf(command));
     ticks.forget(told.job);
-    toldJobs.delete(`/job/${told.job}`);
     if (!atSaw.told || keyOf(atSaw.told) !== keyOf(told)) return;
     atSaw.told = {...atSaw.told, state: ENDS[command.do]};
     setBreaking(false);

@@ -39,7 +39,7 @@ async function planOrder({part = "", only = "", buy = null, code = shop.material
 
 // What is planned has to be known as it is now; where it can't be read the question itself will tell.
 async function readLists(code) {
-  for (const read of [readDemands, readParts]) await read(code).catch(() => {});
+  for (const read of [lookAtShop, readDemands, readParts]) await read(code).catch(() => {});
   if (viewName() === "tocut") showView();
 }
 

@@ -77,27 +77,18 @@ function isBare(path, status) {
 }
 
 // A reply's object; a refusal is thrown.
-async function ask(path, options) {
-  const {status, reply} = await request(path, options);
+async function ask(path, options = {}) {
+  const asOf = facts.last, {status, reply} = await request(path, options);
   if (!reply) throw new NoAnswer(status === 412 ? tr`the program was started anew` : strangeWords(status));
   if (reply.refused !== undefined) throw new Refused(reply);
-  if (reply.ok === "job") toldJobs.set(path, {...reply});
+  if (options.body === undefined) noteFact(path, {...reply}, asOf);
   return reply;
 }
 
-// What was told of jobs since the materials were read: a pass doesn't ask for those again that can't have changed.
-const toldJobs = new Map();
-
+// What is known still, or else what the shop says when nobody waits for another answer.
 async function askCalmly(path) {
-  const known = toldJobs.get(path);
-  return known && isAsTold(known) ? {...known} : ask(path, {calm: true});
-}
-
-// A job that is over stays so, and one that is listed as it was waits as it did.
-function isAsTold(told) {
-  const row = shop.jobs.find(other => other.job === told.job);
-  if (told.state !== "waiting") return !row;
-  return row && ["material", "part", "w", "h", "cuts"].every(key => row[key] === told[key]);
+  const known = factOf(path);
+  return known ? {...known} : ask(path, {calm: true});
 }
 
 // An answer of the shop is a JSON object that says what was done or why not; another program may listen at its port, or stand
@@ -121,12 +112,19 @@ async function faultWords(error, command) {
   return error instanceof NoAnswer ? error.message : String(error);
 }
 
-// Whether the shop answers; where something else did, that is told beside it.
+// Whether the shop answers; where something else did, that is told beside it, and where nothing does for a while, since when.
+const AWAY = 3000;
+
 function showLink(isOn, why = "") {
   const words = isOn ? tr`connected` : tr`no connection`;
   if (!isOn) {
     refresh.lost = true;
     running.isMet = false;
+  }
+  if (isOn === running.away > 0) {
+    running.away = isOn ? 0 : Date.now();
+    showKeptSoon();
+    setTimeout(showKept, AWAY + 50);
   }
   if ($("link").textContent !== words) $("link").textContent = words;
   $("link").title = why;

@@ -25,7 +25,7 @@ const shop = {
   moreJobs: false,
   jobPages: 1,
   kindOfJob: new Map(),
-  lines: new Map(),  // demand -> { order, line }: what never changes of it
+  lines: new Map(),  // demand -> { order, line, material }: what never changes of it
   promised: new Map(),  // demand -> pieces in reservations that were pressed here and have no answer yet
   promisedParts: new Set(),  // the parts of those
   partsGoing: new Set(),  // the parts that are being scrapped or returned, without an answer yet
@@ -101,11 +101,11 @@ async function readMaterials() {
   shop.isKnown = true;
   const {word, of} = readAddress();
   if (["cut", "stock"].includes(word) && of && !materialOf(of)) settle(word);
-  if (!materialOf(shop.material)) chooseMaterial(shop.materials[0]?.material || "");
+  if (!materialOf(shop.material) && (shop.material || shop.materials.length)) chooseMaterial(shop.materials[0]?.material || "");
 }
 
 function learnLines(rows) {
-  for (const row of rows) shop.lines.set(row.demand, {order: row.order, line: row.line});
+  for (const row of rows) shop.lines.set(row.demand, {order: row.order, line: row.line, material: row.material});
 }
 
 async function readDemands(code = shop.material) {

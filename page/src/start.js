@@ -78,6 +78,11 @@ function listenToStock() {
   });
 }
 
+function listenToHappened() {
+  for (const id of ["ofTerminal", "ofWord"]) $(id).addEventListener("change", showHappened);
+  $("narrowForm").addEventListener("submit", narrow);
+}
+
 function listenToTerminal() {
   onClick("terminalButton", chooseTerminal);
   onClick("terminalCancel", () => $("terminalDialog").close());
@@ -138,7 +143,7 @@ function keepInPlace() {
   if (isSameWindow && more) window.scrollBy(0, more);
 }
 
-// The keys 1 to 5 open the views, where no field takes them.
+// The keys 1 to 6 open the views, where no field takes them.
 function viewByKey(event) {
   const isTyping =
     event.target.closest?.("input:not([type=checkbox], [type=radio], [type=file]), select, textarea, dialog");
@@ -151,7 +156,7 @@ function viewByKey(event) {
 }
 
 translateDocument();
-for (const listen of [listenToPlans, listenToSaw, listenToOrders, listenToStock, listenToTerminal, listenToWindow]) listen();
+for (const listen of [listenToPlans, listenToSaw, listenToOrders, listenToStock, listenToHappened, listenToTerminal, listenToWindow]) listen();
 followAddress();
 showView();
 refreshNow();

@@ -263,7 +263,7 @@ function traceWords(chain) {
     el("p", {}, el("b", {text: `${part.part}, ${sizeText(kind, part.w, part.h)}: ${state}.`})),
     el("p", {text: where}), linkTo(`batch/${part.batch}`, tr`Batch ${part.batch}`), came ? quiet(`${came}.`) : "",
     part.state === "piece" ? linkTo(`order/${order}`, tr`Order ${order}`) : "",
-    ["reserved", "cut"].includes(part.state) ? linkTo(`saw/${part.of}`, tr`Job ${part.of}`) : ""
+    ["reserved", "cut"].includes(part.state) ? linkTo(`saw/${part.of}`, tr`Job ${part.of}`) : "", storyLink("part", part.part)
   ];
 }
 
@@ -273,6 +273,7 @@ async function showBatch(batch) {
   traced.batch = batch;
   $("traceWords").replaceChildren(quiet("…"));
   try {
+    await lookAtShop();
     if (!shop.isKnown) await readMaterials();
     const found = [];
     for (const {material} of shop.materials) {

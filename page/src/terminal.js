@@ -9,7 +9,7 @@ async function chooseTerminal() {
   const log = terminal.answered().slice(-MOST_LOGGED).reverse();
   $("messageLog")
     .replaceChildren(log.length ? el("h3", {text: tr`Last messages of this browser`}) : "",
-      ...log.map(({number, words, reply}) => el("div", {text: `${number}: ${reply.refused ? "✗" : "✓"} ${words}`})));
+      ...log.map(({number, words, reply, isSame}) => el("div", {text: `${number}: ${isRefusal(reply, {isSame}) ? "✗" : "✓"} ${words}`})));
   if (!$("terminalDialog").open) $("terminalDialog").showModal();
   if (!terminal.number || terminal.isSpent) await offerTerminal();
 }

@@ -1,5 +1,5 @@
-// ---- Views and their refreshing: a pass asks for what is shown, one request after another, some seconds after the last;
-// seldom where nothing is done and nothing changes, and not at all while the page is hidden.
+// ---- Views and their refreshing: a pass looks what happened, and asks for what the view needs and isn't known any more, one request
+// after another; some seconds after the last, and not at all while the page is hidden.
 
 const VIEWS = {
   tocut: {show: showToCut, read: [readDemands, readParts, readOthers]},
@@ -7,25 +7,21 @@ const VIEWS = {
   orders: {show: showOrders, read: [readOrders]},
   stock: {show: showStock, read: [readParts, readDemands, readOthers]},
   yield: {show: showYield, read: [readTotals, readBackups]},
+  happened: {show: showHappened, read: [readHappened]},
 };
 
-// The pause between two passes while nothing was done or changed for less than so long.
-const MINUTE = 60000, PAUSE = 4000, PAUSES = [[MINUTE, PAUSE], [60 * MINUTE, 15000], [Infinity, MINUTE]];
-// The materials change where the shop is started anew, which may not be seen.
-const MATERIALS_STAY = 2 * MINUTE;
-// So much of a pause for each request of the pass before, at most so long: a page that is only looked at asks 30 times a minute.
-const PAUSE_EACH = 2100, LONGEST_PAUSE = 20000, MANY_WAIT = 4;
-// lively: when something was done or changed; ended: when the last pass ended; asked: how many requests it made; lost: the shop
-// didn't answer since materials were read.
+// The pause between two passes, each of which asks what happened, and nothing else where nothing did; longer where nobody does
+// anything and nothing changes.
+const MINUTE = 60000, PAUSE = 2000, PAUSES = [[10 * MINUTE, PAUSE], [Infinity, 5 * PAUSE]];
+// lively: when something was done or changed; ended: when the last pass ended; lost: the shop didn't answer since it was looked what
+// happened.
 const refresh = {
   timer: 0,
   running: false,
   again: false,
   lively: 0,
   ended: 0,
-  asked: 0,
-  lost: true,
-  materials: 0
+  lost: true
 };
 
 function showView() {
@@ -73,14 +69,14 @@ function wake() {
   if (!refresh.running) waitForPass(pauseOf());
 }
 
-function waitForPass(time = Math.max(pauseOf(), Math.min(LONGEST_PAUSE, PAUSE_EACH * refresh.asked))) {
+function waitForPass(time = pauseOf()) {
   clearTimeout(refresh.timer);
   refresh.timer = setTimeout(passOrWait, Math.max(0, refresh.ended + time - performance.now()));
 }
 
-// While many messages of a press are answered one behind another, what is shown is read behind the last.
+// While messages of one press are answered one behind another, what is shown is read behind the last.
 function passOrWait() {
-  if (!sending.busy || terminal.kept().length < MANY_WAIT) return refreshPass();
+  if (!sending.busy || !terminal.kept().some(message => message.many)) return refreshPass();
   refresh.timer = setTimeout(passOrWait, PAUSE);
 }
 
@@ -92,7 +88,7 @@ function pauseOf() {
 // A question that fails stops neither the others nor the view's drawing.
 async function refreshPass() {
   Object.assign(refresh, {running: true, again: false});
-  const asked = queue.sent, before = knownText(), steps = document.hidden ? [] : [renewMaterials, readJobs, ...VIEWS[viewName()].read, showView];
+  const before = knownText(), steps = document.hidden ? [] : [renewShop, readMaterials, readJobs, ...VIEWS[viewName()].read, showView];
   for (const step of steps) {
     try {
       await step();
@@ -100,7 +96,7 @@ async function refreshPass() {
       if (!(error instanceof NoAnswer || error instanceof Refused)) console.error(error);
     }
   }
-  Object.assign(refresh, {running: false, ended: performance.now(), asked: queue.sent - asked});
+  Object.assign(refresh, {running: false, ended: performance.now()});
   if (knownText() !== before) refresh.lively = refresh.ended;
   if (refresh.again) refreshPass();
   else waitForPass();
@@ -111,10 +107,8 @@ function knownText() {
   return JSON.stringify([materials, jobs, demands, orders, allOrders, parts, [...totals], [...open], atSaw.told?.state]);
 }
 
-async function renewMaterials() {
-  if (!refresh.lost && shop.materials.length && performance.now() - refresh.materials < MATERIALS_STAY) return;
-  await readMaterials();
-  if (refresh.lost || !running.run) toldJobs.clear();
-  backups.isKnown = false;
-  Object.assign(refresh, {lost: false, materials: performance.now()});
+async function renewShop() {
+  await lookAtShop();
+  if (refresh.lost) backups.isKnown = false;
+  refresh.lost = false;
 }

@@ -97,6 +97,7 @@ function yieldTable(rows) {
 // The report is made of a material's totals and its parts, as they are when it is asked for.
 async function openReport(code) {
   try {
+    await lookAtShop();
     const totals = await ask(`/totals/${code}`),
           [parts, more] = await readPages(`/parts/${code}`, "parts", 2 * MOST_PAGES, row => `/parts/${code}/${row.part}`);
     owner.report = {...materialOf(code), totals, parts, more, at: timeText(Date.now())};

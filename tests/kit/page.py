@@ -14,6 +14,9 @@ GERMAN = (
     '6;STEEL;"800";0,1;nein;3;8000\r\n'
 )
 
+# When an entry was accepted, as the page tells it of today.
+TIME = r", \d+:\d\d(\s[AP]M)?"
+
 
 def stock(terminal):
     """Three sheets and five bars."""
@@ -67,6 +70,11 @@ def open_tab(it, view):
     it.go(f"{it.address}#{view}")
     it.until("shop.materials.length && terminal.number && !refresh.running")
     return it.session
+
+
+def reach(it, is_reached):
+    """Lets the page of this tab reach the shop, or not."""
+    it.call("Network.emulateNetworkConditions", offline=not is_reached, latency=0, downloadThroughput=-1, uploadThroughput=-1)
 
 
 def saved(it, view, form):

@@ -1,6 +1,6 @@
 """The saw at the terminal's page."""
 
-from browser.terminal import exchange
+from browser.terminal import exchange, open_shop
 
 # Four pieces of 100.0 mm of a bar of 600.0 mm, whose saw takes 2.5 mm; a piece of 400.0 by 300.0 mm of a sheet of 1200.0 by
 # 800.0 mm, whose saw takes 3.0 mm. Rests of a bar are kept from 300.0 mm, those of the sheet both.
@@ -21,3 +21,14 @@ def sender(shop, first=1):
         return reply
 
     return send
+
+
+def shop_with_jobs(trial, count=3, tree=BAR):
+    """A shop with bars, two sheets, the order A-1 and so many waiting jobs of one plan: 3, 4 and so on."""
+    shop = open_shop(trial)
+    send = sender(shop)
+    send(do="receive", material="STEEL", batch="S-1", w=6000, h=1, count=count + 3)
+    send(do="receive", material="GLASS", batch="G-1", w=12000, h=8000, count=2)
+    send(do="order", order="A-1", lines=LINES)
+    jobs = [send(do="reserve", part=f"1/{place}", tree=tree)["job"] for place in range(count)]
+    return shop, send, jobs

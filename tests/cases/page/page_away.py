@@ -2,24 +2,16 @@
 
 import http.server
 import json
-import shutil
-import subprocess
 import threading
 from contextlib import contextmanager
 
 from browser.terminal import Terminal, by_id, open_shop
 from kit.case import case
 from kit.page import is_german, is_quiet
+from kit.page_away import begun_again, copied, restored
 from kit.page_saw import sender
 
 RECEIVED = "Receive 3 × STEEL 6000.0\u00a0mm"
-
-
-def begun_again(shop):
-    """Starts the program of a shop again that was stopped, at the same port and with the same words."""
-    command = shop.process.args
-    shop.process = subprocess.Popen(command, stdin=subprocess.DEVNULL, stdout=subprocess.PIPE, stderr=subprocess.PIPE)
-    assert shop.process.stdout.readline() == f"listening on 127.0.0.1:{shop.port}\n".encode()
 
 
 @contextmanager
@@ -65,8 +57,7 @@ STRANGE = (
 @case(
     "another program at the port of the page's shop",
     "What is typed while another program or a proxy answers in the shop's place is kept, whatever it answers; the page has no "
-    "connection and tells what came. It is done once when the shop is back; where nothing of the shop was shown when it was typed, a "
-    "person is asked before.",
+    "connection and tells what came. It is done once when the same shop is back.",
 )
 def other_program(trial):
     shop, said = open_shop(trial), [STRANGE[0]]
@@ -88,9 +79,6 @@ def other_program(trial):
                 trial.equal((it.text("link"), it.value("document.querySelectorAll('#refusals .notice').length")), ("no connection", 0))
             it.at_widths("another-program")
         begun_again(shop)
-        it.until(f"{by_id('keptNotice')}.textContent.includes({json.dumps(ASKED)})")
-        trial.equal(it.ask("/totals/STEEL")["received"], 0)
-        it.click(row_button(1, "Send"))
         it.says(f"{RECEIVED}: 3 units received, 1/0 to 1/2")
         it.until(f"{by_id('link')}.textContent === 'connected' && !terminal.kept().length")
         trial.equal((it.ask("/totals/STEEL")["received"], it.ask("/terminal/7")["last"]), (3 * 60000, 1))
@@ -104,9 +92,6 @@ def other_program(trial):
             it.until(f"{by_id('keptNotice')}.textContent.includes('status 404 came')")
             trial.equal(it.value("terminal.kept().map(message => message.number)"), [2])
         begun_again(shop)
-        it.until(f"!terminal.kept().length || {by_id('keptNotice')}.textContent.includes({json.dumps(ASKED)})")
-        if it.value("terminal.kept().length"):
-            it.click(row_button(1, "Send"))
         it.until("!terminal.kept().length")
         trial.equal((it.ask("/totals/STEEL")["received"], it.ask("/terminal/7")["last"]), (4 * 60000, 2))
         is_quiet(it)
@@ -173,27 +158,9 @@ RUNS = ("00c0ffee00c0ffee", "0123456789abcdef", "fedcba9876543210")
 BARS = {"do": "receive", "material": "STEEL", "batch": "S-1", "w": 60000, "h": 1, "count": 3}
 LINE = {"line": 1, "material": "STEEL", "w": 10000, "h": 1, "turn": False, "count": 3, "worth": 100}
 TREE = "x10000 p1 x10000 p1 x10000 p1 r"
-AWAY = "The shop was away, or its program was started anew. What was shown is dropped and read anew."
+AWAY = "What was shown is dropped and read anew."
 ASKED = "it isn't sure that it is the shop for which this was typed"
 WAITING = "[...document.querySelectorAll('#keptNotice .waiting')]"
-
-
-def files_of(shop):
-    return [shop.store, f"{shop.store}-wal"]
-
-
-def copied(shop):
-    """Stops the shop, and gives a copy of its two files."""
-    shop.kill()
-    for path in files_of(shop):
-        shutil.copy(path, f"{path}.copy")
-
-
-def restored(shop):
-    """Starts a stopped shop again over the copy of its files."""
-    for path in files_of(shop):
-        shutil.copy(f"{path}.copy", path)
-    begun_again(shop)
 
 
 def order_and_job(shop, order):
@@ -273,7 +240,7 @@ def other_shop(trial):
 
 @case(
     "what waits at the page where nothing shows which shop answers",
-    "What was typed when nothing of the shop was shown is asked about, message by message or all, and those of one press as one. Sent "
+    "What was typed when no entry of the shop was known is asked about, message by message or all, and those of one press as one. Sent "
     "it keeps its number, so that it is done once; in German it is asked in German.",
 )
 def unknown_shop(trial):
@@ -283,10 +250,12 @@ def unknown_shop(trial):
         at_gate(it, gate)
         it.view("stock")
         it.until("running.run && !refresh.running && shop.partsOf")
-        it.value("(clearTimeout(refresh.timer), refreshPass = () => {}, 0)")
+        it.value("(clearTimeout(refresh.timer), refreshPass = () => {}, facts.last = null, 0)")
         gate.lost = True
         it.value(f"void send({json.dumps(bar('N-1'))}, 'Eingang N-1')")
         it.until(f"{by_id('keptNotice')}.textContent.includes('(Nummer 1)')")
+        while not it.ask("/terminal/7")["last"]:
+            it.value("pause(100)")
         trial.equal(it.ask("/terminal/7")["last"], 1)
         shop.kill()
         for batch in ("N-2", "N-3"):
@@ -294,7 +263,7 @@ def unknown_shop(trial):
         both = [[f"Eingang {batch}", bar(batch)] for batch in ("M-1", "M-2")]
         it.value(f"void sendMany('Eingang von zweien', {json.dumps(both)}, () => 0)")
         it.until("terminal.kept().length === 5")
-        trial.equal(it.value("terminal.kept().map(message => [message.run, message.rows.length])"), [[RUNS[0], 0]] * 5)
+        trial.equal(it.value("terminal.kept().map(message => [message.run, message.seen])"), [[RUNS[0], None]] * 5)
         gate.run, gate.lost = RUNS[1], False
         begun_again(shop)
         it.until(f"{WAITING}.length === 5")
@@ -322,11 +291,11 @@ def unknown_shop(trial):
         for number, (text, last) in enumerate((("Alle senden", 4), ("Alle wegwerfen", 4))):
             gate.lost = True
             shop.kill()
-            it.value("(shop.lines.clear(), known.clear(), shop.jobs = [], atSaw.told = null, 0)")
+            it.value("(facts.last = null, 0)")
             for batch in ("P-1", "P-2"):
                 it.value(f"void send({json.dumps(bar(f'{batch}{number}'))}, 'Eingang {batch}')")
             it.until("terminal.kept().length === 2")
-            trial.equal(it.value("terminal.kept().map(message => message.rows.length)"), [0, 0])
+            trial.equal(it.value("terminal.kept().map(message => message.seen)"), [None, None])
             gate.run, gate.lost = RUNS[2 - 2 * number], False
             begun_again(shop)
             it.until(f"{WAITING}.length === 3")
@@ -349,7 +318,7 @@ def other_run(trial):
     begun_again(shop)
     order_and_job(shop, "MUELLER-1")
     known = (
-        "[shop.lines.size, toldJobs.size, halts.size, inOrders.lines.size, inOrders.typed.size, shop.orders.length, atSaw.told, "
+        "[shop.lines.size, facts.by.size, halts.size, inOrders.lines.size, inOrders.typed.size, shop.orders.length, atSaw.told, "
         "toCut.found, owner.report, traced.chain]"
     )
     for run in (RUNS[0], ""):
@@ -367,7 +336,7 @@ def other_run(trial):
             it.value("window.dropped = null, window.forgetBefore = forgetShop, forgetShop = () => { forgetBefore(); dropped = " + known + "; }, 0")
             shop.kill()
             if not run:
-                it.value("readJobs().catch(() => 0)")
+                it.value("ask('/shop').catch(() => 0)")
                 it.until(f"{by_id('link')}.textContent === 'no connection'")
             gate.run = run and RUNS[1]
             restored(shop)

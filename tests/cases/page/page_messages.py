@@ -2,13 +2,14 @@
 
 import json
 import os
+import re
 import signal
 import subprocess
 import time
 
 from browser.terminal import SHOP_FILE, Terminal, by_id, exchange, open_shop
 from kit.case import case
-from kit.page import is_quiet, open_tab, stock
+from kit.page import TIME, is_quiet, open_tab, reach, stock
 
 FIELDS = ("receiveBatch", "receiveW", "receiveH", "receiveCount")
 RECEIPT = f"{json.dumps(FIELDS)}.map(id => document.getElementById(id).value)"
@@ -19,11 +20,6 @@ WAITING = "[...document.querySelectorAll('#keptNotice .waiting')]"
 def turn_to(it, tab):
     it.session = tab
     it.call("Page.bringToFront")
-
-
-def reach(it, is_reached):
-    """Lets the page of this tab reach the shop, or not."""
-    it.call("Network.emulateNetworkConditions", offline=not is_reached, latency=0, downloadThroughput=-1, uploadThroughput=-1)
 
 
 def type_order(it, code):
@@ -337,24 +333,24 @@ def requests_in(it, seconds):
 
 @case(
     "an idle page asks seldom",
-    "After a minute without anything done or changed the page asks every 15 seconds, after an hour every minute, hidden not "
-    "at all; at once when something is pressed or it is shown again; and a job that waits or is over isn't asked anew.",
+    "The page asks `/shop` every two seconds, after ten minutes without anything done or changed every ten, hidden not at all; at "
+    "once when something is pressed or it is shown again; what no entry changed isn't asked anew.",
 )
 def idle(trial):
     with Terminal(trial, open_shop(trial)) as it:
         it.begin(7)
         stock(it)
         quiet = lambda minutes: it.value(f"refresh.lively = performance.now() - {minutes} * 60000, pauseOf()")
-        trial.equal([quiet(minutes) for minutes in (0, 0.9, 1.1, 59, 61)], [4000, 4000, 15000, 15000, 60000])
+        trial.equal([quiet(minutes) for minutes in (0, 9.9, 10.1, 61)], [2000, 2000, 10000, 10000])
         it.view("tocut")
         it.until("!refresh.running")
-        quiet(2)
+        quiet(11)
         it.value("waitForPass()")
         trial.equal(requests_in(it, 6), 0)
         it.click(by_id("planTitle"))
         it.until("refresh.running || performance.now() - refresh.ended < 1000", 2)
         it.until("!refresh.running")
-        trial.equal(it.value("pauseOf()"), 4000)
+        trial.equal(it.value("pauseOf()"), 2000)
         line = {"count": 2, "h": 1, "line": 1, "material": "STEEL", "turn": False, "w": 10000, "worth": 100}
         reserve = {"do": "reserve", "part": "2/0", "tree": "x10000 p1 r"}
         for number, keys in enumerate(({"do": "order", "lines": [line], "order": "A-1"}, reserve)):
@@ -362,8 +358,8 @@ def idle(trial):
         it.view("saw")
         it.until("atSaw.told && !refresh.running")
         it.requests.clear()
-        it.value("refreshPass()")
-        trial.equal([address.removeprefix(it.address) for address in it.requests], ["jobs/0"])
+        it.value("(clearTimeout(refresh.timer), refreshPass())")
+        trial.equal([address.removeprefix(it.address) for address in it.requests], ["shop"])
         first = it.session
         open_tab(it, "stock")
         it.call("Page.bringToFront")
@@ -389,7 +385,7 @@ def header(trial):
         it.begin(4294967295)
         stock(it)
         for words in ("", "showLink(false), jobCount.textContent = '100+', jobCount.hidden = false"):
-            for view in ("tocut", "saw", "orders", "stock", "yield"):
+            for view in ("tocut", "saw", "orders", "stock", "yield", "happened"):
                 it.view(view)
                 for width in (360, 400, 600, 700, 701, 720, 768, 800, 820, 860, 861, 900, 1000, 1280):
                     it.size(width)
@@ -547,14 +543,14 @@ def in_words(trial):
             ),
             ({"do": "amend", "demand": 9, "wanted": 1}, "there are no such pieces wanted (42 NoDemand)"),
             ({"do": "scrap", "part": "9/9"}, "there is no such part (50 NoPart)"),
-            ({"do": "scrap", "part": "1/0"}, "the part doesn't stand any more: it is reserved, cut, scrap or returned (51 NotStanding)"),
+            ({"do": "scrap", "part": "1/0"}, "Part 1/0: cut up by terminal 8 (51 NotStanding)"),
             ({"do": "return", "part": "3/2"}, "only a whole unit, as it was received, can be returned (52 NotWhole)"),
             (reserve("x10000 r r"), "the plan isn't one of this part, or has no piece (60 BadTree)"),
             (reserve("x10000 p2 r"), "the plan has a piece of another material (61 WrongMaterial)"),
             (reserve("x9000 p1 r"), "a piece of the plan hasn't the size that is wanted (62 WrongSize)"),
             (reserve("x10000 p1 x10000 p1 r"), "only 1 of pieces no. 1 is left (63 TooMany)"),
             ({"do": "done", "job": 9}, "there is no such job (70 NoJob)"),
-            ({"do": "done", "job": 3}, "the job is over already (71 JobOver)"),
+            ({"do": "break", "job": 3, "cuts": [0], "lost": False}, "Job 3: done by terminal 8 (71 JobOver)"),
             (
                 {"do": "break", "job": 4, "cuts": [1], "lost": False},
                 "work can't have halted so: each cut needs all cuts above it (72 BadCut)",
@@ -562,7 +558,8 @@ def in_words(trial):
             ({"do": "import", "form": "csv", "order": "A-3", "text": "A"}, "the file's text isn't of its form (80 BadText)"),
         )
         it.begin(7)
-        trial.equal(refused(it, [command for command, _ in wanted]), [words for _, words in wanted])
+        told = [re.sub(TIME, "", words) for words in refused(it, [command for command, _ in wanted])]
+        trial.equal(told, [words for _, words in wanted])
         plan = lambda **keys: {"ask": "plan", "demands": [1], "part": "1/1", "step": 0, **keys}
         asked = (
             ("/order/A-9", None, "there is no order with this code (43 NoOrder)"),
@@ -703,7 +700,6 @@ def new_material(trial):
         command = shop.process.args
         with open(command[command.index("--shop") + 1], "w", encoding="utf-8") as file:
             file.write(SHOP_FILE + NEW_MATERIAL)
-        it.value("(refresh.materials = performance.now(), 0)")
         shop.process = subprocess.Popen(command, stdin=subprocess.DEVNULL, stdout=subprocess.PIPE, stderr=subprocess.PIPE)
         trial.equal(shop.process.stdout.readline(), f"listening on 127.0.0.1:{shop.port}\n".encode())
         it.until(f"{names}.join() === 'GLASS,STEEL,WIRE'", 60)

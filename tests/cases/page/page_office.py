@@ -401,8 +401,7 @@ def many_units(trial):
         it.at_widths("stock-many")
         it.shop.process.send_signal(signal.SIGCONT)
         it.says(
-            "Refused: Return 40 × STEEL 6000.0\u00a0mm: 39 of 40 done; 1 refused (1/7): the part doesn't stand any more: it is "
-            "reserved, cut, scrap or returned (51 NotStanding)"
+            "Refused: Return 40 × STEEL 6000.0\u00a0mm: 39 of 40 done; 1 refused (1/7): Part 1/7: reserved by terminal 8, "
         )
         trial.equal(it.value("document.querySelectorAll('#successes .notice').length"), 0, "each is told by itself")
         names = [row["part"] for row in it.ask("/parts/STEEL")["parts"]]
@@ -830,7 +829,7 @@ def many_jobs(trial):
             it.type(by_id("tracePart"), name)
             it.key("Enter")
             it.until(f"{by_id('traceWords')}.firstChild?.textContent.startsWith('{name}, ') && document.querySelector('#tracePicture svg')")
-            trial.equal(it.value(f"[...{by_id('traceWords')}.children].map(e => e.textContent)"), [f"{name}, {state}", *rest])
+            trial.equal(it.value(f"[...{by_id('traceWords')}.children].map(e => e.textContent)"), [f"{name}, {state}", *rest, "What happened"])
             told = it.ask(f"/trace/{name}")
             unit, drawn = it.value(f"['unit', '{fate}'].map({SIDES_DRAWN})")
             corner = [place - other for place, other in zip(drawn[:2], unit[:2])]

@@ -239,8 +239,7 @@ def taken(trial):
         send(do="scrap", part=lost)
         reserve_all(it)
         it.value("(refreshPass = window.pass, refreshNow())")
-        why = "the part doesn't stand any more: it is reserved, cut, scrap or returned (51 NotStanding)"
-        it.says(f"Refused: Reserve all of STEEL: 2 of 3 done; 1 refused ({lost}): {why}")
+        it.says(f"Refused: Reserve all of STEEL: 2 of 3 done; 1 refused ({lost}): Part {lost}: scrapped by terminal 8, ")
         trial.holds(f"Not reserved: {lost}. The others are." in it.text("planWords"), it.text("planWords"))
         trial.equal(len(it.ask("/jobs/0")["jobs"]), 2)
         it.click("[...document.querySelectorAll('#nextStep button')].find(e => e.textContent === 'Plan what is left')")

@@ -7,20 +7,10 @@ from browser.terminal import Terminal, by_id, open_shop
 from kit.case import case
 from kit.page import is_quiet
 from kit.page_answers import answering, plans
-from kit.page_saw import BAR, LINES, sender
+from kit.page_saw import BAR, LINES, sender, shop_with_jobs
 
 HASH = "location.hash"
-
-
-def shop_with_jobs(trial, count=3, tree=BAR):
-    """A shop with bars, two sheets, the order A-1 and so many waiting jobs of one plan: 3, 4 and so on."""
-    shop = open_shop(trial)
-    send = sender(shop)
-    send(do="receive", material="STEEL", batch="S-1", w=6000, h=1, count=count + 3)
-    send(do="receive", material="GLASS", batch="G-1", w=12000, h=8000, count=2)
-    send(do="order", order="A-1", lines=LINES)
-    jobs = [send(do="reserve", part=f"1/{place}", tree=tree)["job"] for place in range(count)]
-    return shop, send, jobs
+HAPPENED = "(document.getElementById('happened').hidden ? '' : happenedList.textContent)"
 
 
 def opened(it, address):
@@ -44,6 +34,11 @@ def shows(it, what):
             "part/2/1": "!stock.hidden && document.getElementById('traceWords').textContent.includes('2/1') && tracePicture.querySelector('svg')",
             "batch/G-1": "!stock.hidden && document.getElementById('traceWords').textContent.includes('Batch G-1') && document.getElementById('traceWords').textContent.includes('2/0')",
             "yield": "!document.getElementById('yield').hidden",
+            "happened": f"{HAPPENED}.includes('order A-1: 2 lines') && happenedTitle.textContent === 'What happened'",
+            "happened/3": f"{HAPPENED}.includes('batch S-1') && !{HAPPENED}.includes('batch G-1')",
+            "happened/order/A-1": "happenedTitle.textContent === 'What happened to order A-1'",
+            "happened/job/4": f"{HAPPENED}.includes('1/1 reserved as job 4')",
+            "happened/part/1/0": f"{HAPPENED}.includes('1/0 reserved as job 3')",
         }[what]
     )
 
@@ -51,13 +46,13 @@ def shows(it, what):
 @case(
     "addresses of the page",
     "Each view and each thing has an address, which a reload, Back and another tab show the same; tocut means cut, and an unknown one "
-    "becomes cut. The keys 1 to 5 open the views, and a reload on a job opens that job.",
+    "becomes cut. The keys 1 to 6 open the views, and a reload on a job opens that job.",
 )
 def addresses(trial):
     shop, _, _ = shop_with_jobs(trial)
     with Terminal(trial, shop) as it:
         it.begin(7)
-        every = ("cut/GLASS", "cut/STEEL", "saw/5", "orders", "order/A-1", "stock/STEEL", "stock/GLASS", "part/2/1", "batch/G-1", "yield")
+        every = ("cut/GLASS", "cut/STEEL", "saw/5", "orders", "order/A-1", "stock/STEEL", "stock/GLASS", "part/2/1", "batch/G-1", "yield", "happened", "happened/3", "happened/order/A-1", "happened/job/4", "happened/part/1/0")
         for address in every:
             opened(it, address)
             shows(it, address)
@@ -76,7 +71,7 @@ def addresses(trial):
         for address, becomes in (("tocut", "cut"), ("nonsense", "cut"), ("saw/x", "cut"), ("order", "cut"), ("part/4", "cut"), ("", "cut")):
             opened(it, address)
             it.until(f"!tocut.hidden && {HASH} === '#{becomes}'")
-        for key, view, address in (("2", "saw", "saw"), ("3", "orders", "orders"), ("4", "stock", "stock"), ("5", "yield", "yield"), ("1", "tocut", "cut")):
+        for key, view, address in (("2", "saw", "saw"), ("3", "orders", "orders"), ("4", "stock", "stock"), ("5", "yield", "yield"), ("6", "happened", "happened"), ("1", "tocut", "cut")):
             it.value("document.activeElement.blur()")
             it.key(key)
             it.until(f"!document.getElementById('{view}').hidden && {HASH}.startsWith('#{address}')")
@@ -136,9 +131,9 @@ def one_row(trial):
     shop, _, _ = shop_with_jobs(trial)
     for language in ("en", "de-DE"):
         with Terminal(trial, shop, language) as it:
-            it.begin(7)
+            it.begin(4294967295)
             it.value("(storage.write('cutshop.name', 'Glaserei Obermaier und Toechter'.slice(0, 30)), showView())")
-            for words in ("", "showLink(false)"):
+            for words in ("", "showLink(false), jobCount.textContent = '100+', jobCount.hidden = false"):
                 for width in (700, 768, 999, 1000, 1024, 1280):
                     it.size(width)
                     it.value(words)
@@ -227,7 +222,7 @@ def targets(trial):
         it.plan_all("STEEL")
         for width in (1280, 768, 400):
             it.size(width, 800)
-            for address in ("cut/STEEL", "saw/5", "orders", "order/A-1", "stock/STEEL", "part/2/1", "batch/G-1", "yield"):
+            for address in ("cut/STEEL", "saw/5", "orders", "order/A-1", "stock/STEEL", "part/2/1", "batch/G-1", "yield", "happened", "happened/order/A-1"):
                 it.value(f"void (location.hash = '{address}')")
                 it.until("!refresh.running")
                 time.sleep(0.3)
@@ -327,17 +322,18 @@ def settled(it):
 
 
 def asked_by(it, act):
-    """How many requests the page makes from here on until it asks nothing for a moment."""
-    before = it.value("queue.sent")
+    """How many requests the page makes from here on until it asks nothing for a moment, beside those that look whether anything
+    happened."""
+    before = len(it.requests)
     act()
     settled(it)
-    return it.value("queue.sent") - before
+    return sum(not address.endswith("/shop") for address in it.requests[before:])
 
 
 @case(
     "how many requests the page makes",
-    "Orders with 61 open ones take at most 6 requests, 69 parts that are reserved at most 75, and the saw with 69 jobs that were reserved "
-    "here at most 8.",
+    "Beside `/shop` orders with 61 open ones take at most 6 requests, 69 parts that are reserved at most 75, and the saw with 69 jobs at "
+    "most 8, whether they were reserved here or not.",
 )
 def requests(trial):
     shop = open_shop(trial)
@@ -380,6 +376,13 @@ def requests(trial):
         trial.equal(it.ask("/demand/1")["reserved"], 69)
         asked = asked_by(it, saw)
         trial.holds(asked <= 8, f"the saw with 69 jobs: {asked} requests")
+        it.value("void (location.hash = 'yield')")
+        settled(it)
+        it.call("Page.reload")
+        it.until("document.readyState === 'complete' && shop.isKnown")
+        settled(it)
+        asked = asked_by(it, saw)
+        trial.holds(asked <= 8, f"the saw with 69 jobs that another reserved: {asked} requests")
         is_quiet(it)
 
 
@@ -391,11 +394,12 @@ def left_alone(trial):
     shop, _, _ = shop_with_jobs(trial)
     with Terminal(trial, shop) as it:
         it.begin(7)
-        for view in ("tocut", "saw", "orders", "stock", "yield"):
+        for view in ("tocut", "saw", "orders", "stock", "yield", "happened"):
             it.view(view)
             settled(it)
-            asked = it.value("queue.sent")
-            time.sleep(30)
-            asked = it.value("queue.sent") - asked
-            trial.holds(asked <= 15, f"{view}: {asked} requests in half a minute")
+            before, begin = it.value("[queue.sent, performance.now()]")
+            time.sleep(20)
+            asked, end = it.value("[queue.sent, performance.now()]")
+            most = (end - begin) / 2000 + 1
+            trial.holds(asked - before <= most, f"{view}: {asked - before} requests in {(end - begin) / 1000:.1f} seconds")
         is_quiet(it)

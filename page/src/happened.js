@@ -1,0 +1,202 @@
+// ---- What happened: the shop's entries, the newest first, a hundred a page; or those about an order, a job or a part.
+
+const ENTRIES = 100, LOOKED = "cutshop.looked";
+
+// of: what the address named when entries were read, null where none were; entries: how many the shop had then; rows: what was
+// read; note: why nothing was; looked: the last entry that was seen before this visit.
+const happened = {
+  of: null,
+  entries: 0,
+  rows: [],
+  note: "",
+  looked: 0
+};
+
+function leaveHappened() { happened.of = null; }
+
+function isStory(of) { return of.includes("/"); }
+
+// Reads the page of entries that the address names, where it or the shop has changed.
+async function readHappened() {
+  const {of} = readAddress(), entries = facts.last?.entry ?? 0;
+  if (!facts.last || (happened.of === of && happened.entries === entries)) return;
+  const last = isStory(of) ? Infinity : Math.min(Number(of) || entries, entries), told = {of, entries, rows: [], note: ""};
+  try {
+    told.rows = await entriesTo(isStory(of) ? `/story/${of}` : "/history", isStory(of) ? 0 : Math.max(0, last - ENTRIES), last);
+  } catch (error) {
+    if (!(error instanceof Refused)) throw error;
+    told.note = await faultWords(error);
+  }
+  if (readAddress().of !== of || viewName() !== "happened") return;
+  noteLook(of, entries);
+  Object.assign(happened, told);
+}
+
+// Entries behind a number up to another, the newest first.
+async function entriesTo(path, after, last) {
+  const rows = [];
+  let more = true;
+  for (let page = 0; more && after < last && page < MOST_PAGES; page++) {
+    const told = await askCalmly(`${path}/${after}`), {entries} = told;
+    rows.push(...entries.filter(({entry}) => entry <= last));
+    more = told.more && entries.length > 0;
+    if (more) after = entries[entries.length - 1].entry;
+  }
+  learnOrders(rows);
+  return Object.assign(rows.reverse(), {more: more && after < last});
+}
+
+// Whose the lines of orders are that entries tell; and which file came again, and so made nothing.
+function learnOrders(rows) {
+  const made = new Set();
+  for (const row of rows) {
+    const {message: {do: done, lines}, reply: {first, order}} = row;
+    if (lines && order) learnLines(lines.map(({line, material}, i) => ({demand: first + i, order, line, material})));
+    row.isAgain = done === "import" && made.has(order);
+    if (order) made.add(order);
+  }
+}
+
+// What is new since the newest entries were shown the last time; of another store nothing is known.
+function noteLook(of, entries) {
+  const looked = storage.read(LOOKED, 0);
+  if (happened.of === null) happened.looked = looked > entries ? 0 : looked;
+  if (of || looked === entries) return;
+  try {
+    storage.write(LOOKED, entries);
+  } catch { return; }  // (then the line stays where it is)
+}
+
+function showHappened() {
+  const {of} = readAddress(), {rows, note} = happened, isRead = happened.of === of, [kind, ...name] = of.split("/");
+  $("happenedTitle").textContent = isStory(of) ? storyWords(kind, name.join("/")) : tr`What happened`;
+  showNarrow();
+  const shown = isRead ? rows.filter(isNarrowed) : [];
+  fill($("happenedList"), [isRead, of, shown, note, happened.looked, chosenOf(), shop.lines.size, shop.materials],
+    () => !isRead ? [quiet("…")] : note ? [el("p", {class: "fault", text: note})] : [andMore(rows.more), ...dayRows(shown)]);
+  fill($("happenedPages"), [isRead, of, happened.entries, rows.length], () => isRead ? pageLinks(of) : []);
+}
+
+function storyWords(kind, name) {
+  return {order: tr`What happened to order ${name}`, job: tr`What happened to job ${name}`, part: tr`What happened to part ${name}`}[kind];
+}
+
+// What a person narrows the entries to.
+function chosenOf() { return [$("ofTerminal").value, $("ofWord").value]; }
+
+function isNarrowed({message}) {
+  const [terminal, done] = chosenOf();
+  return (!terminal || message.terminal === Number(terminal)) && (!done || message.do === done);
+}
+
+function showNarrow() {
+  const [terminal] = chosenOf(), there = new Set(happened.rows.map(({message}) => message.terminal));
+  if (terminal) there.add(Number(terminal));
+  const numbers = [...there].sort((a, b) => a - b), option = ([value, text]) => el("option", {value, text});
+  fill($("ofTerminal"), numbers, () => [["", tr`all`], ...numbers.map(number => [String(number), terminalWords(number)])].map(option));
+  fill($("ofWord"), 0, () => [["", tr`all`], ...Object.entries(DONE_WORDS)].map(option));
+}
+
+function terminalWords(number) { return number ? tr`Terminal ${number}` : tr`shop file`; }
+
+const DONE_WORDS = {
+  receive: tr`Received`,
+  order: tr`Ordered`,
+  import: tr`Ordered by a file`,
+  amend: tr`Changed`,
+  reserve: tr`Reserved`,
+  done: tr`Done`,
+  break: tr`Broken off`,
+  release: tr`Given back`,
+  scrap: tr`Scrapped`,
+  return: tr`Returned`,
+  material: tr`Material`
+};
+
+// The entries by days, with a line above those that were seen before.
+function dayRows(rows) {
+  if (!rows.length) return [quiet(emptyWords())];
+  const isNew = ({entry}) => entry > happened.looked, marks = happened.of === "" && happened.looked && isNew(rows[0]);
+  const seen = marks ? rows.find(row => !isNew(row)) : null;
+  return groupsOf(rows, ({at}) => dayText(at)).flatMap(same => [
+    el("h3", {text: dayText(same[0].at)}),
+    el("ol", {class: "entries"}, ...same.flatMap(row => [row === seen ? el("li", {class: "looked", text: tr`since your last look ↑`}) : null, entryRow(row)]))
+  ]);
+}
+
+function emptyWords() {
+  const {of, rows} = happened;
+  if (rows.length) return tr`Nothing of it among entries ${rows[rows.length - 1].entry} to ${rows[0].entry}.`;
+  return isStory(of) ? tr`Before records began.` : tr`Nothing yet.`;
+}
+
+// A day and a time of day, in the reader's own time zone and language.
+function dayText(at) {
+  const how = {weekday: "long", day: "2-digit", month: isGerman ? "2-digit" : "long", year: "numeric"};
+  return at ? new Date(at * 1000).toLocaleDateString(isGerman ? "de-DE" : navigator.language, how) : tr`No time is known`;
+}
+
+function clockText(at) {
+  return at ? new Date(at * 1000).toLocaleTimeString(isGerman ? "de-DE" : navigator.language, {hour: "2-digit", minute: "2-digit"}) : "–";
+}
+
+function entryRow({at, entry, message, reply, isAgain}) {
+  return el("li", {class: String(entry) === happened.of ? "chosen" : ""},
+    el("a", {class: "button small", href: `#happened/${entry}`, title: tr`entry ${entry}`, "aria-label": tr`entry ${entry}`}, el("time", {text: clockText(at)})),
+    el("span", {class: "quiet", text: terminalWords(message.terminal)}),
+    el("span", {text: `${entryWords(message, reply)}${isAgain ? tr`, which was there: nothing done` : ""}`}),
+    el("span", {class: "links"}, ...linksOf(message, reply)));
+}
+
+function entryWords(message, reply) {
+  const {do: done, material, batch, count: units, demand, part, tree, job, cuts, lost, wanted} = message;
+  const piecesOfOrder = demand && shop.lines.get(demand), kind = message.kind || kindOf(material);
+  switch (done) {
+    case "material": return tr`material ${material}, ${materialWords(message)}`;
+    case "receive": return tr`${units} × ${material} ${sizeText(kind, message.w, message.h)} received, batch ${batch}`;
+    case "order": return tr`order ${message.order}: ${count(reply.count, "line")}`;
+    case "import": return tr`file of order ${message.order}: ${count(reply.count, "line")}`;
+    case "amend": return piecesOfOrder
+      ? tr`${grouped(wanted)} wanted of order ${piecesOfOrder.order}, line ${piecesOfOrder.line}`
+      : tr`${grouped(wanted)} wanted of pieces no. ${demand}`;
+    case "reserve": return tr`${part} reserved as job ${reply.job}: ${count([...countPieces(tree).values()].reduce((a, b) => a + b, 0), "piece")}`;
+    case "done": return tr`job ${job} done`;
+    case "break": return tr`job ${job} broken off, ${count(cuts.length, "cut")} made${lost === false ? "" : tr`, cut ${lost + 1} went wrong`}`;
+    case "release": return tr`job ${job} given back`;
+    case "scrap": return tr`${part} scrapped`;
+    case "return": return tr`${part} returned`;
+    default: return done;
+  }
+}
+
+// Links to what an entry is about.
+function linksOf({order, part, batch, demand, do: done, job}, reply) {
+  const of = order || shop.lines.get(demand)?.order, number = job || reply.job, name = done === "receive" ? `${reply.act}/0` : part;
+  return [
+    of ? linkTo(`order/${of}`, tr`Order ${of}`) : null, number ? linkTo(`saw/${number}`, tr`Job ${number}`) : null,
+    name ? linkTo(`part/${name}`, tr`Part ${name}`) : null, batch ? linkTo(`batch/${batch}`, tr`Batch ${batch}`) : null
+  ];
+}
+
+// The pages before and behind the one that is shown.
+function pageLinks(of) {
+  const {entries, rows} = happened, first = Number(of) || entries, links = [];
+  if (isStory(of)) return [linkTo("happened", tr`All that happened`)];
+  if (first < entries) links.push(linkTo(first + ENTRIES < entries ? `happened/${first + ENTRIES}` : "happened", tr`Newer`));
+  if (rows.length && rows[rows.length - 1].entry > 1) links.push(linkTo(`happened/${rows[rows.length - 1].entry - 1}`, tr`Older`));
+  return links;
+}
+
+function narrow(event) {
+  event.preventDefault();
+  const code = readCode("ofOrder");
+  markField($("ofOrder"), codeFault(code));
+  if (goToFault($("narrowForm"))) return;
+  $("ofOrder").value = "";
+  go(`happened/order/${code}`);
+}
+
+// A link to what happened to something.
+function storyLink(kind, name) {
+  return linkTo(`happened/${kind}/${name}`, tr`What happened`, storyWords(kind, name));
+}
