@@ -15,10 +15,14 @@ QUESTIONS = [f'{{"ask":"totals","material":"{it}"}}' for it in ("STEEL", "GLASS"
 QUESTIONS += ['{"ask":"rack","material":"GLASS"}', '{"ask":"demand","demand":1}', '{"ask":"demand","demand":3}']
 QUESTIONS += ['{"after":0,"ask":"demands"}', '{"after":"","ask":"orders"}', '{"ask":"lines","order":"A-1"}']
 QUESTIONS += [f'{{"ask":"trace","part":"{it}"}}' for it in ("1/0", "2/0", "2/4", "3/1")]
+QUESTIONS += ['{"after":0,"ask":"jobs"}', '{"ask":"job","job":2}', '{"ask":"steps","job":2}']
 
 # The examples whose days are disturbed.
 AMENDED = "amended order"
 NAMES = ("two bars", "three pieces", "broken sheet", "remnant cut again", "released and repeated", "import twice", AMENDED)
+
+# The example whose day has each command of the floor, which cases of its own disturb.
+FLOOR = "a day on the floor"
 
 # The day of all questions: “remnant cut again”, an order, and what is asked then.
 ASKED = "all questions"

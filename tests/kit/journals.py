@@ -63,15 +63,18 @@ class Journal:
                 self.imports.add(order)
         elif word == "amend":
             order = self.order_of[message["demand"]]
+        elif word in ("note", "extend"):
+            order = message["order"]
+            self.order_of |= {told["first"] + it: order for it in range(told["count"])} if word == "extend" else {}
         elif word == "reserve":
             act = job = told["job"]
             part = tuple(int(it) for it in message["part"].split("/"))
             orders = {self.order_of[int(it)] for it in re.findall(r"\bp([0-9]+)", message["tree"])}
             self.jobs[job] = (message["part"], orders)
             self.uses += [(job, it) for it in sorted(orders)]
-        elif word in ("done", "break", "release"):
+        elif word in ("begin", "done", "break", "release", "undo"):
             job = message["job"]
-            made = None if word == "release" else job
+            made = job if word in ("done", "break", "undo") else None
         elif word in ("scrap", "return"):
             part = tuple(int(it) for it in message["part"].split("/"))
         entry.orders = {order} if order else set()

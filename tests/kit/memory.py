@@ -1,8 +1,11 @@
 """Requests for memory that are refused, one after the other."""
 
+import os
 from concurrent.futures import ThreadPoolExecutor
 
+from kit import tables
 from kit.case import Skipped, fault_in
+from kit.days import REFUSED, Replay, questions_of
 from kit.faults import Faults
 
 
@@ -41,3 +44,63 @@ def opened(trial, store, faults):
     trial.equal((shop.status, fault_in(shop.errors)), (1, b"fault memory\n"), f"the start, request {faults.at}")
     shop.kill()
     return trial.shop(store)
+
+
+def is_as_before(trial, shop, day, number):
+    """Behind a refusal of a line the books and the kept replies are as before it."""
+    trial.equal(questions_of(shop), day.states[number], f"after 98 to {day.lines[number].decode()}")
+    for line, reply in day.accepted(number)[-1:]:
+        trial.equal(shop.reply(line), reply, f"{line.decode()} after 98 to {day.lines[number].decode()}")
+
+
+def replayed(trial, day, faults):
+    """Sends a day's lines to `replay`. One that is refused 98 changes nothing, and gets its reply when it is sent again; where
+    the program ends it tells `fault memory`. In the end all that was accepted has its kept reply."""
+    shop = Replay(trial, faults.environment)
+    for number, (line, reply) in enumerate(zip(day.lines, day.replies)):
+        got = shop.reply(line)
+        if got == REFUSED:
+            is_as_before(trial, shop, day, number)
+            got = shop.reply(line)
+        if not got:
+            status, errors = shop.end()
+            trial.equal((status, fault_in(errors)), (1, b"fault memory\n"), line)
+            return
+        trial.equal(got, reply, line)
+    again = [(line, shop.reply(line), reply) for line, reply in day.accepted()]
+    status, errors = shop.end()
+    if status:
+        trial.equal((status, fault_in(errors)), (1, b"fault memory\n"))
+        again = [it for it in again if it[1]]
+    for line, got, reply in again:
+        trial.equal(got == REFUSED or got == reply, True, f"{line.decode()}, sent again: {got}")
+
+
+def ended_for_memory(trial, shop, sent):
+    status, _, errors = shop.end()
+    trial.equal((status, fault_in(errors)), (1, b"fault memory\n"), sent)
+
+
+def served(trial, day, faults):
+    """The same over `serve` behind its start, where a connection may also end without an answer; where the program ends it is
+    opened again. How many requests its start makes."""
+    # (a longer name would take more requests)
+    store = f"{faults.at:06}.db"
+    shop = opened(trial, store, faults)
+    first = faults.calls()
+    for number, (line, reply) in enumerate(zip(day.lines, day.replies)):
+        got = sent(shop.reply, line)
+        if got == REFUSED:
+            is_as_before(trial, shop, day, number)
+            got = sent(shop.reply, line)
+        if not got:
+            if shop.has_ended():
+                ended_for_memory(trial, shop, line)
+                shop = trial.shop(store)
+            got = sent(shop.reply, line)
+        trial.equal(got, reply, line)
+    trial.equal(questions_of(shop), day.states[-1])
+    shop.kill()
+    trial.equal(tables.rows(shop.store), day.rows)
+    os.remove(shop.store)
+    return first

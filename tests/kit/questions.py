@@ -34,12 +34,14 @@ def compact(value):
 
 @dataclass
 class Demand:
-    """A demand's sides, whether its pieces may be turned, and how many are neither made nor reserved."""
+    """A demand's sides, whether its pieces may be turned, how many are neither made nor reserved, and the day on which its order is due,
+    0 for none."""
 
     w: int
     h: int
     turn: bool
     left: int
+    due: int = 0
 
     def is_held_by(self, w, h):
         """Whether a unit of these sides holds a piece."""
@@ -82,7 +84,7 @@ def content_of(ask, material):
     """What a shop tells of a material. `ask` sends a line and gives the reply."""
     (found,) = [it for it in json.loads(ask('{"ask":"materials"}'))["materials"] if it["material"] == material]
     demands = {
-        it["demand"]: Demand(it["w"], it["h"], it["turn"], it["wanted"] - it["reserved"] - it["made"])
+        it["demand"]: Demand(it["w"], it["h"], it["turn"], it["wanted"] - it["reserved"] - it["made"], it.get("due", 0))
         for it in rows_of(ask, "demands", "demand", 0, material=material)
     }
     parts = {
@@ -109,7 +111,9 @@ class Asked:
     @classmethod
     def of(cls, content, question):
         left = [number for number, it in content.demands.items() if it.left]
-        numbers = question.get("demands", left[:MOST_DEMANDS])
+        # (those whose orders are due first, those without a day last, and of one day by rising number; told by rising number)
+        first = sorted(left, key=lambda it: (not content.demands[it].due, content.demands[it].due, it))[:MOST_DEMANDS]
+        numbers = question.get("demands", sorted(first))
         wants = {it: content.demands[it] for it in numbers if it in left}
         names = [it for it, part in content.parts.items() if not content.is_bar or part.w <= LONGEST_BAR]
         parts = {it: content.parts[it] for it in question.get("parts", names[:MOST_PARTS])}

@@ -51,7 +51,7 @@ def status_of(line, reply):
         return 400
     if number in (98, 99):
         return 503
-    return 404 if number in (20, 42, 43, 50, 70) and path_of(line) else 409
+    return 404 if number in (20, 42, 43, 50, 52, 70) and path_of(line) else 409
 
 
 def value_of(line):
@@ -82,6 +82,10 @@ PATHS = (
     ("story", "/story/order/{order}/{after}"),
     ("story", "/story/job/{job}/{after}"),
     ("story", "/story/part/{part}/{after}"),
+    ("pieces", "/pieces/order/{order}/{after}"),
+    ("pieces", "/pieces/batch/{batch}/{after}"),
+    ("pieces", "/pieces/unit/{unit}/{after}"),
+    ("steps", "/steps/{job}"),
 )
 
 

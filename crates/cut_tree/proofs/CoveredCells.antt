@@ -1,18 +1,19 @@
 -- The rows of a tree share its rectangle out: each cell is in one of them, and each row has the cells of its node.
-use Rattle.std.proofs.Common.{◌≡◌, ℕ, zero, suc, ◌+◌, ◌-◌, ◌<◌, ◌≤◌, List, [], ◌++◌, length, get_or, refl, ap, subst, sym, ◌∙◌, arith, cond, lt-ltb, ◌⊎◌, inl, inr}
-use Rattle.std.specs.Prelude.{All, Any, AllPairs}
+use Rattle.std.proofs.Common.{◌≡◌, ℕ, zero, suc, ◌+◌, ◌-◌, ◌<◌, ◌≤◌, List, [], ◌++◌, Bool, true, false, length, get_or, refl, ap, subst, sym, ◌∙◌, arith, cond, lt-ltb, ◌⊎◌, inl, inr}
+use Rattle.std.specs.Prelude.{All, Any, AllPairs, if◌then◌else◌}
 use Rattle.std.proofs.lemmas.List.Elements.{All-append, All-cons}
 use Rattle.std.proofs.lemmas.List.{get_or_default, get_or_append_left, get_or-append_right, length-append}
-use Rattle.std.proofs.lemmas.Bool.{cases_lt, le-ltb}
+use Rattle.std.proofs.lemmas.Bool.{cases_lt, le-ltb, and_parts, ltb-true}
 use Rattle.std.proofs.Math.Dec.{ltb}
+use Rattle.cut_measure.specs.declared.sizes.Axis.{Axis}
 use Rattle.cut_measure.specs.declared.sizes.Axis.TheVariants.{X, Y}
 use Rattle.cut_tree.specs.declared.lay.Owner.{Owner}
 use Rattle.cut_tree.specs.declared.lay.Owner.TheVariants as owner
 use Rattle.cut_tree.specs.declared.lay.Row.{Row}
 use Rattle.cut_tree.specs.Tree.{Tree, Piece, Rest, Trim, Cut, IsShaped, node_count, cut_count}
-use Rattle.cut_tree.specs.Cells.{Outcome, Made, LeftWhole, Spoiled, Spot, spot_of, by_outcome}
+use Rattle.cut_tree.specs.Cells.{Outcome, Made, LeftWhole, Spoiled, Split, Spot, spot_of, by_outcome, is_split, split_spot}
 use Rattle.cut_tree.specs.Laying.{CoversCell, IsSpot, IsLaid}
-use Rattle.cut_tree.specs.Nodes.{rows_of, one_row, strip_row, rows_by_outcome}
+use Rattle.cut_tree.specs.Nodes.{rows_of, one_row, strip_row, split_rows, rows_by_outcome}
 
 -- the cell (i, j) is in the rectangle at (x, y) of w by h
 pub record Inside (x y w h i j : ℕ) : Type 0 where
@@ -289,15 +290,112 @@ minus_two i x a k = omega arith
 abbrev Shares : Tree → (x y w h k : ℕ) → (ℕ → Outcome) → (n c : ℕ) → Type 0
 Shares t x y w h k outcome n c = Covers (rows_of t x y w h k outcome n c) (Inside x y w h) (λ i j. spot_of t w h k outcome n c (i - x) (j - y)) n (n + node_count t)
 
+-- a tree has a node
+some_node : (t : Tree) → 1 ≤ node_count t
+some_node (Piece d turned) = omega arith
+some_node Rest = omega arith
+some_node (Trim axis a first) = omega arith
+some_node (Cut axis a first second) = omega arith
+
+-- the columns of a rectangle that are lost, and those that are left after them
+module _ (x y w h n rest : ℕ) where
+  split_x : 0 < w → 0 < h → Covers (split_rows X n x y w h rest) (Inside x y w h) (λ i j. split_spot X n w h rest (i - x) (j - y)) n (n + 2)
+  split_x wp hp = by (is_split rest w) refl
+    where
+      by : (b : Bool) → is_split rest w ≡ b
+          → Covers (if b then one_row n x y (w - rest) h owner.Lost ++ one_row (n + 1) (x + (w - rest)) y rest h owner.Rest else one_row n x y w h owner.Lost) (Inside x y w h)
+          (λ i j. if b
+          then (cond (ltb (i - x) (w - rest)) (record { node = n; owner = owner.Lost; w = w - rest; h = h; x = i - x; y = j - y }) (record { node = n + 1; owner = owner.Rest; w = rest; h = h; x = i - x - (w - rest); y = j - y }))
+          else record { node = n; owner = owner.Lost; w = w; h = h; x = i - x; y = j - y }) n (n + 2)
+      by true e =
+          let both_parts = and_parts (ltb 0 rest) (ltb rest w) e in
+          let some : 0 < rest = ltb-true 0 rest both_parts.0 in
+          let less : rest < w = ltb-true rest w both_parts.1 in
+          let f : ℕ → ℕ → Spot = λ i j. record { node = n; owner = owner.Lost; w = w - rest; h = h; x = i - x; y = j - y } in
+          let g : ℕ → ℕ → Spot = λ i j. record { node = n + 1; owner = owner.Rest; w = rest; h = h; x = i - x - (w - rest); y = j - y } in
+          let spot : ℕ → ℕ → Spot = λ i j. cond (ltb (i - x) (w - rest)) (f i j) (g i j) in
+          let In1 : ℕ → ℕ → Type 0 = λ i j. Inside x y (w - rest) h i j in
+          let In2 : ℕ → ℕ → Type 0 = λ i j. Inside (x + (w - rest)) y rest h i j in
+          let lost : Covers (one_row n x y (w - rest) h owner.Lost) In1 spot n (n + 1) =
+          like In1 In1 f spot _ n (n + 1) n (n + 1) (one x y (w - rest) h n owner.Lost (omega arith) hp) (omega arith) (omega arith)
+          (λ i j t. (t, sym (if_lt (f i j) (g i j) (i - x) (w - rest) (omega arith)))) (λ i j t. t) in
+          let left : Covers (one_row (n + 1) (x + (w - rest)) y rest h owner.Rest) In2 spot (n + 1) (n + 2) =
+          like In2 In2 (λ i j. record { node = n + 1; owner = owner.Rest; w = rest; h = h; x = i - (x + (w - rest)); y = j - y }) spot _ (n + 1) (n + 1 + 1) (n + 1) (n + 2)
+          (one (x + (w - rest)) y rest h (n + 1) owner.Rest some hp) (omega arith) (omega arith)
+          (λ i j t. (t, ap (λ v. (let r : Spot = record { node = n + 1; owner = owner.Rest; w = rest; h = h; x = v; y = j - y } in r)) (minus i x (w - rest)) ∙ sym (if_ge (f i j) (g i j) (i - x) (w - rest) (omega arith)))) (λ i j t. t) in
+          like (λ i j. In1 i j ⊎ In2 i j) (Inside x y w h) spot spot _ n (n + 2) n (n + 2)
+          (both In1 In2 spot _ _ n (n + 1) (n + 1) (n + 2) lost left (omega arith) (omega arith) (omega arith)) (omega arith) (omega arith)
+          (λ i j t. (
+            elim t [
+              | inl v ↦ record { left = omega arith; right = omega arith; top = omega arith; bottom = omega arith }
+              | inr v ↦ record { left = omega arith; right = omega arith; top = omega arith; bottom = omega arith }
+            ],
+            refl,
+          ))
+          (λ i j t. elim (cases_lt (i - x) (w - rest)) [
+            | inl l ↦ inl (record { left = omega arith; right = omega arith; top = omega arith; bottom = omega arith })
+            | inr l ↦ inr (record { left = omega arith; right = omega arith; top = omega arith; bottom = omega arith })
+          ])
+      by false e =
+          like _ _ (λ i j. record { node = n; owner = owner.Lost; w = w; h = h; x = i - x; y = j - y }) _ _ n (n + 1) n (n + 2) (one x y w h n owner.Lost wp hp) (omega arith) (omega arith) (λ i j t. (t, refl)) (λ i j t. t)
+
+  -- the same of rows
+  split_y : 0 < w → 0 < h → Covers (split_rows Y n x y w h rest) (Inside x y w h) (λ i j. split_spot Y n w h rest (i - x) (j - y)) n (n + 2)
+  split_y wp hp = by (is_split rest h) refl
+    where
+      by : (b : Bool) → is_split rest h ≡ b
+          → Covers (if b then one_row n x y w (h - rest) owner.Lost ++ one_row (n + 1) x (y + (h - rest)) w rest owner.Rest else one_row n x y w h owner.Lost) (Inside x y w h)
+          (λ i j. if b
+          then (cond (ltb (j - y) (h - rest)) (record { node = n; owner = owner.Lost; w = w; h = h - rest; x = i - x; y = j - y }) (record { node = n + 1; owner = owner.Rest; w = w; h = rest; x = i - x; y = j - y - (h - rest) }))
+          else record { node = n; owner = owner.Lost; w = w; h = h; x = i - x; y = j - y }) n (n + 2)
+      by true e =
+          let both_parts = and_parts (ltb 0 rest) (ltb rest h) e in
+          let some : 0 < rest = ltb-true 0 rest both_parts.0 in
+          let less : rest < h = ltb-true rest h both_parts.1 in
+          let f : ℕ → ℕ → Spot = λ i j. record { node = n; owner = owner.Lost; w = w; h = h - rest; x = i - x; y = j - y } in
+          let g : ℕ → ℕ → Spot = λ i j. record { node = n + 1; owner = owner.Rest; w = w; h = rest; x = i - x; y = j - y - (h - rest) } in
+          let spot : ℕ → ℕ → Spot = λ i j. cond (ltb (j - y) (h - rest)) (f i j) (g i j) in
+          let In1 : ℕ → ℕ → Type 0 = λ i j. Inside x y w (h - rest) i j in
+          let In2 : ℕ → ℕ → Type 0 = λ i j. Inside x (y + (h - rest)) w rest i j in
+          let lost : Covers (one_row n x y w (h - rest) owner.Lost) In1 spot n (n + 1) =
+          like In1 In1 f spot _ n (n + 1) n (n + 1) (one x y w (h - rest) n owner.Lost wp (omega arith)) (omega arith) (omega arith)
+          (λ i j t. (t, sym (if_lt (f i j) (g i j) (j - y) (h - rest) (omega arith)))) (λ i j t. t) in
+          let left : Covers (one_row (n + 1) x (y + (h - rest)) w rest owner.Rest) In2 spot (n + 1) (n + 2) =
+          like In2 In2 (λ i j. record { node = n + 1; owner = owner.Rest; w = w; h = rest; x = i - x; y = j - (y + (h - rest)) }) spot _ (n + 1) (n + 1 + 1) (n + 1) (n + 2)
+          (one x (y + (h - rest)) w rest (n + 1) owner.Rest wp some) (omega arith) (omega arith)
+          (λ i j t. (t, ap (λ v. (let r : Spot = record { node = n + 1; owner = owner.Rest; w = w; h = rest; x = i - x; y = v } in r)) (minus j y (h - rest)) ∙ sym (if_ge (f i j) (g i j) (j - y) (h - rest) (omega arith)))) (λ i j t. t) in
+          like (λ i j. In1 i j ⊎ In2 i j) (Inside x y w h) spot spot _ n (n + 2) n (n + 2)
+          (both In1 In2 spot _ _ n (n + 1) (n + 1) (n + 2) lost left (omega arith) (omega arith) (omega arith)) (omega arith) (omega arith)
+          (λ i j t. (
+            elim t [
+              | inl v ↦ record { left = omega arith; right = omega arith; top = omega arith; bottom = omega arith }
+              | inr v ↦ record { left = omega arith; right = omega arith; top = omega arith; bottom = omega arith }
+            ],
+            refl,
+          ))
+          (λ i j t. elim (cases_lt (j - y) (h - rest)) [
+            | inl l ↦ inl (record { left = omega arith; right = omega arith; top = omega arith; bottom = omega arith })
+            | inr l ↦ inr (record { left = omega arith; right = omega arith; top = omega arith; bottom = omega arith })
+          ])
+      by false e =
+          like _ _ (λ i j. record { node = n; owner = owner.Lost; w = w; h = h; x = i - x; y = j - y }) _ _ n (n + 1) n (n + 2) (one x y w h n owner.Lost wp hp) (omega arith) (omega arith) (λ i j t. (t, refl)) (λ i j t. t)
+
+  split : (axis : Axis) → 0 < w → 0 < h → Covers (split_rows axis n x y w h rest) (Inside x y w h) (λ i j. split_spot axis n w h rest (i - x) (j - y)) n (n + 2)
+  split X = split_x
+  split Y = split_y
+
 -- the rectangle of a cut that isn't made, or what its parts share out
-by_cases : (v : Outcome) (made : List Row) (spot : ℕ → ℕ → Spot) (x y w h n m : ℕ) → 0 < w → 0 < h → n + 1 ≤ m → Covers made (Inside x y w h) spot n m →
-    Covers (rows_by_outcome v made n x y w h) (Inside x y w h)
-    (λ i j. by_outcome v (spot i j) (record { node = n; owner = owner.Uncut; w = w; h = h; x = i - x; y = j - y }) (record { node = n; owner = owner.Lost; w = w; h = h; x = i - x; y = j - y })) n m
-by_cases Made made spot x y w h n m wp hp nm c = c
-by_cases LeftWhole made spot x y w h n m wp hp nm c =
-    like _ _ (λ i j. record { node = n; owner = owner.Uncut; w = w; h = h; x = i - x; y = j - y }) _ _ n (n + 1) n m (one x y w h n owner.Uncut wp hp) (omega arith) nm (λ i j t. (t, refl)) (λ i j t. t)
-by_cases Spoiled made spot x y w h n m wp hp nm c =
-    like _ _ (λ i j. record { node = n; owner = owner.Lost; w = w; h = h; x = i - x; y = j - y }) _ _ n (n + 1) n m (one x y w h n owner.Lost wp hp) (omega arith) nm (λ i j t. (t, refl)) (λ i j t. t)
+by_cases : (axis : Axis) (v : Outcome) (made : List Row) (spot : ℕ → ℕ → Spot) (x y w h n m : ℕ) → 0 < w → 0 < h → n + 2 ≤ m → Covers made (Inside x y w h) spot n m →
+    Covers (rows_by_outcome axis v made n x y w h) (Inside x y w h)
+    (λ i j. by_outcome v (spot i j) (record { node = n; owner = owner.Uncut; w = w; h = h; x = i - x; y = j - y }) (record { node = n; owner = owner.Lost; w = w; h = h; x = i - x; y = j - y })
+    (λ rest. split_spot axis n w h rest (i - x) (j - y))) n m
+by_cases axis Made made spot x y w h n m wp hp nm c = c
+by_cases axis LeftWhole made spot x y w h n m wp hp nm c =
+    like _ _ (λ i j. record { node = n; owner = owner.Uncut; w = w; h = h; x = i - x; y = j - y }) _ _ n (n + 1) n m (one x y w h n owner.Uncut wp hp) (omega arith) (omega arith) (λ i j t. (t, refl)) (λ i j t. t)
+by_cases axis Spoiled made spot x y w h n m wp hp nm c =
+    like _ _ (λ i j. record { node = n; owner = owner.Lost; w = w; h = h; x = i - x; y = j - y }) _ _ n (n + 1) n m (one x y w h n owner.Lost wp hp) (omega arith) (omega arith) (λ i j t. (t, refl)) (λ i j t. t)
+by_cases axis (Split rest) made spot x y w h n m wp hp nm c =
+    like _ _ (λ i j. split_spot axis n w h rest (i - x) (j - y)) _ _ n (n + 2) n m (split x y w h n rest axis wp hp) (omega arith) nm (λ i j t. (t, refl)) (λ i j t. t)
 
 -- The rows of a tree share its rectangle out.
 pub covers : (t : Tree) (x y w h k : ℕ) (outcome : ℕ → Outcome) (n c : ℕ) → 0 < w → 0 < h → IsShaped t w h k → Shares t x y w h k outcome n c
@@ -317,7 +415,8 @@ covers (Trim X a first) x y w h k outcome n c wp hp shaped =
     let all : Covers (strip_row k n (x + a) y (w - a) h ++ rows_of first x y a h k outcome (n + 1) (c + 1)) (Inside x y w h) (λ i j. cond (ltb (i - x) a) (f i j) (s i j)) n (n + (1 + node_count first)) =
     like (Inside x y w h) (Inside x y w h) (λ i j. cond (ltb (i - x) a) (f i j) (s i j)) (λ i j. cond (ltb (i - x) a) (f i j) (s i j)) _ n (n + 1 + node_count first) n (n + (1 + node_count first))
     (trim_x x y w h a n (n + 1 + node_count first) f s _ _ fits (omega arith) ck cf) (omega arith) (omega arith) (λ i j t. (t, refl)) (λ i j t. t) in
-    by_cases (outcome c) _ (λ i j. cond (ltb (i - x) a) (f i j) (s i j)) x y w h n (n + (1 + node_count first)) wp hp (omega arith) all
+    let least = some_node first in
+    by_cases X (outcome c) _ (λ i j. cond (ltb (i - x) a) (f i j) (s i j)) x y w h n (n + (1 + node_count first)) wp hp (omega (arith, least)) all
 covers (Trim Y a first) x y w h k outcome n c wp hp shaped =
     let ap_ : 1 ≤ a = shaped.0 in let fits : a < h = shaped.1 in let reach : h ≤ a + k = shaped.2 in
     let f : ℕ → ℕ → Spot = λ i j. spot_of first w a k outcome (n + 1) (c + 1) (i - x) (j - y) in
@@ -331,7 +430,8 @@ covers (Trim Y a first) x y w h k outcome n c wp hp shaped =
     let all : Covers (strip_row k n x (y + a) w (h - a) ++ rows_of first x y w a k outcome (n + 1) (c + 1)) (Inside x y w h) (λ i j. cond (ltb (j - y) a) (f i j) (s i j)) n (n + (1 + node_count first)) =
     like (Inside x y w h) (Inside x y w h) (λ i j. cond (ltb (j - y) a) (f i j) (s i j)) (λ i j. cond (ltb (j - y) a) (f i j) (s i j)) _ n (n + 1 + node_count first) n (n + (1 + node_count first))
     (trim_y x y w h a n (n + 1 + node_count first) f s _ _ fits (omega arith) ck cf) (omega arith) (omega arith) (λ i j t. (t, refl)) (λ i j t. t) in
-    by_cases (outcome c) _ (λ i j. cond (ltb (j - y) a) (f i j) (s i j)) x y w h n (n + (1 + node_count first)) wp hp (omega arith) all
+    let least = some_node first in
+    by_cases Y (outcome c) _ (λ i j. cond (ltb (j - y) a) (f i j) (s i j)) x y w h n (n + (1 + node_count first)) wp hp (omega (arith, least)) all
 covers (Cut X a first second) x y w h k outcome n c wp hp shaped =
     let ap_ : 1 ≤ a = shaped.0 in let fits : a + k < w = shaped.1 in
     let f : ℕ → ℕ → Spot = λ i j. spot_of first a h k outcome (n + 1) (c + 1) (i - x) (j - y) in
@@ -350,7 +450,8 @@ covers (Cut X a first second) x y w h k outcome n c wp hp shaped =
     let all : Covers (strip_row k n (x + a) y k h ++ rows_of first x y a h k outcome (n + 1) (c + 1) ++ rows_of second (x + a + k) y (w - a - k) h k outcome (n + 1 + node_count first) (c + 1 + cut_count first)) (Inside x y w h) (λ i j. cond (ltb (i - x) a) (f i j) (cond (ltb (i - x) (a + k)) (s i j) (g i j))) n (n + (1 + node_count first + node_count second)) =
     like (Inside x y w h) (Inside x y w h) (λ i j. cond (ltb (i - x) a) (f i j) (cond (ltb (i - x) (a + k)) (s i j) (g i j))) (λ i j. cond (ltb (i - x) a) (f i j) (cond (ltb (i - x) (a + k)) (s i j) (g i j))) _ n (n + 1 + node_count first + node_count second) n (n + (1 + node_count first + node_count second))
     (cut_x x y w h k a n (n + 1) (n + 1 + node_count first) (n + 1 + node_count first + node_count second) f s g _ _ _ fits (omega arith) (omega arith) (omega arith) ck cf cs) (omega arith) (omega arith) (λ i j t. (t, refl)) (λ i j t. t) in
-    by_cases (outcome c) _ (λ i j. cond (ltb (i - x) a) (f i j) (cond (ltb (i - x) (a + k)) (s i j) (g i j))) x y w h n (n + (1 + node_count first + node_count second)) wp hp (omega arith) all
+    let least = some_node first in
+    by_cases X (outcome c) _ (λ i j. cond (ltb (i - x) a) (f i j) (cond (ltb (i - x) (a + k)) (s i j) (g i j))) x y w h n (n + (1 + node_count first + node_count second)) wp hp (omega (arith, least)) all
 covers (Cut Y a first second) x y w h k outcome n c wp hp shaped =
     let ap_ : 1 ≤ a = shaped.0 in let fits : a + k < h = shaped.1 in
     let f : ℕ → ℕ → Spot = λ i j. spot_of first w a k outcome (n + 1) (c + 1) (i - x) (j - y) in
@@ -369,7 +470,8 @@ covers (Cut Y a first second) x y w h k outcome n c wp hp shaped =
     let all : Covers (strip_row k n x (y + a) w k ++ rows_of first x y w a k outcome (n + 1) (c + 1) ++ rows_of second x (y + a + k) w (h - a - k) k outcome (n + 1 + node_count first) (c + 1 + cut_count first)) (Inside x y w h) (λ i j. cond (ltb (j - y) a) (f i j) (cond (ltb (j - y) (a + k)) (s i j) (g i j))) n (n + (1 + node_count first + node_count second)) =
     like (Inside x y w h) (Inside x y w h) (λ i j. cond (ltb (j - y) a) (f i j) (cond (ltb (j - y) (a + k)) (s i j) (g i j))) (λ i j. cond (ltb (j - y) a) (f i j) (cond (ltb (j - y) (a + k)) (s i j) (g i j))) _ n (n + 1 + node_count first + node_count second) n (n + (1 + node_count first + node_count second))
     (cut_y x y w h k a n (n + 1) (n + 1 + node_count first) (n + 1 + node_count first + node_count second) f s g _ _ _ fits (omega arith) (omega arith) (omega arith) ck cf cs) (omega arith) (omega arith) (λ i j t. (t, refl)) (λ i j t. t) in
-    by_cases (outcome c) _ (λ i j. cond (ltb (j - y) a) (f i j) (cond (ltb (j - y) (a + k)) (s i j) (g i j))) x y w h n (n + (1 + node_count first + node_count second)) wp hp (omega arith) all
+    let least = some_node first in
+    by_cases Y (outcome c) _ (λ i j. cond (ltb (j - y) a) (f i j) (cond (ltb (j - y) (a + k)) (s i j) (g i j))) x y w h n (n + (1 + node_count first + node_count second)) wp hp (omega (arith, least)) all
 
 at_origin : (t : Tree) (w h k : ℕ) (outcome : ℕ → Outcome) (i j : ℕ) → spot_of t w h k outcome 0 0 (i - 0) (j - 0) ≡ spot_of t w h k outcome 0 0 i j
 at_origin t w h k outcome i j =

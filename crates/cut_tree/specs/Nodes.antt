@@ -1,5 +1,5 @@
 -- The tree that a plan's nodes stand for, and the rows that the plan lays, node by node.
-use Rattle.std.specs.Prelude.{ℕ, zero, suc, ◌+◌, ◌-◌, ◌<◌, ◌^◌, List, [], ◌∷◌, ◌++◌}
+use Rattle.std.specs.Prelude.{ℕ, zero, suc, ◌+◌, ◌-◌, ◌<◌, ◌^◌, List, [], ◌∷◌, ◌++◌, if◌then◌else◌}
 use Rattle.cut_measure.specs.declared.sizes.Axis.{Axis}
 use Rattle.cut_measure.specs.declared.sizes.Axis.TheVariants.{X, Y}
 use Rattle.cut_tree.specs.declared.lay.Owner.{Owner}
@@ -9,7 +9,7 @@ use Rattle.cut_tree.specs.declared.lay.Rect.{Rect}
 use Rattle.cut_tree.specs.declared.node.Node.{Node}
 use Rattle.cut_tree.specs.declared.node.Node.TheVariants as node
 use Rattle.cut_tree.specs.Tree.{Tree, Piece, Rest, Trim, Cut, node_count, cut_count}
-use Rattle.cut_tree.specs.Cells.{Outcome, Made, LeftWhole, Spoiled}
+use Rattle.cut_tree.specs.Cells.{Outcome, Made, LeftWhole, Spoiled, Split, is_split}
 
 -- the tree, without where its nodes lie in memory
 abbrev pub tree_of : Node → Tree
@@ -46,30 +46,40 @@ abbrev pub strip_row : ℕ → ℕ → (x y w h : ℕ) → List Row
 strip_row zero n x y w h = []
 strip_row (suc k) n x y w h = one_row n x y w h owner.Kerf
 
-abbrev pub rows_by_outcome : Outcome → List Row → ℕ → (x y w h : ℕ) → List Row
-rows_by_outcome Made made n x y w h = made
-rows_by_outcome LeftWhole made n x y w h = one_row n x y w h owner.Uncut
-rows_by_outcome Spoiled made n x y w h = one_row n x y w h owner.Lost
+-- what is lost of a rectangle whose cut went wrong, and the rest that is left of it
+abbrev pub split_rows : Axis → ℕ → (x y w h rest : ℕ) → List Row
+split_rows X n x y w h rest =
+    if is_split rest w then one_row n x y (w - rest) h owner.Lost ++ one_row (n + 1) (x + (w - rest)) y rest h owner.Rest
+    else one_row n x y w h owner.Lost
+split_rows Y n x y w h rest =
+    if is_split rest h then one_row n x y w (h - rest) owner.Lost ++ one_row (n + 1) x (y + (h - rest)) w rest owner.Rest
+    else one_row n x y w h owner.Lost
+
+abbrev pub rows_by_outcome : Axis → Outcome → List Row → ℕ → (x y w h : ℕ) → List Row
+rows_by_outcome axis Made made n x y w h = made
+rows_by_outcome axis LeftWhole made n x y w h = one_row n x y w h owner.Uncut
+rows_by_outcome axis Spoiled made n x y w h = one_row n x y w h owner.Lost
+rows_by_outcome axis (Split rest) made n x y w h = split_rows axis n x y w h rest
 
 -- the rows of a tree on the rectangle at (x, y) of w by h, its first node being number n and its first cut number c
 abbrev pub rows_of : Tree → (x y w h kerf : ℕ) → (ℕ → Outcome) → (n c : ℕ) → List Row
 rows_of (Piece demand turned) x y w h k outcome n c = one_row n x y w h (owner.Piece demand)
 rows_of Rest x y w h k outcome n c = one_row n x y w h owner.Rest
 rows_of (Trim X a first) x y w h k outcome n c =
-    rows_by_outcome (outcome c)
+    rows_by_outcome X (outcome c)
     (strip_row k n (x + a) y (w - a) h ++ rows_of first x y a h k outcome (n + 1) (c + 1))
     n x y w h
 rows_of (Trim Y a first) x y w h k outcome n c =
-    rows_by_outcome (outcome c)
+    rows_by_outcome Y (outcome c)
     (strip_row k n x (y + a) w (h - a) ++ rows_of first x y w a k outcome (n + 1) (c + 1))
     n x y w h
 rows_of (Cut X a first second) x y w h k outcome n c =
-    rows_by_outcome (outcome c)
+    rows_by_outcome X (outcome c)
     (strip_row k n (x + a) y k h ++ rows_of first x y a h k outcome (n + 1) (c + 1)
     ++ rows_of second (x + a + k) y (w - a - k) h k outcome (n + 1 + node_count first) (c + 1 + cut_count first))
     n x y w h
 rows_of (Cut Y a first second) x y w h k outcome n c =
-    rows_by_outcome (outcome c)
+    rows_by_outcome Y (outcome c)
     (strip_row k n x (y + a) w k ++ rows_of first x y w a k outcome (n + 1) (c + 1)
     ++ rows_of second x (y + a + k) w (h - a - k) k outcome (n + 1 + node_count first) (c + 1 + cut_count first))
     n x y w h

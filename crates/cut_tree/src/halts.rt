@@ -4,7 +4,7 @@ ghost use Rattle.std.specs.Prelude.{◌≡◌, ◌+◌, ◌^◌, ◌<◌, ◌≤
 ghost use Rattle.std.specs.List.Sorted.{IsStrictlyIncreasing};
 ghost use Rattle.cut_tree.specs.Tree.{cut_count};
 ghost use Rattle.cut_tree.specs.Nodes.{tree_of};
-ghost use Rattle.cut_tree.specs.Stops.{is_among, outcome_after, outcome_of, is_tried, UnmadeBy, AreClosed};
+ghost use Rattle.cut_tree.specs.Stops.{is_among, outcome_after, outcome_saved, outcome_of, halted, is_tried, UnmadeBy, rest_in, AreClosed};
 
 use crate::lay::Owner;
 use crate::node::{Node, count_cuts};
@@ -82,6 +82,18 @@ pub enum Stop {
     All,
     /// Some of them were.
     After(Halt),
+    /// Some of them were, and of the rectangle of the one that went wrong so many columns or rows are left, the last ones.
+    Saved(Halt, u32),
+}
+
+/// Where the work halted, with the rest that is left of the rectangle of the cut that went wrong, if there is one.
+pub fn halted(halt: Halt, rest: Option<u32>) -> Stop
+    ensures { result ≡ halted halt rest }
+{
+    match rest {
+        None => Stop::After(halt),
+        Some(rest) => Stop::Saved(halt, rest),
+    }
 }
 
 /// Whether a cut is among these.
@@ -162,6 +174,38 @@ fn unmade_after(halt: &Halt, cut: u32) -> Option<Owner>
     }
 }
 
+// The same where a rest is left of the cut that went wrong.
+fn unmade_saved(halt: &Halt, rest: u32, cut: u32) -> Option<Owner>
+    ensures { UnmadeBy (outcome_saved halt.now rest cut) result }
+{
+    let _rest = rest;
+    if halt.is_made(cut) {
+        return None;
+    }
+    if halt.is_lost(cut) {
+        Some(Owner::Lost)
+    } else {
+        Some(Owner::Uncut)
+    }
+}
+
+fn no_rest(halt: &Halt, cut: u32) -> u32
+    ensures { result ≡ rest_in (outcome_after halt.now cut) }
+{
+    let _made = halt.is_made(cut);
+    let _lost = halt.is_lost(cut);
+    0
+}
+
+fn rest_of_lost(halt: &Halt, rest: u32, cut: u32) -> u32
+    ensures { result ≡ rest_in (outcome_saved halt.now rest cut) }
+{
+    if halt.is_made(cut) {
+        return 0;
+    }
+    if halt.is_lost(cut) { rest } else { 0 }
+}
+
 /// What the rectangle of this cut is where the cut isn't made.
 pub fn unmade(stop: &Stop, cut: u32) -> Option<Owner>
     ensures { UnmadeBy (outcome_of stop.now cut) result }
@@ -169,5 +213,17 @@ pub fn unmade(stop: &Stop, cut: u32) -> Option<Owner>
     match stop {
         Stop::All => None,
         Stop::After(halt) => unmade_after(halt, cut),
+        Stop::Saved(halt, rest) => unmade_saved(halt, *rest, cut),
+    }
+}
+
+/// How many columns or rows are left of the rectangle of this cut where the cut went wrong.
+pub fn rest_left(stop: &Stop, cut: u32) -> u32
+    ensures { result ≡ rest_in (outcome_of stop.now cut) }
+{
+    match stop {
+        Stop::All => 0,
+        Stop::After(halt) => no_rest(halt, cut),
+        Stop::Saved(halt, rest) => rest_of_lost(halt, *rest, cut),
     }
 }

@@ -10,7 +10,7 @@ ghost use Rattle.cut_tree.specs.Patterns.{IsPlan};
 ghost use Rattle.cut_tree.specs.Stepping.{AreSteps};
 ghost use Rattle.cut_tree.specs.Leaves.{leaves_of};
 ghost use Rattle.cut_tree.specs.Bars.{IsBarPiece, bar_length, bar_tree, IsBarFault};
-ghost use Rattle.cut_tree.specs.Stops.{outcome_of, IsStopOf, AreDone, Allows};
+ghost use Rattle.cut_tree.specs.Stops.{can_save, outcome_of, IsStopOf, AreDone, Allows};
 
 use crate::bars::{BarFault, bar_root};
 use crate::halts::{Halt, Stop, are_closed, is_among, rise};
@@ -18,6 +18,7 @@ use crate::lay::{Rect, Row, lay_node};
 use crate::leaves::{Leaf, add_leaves};
 use crate::node::{Node, count_cuts, count_pieces, is_same};
 use crate::read::{SpellFault, after, read_node, words_of};
+use crate::saved::{cut_side, is_split, lost_cut};
 use crate::steps::{Step, step_node};
 use crate::token::{Cause, MOST_CUTS, Sides};
 use crate::write::write_node;
@@ -214,6 +215,26 @@ impl Plan {
         match halt {
             Halt::First { cuts, .. } => *cuts < self.cuts(),
             Halt::Listed { cuts, lost } => self.allows_listed(cuts.as_slice(), *lost),
+        }
+    }
+
+    /// Whether a cut that went wrong is one of the plan's, and a rest of the side that it was to divide is some of it, and
+    /// not all.
+    pub fn can_save(&self, halt: &Halt, rest: u32) -> bool
+        ensures { result ≡ can_save self.now halt.now rest }
+    {
+        let Some(cut) = lost_cut(halt) else {
+            return false;
+        };
+        let rect = Rect {
+            x: 0,
+            y: 0,
+            w: self.size.w(),
+            h: self.size.h(),
+        };
+        match cut_side(&self.root, rect, self.kerf, 0, cut) {
+            Some(side) => is_split(rest, side),
+            None => false,
         }
     }
 

@@ -79,6 +79,8 @@ table_text table.Jobs = codes "jobs"
 table_text table.Orders = codes "orders"
 table_text table.Demands = codes "demands"
 table_text table.Journal = codes "journal"
+table_text table.Begun = codes "begun"
+table_text table.Notes = codes "notes"
 
 -- a key behind a space, where it is one
 abbrev pub key_text : RowKey → List ℕ

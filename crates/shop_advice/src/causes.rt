@@ -117,6 +117,8 @@ pub enum StoreTable {
     Orders,
     Demands,
     Journal,
+    Begun,
+    Notes,
 }
 
 /// The key of a row, as far as it is one.
@@ -298,6 +300,8 @@ impl StoreTable {
             StoreTable::Orders => "orders",
             StoreTable::Demands => "demands",
             StoreTable::Journal => "journal",
+            StoreTable::Begun => "begun",
+            StoreTable::Notes => "notes",
         }
     }
 }

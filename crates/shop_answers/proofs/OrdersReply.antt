@@ -1,5 +1,5 @@
 -- The lines of an order, their sums, and what is told of orders.
-use Rattle.std.proofs.Common.{◌≡◌, ℕ, zero, suc, ◌+◌, ◌*◌, ◌^◌, ◌<◌, ◌≤◌, inl, inr, List, [], ◌∷◌, ◌++◌, get_or, length, take, Bool, true, false, refl, sym, ap, ◌∙◌, arith}
+use Rattle.std.proofs.Common.{◌≡◌, ℕ, zero, suc, ◌+◌, ◌*◌, ◌^◌, ◌<◌, ◌≤◌, inl, inr, List, [], ◌∷◌, ◌++◌, get_or, length, map, take, Bool, true, false, refl, sym, ap, ◌∙◌, arith}
 use Rattle.std.specs.Prelude.{Some, AllPairs, sum_by}
 use Rattle.std.proofs.lemmas.List.Sums.{sum_by_more}
 use Rattle.shop_records.specs.declared.records.Demand.{Demand}
@@ -8,7 +8,7 @@ use Rattle.shop_records.specs.declared.messages.Reply.{Reply}
 use Rattle.shop_records.specs.declared.messages.Reply.TheVariants as reply
 use Rattle.shop_records.specs.Content.{Content, demand_at}
 use Rattle.shop_records.specs.Elements.{IsIn}
-use Rattle.shop_records.specs.Lists.{AreLines, order_row}
+use Rattle.shop_records.specs.Lists.{AreLines, demand_row, order_row}
 use Rattle.shop_records.proofs.Basics.{all_in}
 use Rattle.shop_records.proofs.Puts.{Pairwise, pairs_in}
 use Rattle.shop_answers.specs.Listing.{IsAdded, are_more, first_told, IsOrderRow, AreOrderRows, IsOrdersAnswer, IsLinesAnswer}
@@ -101,7 +101,7 @@ lines_alike content order one other a b =
         q.all x.number x there.0 there.1
 
 row_alike : (content : Content) (order : List ℕ) (one other : OrderRow) → IsOrderRow content order one → IsOrderRow content order other → one ≡ other
-row_alike content order one other a b = a.is ∙ ap (order_row order) (lines_alike content order a.lines b.lines a.all b.all) ∙ sym b.is
+row_alike content order one other a b = a.is ∙ ap (order_row content order) (lines_alike content order a.lines b.lines a.all b.all) ∙ sym b.is
 
 rows_alike : (content : Content) (orders : List (List ℕ)) (one other : List OrderRow) → AreOrderRows content orders one → AreOrderRows content orders other → one ≡ other
 rows_alike content [] [] [] a b = refl
@@ -119,7 +119,7 @@ orders_alike content orders one other a b =
 pub order_alike : (content : Content) (order : List ℕ) (there : Bool) (one other : Reply) → IsLinesAnswer content order there one → IsLinesAnswer content order there other → one ≡ other
 order_alike content order false one other a b = a ∙ sym b
 order_alike content order true one other a b =
-    a.2 ∙ ap (λ lines. reply.Lines lines order) (lines_alike content order a.0 b.0 a.1 b.1) ∙ sym b.2
+    a.2 ∙ ap (λ lines. reply.Lines (map (demand_row content) lines) order) (lines_alike content order a.0 b.0 a.1 b.1) ∙ sym b.2
 
 -- ---- one order more
 

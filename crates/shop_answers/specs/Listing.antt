@@ -1,9 +1,12 @@
 -- What is told of a content by lists, which are cut after so many rows; of a job with its plan; of an order with its lines;
--- of a terminal; and of entries.
-use Rattle.std.specs.Prelude.{◌≡◌, ℕ, ◌+◌, ◌^◌, ◌<◌, ◌≤◌, List, [], ◌∷◌, length, take, filter_map, Bool, true, false, nat_lt, Option, Some, None, is_some, option_map, option_and_then, nat_le, if◌then◌else◌}
+-- of a terminal; of entries; of pieces; and of the nodes of a job's plan.
+use Rattle.std.specs.Prelude.{◌≡◌, ℕ, ◌+◌, ◌^◌, ◌<◌, ◌≤◌, List, [], ◌∷◌, length, map, take, filter_map, Bool, true, false, nat_lt, Option, Some, None, is_some, option_map, option_and_then, nat_le, if◌then◌else◌, sum_by}
 use Rattle.cut_measure.specs.Names.{Name}
 use Rattle.cut_tree.specs.Tree.{cut_count}
 use Rattle.cut_tree.specs.Spelling.{text_of}
+use Rattle.cut_tree.specs.Stepping.{AreSteps}
+use Rattle.cut_tree.specs.declared.steps.Step.{Step}
+use Rattle.shop_answers.specs.declared.listing.LineSums.{LineSums}
 use Rattle.shop_answers.specs.declared.listing.TheConstants.{MOST_TOLD, MOST_TOLD_BYTES}
 use Rattle.shop_records.specs.declared.records.Material.{Material}
 use Rattle.shop_records.specs.declared.records.Part.{Part}
@@ -11,15 +14,19 @@ use Rattle.shop_records.specs.declared.records.Job.{Job}
 use Rattle.shop_records.specs.declared.records.JobRow.{JobRow}
 use Rattle.shop_records.specs.declared.records.Demand.{Demand}
 use Rattle.shop_records.specs.declared.records.OrderRow.{OrderRow}
+use Rattle.shop_records.specs.declared.pieces.PieceRow.{PieceRow}
+use Rattle.shop_records.specs.declared.pieces.PieceSource.{PieceSource}
+use Rattle.shop_records.specs.declared.pieces.PieceSource.TheVariants as source
 use Rattle.shop_records.specs.declared.journal.EntryTold.{EntryTold}
 use Rattle.shop_records.specs.declared.journal.Subject.{Subject}
 use Rattle.shop_records.specs.declared.journal.Subject.TheVariants as subject
 use Rattle.shop_records.specs.declared.refusals.Refusal.{Refusal}
-use Rattle.shop_records.specs.declared.refusals.Refusal.TheVariants.{NoMaterial, NoOrder, NoPart, NoJob}
+use Rattle.shop_records.specs.declared.refusals.Refusal.TheVariants.{NoMaterial, NoOrder, NoPart, NotWhole, NoJob}
 use Rattle.shop_records.specs.declared.messages.Reply.{Reply}
 use Rattle.shop_records.specs.declared.messages.Reply.TheVariants as reply
 use Rattle.shop_records.specs.Content.{Content, material_at, part_at, job_at, has_order}
-use Rattle.shop_records.specs.Lists.{AreLines, order_row, IsLastNumber}
+use Rattle.shop_records.specs.Columns.{is_whole}
+use Rattle.shop_records.specs.Lists.{AreLines, begun_by, demand_row, due_for_job, order_row, piece_row, step_row, IsLastNumber}
 
 -- the first rows of a list, as many as are told
 abbrev pub first_told : {T : Type 0} → List T → List T
@@ -38,9 +45,9 @@ abbrev pub is_known : Content → Option (List ℕ) → Bool
 is_known content None = true
 is_known content (Some asked) = is_some (material_at content asked)
 
-abbrev pub told_demands : Bool → List Demand → Reply
-told_demands false demands = reply.Refused NoMaterial
-told_demands true demands = reply.Demands (first_told demands) (are_more demands)
+abbrev pub told_demands : Content → Bool → List Demand → Reply
+told_demands content false demands = reply.Refused NoMaterial
+told_demands content true demands = reply.Demands (map (demand_row content) (first_told demands)) (are_more demands)
 
 -- The job of a number with its part. A job whose part isn't there is none; in each content that a history gives the part of
 -- every job is there.
@@ -49,23 +56,24 @@ job_with_part content number =
     option_and_then (λ (job : Job). option_map (λ (part : Part). (job, part)) (part_at content job.part)) (job_at content number)
 
 -- how a waiting job is told in a list, of which this is known
-abbrev pub row_of : (job : ℕ) (name : Name) (cuts : ℕ) → Part → JobRow
-row_of job name cuts part = record { cuts = cuts; h = part.size.h; job = job; material = part.material; part = name; w = part.size.w }
+abbrev pub row_of : (begun due job : ℕ) (name : Name) (cuts : ℕ) → Part → JobRow
+row_of begun due job name cuts part =
+    record { begun = begun; cuts = cuts; due = due; h = part.size.h; job = job; material = part.material; part = name; w = part.size.w }
 
-abbrev pub job_row : Job → Part → JobRow
-job_row job part = row_of job.act job.part (cut_count job.plan.tree) part
+abbrev pub job_row : Content → Job → Part → JobRow
+job_row content job part = row_of (begun_by content job.act) (due_for_job content job) job.act job.part (cut_count job.plan.tree) part
 
 abbrev pub job_row_at : Content → ℕ → Option JobRow
-job_row_at content number = option_map (λ (found : Job × Part). job_row found.0 found.1) (job_with_part content number)
+job_row_at content number = option_map (λ (found : Job × Part). job_row content found.0 found.1) (job_with_part content number)
 
 -- the first of the jobs with these numbers are told
 abbrev pub told_jobs : Content → List ℕ → Reply
 told_jobs content numbers = reply.Jobs (filter_map (job_row_at content) (first_told numbers)) (are_more numbers)
 
-abbrev pub told_job : Option (Job × Part) → Reply
-told_job None = reply.Refused NoJob
-told_job (Some (job, part)) =
-    reply.Job (cut_count job.plan.tree) part.size.h job.act job.kerf part.material job.part job.state (text_of job.plan.tree) part.size.w
+abbrev pub told_job : Content → Option (Job × Part) → Reply
+told_job content None = reply.Refused NoJob
+told_job content (Some (job, part)) =
+    reply.Job (begun_by content job.act) (cut_count job.plan.tree) part.size.h job.act job.kerf part.material job.part job.state (text_of job.plan.tree) part.size.w
 
 -- a sum with one number more of 32 bits, exact where 64 bits hold it
 pub record IsAdded (sum more after : ℕ) : Type 0 where
@@ -73,20 +81,24 @@ pub record IsAdded (sum more after : ℕ) : Type 0 where
   pub most : after ≤ sum + more
   pub exact : sum + more < 2 ^ 64 → after ≡ sum + more
 
--- the row of an order with the numbers of one line more in its sums
-pub record IsWithLine (before : OrderRow) (line : Demand) (after : OrderRow) : Type 0 where
+-- the sums over an order's lines with the numbers of one line more
+pub record IsWithLine (before : LineSums) (line : Demand) (after : LineSums) : Type 0 where
   pub place : line.line < 2 ^ 32
-  pub lines : after.lines ≡ before.lines
-  pub order : after.order ≡ before.order
   pub made : IsAdded before.made line.made after.made
   pub reserved : IsAdded before.reserved line.reserved after.reserved
   pub wanted : IsAdded before.wanted line.wanted after.wanted
 
--- the row of an order: how many lines it has, and the sums over all of them
+-- the sums over all lines of an order
+pub record AreSums (lines : List Demand) (sums : LineSums) : Type 0 where
+  pub made : sums.made ≡ sum_by (λ (row : Demand). row.made) lines
+  pub reserved : sums.reserved ≡ sum_by (λ (row : Demand). row.reserved) lines
+  pub wanted : sums.wanted ≡ sum_by (λ (row : Demand). row.wanted) lines
+
+-- the row of an order: what is said of it, how many lines it has, and the sums over all of them
 pub record IsOrderRow (content : Content) (order : List ℕ) (row : OrderRow) : Type 0 where
   pub lines : List Demand
   pub all : AreLines content order lines
-  pub is : row ≡ order_row order lines
+  pub is : row ≡ order_row content order lines
 
 -- the rows of orders, one after another
 abbrev pub AreOrderRows : Content → List (List ℕ) → List OrderRow → Type 0
@@ -102,7 +114,8 @@ IsOrdersAnswer content orders answer = (rows : List OrderRow) × AreOrderRows co
 -- what may be told of the lines of an order: all of them, where it is there
 abbrev pub IsLinesAnswer : Content → (order : List ℕ) → (there : Bool) → Reply → Type 0
 IsLinesAnswer content order false answer = answer ≡ reply.Refused NoOrder
-IsLinesAnswer content order true answer = (lines : List Demand) × AreLines content order lines × (answer ≡ reply.Lines lines order)
+IsLinesAnswer content order true answer =
+    (lines : List Demand) × AreLines content order lines × (answer ≡ reply.Lines (map (demand_row content) lines) order)
 
 -- what may be told of a terminal
 abbrev pub IsTerminalAnswer : Content → ℕ → Reply → Type 0
@@ -140,3 +153,46 @@ subject_refusal content (subject.Part name) = if is_some (part_at content name) 
 abbrev pub told_story : Option Refusal → List EntryTold → Reply
 told_story (Some refusal) entries = reply.Refused refusal
 told_story None entries = reply.Story (shown_within entries) (are_hidden entries)
+
+-- ---- pieces
+
+-- Why nothing is told of pieces of an order, a batch or a unit, if nothing is. A unit may be in any state, and a batch of which
+-- nothing was received has no pieces.
+abbrev pub unit_refusal : Option Part → Option Refusal
+unit_refusal None = Some NoPart
+unit_refusal (Some part) = if is_whole part then None else Some NotWhole
+
+abbrev pub source_refusal : Content → PieceSource → Option Refusal
+source_refusal content (source.Order code) = if has_order content code then None else Some NoOrder
+source_refusal content (source.Batch code) = None
+source_refusal content (source.Unit name) = unit_refusal (part_at content name)
+
+-- the first pieces are told
+abbrev pub told_pieces : Content → Option Refusal → List Part → Reply
+told_pieces content (Some refusal) pieces = reply.Refused refusal
+told_pieces content None pieces = reply.Pieces (are_more pieces) (filter_map (piece_row content) (first_told pieces))
+
+-- how a piece of a demand is told that was made then
+abbrev pub told_piece : Part → Demand → (at : ℕ) → PieceRow
+told_piece part demand at =
+    record {
+      at = at;
+      batch = part.batch;
+      demand = demand.number;
+      h = part.size.h;
+      line = demand.line;
+      material = part.material;
+      order = demand.order;
+      part = part.name;
+      root = part.root;
+      w = part.size.w;
+    }
+
+-- ---- the nodes of a plan
+
+-- what may be told of the nodes of a job's plan: all of them, where the job and its part are there
+abbrev pub IsStepsAnswer : Content → Option (Job × Part) → Reply → Type 0
+IsStepsAnswer content None answer = answer ≡ reply.Refused NoJob
+IsStepsAnswer content (Some (job, part)) answer =
+    (steps : List Step) × AreSteps job.plan.tree job.plan.w job.plan.h job.plan.kerf steps
+    × (answer ≡ reply.Steps job.act job.kerf part.material job.part job.state (map (step_row content job.act) steps))

@@ -12,8 +12,8 @@ use Rattle.shop_records.specs.declared.messages.Reply.TheVariants as reply
 use Rattle.shop_records.specs.Columns.{state_word, state_of}
 use Rattle.shop_records.specs.Content.{Content, material_at, part_at, has_order, demand_at, entry_count, last_time, totals_of, parts_of, rack_rows, material_of}
 use Rattle.shop_answers.specs.Planning.{IsPlanAnswer, IsBoundAnswer}
-use Rattle.shop_records.specs.Lists.{materials_of, parts_after, open_demands, waiting_jobs, job_numbers, orders_after, first_time, entries_behind, entries_about, told_entries}
-use Rattle.shop_answers.specs.Listing.{is_known, job_with_part, told_parts, told_demands, told_jobs, told_job, IsOrdersAnswer, IsLinesAnswer, IsTerminalAnswer, told_history, subject_refusal, told_story}
+use Rattle.shop_records.specs.Lists.{materials_of, parts_after, open_demands, waiting_jobs, job_numbers, orders_after, first_time, entries_behind, entries_about, told_entries, pieces_after}
+use Rattle.shop_answers.specs.Listing.{is_known, job_with_part, told_parts, told_demands, told_jobs, told_job, IsOrdersAnswer, IsLinesAnswer, IsTerminalAnswer, told_history, subject_refusal, told_story, source_refusal, told_pieces, IsStepsAnswer}
 
 abbrev pub told_totals : Option Material → List ℕ → Totals → Reply
 told_totals None material t = reply.Refused NoMaterial
@@ -44,9 +44,9 @@ IsAnswer content (query.Bound material w h demands step) answer =
     IsBoundAnswer (material_at content material) material (record { w = w; h = h }) (demand_at content) demands step answer
 IsAnswer content query.Materials answer = answer ≡ reply.Materials (materials_of content)
 IsAnswer content (query.Parts material after) answer = answer ≡ told_parts (material_at content material) material (parts_after content material after)
-IsAnswer content (query.Demands after material) answer = answer ≡ told_demands (is_known content material) (open_demands content after material)
+IsAnswer content (query.Demands after material) answer = answer ≡ told_demands content (is_known content material) (open_demands content after material)
 IsAnswer content (query.Jobs after) answer = answer ≡ told_jobs content (job_numbers (waiting_jobs content after))
-IsAnswer content (query.Job job) answer = answer ≡ told_job (job_with_part content job)
+IsAnswer content (query.Job job) answer = answer ≡ told_job content (job_with_part content job)
 IsAnswer content (query.Terminal terminal) answer = IsTerminalAnswer content terminal answer
 IsAnswer content (query.Orders after) answer = IsOrdersAnswer content (orders_after content after) answer
 IsAnswer content (query.Lines order) answer = IsLinesAnswer content order (has_order content order) answer
@@ -54,6 +54,8 @@ IsAnswer content query.Shop answer = answer ≡ reply.Shop (first_time content) 
 IsAnswer content (query.History after) answer = answer ≡ told_history (told_entries content (entries_behind content after))
 IsAnswer content (query.Story about after) answer =
     answer ≡ told_story (subject_refusal content about) (told_entries content (entries_about content about after))
+IsAnswer content (query.Pieces from after) answer = answer ≡ told_pieces content (source_refusal content from) (pieces_after content from after)
+IsAnswer content (query.Steps job) answer = IsStepsAnswer content (job_with_part content job) answer
 
 -- the same, memory and the store aside; a query changes nothing
 abbrev pub Answers : Content → Query → Reply → Type 0

@@ -1,19 +1,27 @@
-//! Lists of what stands, is open, waits or was ordered: the first rows, and whether others follow; and the answer on a job.
+//! Lists of what stands, is open, waits, was ordered or was made: the first rows, and whether others follow; and the answers on a job
+//! and its plan.
 
-ghost use Rattle.std.specs.Prelude.{◌≡◌, ◌≢◌, ◌+◌, ◌<◌, ℕ, List, Some, IfOk, AllPairs, take};
+ghost use Rattle.std.specs.Prelude.{◌≡◌, ◌≢◌, ◌+◌, ◌<◌, ℕ, List, [], true, None, Some, IfOk, AllPairs, take, map, filter_map, option_map, unwrap_or};
 ghost use Rattle.shop_answers.specs.declared.listing.TheConstants.{MOST_TOLD};
 ghost use Rattle.shop_records.specs.declared.records.Demand.{Demand as DemandOf};
 ghost use Rattle.shop_records.specs.declared.records.Part.{Part as PartOf};
 ghost use Rattle.shop_records.specs.declared.refusals.Refusal.TheVariants.{NoMemory, StoreFault};
-ghost use Rattle.shop_records.specs.declared.messages.Reply.TheVariants.{Refused, Parts, Demands};
-ghost use Rattle.shop_records.specs.Content.{Content};
+ghost use Rattle.shop_records.specs.declared.messages.Reply.TheVariants.{Refused, Parts};
+ghost use Rattle.shop_records.specs.declared.notes.OrderNote.{OrderNote as NoteOf};
+ghost use Rattle.cut_tree.specs.declared.steps.Step.{Step as StepOf};
+ghost use Rattle.cut_tree.specs.Stepping.{AreSteps};
+ghost use Rattle.shop_records.specs.Content.{Content, of_found, note_at, part_at};
 ghost use Rattle.shop_answers.specs.Listing as listing;
 ghost use Rattle.shop_records.specs.Lists as lists;
 
 use crate::planning::tree_text;
 use cut_measure::{Code, PartName, RowList};
+use cut_tree::Step;
 use shop_machine::wide;
-use shop_records::{Demand, Job, JobRow, OrderList, OrderRow, Part, Refusal, Reply};
+use shop_records::{
+    Demand, DemandRow, DemandRows, Job, JobRow, OrderList, OrderNote, OrderRow, Part, PieceList,
+    PieceRow, Refusal, Reply, StepList, StepRow, Text,
+};
 use std::alloc::{AllocError, Global};
 
 /// The most rows that a list tells of parts, demands or jobs.
@@ -65,29 +73,40 @@ pub fn answer_parts(alloc: Global, material: Code, rows: &[Part]) -> Reply
     }
 }
 
-/// The answer to a query for open demands, from the first that are listed: all, or one more than are told. Refused
-/// `NoMemory` alone.
-pub fn answer_demands(alloc: Global, rows: &[Demand]) -> Reply
-    ensures answer { (demands : List DemandOf) → rows.now ≡ take (MOST_TOLD + 1) demands
-        → result ≢ Refused NoMemory
-        → result ≡ Demands (listing.first_told demands) (listing.are_more demands) }
-    ensures store { result ≢ Refused StoreFault }
+/// How a demand is told, with the day on which its order is due.
+pub fn demand_row(demand: &Demand, due: u32) -> DemandRow
+    ensures { (m : Content) → lists.due_of m demand.now.order ≡ due
+        → result ≡ lists.demand_row m demand.now }
 {
-    match told_rows(alloc, rows) {
-        Ok(demands) => Reply::Demands {
-            demands,
-            more: are_more(rows),
-        },
-        Err(_) => Reply::Refused(Refusal::NoMemory),
+    DemandRow {
+        demand: *demand,
+        due,
     }
 }
 
-/// How a waiting job is told in a list: its number, the name of its part, how many cuts its plan has, and the part's row.
-pub fn job_row(job: u32, name: PartName, cuts: u32, part: &Part) -> JobRow
-    ensures { result ≡ listing.row_of job name cuts part.now }
+/// The answer to a query for open demands, from the first that are listed: all, or one more than are told; and from the rows
+/// of those that are told.
+pub fn answer_demands(rows: &[Demand], demands: DemandRows) -> Reply
+    ensures answer { (m : Content) (all : List DemandOf) → rows.now ≡ take (MOST_TOLD + 1) all
+        → demands ≡ map (lists.demand_row m) (listing.first_told rows.now)
+        → result ≡ listing.told_demands m true all }
+    ensures store { result ≢ Refused StoreFault }
+{
+    Reply::Demands {
+        demands,
+        more: are_more(rows),
+    }
+}
+
+/// How a waiting job is told in a list: the terminal that has begun it, the day on which it is due, its number, the name of its
+/// part, how many cuts its plan has, and the part's row.
+pub fn job_row(begun: u32, due: u32, job: u32, name: PartName, cuts: u32, part: &Part) -> JobRow
+    ensures { result ≡ listing.row_of begun due job name cuts part.now }
 {
     JobRow {
+        begun,
         cuts,
+        due,
         h: part.size.h(),
         job,
         material: part.material,
@@ -103,35 +122,77 @@ fn added(sum: u64, more: u32) -> u64
     sum.saturating_add(wide(more))
 }
 
-// The row of an order with one line more in its sums.
-fn with_line(row: &OrderRow, line: &Demand) -> OrderRow
-    ensures { listing.IsWithLine row.now line.now result }
+// The pieces of all lines of an order that are made, reserved and wanted.
+#[derive(Clone, Copy)]
+struct LineSums {
+    made: u64,
+    reserved: u64,
+    wanted: u64,
+}
+
+// The sums with one line more.
+fn with_line(sums: LineSums, line: &Demand) -> LineSums
+    ensures { listing.IsWithLine sums line.now result }
 {
     let _place = wide(line.line);
-    OrderRow {
-        made: added(row.made, line.made),
-        reserved: added(row.reserved, line.reserved),
-        wanted: added(row.wanted, line.wanted),
-        ..*row
+    LineSums {
+        made: added(sums.made, line.made),
+        reserved: added(sums.reserved, line.reserved),
+        wanted: added(sums.wanted, line.wanted),
     }
 }
 
-/// How an order is told, from all its lines. Where they rise, 64 bits hold each sum.
-pub fn order_row(order: Code, lines: &[Demand]) -> OrderRow
+// The sums over an order's lines. Where they rise, 64 bits hold each sum.
+fn line_sums(lines: &[Demand]) -> LineSums
     ensures { AllPairs (λ (a b : DemandOf). a.line < b.line) lines.now
-        → result ≡ lists.order_row order lines.now }
+        → listing.AreSums lines.now result }
 {
-    let mut row = OrderRow {
-        lines: lines.len() as u64,
+    let mut sums = LineSums {
         made: 0,
-        order,
         reserved: 0,
         wanted: 0,
     };
     for line in lines {
-        row = with_line(&row, line);
+        sums = with_line(sums, line);
     }
-    row
+    sums
+}
+
+// The day and the text of what is said of an order: none, and an empty text, where nothing is.
+fn said(alloc: Global, note: Option<OrderNote>) -> (u32, Text)
+    ensures due { result.0 ≡ of_found (λ (row : NoteOf). row.due) note }
+    ensures text { result.1 ≡ unwrap_or (option_map (λ (row : NoteOf). row.text) note) [] }
+{
+    match note {
+        Some(row) => {
+            let OrderNote { due, text, .. } = row;
+            (due, text)
+        }
+        None => (0, Text::of(String::new(alloc))),
+    }
+}
+
+/// How an order is told, from what is said of it and from all its lines. Where they rise, 64 bits hold each sum.
+pub fn order_row(alloc: Global, order: Code, note: Option<OrderNote>, lines: &[Demand]) -> OrderRow
+    ensures { (m : Content) → note_at m order ≡ note
+        → AllPairs (λ (a b : DemandOf). a.line < b.line) lines.now
+        → result ≡ lists.order_row m order lines.now }
+{
+    let (due, text) = said(alloc, note);
+    let LineSums {
+        made,
+        reserved,
+        wanted,
+    } = line_sums(lines);
+    OrderRow {
+        due,
+        lines: lines.len() as u64,
+        made,
+        order,
+        reserved,
+        text,
+        wanted,
+    }
 }
 
 /// The answer to a query for orders, from the codes of the first that are listed: all, or one more than are told; and from
@@ -148,14 +209,16 @@ pub fn answer_orders(codes: &[Code], orders: OrderList) -> Reply
     }
 }
 
-/// The answer to a query for a job, from its row and its part's. Refused `NoMemory` alone.
-pub fn answer_job(alloc: Global, job: &Job, part: &Part) -> Reply
-    ensures answer { result ≢ Refused NoMemory
-        → result ≡ listing.told_job (Some (job.now, part.now)) }
+/// The answer to a query for a job, from its row and its part's, and the terminal that has begun it. Refused `NoMemory` alone.
+pub fn answer_job(alloc: Global, job: &Job, part: &Part, begun: u32) -> Reply
+    ensures answer { (m : Content) → lists.begun_by m job.now.act ≡ begun
+        → result ≢ Refused NoMemory
+        → result ≡ listing.told_job m (Some (job.now, part.now)) }
     ensures store { result ≢ Refused StoreFault }
 {
     match tree_text(alloc, &job.plan) {
         Ok(tree) => Reply::Job {
+            begun,
             cuts: job.plan.cuts(),
             h: part.size.h(),
             job: job.act,
@@ -167,5 +230,79 @@ pub fn answer_job(alloc: Global, job: &Job, part: &Part) -> Reply
             w: part.size.w(),
         },
         Err(_) => Reply::Refused(Refusal::NoMemory),
+    }
+}
+
+/// How a piece of a demand is told that was made at this time.
+pub fn piece_row(part: &Part, demand: &Demand, at: u64) -> PieceRow
+    ensures { result ≡ listing.told_piece part.now demand.now at }
+{
+    PieceRow {
+        at,
+        batch: part.batch,
+        demand: demand.number,
+        h: part.size.h(),
+        line: demand.line,
+        material: part.material,
+        order: demand.order,
+        part: part.name,
+        root: part.root,
+        w: part.size.w(),
+    }
+}
+
+/// The answer to a query for pieces, from the first that are listed: all, or one more than are told; and from the rows of those
+/// that are told.
+pub fn answer_pieces(rows: &[Part], pieces: PieceList) -> Reply
+    ensures answer { (m : Content) (all : List PartOf) → rows.now ≡ take (MOST_TOLD + 1) all
+        → pieces ≡ filter_map (lists.piece_row m) (listing.first_told rows.now)
+        → result ≡ listing.told_pieces m None all }
+    ensures store { result ≢ Refused StoreFault }
+{
+    Reply::Pieces {
+        more: are_more(rows),
+        pieces,
+    }
+}
+
+/// How a node of a job's plan is told: with its demand, where it is a piece whose demand is there, and with the part that has
+/// the job's and the node's number, where there is one.
+pub fn step_row(step: Step, demand: Option<Demand>, part: Option<Part>) -> StepRow
+    ensures { (m : Content) (job : ℕ) → lists.demand_at_node m step.what ≡ demand
+        → part_at m (record { act = job; node = step.node }) ≡ part
+        → result ≡ lists.step_row m job step }
+{
+    let (line, order) = match demand {
+        Some(demand) => (demand.line, Some(demand.order)),
+        None => (0, None),
+    };
+    let (part, state) = match part {
+        Some(part) => (Some(part.name), Some(part.state.word())),
+        None => (None, None),
+    };
+    StepRow {
+        step,
+        line,
+        order,
+        part,
+        state,
+    }
+}
+
+/// The answer to a query for the nodes of a job's plan, from the job and its part, and from the rows of all nodes.
+pub fn answer_steps(job: &Job, part: &Part, steps: StepList) -> Reply
+    ensures answer { (m : Content) (nodes : List StepOf)
+        → AreSteps job.now.plan.tree job.now.plan.w job.now.plan.h job.now.plan.kerf nodes
+        → steps ≡ map (lists.step_row m job.now.act) nodes
+        → listing.IsStepsAnswer m (Some (job.now, part.now)) result }
+    ensures store { result ≢ Refused StoreFault }
+{
+    Reply::Steps {
+        job: job.act,
+        kerf: job.kerf,
+        material: part.material,
+        part: job.part,
+        state: job.state,
+        steps,
     }
 }

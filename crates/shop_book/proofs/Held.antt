@@ -13,8 +13,11 @@ use Rattle.cut_measure.specs.Names.{name_cmp}
 use Rattle.shop_records.specs.declared.records.Material.{Material}
 use Rattle.shop_records.specs.declared.records.Part.{Part}
 use Rattle.shop_records.specs.declared.records.Job.{Job}
+use Rattle.shop_records.specs.declared.records.JobHalt.{JobHalt}
+use Rattle.shop_records.specs.declared.records.JobBegin.{JobBegin}
+use Rattle.shop_records.specs.declared.notes.OrderNote.{OrderNote}
 use Rattle.shop_records.specs.declared.records.Demand.{Demand}
-use Rattle.shop_records.specs.Content.{Content, pair_cmp, cells_in, with_material, with_parts, with_job, with_demands, with_entry, with_kept, with_import, with_number}
+use Rattle.shop_records.specs.Content.{Content, pair_cmp, cells_in, with_material, with_parts, with_job, with_halt, with_begun, with_note, with_demands, with_entry, with_kept, with_import, with_number}
 use Rattle.shop_records.specs.Soundness.{IsInRange}
 use Rattle.std.specs.Cmp.{IsTotalOrder}
 use Rattle.std.specs.BTreeMap.{insert_entry}
@@ -26,7 +29,7 @@ use Rattle.shop_records.specs.declared.texts.Pair.{Pair}
 use Rattle.shop_records.specs.declared.texts.Kept.{Kept}
 use Rattle.shop_records.specs.declared.texts.KeptMessage.{KeptMessage}
 use Rattle.shop_book.specs.Memory.{put_kept, pairs_total}
-use Rattle.shop_rows.specs.Keys.{material_key, part_key, job_key, demand_key, entry_key, import_key}
+use Rattle.shop_rows.specs.Keys.{material_key, part_key, job_key, halt_key, begin_key, note_key, demand_key, entry_key, import_key}
 use Rattle.shop_rows.specs.Rows.{entries_of, rise, row_at, put_each, map_of, with_rows, ArePut}
 use Rattle.std.specs.Bool.{Decides}
 use Rattle.std.specs.Cmp.Lexicographic.{pointwise}
@@ -126,6 +129,18 @@ material_after (Some row) m = refl
 pub job_after : (row : Option Job) (m : FinMap nat_cmp Job) → with_rows job_key nat_cmp (option_to_list row) m ≡ with_job row m
 job_after None m = refl
 job_after (Some row) m = refl
+
+pub halt_after : (row : Option JobHalt) (m : FinMap nat_cmp JobHalt) → with_rows halt_key nat_cmp (option_to_list row) m ≡ with_halt row m
+halt_after None m = refl
+halt_after (Some row) m = refl
+
+pub begun_after : (row : Option JobBegin) (m : FinMap nat_cmp JobBegin) → with_rows begin_key nat_cmp (option_to_list row) m ≡ with_begun row m
+begun_after None m = refl
+begun_after (Some row) m = refl
+
+pub note_after : (row : Option OrderNote) (m : FinMap code_cmp OrderNote) → with_rows note_key code_cmp (option_to_list row) m ≡ with_note row m
+note_after None m = refl
+note_after (Some row) m = refl
 
 pub import_after : (row : Option ImportRow) (m : FinMap code_cmp ImportRow) → with_rows import_key code_cmp (option_to_list row) m ≡ with_import row m
 import_after None m = refl

@@ -14,3 +14,5 @@ pub mod KnownRows
 pub mod Loaded
 -- which entries a story tells
 pub mod AboutOrders
+-- the day on which a job is due
+pub mod DueJobs

@@ -33,6 +33,13 @@ rooms_less count rows parts totals lists rooms = record {
   names = λ k d within. let h = rooms.names k d within in omega (arith, h);
 }
 
+pub rooms_fewer : (more count : ℕ) (rows : List Part) (parts : PartRows) (totals : Vec Sums Global) (lists : List NameList) → count ≤ more → HaveRooms more rows parts totals lists → HaveRooms count rows parts totals lists
+rooms_fewer more count rows parts totals lists le rooms = record {
+  room = room_less more count parts le rooms.room;
+  sums = let h = rooms.sums in omega (arith, h, le);
+  names = λ k d within. let h = rooms.names k d within in omega (arith, h, le);
+}
+
 -- room for one of them
 pub rooms_one : (count i : ℕ) (rows : List Part) (part : Part) (parts : PartRows) (totals : Vec Sums Global) (lists : List NameList) → 1 ≤ count → i < length rows → part ≡ get_or rows i part
     → HaveRooms count rows parts totals lists → HaveRooms 1 (part ∷ []) parts totals lists

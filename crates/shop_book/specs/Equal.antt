@@ -5,6 +5,7 @@ use Rattle.std.specs.Option.{option_eq}
 use Rattle.std.proofs.Common.{ap, sym, subst, ◌∙◌}
 use Rattle.std.specs.Bool.{Decides}
 use Rattle.std.specs.Cmp.{IsPartialEquivalence, unsigned_Decides, booleans_Decides, decided}
+use Rattle.std.specs.Bool.{beq}
 use Rattle.std.specs.Cmp.Lexicographic.{pointwise, pointwise_decides, bytes_decides}
 use Rattle.std.proofs.lemmas.Bool.Decides.{Decides-and, Decides-like}
 use Rattle.std.specs.declared.cmp.Ordering.{Ordering}
@@ -21,6 +22,11 @@ use Rattle.shop_records.specs.declared.records.Material.{Material}
 use Rattle.shop_records.specs.declared.records.Job.{Job}
 use Rattle.shop_records.specs.declared.records.JobState.{JobState}
 use Rattle.shop_records.specs.declared.records.JobState.TheVariants as job_state
+use Rattle.shop_records.specs.declared.records.JobHalt.{JobHalt}
+use Rattle.shop_records.specs.declared.records.JobBegin.{JobBegin}
+use Rattle.shop_records.specs.declared.notes.OrderNote.{OrderNote}
+use Rattle.cut_tree.specs.declared.halts.Halt.{Halt}
+use Rattle.cut_tree.specs.declared.halts.Halt.TheVariants.{First, Listed}
 use Rattle.shop_records.specs.declared.records.Demand.{Demand}
 use Rattle.shop_records.specs.declared.texts.Pair.{Pair}
 use Rattle.shop_records.specs.declared.texts.Kept.{Kept}
@@ -34,6 +40,8 @@ use Rattle.cut_measure.specs.contracts.sizes.KindPartialEq.TheImpl as kind_eq
 use Rattle.shop_records.specs.contracts.records.JobPartialEq.TheImpl as job_eq
 use Rattle.shop_records.specs.contracts.records.JobStatePartialEq.TheImpl as job_state_eq
 use Rattle.shop_records.specs.contracts.records.DemandPartialEq.TheImpl as demand_eq
+use Rattle.shop_records.specs.contracts.records.JobBeginPartialEq.TheImpl as begin_eq
+use Rattle.shop_records.specs.contracts.notes.OrderNotePartialEq.TheImpl as note_eq
 use Rattle.cut_tree.specs.SamePatterns.{same_pattern_decides}
 use Rattle.shop_records.specs.contracts.texts.KeptPartialEq.TheImpl as kept_eq
 use Rattle.shop_records.specs.contracts.imports.FormPartialEq.TheImpl as form_eq
@@ -55,6 +63,22 @@ same_job = job_eq.ghosts.eq
 
 abbrev pub same_demand : Demand → Demand → Bool
 same_demand = demand_eq.ghosts.eq
+
+abbrev pub same_begin : JobBegin → JobBegin → Bool
+same_begin = begin_eq.ghosts.eq
+
+abbrev pub same_note : OrderNote → OrderNote → Bool
+same_note = note_eq.ghosts.eq
+
+-- which cuts were made, and which one went wrong
+abbrev pub same_cuts : Halt → Halt → Bool
+same_cuts (First cuts lost) (First others other) = cuts == others && beq lost other
+same_cuts (First cuts lost) (Listed others other) = false
+same_cuts (Listed cuts lost) (First others other) = false
+same_cuts (Listed cuts lost) (Listed others other) = pointwise nat_eq cuts others && option_eq nat_eq lost other
+
+abbrev pub same_halt : JobHalt → JobHalt → Bool
+same_halt a b = a.job == b.job && (same_cuts a.halt b.halt && option_eq nat_eq a.rest b.rest)
 
 abbrev pub same_kept : Kept → Kept → Bool
 same_kept = kept_eq.ghosts.eq
@@ -85,10 +109,13 @@ same_content m n =
     same_entries (pointwise nat_eq) same_material m.materials n.materials
     && (same_entries same_name same_part m.parts n.parts
     && (same_entries nat_eq same_job m.jobs n.jobs
+    && (same_entries nat_eq same_halt m.halts n.halts
+    && (same_entries nat_eq same_begin m.begun n.begun
     && (same_codes m.orders n.orders
+    && (same_entries (pointwise nat_eq) same_note m.notes n.notes
     && (same_entries nat_eq same_demand m.demands n.demands && (same_entries same_pair same_kept m.kept n.kept
     && (same_entries (pointwise nat_eq) same_import m.imports n.imports
-    && (same_entries nat_eq same_entry m.entries n.entries && (m.last_act == n.last_act && m.last_demand == n.last_demand))))))))
+    && (same_entries nat_eq same_entry m.entries n.entries && (m.last_act == n.last_act && m.last_demand == n.last_demand)))))))))))
 
 -- ---- they tell contents apart
 
@@ -140,24 +167,34 @@ one_job_state job_state.Waiting job_state.Waiting e = refl
 one_job_state job_state.Waiting job_state.Done e = no e
 one_job_state job_state.Waiting job_state.Broken e = no e
 one_job_state job_state.Waiting job_state.Released e = no e
+one_job_state job_state.Waiting job_state.Undone e = no e
 one_job_state job_state.Done job_state.Waiting e = no e
 one_job_state job_state.Done job_state.Done e = refl
 one_job_state job_state.Done job_state.Broken e = no e
 one_job_state job_state.Done job_state.Released e = no e
+one_job_state job_state.Done job_state.Undone e = no e
 one_job_state job_state.Broken job_state.Waiting e = no e
 one_job_state job_state.Broken job_state.Done e = no e
 one_job_state job_state.Broken job_state.Broken e = refl
 one_job_state job_state.Broken job_state.Released e = no e
+one_job_state job_state.Broken job_state.Undone e = no e
 one_job_state job_state.Released job_state.Waiting e = no e
 one_job_state job_state.Released job_state.Done e = no e
 one_job_state job_state.Released job_state.Broken e = no e
 one_job_state job_state.Released job_state.Released e = refl
+one_job_state job_state.Released job_state.Undone e = no e
+one_job_state job_state.Undone job_state.Waiting e = no e
+one_job_state job_state.Undone job_state.Done e = no e
+one_job_state job_state.Undone job_state.Broken e = no e
+one_job_state job_state.Undone job_state.Released e = no e
+one_job_state job_state.Undone job_state.Undone e = refl
 
 own_job_state : (a : JobState) → same_job_state a a ≡ true
 own_job_state job_state.Waiting = refl
 own_job_state job_state.Done = refl
 own_job_state job_state.Broken = refl
 own_job_state job_state.Released = refl
+own_job_state job_state.Undone = refl
 
 job_state_decides : (a b : JobState) → Decides (same_job_state a b) (a ≡ b)
 job_state_decides a b = (one_job_state a b, λ e. subst (λ k. same_job_state a k ≡ true) e (own_job_state a))
@@ -245,11 +282,14 @@ word_back name =
     cond (nat_eq first 109) word.Material
     (cond (nat_eq first 111) word.Order
     (cond (nat_eq first 100) word.Done
-    (cond (nat_eq first 98) word.Break
+    (cond (nat_eq first 98) (cond (nat_eq (get_or name 1 0) 114) word.Break word.Begin)
     (cond (nat_eq first 105) word.Import
     (cond (nat_eq first 97) word.Amend
+    (cond (nat_eq first 117) word.Undo
+    (cond (nat_eq first 110) word.Note
+    (cond (nat_eq first 101) word.Extend
     (cond (nat_eq (get_or name 1 0) 99) word.Scrap
-    (cond (nat_eq third 99) word.Receive (cond (nat_eq third 115) word.Reserve (cond (nat_eq third 108) word.Release word.Return)))))))))
+    (cond (nat_eq third 99) word.Receive (cond (nat_eq third 115) word.Reserve (cond (nat_eq third 108) word.Release word.Return))))))))))))
 
 back_again : (w : Word) → word_back (word_name w) ≡ w
 unfolding word_back
@@ -264,6 +304,10 @@ back_again word.Scrap = refl
 back_again word.Return = refl
 back_again word.Import = refl
 back_again word.Amend = refl
+back_again word.Undo = refl
+back_again word.Note = refl
+back_again word.Extend = refl
+back_again word.Begin = refl
 
 words_decide : (v w : Word) → Decides (same_word v w) (v ≡ w)
 words_decide v w = Decides-like _ (λ e. sym (back_again v) ∙ ap word_back e ∙ back_again w) (ap word_name) (bytes_decides (word_name v) (word_name w))
@@ -273,6 +317,28 @@ options_decide each None None = (λ e. refl, λ e. refl)
 options_decide each None (Some b) = (λ e. no e, λ e. absurd (cc))
 options_decide each (Some a) None = (λ e. no e, λ e. absurd (cc))
 options_decide each (Some a) (Some b) = Decides-like _ (ap Some) (λ e. cc) (each a b)
+
+cuts_decide : (a b : Halt) → Decides (same_cuts a b) (a ≡ b)
+cuts_decide (First cuts lost) (First others other) =
+    Decides-like _ (λ p i. First (p.0 i) (p.1 i)) (λ e. (cc, cc)) (Decides-and _ _ (unsigned_Decides cuts others) (booleans_Decides lost other))
+cuts_decide (First cuts lost) (Listed others other) = (λ e. no e, λ e. absurd (cc))
+cuts_decide (Listed cuts lost) (First others other) = (λ e. no e, λ e. absurd (cc))
+cuts_decide (Listed cuts lost) (Listed others other) =
+    Decides-like _ (λ p i. Listed (p.0 i) (p.1 i)) (λ e. (cc, cc)) (Decides-and _ _ (bytes_decides cuts others) (options_decide unsigned_Decides lost other))
+
+pub halt_decides : (a b : JobHalt) → Decides (same_halt a b) (a ≡ b)
+halt_decides a b =
+    Decides-like _ (λ p i. record { job = p.0 i; halt = p.1.0 i; rest = p.1.1 i }) (λ p. (ap (λ r. r.job) p, (ap (λ r. r.halt) p, ap (λ r. r.rest) p)))
+    (Decides-and _ _ (unsigned_Decides a.job b.job) (Decides-and _ _ (cuts_decide a.halt b.halt) (options_decide unsigned_Decides a.rest b.rest)))
+
+pub begin_decides : (a b : JobBegin) → Decides (same_begin a b) (a ≡ b)
+begin_decides a b =
+    Decides-like _ (λ p i. record { job = p.0 i; terminal = p.1 i }) (λ p. (ap (λ r. r.job) p, ap (λ r. r.terminal) p)) (Decides-and _ _ (unsigned_Decides a.job b.job) (unsigned_Decides a.terminal b.terminal))
+
+pub note_decides : (a b : OrderNote) → Decides (same_note a b) (a ≡ b)
+note_decides a b =
+    Decides-like _ (λ p i. record { order = p.0 i; due = p.1.0 i; text = p.1.1 i }) (λ p. (ap (λ r. r.order) p, (ap (λ r. r.due) p, ap (λ r. r.text) p)))
+    (Decides-and _ _ (bytes_decides a.order b.order) (Decides-and _ _ (unsigned_Decides a.due b.due) (bytes_decides a.text b.text)))
 
 pub entry_decides : (a b : Entry) → Decides (same_entry a b) (a ≡ b)
 entry_decides a b =
@@ -294,23 +360,41 @@ content_decides m n =
       materials = p.0 i;
       parts = p.1.0 i;
       jobs = p.1.1.0 i;
-      orders = p.1.1.1.0 i;
-      demands = p.1.1.1.1.0 i;
-      kept = p.1.1.1.1.1.0 i;
-      imports = p.1.1.1.1.1.1.0 i;
-      entries = p.1.1.1.1.1.1.1.0 i;
-      last_act = p.1.1.1.1.1.1.1.1.0 i;
-      last_demand = p.1.1.1.1.1.1.1.1.1 i;
+      halts = p.1.1.1.0 i;
+      begun = p.1.1.1.1.0 i;
+      orders = p.1.1.1.1.1.0 i;
+      notes = p.1.1.1.1.1.1.0 i;
+      demands = p.1.1.1.1.1.1.1.0 i;
+      kept = p.1.1.1.1.1.1.1.1.0 i;
+      imports = p.1.1.1.1.1.1.1.1.1.0 i;
+      entries = p.1.1.1.1.1.1.1.1.1.1.0 i;
+      last_act = p.1.1.1.1.1.1.1.1.1.1.1.0 i;
+      last_demand = p.1.1.1.1.1.1.1.1.1.1.1.1 i;
     })
     (λ p. (
       ap (λ c. c.materials) p,
-      (ap (λ c. c.parts) p, (ap (λ c. c.jobs) p, (ap (λ c. c.orders) p, (ap (λ c. c.demands) p, (ap (λ c. c.kept) p, (ap (λ c. c.imports) p, (ap (λ c. c.entries) p, (ap (λ c. c.last_act) p, ap (λ c. c.last_demand) p)))))))),
+      (
+        ap (λ c. c.parts) p,
+        (
+          ap (λ c. c.jobs) p,
+          (
+            ap (λ c. c.halts) p,
+            (
+              ap (λ c. c.begun) p,
+              (ap (λ c. c.orders) p, (ap (λ c. c.notes) p, (ap (λ c. c.demands) p, (ap (λ c. c.kept) p, (ap (λ c. c.imports) p, (ap (λ c. c.entries) p, (ap (λ c. c.last_act) p, ap (λ c. c.last_demand) p))))))),
+            ),
+          ),
+        ),
+      ),
     ))
     (Decides-and _ _ (maps_decide bytes_decides material_decides m.materials n.materials)
     (Decides-and _ _ (maps_decide name_decides part_decides m.parts n.parts)
     (Decides-and _ _ (maps_decide unsigned_Decides job_decides m.jobs n.jobs)
+    (Decides-and _ _ (maps_decide unsigned_Decides halt_decides m.halts n.halts)
+    (Decides-and _ _ (maps_decide unsigned_Decides begin_decides m.begun n.begun)
     (Decides-and _ _ (codes_decide m.orders n.orders)
+    (Decides-and _ _ (maps_decide bytes_decides note_decides m.notes n.notes)
     (Decides-and _ _ (maps_decide unsigned_Decides demand_decides m.demands n.demands)
     (Decides-and _ _ (maps_decide pair_decides kept_decides m.kept n.kept)
     (Decides-and _ _ (maps_decide bytes_decides import_decides m.imports n.imports)
-    (Decides-and _ _ (maps_decide unsigned_Decides entry_decides m.entries n.entries) (Decides-and _ _ (unsigned_Decides m.last_act n.last_act) (unsigned_Decides m.last_demand n.last_demand))))))))))
+    (Decides-and _ _ (maps_decide unsigned_Decides entry_decides m.entries n.entries) (Decides-and _ _ (unsigned_Decides m.last_act n.last_act) (unsigned_Decides m.last_demand n.last_demand)))))))))))))

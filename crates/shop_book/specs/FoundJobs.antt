@@ -3,6 +3,7 @@ use Rattle.std.specs.Prelude.{◌≡◌, ℕ}
 use Rattle.cut_tree.specs.Tree.{cut_count}
 use Rattle.shop_records.specs.declared.records.Job.{Job}
 use Rattle.shop_records.specs.Content.{Content, job_at, material_of, part_of_job}
+use Rattle.shop_records.specs.Lists.{begun_by, due_for_job}
 use Rattle.shop_book.specs.declared.books.FoundJob.{FoundJob}
 use Rattle.shop_book.specs.declared.books.JobHead.{JobHead}
 
@@ -13,5 +14,6 @@ pub record IsFoundJob (m : Content) (number : ℕ) (found : FoundJob) : Type 0 w
   pub of_material : found.material ≡ material_of m found.part
 
 -- how lists tell a job
-abbrev pub head_of : Job → JobHead
-head_of job = record { act = job.act; part = job.part; cuts = cut_count job.plan.tree }
+abbrev pub head_of : Content → Job → JobHead
+head_of content job =
+    record { act = job.act; part = job.part; cuts = cut_count job.plan.tree; begun = begun_by content job.act; due = due_for_job content job }

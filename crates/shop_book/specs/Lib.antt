@@ -14,5 +14,6 @@ pub mod Ledgers
 pub mod Storages
 pub mod MemStorages
 pub mod Loading
+pub mod DueJobs
 -- which entries a story tells
 pub mod Stories

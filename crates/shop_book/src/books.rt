@@ -1,8 +1,8 @@
 //! What is promised of a book, which keeps the shop's content: what its calls answer, and what a crash may leave.
 
 ghost use Rattle.std.specs.Prelude.{◌≡◌, ◌+◌, ◌≤◌, ◌⊎◌, ℕ, IfOk, IfSome, OnOk, OnErr, map, option_map, take};
-ghost use Rattle.shop_records.specs.Content.{Content, material_at, part_at, job_at, has_order, demand_at, kept_at, import_at, entry_at, entry_count, last_time, totals_of, parts_of as listed_parts, changed};
-ghost use Rattle.shop_records.specs.Lists.{AreLines, IsLastNumber, entries_about, entries_behind, materials_of, orders_after, parts_after, open_demands, waiting_jobs};
+ghost use Rattle.shop_records.specs.Content.{Content, material_at, part_at, job_at, has_order, demand_at, kept_at, import_at, halt_at, begun_at, note_at, entry_at, entry_count, last_time, totals_of, parts_of as listed_parts, parts_named, changed};
+ghost use Rattle.shop_records.specs.Lists.{AreLines, IsLastNumber, due_of, entries_about, entries_behind, materials_of, orders_after, parts_after, open_demands, waiting_jobs};
 ghost use Rattle.shop_records.specs.Soundness.{Fits};
 ghost use Rattle.shop_records.specs.declared.records.Job.{Job as JobOf};
 ghost use Rattle.shop_book.specs.Failures.{CountsFailure};
@@ -15,8 +15,9 @@ ghost use Rattle.std.specs.FinMap.{len};
 use crate::ledger::Ledger;
 use cut_measure::{Code, PartName};
 use shop_records::{
-    Change, CodeList, Demand, DemandList, Entry, EntryRows, ImportRow, Job, Kept, Material,
-    MaterialList, NumberList, Part, PartList, PartVisitor, Refusal, Subject, Totals,
+    Change, CodeList, Demand, DemandList, Entry, EntryRows, ImportRow, Job, JobBegin, JobHalt,
+    Kept, Material, MaterialList, NumberList, OrderNote, Part, PartList, PartVisitor, Refusal,
+    Subject, Totals,
 };
 use std::alloc::{AllocError, Global};
 use std::error::Error;
@@ -87,12 +88,15 @@ pub struct FoundJob {
     pub material: Option<Material>,
 }
 
-/// A job as lists tell it: its number, its part, and how many cuts its plan has.
+/// A job as lists tell it: its number, its part, how many cuts its plan has, the terminal that has begun it, or 0, and the least
+/// day on which an order is due that has a piece in the plan, or 0.
 #[derive(Clone, Copy, Debug)]
 pub struct JobHead {
     pub act: u32,
     pub part: PartName,
     pub cuts: u32,
+    pub begun: u32,
+    pub due: u32,
 }
 
 /// What the shop contains, wherever it is kept.
@@ -148,9 +152,44 @@ pub trait Book {
             (CountsFailure result) self.old self.new };
 
     /// The job under the number of the reservation's act, as lists tell it.
-    fn job_head(&mut self, number: u32) -> Result<Option<JobHead>, BookFault>
+    fn job_head(&mut self, alloc: Global, number: u32) -> Result<Option<JobHead>, BookFault>
         ensures row { has_clean_disk self.new → (m : Content) → holds self.old m
-            → IfOk result (λ head. head ≡ option_map head_of (job_at m number)) }
+            → IfOk result (λ head. head ≡ option_map (head_of m) (job_at m number)) }
+        ensures keeps { Keeps has_clean_disk holds may_leave failed
+            (CountsFailure result) self.old self.new };
+
+    /// Where the work on the plan of the job of a number halted, if that is kept.
+    fn halt(&mut self, alloc: Global, number: u32) -> Result<Option<JobHalt>, BookFault>
+        ensures row { has_clean_disk self.new → (m : Content) → holds self.old m
+            → IfOk result (λ row. row ≡ halt_at m number) }
+        ensures keeps { Keeps has_clean_disk holds may_leave failed
+            (CountsFailure result) self.old self.new };
+
+    /// Which terminal has begun the job of a number.
+    fn begun(&mut self, number: u32) -> Result<Option<JobBegin>, BookFault>
+        ensures row { has_clean_disk self.new → (m : Content) → holds self.old m
+            → IfOk result (λ row. row ≡ begun_at m number) }
+        ensures keeps { Keeps has_clean_disk holds may_leave failed
+            (CountsFailure result) self.old self.new };
+
+    /// The parts that are named after an act, by rising node.
+    fn parts_named(&mut self, alloc: Global, act: u32) -> Result<PartList, BookFault>
+        ensures rows { has_clean_disk self.new → (m : Content) → holds self.old m
+            → IfOk result (λ rows. rows ≡ parts_named m act) }
+        ensures keeps { Keeps has_clean_disk holds may_leave failed
+            (CountsFailure result) self.old self.new };
+
+    /// What is said of an order.
+    fn note(&mut self, alloc: Global, code: Code) -> Result<Option<OrderNote>, BookFault>
+        ensures row { has_clean_disk self.new → (m : Content) → holds self.old m
+            → IfOk result (λ row. row ≡ note_at m code) }
+        ensures keeps { Keeps has_clean_disk holds may_leave failed
+            (CountsFailure result) self.old self.new };
+
+    /// The day on which an order is due, 0 where none is said.
+    fn due(&mut self, code: Code) -> Result<u32, BookFault>
+        ensures day { has_clean_disk self.new → (m : Content) → holds self.old m
+            → IfOk result (λ day. day ≡ due_of m code) }
         ensures keeps { Keeps has_clean_disk holds may_leave failed
             (CountsFailure result) self.old self.new };
 
@@ -352,7 +391,7 @@ pub trait Book {
         ensures keeps { Keeps has_clean_disk holds may_leave failed
             (CountsFailure result) self.old self.new };
 
-    /// All rows but the long texts and the entries, as they are in memory.
+    /// All rows but the long texts, the entries and where the work on jobs halted, as they are in memory.
     fn rows(&self) -> &Ledger
         ensures { has_clean_disk self.now → (m : Content) → holds self.now m
             → content_in result.now ≡ bare m };

@@ -4,7 +4,7 @@ ghost use Rattle.std.specs.Prelude.{◌≡◌, ◌↔◌, IfOk, IsTrue};
 ghost use Rattle.shop_book.specs.Ledgers.{content_in};
 
 use crate::ledger::Ledger;
-use crate::memory_lists::copy_jobs;
+use crate::memory_lists::{copy_jobs, copy_notes};
 use std::alloc::{AllocError, Global};
 
 impl Ledger {
@@ -16,7 +16,9 @@ impl Ledger {
         let parts = self.parts.copy(alloc)?;
         let totals = Vec::from_slice(alloc, &self.totals)?;
         let jobs = copy_jobs(&self.jobs)?;
+        let begun = Vec::from_slice(alloc, &self.begun)?;
         let orders = Vec::from_slice(alloc, &self.orders)?;
+        let notes = copy_notes(alloc, &self.notes)?;
         let demands = Vec::from_slice(alloc, &self.demands)?;
         let lists = self.lists.copy(alloc)?;
         Ok(Ledger {
@@ -24,7 +26,9 @@ impl Ledger {
             parts,
             totals,
             jobs,
+            begun,
             orders,
+            notes,
             demands,
             strays: self.strays,
             last_act: self.last_act,
@@ -52,6 +56,18 @@ impl Ledger {
         self.jobs == other.jobs
     }
 
+    fn has_begun_of(&self, other: &Ledger) -> bool
+        ensures { IsTrue result ↔ ((content_in self.now).begun ≡ (content_in other.now).begun) }
+    {
+        self.begun == other.begun
+    }
+
+    fn has_notes_of(&self, other: &Ledger) -> bool
+        ensures { IsTrue result ↔ ((content_in self.now).notes ≡ (content_in other.now).notes) }
+    {
+        self.notes == other.notes
+    }
+
     fn has_orders_of(&self, other: &Ledger) -> bool
         ensures { IsTrue result ↔ ((content_in self.now).orders ≡ (content_in other.now).orders) }
     {
@@ -71,7 +87,9 @@ impl Ledger {
         self.has_materials_of(other)
             && self.has_parts_of(other)
             && self.has_jobs_of(other)
+            && self.has_begun_of(other)
             && self.has_orders_of(other)
+            && self.has_notes_of(other)
             && self.has_demands_of(other)
             && self.last_act == other.last_act
             && self.last_demand == other.last_demand

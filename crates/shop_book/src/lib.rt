@@ -2,6 +2,7 @@
 #![tactic(auto)]
 
 mod books;
+mod due_jobs;
 mod keeping;
 mod known_orders;
 mod ledger;
@@ -15,6 +16,7 @@ mod memory_parts;
 mod posting;
 mod read_rows;
 mod same_entries;
+mod same_halts;
 mod storage;
 mod stories;
 

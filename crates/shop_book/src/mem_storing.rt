@@ -1,4 +1,4 @@
-//! How a storage in memory keeps texts and entries, and answers them.
+//! How a storage in memory keeps texts, entries and halts, and answers them.
 
 ghost use Rattle.std.specs.Prelude.{IfOk, IsTrue, OnOk, OnErr, ◌≡◌, length};
 ghost use Rattle.std.specs.Ordering.{nat_cmp};
@@ -10,18 +10,19 @@ ghost use Rattle.shop_records.specs.declared.journal.Entry.{Entry as EntryOf};
 
 use crate::keeping::{KeptText, copy_kept, count_kept, find_kept, last_kept};
 use crate::mem_storage::MemStorage;
-use crate::memory_lists::{copy_imports, find_import};
+use crate::memory_lists::{copy_halts, copy_imports, find_halt, find_import};
 use crate::same_entries::are_same;
+use crate::same_halts::are_same_halts;
 use crate::storage::{Storage, StorageFault};
 use cut_measure::Code;
-use shop_records::{Change, Entry, EntryRows, ImportRow, Kept, KeptMessage, Pair};
+use shop_records::{Change, Entry, EntryRows, ImportRow, JobHalt, Kept, KeptMessage, Pair};
 use shop_rows::{copy_rows, entries_after, find, first_rows, put_copy, put_some, reserve_rows};
 use std::alloc::{AllocError, Global};
 use std::collections::BTreeMap;
 
 impl MemStorage {
     ghost use Rattle.std.specs.Prelude.{◌≡◌, ◌↔◌, IfOk, IsTrue};
-    ghost use Rattle.shop_book.specs.MemStorages.{HoldsTexts, entries_in, imports_in, kept_in};
+    ghost use Rattle.shop_book.specs.MemStorages.{HoldsTexts, entries_in, halts_in, imports_in, kept_in};
     ghost use Rattle.shop_records.specs.Content.{fresh};
 
     /// The storage of a new shop.
@@ -32,23 +33,27 @@ impl MemStorage {
             alloc,
             kept: BTreeMap::new(alloc),
             imports: Vec::new(alloc),
+            halts: Vec::new(alloc),
             entries: Vec::new(alloc),
         }
     }
 
-    /// A storage with the same texts and entries.
+    /// A storage with the same texts, entries and halts.
     pub fn copy(&self, alloc: Global) -> Result<MemStorage, AllocError>
         ensures kept { IfOk result (λ copy. kept_in copy ≡ kept_in self.now) }
         ensures imports { IfOk result (λ copy. imports_in copy ≡ imports_in self.now) }
+        ensures halts { IfOk result (λ copy. halts_in copy ≡ halts_in self.now) }
         ensures entries { IfOk result (λ copy. entries_in copy ≡ entries_in self.now) }
     {
         let kept = copy_kept(&self.kept)?;
         let imports = copy_imports(&self.imports)?;
+        let halts = copy_halts(alloc, &self.halts)?;
         let entries = Vec::from_slice(alloc, &self.entries)?;
         Ok(MemStorage {
             alloc,
             kept,
             imports,
+            halts,
             entries,
         })
     }
@@ -71,18 +76,41 @@ impl MemStorage {
         are_same(&self.entries, &other.entries)
     }
 
-    /// Whether another storage has the same texts and entries.
+    fn has_halts_of(&self, other: &MemStorage) -> bool
+        ensures { IsTrue result ↔ (halts_in self.now ≡ halts_in other.now) }
+    {
+        are_same_halts(&self.halts, &other.halts)
+    }
+
+    /// Whether another storage has the same texts, entries and halts.
     pub fn has_texts_of(&self, other: &MemStorage) -> bool
         ensures { IsTrue result
             ↔ ((kept_in self.now ≡ kept_in other.now) × (imports_in self.now ≡ imports_in other.now)
+            × (halts_in self.now ≡ halts_in other.now)
             × (entries_in self.now ≡ entries_in other.now)) }
     {
-        self.has_kept_of(other) && self.has_imports_of(other) && self.has_entries_of(other)
+        self.has_kept_of(other)
+            && self.has_imports_of(other)
+            && self.has_halts_of(other)
+            && self.has_entries_of(other)
     }
 }
 
 // A copy of a row of an import, if there is one.
 fn copy_import(alloc: Global, row: &Option<ImportRow>) -> Result<Option<ImportRow>, AllocError>
+    ensures { IfOk result (λ copy. copy ≡ row.now) }
+{
+    match row {
+        None => Ok(None),
+        Some(row) => {
+            let copy = row.copy(alloc)?;
+            Ok(Some(copy))
+        }
+    }
+}
+
+// A copy of where the work on a job halted, if it did.
+fn copy_halt(alloc: Global, row: &Option<JobHalt>) -> Result<Option<JobHalt>, AllocError>
     ensures { IfOk result (λ copy. copy ≡ row.now) }
 {
     match row {
@@ -172,6 +200,11 @@ impl Storage for MemStorage {
         Ok(row)
     }
 
+    fn halt(&mut self, alloc: Global, number: u32) -> Result<Option<JobHalt>, StorageFault> {
+        let row = find_halt(alloc, &self.halts, number)?;
+        Ok(row)
+    }
+
     fn last_number(&mut self, terminal: u32) -> Result<u32, StorageFault> {
         Ok(last_kept(&self.kept, terminal))
     }
@@ -205,10 +238,13 @@ impl Storage for MemStorage {
 
     fn commit(&mut self, change: &Change) -> Result<(), StorageFault> {
         let import = copy_import(self.alloc, &change.import)?;
+        let halt = copy_halt(self.alloc, &change.halt)?;
+        reserve_rows(&mut self.halts, 1)?;
         reserve_rows(&mut self.imports, 1)?;
         reserve_rows(&mut self.entries, 1)?;
         keep_text(self.alloc, &mut self.kept, &change.kept)?;
         put_some(&mut self.imports, import);
+        put_some(&mut self.halts, halt);
         put_copy(&mut self.entries, &change.entry);
         Ok(())
     }

@@ -1,18 +1,19 @@
 //! The jobs, demands and imports of a book in memory, and the numbers of what is open.
 
-ghost use Rattle.std.specs.Prelude.{◌≡◌, ◌+◌, ◌++◌, ◌<◌, ◌≤◌, IfOk, IsTrue, OnOk, filter, length, option_map, take, vec_len, vec_capacity};
+ghost use Rattle.std.specs.Prelude.{◌≡◌, ◌+◌, ◌++◌, ◌<◌, ◌≤◌, IfOk, IsTrue, OnOk, filter, length, take, vec_len, vec_capacity};
 ghost use Rattle.std.specs.Option.{option_to_list};
 ghost use Rattle.std.specs.Ordering.{nat_cmp};
 ghost use Rattle.cut_measure.specs.Codes.{code_cmp};
 ghost use Rattle.shop_records.specs.Lists.{is_asked_for, is_open};
-ghost use Rattle.shop_rows.specs.Keys.{job_key, demand_key, import_key};
+ghost use Rattle.shop_records.specs.Content.{of_found};
+ghost use Rattle.shop_records.specs.declared.notes.OrderNote.{OrderNote as NoteOf};
+ghost use Rattle.shop_records.specs.declared.records.JobBegin.{JobBegin as BeginOf};
+ghost use Rattle.shop_rows.specs.Keys.{job_key, begin_key, demand_key, halt_key, import_key, note_key};
 ghost use Rattle.shop_rows.specs.Open.{own_key, demands_named, waits, ListsNumbers};
 ghost use Rattle.shop_rows.specs.Rows.{rise, row_at, ArePut};
-ghost use Rattle.shop_book.specs.FoundJobs.{head_of};
 
-use crate::books::JobHead;
 use cut_measure::Code;
-use shop_records::{Demand, DemandList, ImportRow, Job, RowList};
+use shop_records::{Demand, DemandList, ImportRow, Job, JobBegin, JobHalt, OrderNote, RowList};
 use shop_rows::{at, find, list_demands, list_job, put, put_all, reserve_rows};
 use std::alloc::{AllocError, Global};
 use std::cmp::Ordering;
@@ -23,6 +24,75 @@ pub(crate) fn copy_jobs(jobs: &Vec<Job>) -> Result<Vec<Job>, AllocError>
 {
     let copy = jobs.clone()?;
     Ok(copy)
+}
+
+/// The same notes of orders.
+pub(crate) fn copy_notes(alloc: Global, notes: &[OrderNote]) -> Result<Vec<OrderNote>, AllocError>
+    ensures { IfOk result (λ copy. copy.items ≡ notes.now) }
+{
+    let mut copy = Vec::new(alloc);
+    for row in notes {
+        copy.push(row.copy(alloc)?)?;
+    }
+    Ok(copy)
+}
+
+/// The same halts of jobs.
+pub(crate) fn copy_halts(alloc: Global, halts: &[JobHalt]) -> Result<Vec<JobHalt>, AllocError>
+    ensures { IfOk result (λ copy. copy.items ≡ halts.now) }
+{
+    let mut copy = Vec::new(alloc);
+    for row in halts {
+        copy.push(row.copy(alloc)?)?;
+    }
+    Ok(copy)
+}
+
+/// A copy of what is said of an order.
+pub(crate) fn find_note(
+    alloc: Global,
+    notes: &[OrderNote],
+    order: Code,
+) -> Result<Option<OrderNote>, AllocError>
+    requires { IsTrue (rise note_key code_cmp notes.now) }
+    ensures { IfOk result (λ row. row ≡ row_at note_key code_cmp order notes.now) }
+{
+    match at(notes, order) {
+        None => Ok(None),
+        Some(row) => {
+            let copy = row.copy(alloc)?;
+            Ok(Some(copy))
+        }
+    }
+}
+
+/// The day on which an order is due, 0 where none is said.
+pub(crate) fn due_in(notes: &[OrderNote], order: Code) -> u32
+    requires { IsTrue (rise note_key code_cmp notes.now) }
+    ensures { result ≡ of_found (λ (row : NoteOf). row.due) (row_at note_key code_cmp order notes.now) }
+{
+    match at(notes, order) {
+        None => 0,
+        Some(row) => row.due,
+    }
+}
+
+/// A copy of where the work on a job's plan halted.
+pub(crate) fn find_halt(
+    alloc: Global,
+    halts: &[JobHalt],
+    number: u32,
+) -> Result<Option<JobHalt>, AllocError>
+    requires { IsTrue (rise halt_key nat_cmp halts.now) }
+    ensures { IfOk result (λ row. row ≡ row_at halt_key nat_cmp number halts.now) }
+{
+    match at(halts, number) {
+        None => Ok(None),
+        Some(row) => {
+            let copy = row.copy(alloc)?;
+            Ok(Some(copy))
+        }
+    }
 }
 
 /// The same rows of imports.
@@ -114,17 +184,16 @@ pub(crate) fn find_job(alloc: Global, jobs: &[Job], number: u32) -> Result<Optio
     }
 }
 
-/// The job of a number, as lists tell it.
-pub(crate) fn find_head(jobs: &[Job], number: u32) -> Option<JobHead>
-    requires { IsTrue (rise job_key nat_cmp jobs.now) }
-    ensures { result ≡ option_map head_of (row_at job_key nat_cmp number jobs.now) }
+/// The terminal that has begun the job of a number, 0 where none has.
+pub(crate) fn begun_in(begun: &[JobBegin], number: u32) -> u32
+    requires { IsTrue (rise begin_key nat_cmp begun.now) }
+    ensures { result
+        ≡ of_found (λ (row : BeginOf). row.terminal) (row_at begin_key nat_cmp number begun.now) }
 {
-    let job = at(jobs, number)?;
-    Some(JobHead {
-        act: job.act,
-        part: job.part,
-        cuts: job.plan.cuts(),
-    })
+    match find(begun, number) {
+        None => 0,
+        Some(row) => row.terminal,
+    }
 }
 
 /// A copy of what is kept of the import of an order.

@@ -123,6 +123,9 @@ fn put_one_by_one(
         ≡ with_parts rows.now (map_of part_key name_cmp (parts_in parts.old)) }
     ensures known { AreKnown parts.new }
     ensures tally { Tallies (parts_in parts.new) totals.new.items lists.new.items }
+    ensures rooms { (count : ℕ) (more : List PartOf)
+        → HaveRooms (length rows.now + count) more parts.old totals.old lists.old.items
+        → HaveRooms count more parts.new totals.new lists.new.items }
 {
     for part in rows {
         put_part(parts, totals, lists, part);
@@ -205,23 +208,29 @@ fn put_moved(
     }
 }
 
-/// Puts a part that moves, if there is one, and parts after it, as one after another.
+/// Puts a part that moves, if there is one, parts that are undone after it, and parts after those, as one after another.
 pub(crate) fn put_stock(
     parts: &mut PartRows,
     totals: &mut Vec<Sums>,
     lists: &mut Vec<NameList>,
     moved: Option<Part>,
+    undone: &[Part],
     rows: &[Part],
 )
     requires known { AreKnown parts.old }
     requires tally { Tallies (parts_in parts.old) totals.old.items lists.old.items }
     requires moved { HaveRooms 1 (option_to_list moved) parts.old totals.old lists.old.items }
-    requires rooms { HaveRooms (length rows.now + 1) rows.now parts.old totals.old lists.old.items }
+    requires undone { HaveRooms (length undone.now + length rows.now + 1) undone.now
+        parts.old totals.old lists.old.items }
+    requires rooms { HaveRooms (length undone.now + length rows.now + 1) rows.now
+        parts.old totals.old lists.old.items }
     ensures put { map_of part_key name_cmp (parts_in parts.new)
-        ≡ with_parts rows.now (with_moved moved (map_of part_key name_cmp (parts_in parts.old))) }
+        ≡ with_parts rows.now (with_parts undone.now
+        (with_moved moved (map_of part_key name_cmp (parts_in parts.old)))) }
     ensures known { AreKnown parts.new }
     ensures tally { Tallies (parts_in parts.new) totals.new.items lists.new.items }
 {
     put_moved(parts, totals, lists, moved);
+    put_one_by_one(parts, totals, lists, undone);
     put_parts(parts, totals, lists, rows);
 }

@@ -23,7 +23,9 @@ impl Ledger {
             parts: PartRows::new(alloc),
             totals: Vec::new(alloc),
             jobs: Vec::new(alloc),
+            begun: Vec::new(alloc),
             orders: Vec::new(alloc),
+            notes: Vec::new(alloc),
             demands: Vec::new(alloc),
             strays: false,
             last_act: 0,
@@ -38,11 +40,14 @@ impl Ledger {
         ensures room { OnOk result (HasRoomFor change.now self.new) }
     {
         let rows = change.parts.as_slice();
+        let undone = change.undone.as_slice();
         let count = change.demands.as_slice().len();
         self.materials.reserve(1)?;
-        reserve_parts(&mut self.parts, &mut self.totals, rows.len() + 1)?;
-        reserve_names(&mut self.lists.parts, &change.moved, rows)?;
+        let parts = undone.len() + rows.len() + 1;
+        reserve_parts(&mut self.parts, &mut self.totals, parts)?;
+        reserve_names(&mut self.lists.parts, &change.moved, undone, rows)?;
         reserve_both(&mut self.jobs, &mut self.lists.jobs, 1)?;
+        reserve_both(&mut self.begun, &mut self.notes, 1)?;
         reserve_rows(&mut self.orders, 2)?;
         reserve_both(&mut self.demands, &mut self.lists.demands, count)
     }
@@ -58,14 +63,18 @@ impl Ledger {
         self.strays |= !reach_all(&mut self.orders, wanted);
         put_some(&mut self.materials, change.material);
         let parts = change.parts;
+        let undone = change.undone;
         put_stock(
             &mut self.parts,
             &mut self.totals,
             &mut self.lists.parts,
             change.moved,
+            undone.as_slice(),
             parts.as_slice(),
         );
         put_job(&mut self.jobs, &mut self.lists.jobs, change.job);
+        put_some(&mut self.begun, change.begun);
+        put_some(&mut self.notes, change.note);
         put_demands(&mut self.demands, &mut self.lists.demands, wanted);
         self.last_act = change.act.unwrap_or(self.last_act);
         self.last_demand = change.demand.unwrap_or(self.last_demand);

@@ -1,7 +1,7 @@
 //! What lasts of a shop: its long texts, and each change, as a whole or not at all.
 
 ghost use Rattle.std.specs.Prelude.{◌≡◌, ◌++◌, ◌∷◌, [], ◌⊎◌, Bool, IfErr, IfOk, IsOk, List, OnOk, OnErr, drop, false, length, take};
-ghost use Rattle.shop_records.specs.Content.{Content, kept_at, import_at, entry_at, entry_count, last_time, changed};
+ghost use Rattle.shop_records.specs.Content.{Content, kept_at, import_at, halt_at, entry_at, entry_count, last_time, changed};
 ghost use Rattle.shop_records.specs.Lists.{IsLastNumber, entries_behind};
 ghost use Rattle.shop_records.specs.Soundness.{Fits};
 ghost use Rattle.shop_records.specs.declared.journal.Entry.{Entry as EntryOf};
@@ -10,7 +10,7 @@ ghost use Rattle.std.specs.FinMap.{len};
 ghost use Rattle.shop_book.specs.declared.storage.StorageFault.TheVariants.{NoMemory};
 
 use cut_measure::Code;
-use shop_records::{Change, Entry, EntryRows, ImportRow, Kept};
+use shop_records::{Change, Entry, EntryRows, ImportRow, JobHalt, Kept};
 use std::alloc::{AllocError, Global};
 
 /// Why a storage has no answer.
@@ -33,8 +33,8 @@ impl From<AllocError> for StorageFault {
     }
 }
 
-/// Where a shop's changes last. A storage answers for the long texts and the entries alone; a ledger answers for all other
-/// rows.
+/// Where a shop's changes last. A storage answers for the long texts, the entries and where the work on jobs halted alone; a
+/// ledger answers for all other rows.
 pub trait Storage {
     /// Whether there is a store that can fail. Where there is none, only memory can run out.
     const MAY_FAIL: bool;
@@ -73,6 +73,13 @@ pub trait Storage {
     fn import(&mut self, alloc: Global, order: Code) -> Result<Option<ImportRow>, StorageFault>
         ensures row { has_clean_disk self.new → (m : Content) → holds self.old m
             → IfOk result (λ row. row ≡ import_at m order) }
+        ensures memory { MAY_FAIL ≡ false → IfErr result (λ fault. fault ≡ NoMemory) }
+        ensures leaves { IsRead has_clean_disk holds may_leave self.old self.new };
+
+    /// Where the work on the plan of the job of a number halted, if that is kept.
+    fn halt(&mut self, alloc: Global, number: u32) -> Result<Option<JobHalt>, StorageFault>
+        ensures row { has_clean_disk self.new → (m : Content) → holds self.old m
+            → IfOk result (λ row. row ≡ halt_at m number) }
         ensures memory { MAY_FAIL ≡ false → IfErr result (λ fault. fault ≡ NoMemory) }
         ensures leaves { IsRead has_clean_disk holds may_leave self.old self.new };
 

@@ -2,7 +2,7 @@
 
 ghost use Rattle.std.specs.Prelude.{◌≡◌, IfOk, IsTrue};
 ghost use Rattle.std.specs.Ordering.{nat_cmp};
-ghost use Rattle.shop_records.specs.Lists.{ends_job, is_about, is_code_of, is_name_of, made_part, makes_units};
+ghost use Rattle.shop_records.specs.Lists.{ends_job, is_about, is_code_of, is_name_of, made_part, makes_units, undoes_job};
 ghost use Rattle.shop_rows.specs.Keys.{job_key};
 ghost use Rattle.shop_rows.specs.Rows.{rise};
 ghost use Rattle.shop_book.specs.Ledgers.{content_in};
@@ -80,6 +80,10 @@ fn makes_units(word: Word) -> bool
         Word::Return => false,
         Word::Import => true,
         Word::Amend => false,
+        Word::Undo => false,
+        Word::Note => false,
+        Word::Extend => false,
+        Word::Begin => false,
     }
 }
 
@@ -99,15 +103,42 @@ fn ends_job(word: Word) -> bool
         Word::Return => false,
         Word::Import => false,
         Word::Amend => false,
+        Word::Undo => false,
+        Word::Note => false,
+        Word::Extend => false,
+        Word::Begin => false,
     }
 }
 
-// Whether an entry's message made a part.
+// Whether messages of a word take the parts of a job back.
+fn undoes_job(word: Word) -> bool
+    ensures { result ≡ undoes_job word }
+{
+    match word {
+        Word::Material => false,
+        Word::Receive => false,
+        Word::Order => false,
+        Word::Reserve => false,
+        Word::Done => false,
+        Word::Break => false,
+        Word::Release => false,
+        Word::Scrap => false,
+        Word::Return => false,
+        Word::Import => false,
+        Word::Amend => false,
+        Word::Undo => true,
+        Word::Note => false,
+        Word::Extend => false,
+        Word::Begin => false,
+    }
+}
+
+// Whether an entry's message made a part, or took it back.
 fn made_part(entry: &Entry, name: PartName) -> bool
     ensures { result ≡ made_part name entry.now }
 {
     (makes_units(entry.word) && entry.act == name.act())
-        || (ends_job(entry.word) && entry.job == name.act())
+        || ((ends_job(entry.word) || undoes_job(entry.word)) && entry.job == name.act())
 }
 
 // Whether this is the code that was found.

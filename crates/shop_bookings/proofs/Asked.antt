@@ -25,7 +25,7 @@ use Rattle.shop_machine.proofs.Allowed.{none_of, or_none}
 use Rattle.shop_answers.specs.declared.planning.FoundDemand.{FoundDemand}
 use Rattle.shop_answers.specs.Planning.{demand_refusal, found_refusal, found_wants, is_demand_number, left_of, planned_size, want_of}
 use Rattle.shop_planning.specs.declared.posed.StockPart.{StockPart}
-use Rattle.shop_planning.specs.Asked.{demands_for, parts_for, found_demand, with_row, has_left, can_be_planned, is_long}
+use Rattle.shop_planning.specs.Asked.{before_it, demands_for, first_by_day, parts_for, found_demand, with_row, has_left, can_be_planned, is_long}
 use Rattle.shop_planning.specs.Questions.{part_refusal, parts_refusal}
 use Rattle.shop_planning.specs.Stock.{parts_from, stock_part, stock_parts}
 use Rattle.shop_bookings.proofs.Values.{each_found}
@@ -109,8 +109,9 @@ module _ (m : Content) (code : List ℕ) where
     wants_found None e =
         let P = λ (d : Demand). IsFound m code (with_row d) in
         let rows = take MOST_NUMBERS (open_demands m 0 (Some code)) in
+        let left = filter has_left rows in
         all_wanted (demands_for m code None) (recursion_from_All (IsFound m code) (demands_for m code None)
-        (All-map (IsFound m code) with_row (take MOST_ORDER_WANTS (filter has_left rows)) (All-take P MOST_ORDER_WANTS (filter has_left rows)
+        (All-map (IsFound m code) with_row (first_by_day m left) (All-filter (λ (d : Demand). nat_lt (before_it m left d) MOST_ORDER_WANTS) P left
         (All-filter has_left P rows (All-take P MOST_NUMBERS (open_demands m 0 (Some code)) open_found)))))
     wants_found (Some ns) e = all_wanted (map (found_demand m) ns) (named_found ns e)
 

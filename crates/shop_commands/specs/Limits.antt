@@ -8,6 +8,7 @@ use Rattle.cut_plan.specs.declared.faults.TheConstants.{MOST_WANTS}
 use Rattle.cut_order.specs.declared.question.TheConstants as orders
 use Rattle.shop_files.specs.declared.limits.TheConstants.{LONGEST_TEXT, MOST_PIECES, MOST_LINES, MOST_ENTRIES}
 use Rattle.shop_answers.specs.declared.listing.TheConstants.{MOST_TOLD, MOST_TOLD_BYTES}
+use Rattle.shop_records.specs.declared.notes.TheConstants.{LONGEST_NOTE}
 use Rattle.shop_records.specs.declared.records.TheConstants.{MOST_RECEIVED}
 use Rattle.shop_machine.specs.declared.receiving.TheConstants.{MOST_UNITS}
 use Rattle.shop_book.specs.declared.books.TheConstants.{MOST_FAILURES}
@@ -49,7 +50,7 @@ pub record AreFiles : Type 0 where
   pub page : LONGEST_PAGE ≡ 1048576
 
 -- acts and demands, units of a receipt, cells received of a material, count and worth of a line, rows of a list, bytes of a list of
--- entries, and counted failures
+-- entries and of what is said of an order, and counted failures
 pub record AreCounts : Type 0 where
   pub numbers : MOST_NUMBERS ≡ 2147483647
   pub units : MOST_UNITS ≡ 100
@@ -58,6 +59,7 @@ pub record AreCounts : Type 0 where
   pub worth : MOST_WORTH ≡ 1000000000
   pub told : MOST_TOLD ≡ 100
   pub told_bytes : MOST_TOLD_BYTES ≡ 1000000
+  pub note : LONGEST_NOTE ≡ 200
   pub failures : MOST_FAILURES ≡ 18446744073709551615
 
 -- reads of a replay, bytes of a line, and bytes of replies that are held; bytes and fields of a head, bytes of a body

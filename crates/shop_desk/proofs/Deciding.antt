@@ -8,16 +8,18 @@ use Rattle.shop_records.specs.declared.records.Material.{Material}
 use Rattle.shop_records.specs.declared.records.Part.{Part}
 use Rattle.shop_machine.specs.declared.recounts.FoundLeaf.{FoundLeaf}
 use Rattle.shop_records.specs.declared.records.Job.{Job}
+use Rattle.shop_records.specs.declared.records.JobBegin.{JobBegin}
+use Rattle.shop_records.specs.declared.records.JobHalt.{JobHalt}
 use Rattle.shop_records.specs.declared.records.Totals.{Totals}
 use Rattle.shop_files.specs.declared.orders.OrderLine.{OrderLine}
 use Rattle.shop_records.specs.declared.messages.Command.{Command}
-use Rattle.shop_records.specs.declared.messages.Command.TheVariants.{AddOrder, Reserve, Import}
+use Rattle.shop_records.specs.declared.messages.Command.TheVariants.{AddOrder, Reserve, Import, Undo, Note, Extend, Begin}
 use Rattle.shop_records.specs.declared.changes.Change.{Change}
 use Rattle.shop_records.specs.declared.refusals.Refusal.{Refusal}
 use Rattle.shop_records.specs.declared.refusals.Refusal.TheVariants.{NoMemory, StoreFault}
 use Rattle.shop_records.specs.Messages.{Texts}
 use Rattle.shop_records.specs.Readings.{Reading, unread, Lines, Problem, Again, plan_in, reading_of}
-use Rattle.shop_records.specs.Content.{Content, material_at, part_at, job_at, has_order, import_at, demand_at, material_of, part_of_job, totals_of, totals_for}
+use Rattle.shop_records.specs.Content.{Content, material_at, part_at, job_at, has_order, import_at, demand_at, material_of, part_of_job, totals_of, totals_for, begun_at, demands_of}
 use Rattle.cut_measure.specs.Measures.{Extent}
 use Rattle.shop_files.specs.declared.problems.Piece.{Piece}
 use Rattle.shop_records.specs.declared.imports.Form.{Form}
@@ -30,10 +32,14 @@ use Rattle.shop_machine.specs.Machine.{Reads, refusal_of, Makes}
 use Rattle.shop_machine.specs.Ending.{IsWork, job_refusal, end_refusal}
 use Rattle.shop_machine.specs.Reserving.{IsReservation, reserve_refusal}
 use Rattle.shop_machine.specs.Ordering.{order_refusal, order_change}
+use Rattle.shop_machine.specs.Noting.{note_refusal, note_change}
+use Rattle.shop_machine.specs.Extending.{extend_refusal, extend_change}
+use Rattle.shop_machine.specs.Beginning.{begin_refusal, begin_change}
+use Rattle.shop_machine.specs.Undoing.{undo_refusal, taking_refusal, IsUndo}
 use Rattle.shop_machine.specs.Retiring.{turn_change}
 use Rattle.shop_records.specs.declared.records.State.{State}
 use Rattle.shop_records.specs.declared.messages.Reply.{Reply}
-use Rattle.shop_desk.specs.Decided.{IsJudged, AreJobRows}
+use Rattle.shop_desk.specs.Decided.{IsJudged, AreJobRows, halt_for, left_for}
 
 -- a decision over the content's own refusal, what the text stands for being read
 module _ (texts : Texts) (m : Content) (command : Command) (read : Reading) (reads : Reads texts m command read) (before after : ℕ) (first : Option Refusal) (same : refusal_of m command read ≡ first)
@@ -138,6 +144,60 @@ module _ (m : Content) (order : List ℕ) (lines found : List OrderLine) (used :
 
   pub order_by : (change : Change) → change ≡ order_change order found first → Makes m (AddOrder order lines) unread change
   order_by change is = is ∙ ap (λ ls. order_change order ls first) is_lines ∙ ap (λ n. order_change order lines n) is_first
+
+-- further lines of an order
+module _ (m : Content) (order : List ℕ) (lines found : List OrderLine) (used : Bool) (first : ℕ) (is_used : used ≡ has_order m order) (is_lines : found ≡ lines) (is_first : first ≡ m.last_demand + 1) where
+  pub same_extend : refusal_of m (Extend order lines) unread ≡ extend_refusal used (material_at m) (demands_of m order) found first
+  same_extend =
+      ap (λ u. extend_refusal u (material_at m) (demands_of m order) lines (m.last_demand + 1)) (sym is_used)
+      ∙ ap (λ ls. extend_refusal used (material_at m) (demands_of m order) ls (m.last_demand + 1)) (sym is_lines)
+      ∙ ap (λ n. extend_refusal used (material_at m) (demands_of m order) found n) (sym is_first)
+
+  pub extend_by : (change : Change) → change ≡ extend_change order found first → Makes m (Extend order lines) unread change
+  extend_by change is = is ∙ ap (λ ls. extend_change order ls first) is_lines ∙ ap (λ n. extend_change order lines n) is_first
+
+-- what is said of an order
+module _ (m : Content) (order : List ℕ) (due : ℕ) (text said : List ℕ) (used : Bool) (is_used : used ≡ has_order m order) (is_text : said ≡ text) where
+  pub same_note : refusal_of m (Note order due text) unread ≡ note_refusal used due said
+  same_note = ap (λ u. note_refusal u due text) (sym is_used) ∙ ap (λ t. note_refusal used due t) (sym is_text)
+
+  pub note_by : (change : Change) → change ≡ note_change order due said → Makes m (Note order due text) unread change
+  note_by change is = is ∙ ap (λ t. note_change order due t) is_text
+
+-- a job that is begun
+module _ (m : Content) (number : ℕ) (found : Option Job) (before : Option JobBegin) (is_job : found ≡ job_at m number) (is_before : before ≡ begun_at m number) where
+  pub same_begin : refusal_of m (Begin number) unread ≡ begin_refusal found
+  same_begin = ap begin_refusal (sym is_job)
+
+  pub begin_by : (change : Change) → change ≡ begin_change number before → Makes m (Begin number) unread change
+  begin_by change is = is ∙ ap (λ b. begin_change number b) is_before
+
+-- a job that is undone, by its rows
+module _ (m : Content) (number : ℕ) (found : Option Job) (on : Option Part) (of : Option Material) (totals : Totals) (leaves : List FoundLeaf) (rows : AreJobRows m number found on of totals leaves)
+    (halt : Option JobHalt) (left : List Part) (is_halt : halt ≡ halt_for m found) (is_left : left ≡ left_for m found) where
+  by_job : (found : Option Job)
+      → undo_refusal m found ≡ taking_refusal found (halt_for m found) (part_of_job m found) (material_of m (part_of_job m found)) (left_for m found) (demand_at m) (totals_for m (part_of_job m found))
+  by_job None = refl
+  by_job (Some j) = refl
+
+  pub same_undo : refusal_of m (Undo number) unread ≡ taking_refusal found halt on of left (demand_at m) totals
+  same_undo =
+      ap (undo_refusal m) (sym rows.of_job) ∙ by_job found
+      ∙ ap (λ h. taking_refusal found h (part_of_job m found) (material_of m (part_of_job m found)) (left_for m found) (demand_at m) (totals_for m (part_of_job m found))) (sym is_halt)
+      ∙ ap (λ p. taking_refusal found halt p (material_of m p) (left_for m found) (demand_at m) (totals_for m p)) (sym rows.of_part)
+      ∙ ap (λ t. taking_refusal found halt on t (left_for m found) (demand_at m) (totals_for m on)) (sym rows.of_material)
+      ∙ ap (λ l. taking_refusal found halt on of l (demand_at m) (totals_for m on)) (sym is_left) ∙ ap (taking_refusal found halt on of left (demand_at m)) (sym rows.of_totals)
+
+  abbrev pub Undone : Change → Type 0
+  Undone change = MatchOption found ⊥ (λ j. MatchOption on ⊥ (λ p. MatchOption of ⊥ (λ t. IsUndo j halt p t.limits totals (demand_at m) change)))
+
+  pub undo_by : (change : Change) → Undone change → Makes m (Undo number) unread change
+  undo_by change it = with_halt (work_by m number found on of rows.of_job rows.of_part rows.of_material totals rows.of_totals (λ t j p material. IsUndo j halt p material.limits t (demand_at m) change) it)
+    where
+      with_halt : (j : Job) × (part : Part) × (material : Material) × IsWork m number j part material × IsUndo j halt part material.limits (totals_of m part.material) (demand_at m) change
+          → Makes m (Undo number) unread change
+      with_halt (j, part, material, work, is) =
+          (j, part, material, work, subst (λ h. IsUndo j h part material.limits (totals_of m part.material) (demand_at m) change) (is_halt ∙ ap (halt_for m) (rows.of_job ∙ work.found)) is)
 
 -- ---- imports
 

@@ -16,7 +16,7 @@ use Rattle.shop_machine.proofs.Runs.{AreMessages, gives_after}
 use Rattle.shop_machine.proofs.Owners.{account_of}
 use Rattle.shop_book.specs.declared.books.Book.{Ghosts}
 use Rattle.shop_desk.specs.Faults.{CountsUp}
-use Rattle.shop_desk.specs.Handled.{LeftBy, HandlesMessage, HandlesMessageAt, OneByOne, AreHandled, AreHandledAt, HasAccount, HasAllEntries, HasEntries, HasRun}
+use Rattle.shop_desk.specs.Handled.{LeftBy, HandlesMessageAt, OneByOne, AreHandled, AreHandledAt, HasAccount, HasAllEntries, HasEntries, HasRun}
 use Rattle.shop_desk.proofs.Blame.{up_same, up_answer, up_more, tell_more, tell_one}
 use Rattle.shop_desk.proofs.Steps.{leads_grow}
 

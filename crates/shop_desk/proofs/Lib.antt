@@ -5,7 +5,10 @@ pub mod Blame
 pub mod Accounts
 pub mod TakenParts
 pub mod TakenJobs
+pub mod TakenDemands
 pub mod TakenOrders
+pub mod TakenSteps
+pub mod TakenPieces
 pub mod Refusals
 pub mod Handling
 pub mod TakenLeaves

@@ -8,6 +8,7 @@ use Rattle.shop_book.specs.declared.books.BookFault.{BookFault}
 use Rattle.shop_book.specs.declared.books.BookFault.TheVariants as fault
 use Rattle.shop_records.specs.declared.texts.Kept.{Kept}
 use Rattle.shop_records.specs.declared.imports.ImportRow.{ImportRow}
+use Rattle.shop_records.specs.declared.records.JobBegin.{JobBegin}
 use Rattle.shop_records.specs.declared.changes.Change.{Change}
 use Rattle.shop_records.specs.declared.messages.Message.{Message}
 use Rattle.shop_records.specs.declared.refusals.Refusal.{Refusal}
@@ -17,14 +18,14 @@ use Rattle.shop_records.specs.declared.messages.Reply.TheVariants.{Refused}
 use Rattle.shop_records.specs.Messages.{Texts, IsMessage, IsMade, refusal_in, is_accepted, pair_of}
 use Rattle.shop_records.specs.Readings.{Reading}
 use Rattle.shop_records.specs.Content.{Content, entry_count, kept_at, last_time, changed}
-use Rattle.shop_machine.specs.Machine.{Accepts, AcceptsAt, Reads, Makes, Refuses, StepNew, StepNewAt, StepAgain, Step, StepAt, entering, refusal_of, keeping_at}
+use Rattle.shop_machine.specs.Machine.{Accepts, AcceptsAt, Reads, Makes, Refuses, StepNew, StepNewAt, StepAgain, StepAt, entering, refusal_of, keeping_at}
 use Rattle.shop_records.specs.Keeping.{KeepsReply}
 use Rattle.shop_records.specs.Soundness.{IsSound, Fits}
 use Rattle.shop_machine.proofs.Sound.{told_accepted, sound_entered, fits_entered, agrees}
 use Rattle.shop_machine.proofs.Timeless.{untimed}
 use Rattle.shop_desk.specs.Faults.{CountsRefusal, CountsReply, StoreFailed}
 use Rattle.shop_desk.specs.Decided.{BlamesStore, Contradicts, CountsOrDisagrees}
-use Rattle.shop_desk.specs.Handled.{LeftByNew, LeftBy, IsHandled, IsHandledAt, Leads}
+use Rattle.shop_desk.specs.Handled.{LeftByNew, LeftBy, IsHandledAt, Leads}
 
 pub counts_made : (before after : ℕ) (answer : Reply) → is_accepted answer ≡ true → after ≡ before → CountsReply answer before after
 counts_made before after answer made same = by (refusal_in answer) made
@@ -131,6 +132,7 @@ module _ (texts : Texts) where
   -- the change that is committed fits, whatever reply it holds
   abbrev pub to_commit : Message → Change → (text told : List ℕ) → Reply → Change
   to_commit message made text told answer = record made {
+    begun = option_map (λ (row : JobBegin). record row { terminal = message.terminal }) made.begun;
     import = option_map (λ (row : ImportRow). record row { reply = told }) made.import;
     kept = Some (record { pair = pair_of message; kept = record { command = text; reply = told } });
     reply = answer;
@@ -148,8 +150,14 @@ module _ (texts : Texts) where
         parts = fits.parts;
         rising = fits.rising;
         moved = fits.moved;
+        undone = fits.undone;
+        apart = fits.apart;
         job = fits.job;
+        halt = fits.halt;
+        begun = fits.begun;
         order = fits.order;
+        extended = fits.extended;
+        note = fits.note;
         demands = fits.demands;
         wanted = fits.wanted;
         once = fits.once;

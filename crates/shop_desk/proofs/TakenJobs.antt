@@ -25,13 +25,13 @@ with_part content number found is = ap (both found.job) is.of_part ∙ by found.
 same_row : (content : Content) (number : ℕ) → told_row (head_with_part content number) ≡ job_row_at content number
 same_row content number = of_job (job_at content number)
   where
-    of_part : (job : Job) (o : Option Part) → told_row (option_map (λ (part : Part). (head_of job, part)) o)
-        ≡ option_map (λ (f : Job × Part). job_row f.0 f.1) (option_map (λ (part : Part). (job, part)) o)
+    of_part : (job : Job) (o : Option Part) → told_row (option_map (λ (part : Part). (head_of content job, part)) o)
+        ≡ option_map (λ (f : Job × Part). job_row content f.0 f.1) (option_map (λ (part : Part). (job, part)) o)
     of_part job None = refl
     of_part job (Some part) = refl
 
-    of_job : (o : Option Job) → told_row (option_and_then (λ (head : JobHead). option_map (λ (part : Part). (head, part)) (part_at content head.part)) (option_map head_of o))
-        ≡ option_map (λ (f : Job × Part). job_row f.0 f.1) (option_and_then (λ (job : Job). option_map (λ (part : Part). (job, part)) (part_at content job.part)) o)
+    of_job : (o : Option Job) → told_row (option_and_then (λ (head : JobHead). option_map (λ (part : Part). (head, part)) (part_at content head.part)) (option_map (head_of content) o))
+        ≡ option_map (λ (f : Job × Part). job_row content f.0 f.1) (option_and_then (λ (job : Job). option_map (λ (part : Part). (job, part)) (part_at content job.part)) o)
     of_job None = refl
     of_job (Some job) = of_part job (part_at content job.part)
 

@@ -12,7 +12,7 @@ use Rattle.shop_records.specs.Lists.{told_entry, told_entries}
 use Rattle.shop_answers.specs.declared.listing.TheConstants.{MOST_TOLD, MOST_TOLD_BYTES}
 use Rattle.shop_answers.specs.Listing.{entry_bytes, shown_from, shown_within, are_hidden}
 use Rattle.shop_desk.specs.declared.history.Shown.{Shown}
-use Rattle.shop_desk.specs.ToldEntries.{is_over, ShowsMore, Hides, ShowsOrHides, TellsFirst, Tells}
+use Rattle.shop_desk.specs.ToldEntries.{ShowsMore, Hides, TellsFirst, Tells}
 
 -- All of these entries are told, and so many may follow; so many bytes were reached, exactly as long as others may follow.
 pub record IsSoFar (all : List EntryTold) (bytes : ℕ) : Type 0 where

@@ -1,8 +1,9 @@
 -- What is decided on a command, over the content that a book holds.
-use Rattle.std.specs.Prelude.{◌≡◌, ◌⊎◌, ◌+◌, ℕ, List, Option, Some, None, Result, Ok, Err, IfErr}
+use Rattle.std.specs.Prelude.{◌≡◌, ◌⊎◌, ◌+◌, ℕ, List, [], Option, Some, None, Result, Ok, Err, IfErr}
 use Rattle.shop_records.specs.declared.records.Material.{Material}
 use Rattle.shop_records.specs.declared.records.Part.{Part}
 use Rattle.shop_records.specs.declared.records.Job.{Job}
+use Rattle.shop_records.specs.declared.records.JobHalt.{JobHalt}
 use Rattle.shop_records.specs.declared.records.Totals.{Totals}
 use Rattle.shop_machine.specs.declared.recounts.FoundLeaf.{FoundLeaf}
 use Rattle.shop_records.specs.declared.changes.Change.{Change}
@@ -11,7 +12,7 @@ use Rattle.shop_records.specs.declared.refusals.Refusal.{Refusal}
 use Rattle.shop_records.specs.declared.refusals.Refusal.TheVariants.{StoreFault}
 use Rattle.shop_records.specs.Messages.{Texts}
 use Rattle.shop_records.specs.Readings.{Reading}
-use Rattle.shop_records.specs.Content.{Content, material_at, job_at, demand_at, part_of_job, material_of, totals_of, totals_for}
+use Rattle.shop_records.specs.Content.{Content, material_at, job_at, demand_at, part_of_job, material_of, totals_of, totals_for, halt_at, parts_named}
 use Rattle.shop_records.specs.Soundness.{IsSound}
 use Rattle.shop_machine.specs.Recounts.{AreDemandsFound}
 use Rattle.shop_machine.specs.Machine.{Reads, refusal_of, Makes, Refuses}
@@ -63,3 +64,13 @@ pub record AreReceiptRows (m : Content) (material : List ℕ) (known : Option Ma
   pub of_material : known ≡ material_at m material
   pub of_totals : totals ≡ totals_of m material
   pub of_act : act ≡ m.last_act + 1
+
+-- where the work on the plan of a job that was found halted, if that is kept
+abbrev pub halt_for : Content → Option Job → Option JobHalt
+halt_for m None = None
+halt_for m (Some j) = halt_at m j.act
+
+-- the parts that are named after a job that was found
+abbrev pub left_for : Content → Option Job → List Part
+left_for m None = []
+left_for m (Some j) = parts_named m j.act

@@ -15,8 +15,8 @@ both job part = option_and_then (λ (j : Job). option_map (λ (p : Part). (j, p)
 -- the job of a number as lists tell it, with its part
 abbrev pub head_with_part : Content → ℕ → Option (JobHead × Part)
 head_with_part m number =
-    option_and_then (λ (head : JobHead). option_map (λ (part : Part). (head, part)) (part_at m head.part)) (option_map head_of (job_at m number))
+    option_and_then (λ (head : JobHead). option_map (λ (part : Part). (head, part)) (part_at m head.part)) (option_map (head_of m) (job_at m number))
 
 -- the row of a job that was found with its part
 abbrev pub told_row : Option (JobHead × Part) → Option JobRow
-told_row found = option_map (λ (f : JobHead × Part). row_of f.0.act f.0.part f.0.cuts f.1) found
+told_row found = option_map (λ (f : JobHead × Part). row_of f.0.begun f.0.due f.0.act f.0.part f.0.cuts f.1) found

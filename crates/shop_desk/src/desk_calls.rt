@@ -22,6 +22,8 @@ use crate::decided::{decide, keeping_message};
 use crate::found::{demands_for, material_for};
 use crate::history::{history, shop, story};
 use crate::listing::{demands, job, jobs, lines, materials, orders, parts, terminal};
+use crate::nodes::steps;
+use crate::pieces::pieces;
 use crate::racks::RackTaker;
 use cut_measure::PartName;
 use shop_book::{Book, BookFault};
@@ -55,6 +57,17 @@ fn answer_again(alloc: Global, text: &Text, kept: &Kept) -> Reply
     }
 }
 
+// The number and the time of the book's last entry.
+fn last_entry<B: Book>(book: &mut B) -> Result<(u64, u64), Refusal>
+    ensures last { OnContent B.Book book.old book.new (λ m. IfOk result
+        (λ last. (last.0 ≡ entry_count m) × (last.1 ≡ last_time m))) }
+    ensures fault { IfErr result (λ refusal. (refusal ≡ NoMemory) ⊎ (refusal ≡ StoreFault)) }
+    ensures keeps { Unchanged B.Book (CountsDecision result) book.old book.new }
+{
+    let last = book.last_entry()?;
+    Ok(last)
+}
+
 // The change that also writes the message's entry behind the book's last one. Where no number of 64 bits is left for it, the
 // message is refused as if memory ran out.
 fn entered<B: Book>(
@@ -68,10 +81,12 @@ fn entered<B: Book>(
     ensures fault { IfErr result (λ refusal. (refusal ≡ NoMemory) ⊎ (refusal ≡ StoreFault)) }
     ensures keeps { Unchanged B.Book (CountsDecision result) book.old book.new }
 {
-    let (last_number, last_at) = book.last_entry()?;
-    match enter(last_number, last_at, at, message, change) {
-        Ok(change) => Ok(change),
-        Err(_) => Err(Refusal::NoMemory),
+    match last_entry(book) {
+        Err(fault) => Err(fault),
+        Ok((last_number, last_at)) => match enter(last_number, last_at, at, message, change) {
+            Ok(change) => Ok(change),
+            Err(_) => Err(Refusal::NoMemory),
+        },
     }
 }
 
@@ -445,6 +460,8 @@ pub fn ask<B: Book>(alloc: Global, book: &mut B, query: &Query) -> Reply
         Query::Shop => shop(book),
         Query::History { after } => history(alloc, book, *after),
         Query::Story { about, after } => story(alloc, book, *about, *after),
+        Query::Pieces { of, after } => pieces(alloc, book, *of, *after),
+        Query::Steps { job: number } => steps(alloc, book, *number),
     }
 }
 

@@ -278,7 +278,7 @@ fn job_story<B: Book>(alloc: Global, book: &mut B, job: u32, after: u32) -> Repl
         (λ m. Answers m (query.Story (subject.Job job) after) result) }
     ensures keeps { Unchanged B.Book (CountsReply result) book.old book.new }
 {
-    match book.job_head(job) {
+    match book.job_head(alloc, job) {
         Err(fault) => Reply::Refused(Refusal::from(fault)),
         Ok(Some(_)) => known_story(alloc, book, Subject::Job(job), after),
         Ok(None) => Reply::Refused(Refusal::NoJob),

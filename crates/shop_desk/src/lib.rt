@@ -7,6 +7,8 @@ mod found;
 mod history;
 mod importing;
 mod listing;
+mod nodes;
+mod pieces;
 mod racks;
 
 pub use desk_calls::{ask, handle, handle_at, handle_with_text, handle_with_text_at, run, run_at};

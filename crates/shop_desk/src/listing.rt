@@ -1,13 +1,14 @@
 //! Answers to the queries for lists, for a job, for the lines of an order and for a terminal, from a book's rows.
 
-ghost use Rattle.std.specs.Prelude.{◌≡◌, ◌≢◌, ◌+◌, ◌∷◌, ◌++◌, [], IfOk, OnOk, Some, filter_map, take, true};
+ghost use Rattle.std.specs.Prelude.{◌≡◌, ◌≢◌, ◌+◌, ◌∷◌, ◌++◌, [], List, IfOk, OnOk, Some, filter_map, map, take, true};
+ghost use Rattle.shop_records.specs.declared.records.Demand.{Demand as DemandOf};
 ghost use Rattle.shop_answers.specs.Queries.{Answers};
 ghost use Rattle.shop_records.specs.declared.messages.Query.TheVariants as query;
 ghost use Rattle.shop_records.specs.declared.messages.Reply.TheVariants.{Refused, Parts, Demands};
 ghost use Rattle.shop_records.specs.declared.refusals.Refusal.TheVariants.{NoMemory, StoreFault};
 ghost use Rattle.shop_answers.specs.declared.listing.TheConstants.{MOST_TOLD};
-ghost use Rattle.shop_answers.specs.Listing.{AreOrderRows, IsLinesAnswer, IsOrderRow, are_more, first_told, job_row_at, job_with_part};
-ghost use Rattle.shop_records.specs.Lists.{job_numbers, open_demands, orders_after, parts_after, waiting_jobs};
+ghost use Rattle.shop_answers.specs.Listing.{AreOrderRows, IsLinesAnswer, IsOrderRow, are_more, first_told, job_row_at, job_with_part, told_job};
+ghost use Rattle.shop_records.specs.Lists.{AreLines, begun_by, demand_row, job_numbers, open_demands, orders_after, parts_after, waiting_jobs};
 ghost use Rattle.shop_book.specs.Failures.{CountsFailure};
 ghost use Rattle.shop_book.specs.Kept.{Unchanged, OnContent};
 ghost use Rattle.shop_desk.specs.Faults.{CountsReply};
@@ -16,9 +17,9 @@ ghost use Rattle.shop_desk.specs.ListedJobs.{both, head_with_part, told_row};
 use cut_measure::PartName;
 use shop_book::{Book, BookFault, JobHead};
 use shop_rules::{
-    Code, CodeList, Job, JobList, MOST_TOLD, OrderList, OrderRow, Part, Refusal, Reply,
-    answer_demands, answer_job, answer_orders, answer_parts, are_more, first_told, job_row,
-    order_row,
+    Code, CodeList, Demand, DemandList, DemandRow, DemandRows, Job, JobList, JobRow, MOST_TOLD,
+    OrderList, OrderRow, Part, Refusal, Reply, answer_demands, answer_job, answer_orders,
+    answer_parts, are_more, demand_row, first_told, job_row, order_row,
 };
 use std::alloc::{AllocError, Global};
 
@@ -67,17 +68,62 @@ pub fn parts<B: Book>(alloc: Global, book: &mut B, material: Code, after: Option
     }
 }
 
+// A demand as it is told.
+fn row_of_demand<B: Book>(book: &mut B, demand: &Demand) -> Result<DemandRow, BookFault>
+    ensures row { OnContent B.Book book.old book.new
+        (λ m. IfOk result (λ row. row ≡ demand_row m demand.now)) }
+    ensures keeps { Unchanged B.Book (CountsFailure result) book.old book.new }
+{
+    let due = book.due(demand.order)?;
+    Ok(demand_row(demand, due))
+}
+
+// Demands as they are told.
+fn demand_rows<B: Book>(
+    alloc: Global,
+    book: &mut B,
+    demands: &[Demand],
+) -> Result<DemandRows, BookFault>
+    ensures rows { OnContent B.Book book.old book.new
+        (λ m. IfOk result (λ rows. rows ≡ map (demand_row m) demands.now)) }
+    ensures keeps { Unchanged B.Book (CountsFailure result) book.old book.new }
+{
+    let mut rows = DemandRows::new(alloc);
+    for demand in demands {
+        let row = row_of_demand(book, demand)?;
+        rows.push(row)?;
+    }
+    Ok(rows)
+}
+
+// The first open demands after a number, one more than are told, and the rows of those that are.
+fn first_open<B: Book>(
+    alloc: Global,
+    book: &mut B,
+    after: u32,
+    material: Option<Code>,
+) -> Result<(DemandList, DemandRows), BookFault>
+    ensures demands { OnContent B.Book book.old book.new (λ m. IfOk result (λ found.
+        (found.0 ≡ take (MOST_TOLD + 1) (open_demands m after material))
+        × (found.1 ≡ map (demand_row m) (first_told found.0)))) }
+    ensures keeps { Unchanged B.Book (CountsFailure result) book.old book.new }
+{
+    let open = book.first_demands(alloc, after, material, MOST_TOLD + 1)?;
+    let rows = demand_rows(alloc, book, first_told(open.as_slice()))?;
+    Ok((open, rows))
+}
+
 // The open demands after a number, of a material that is there or of all.
 fn known_demands<B: Book>(alloc: Global, book: &mut B, after: u32, material: Option<Code>) -> Reply
     ensures answer { OnContent B.Book book.old book.new
         (λ m. result ≢ Refused NoMemory → result ≢ Refused StoreFault
-        → result ≡ Demands (first_told (open_demands m after material))
+        → result ≡ Demands (map (demand_row m) (first_told (open_demands m after material)))
         (are_more (open_demands m after material))) }
     ensures keeps { Unchanged B.Book (CountsReply result) book.old book.new }
 {
-    match book.first_demands(alloc, after, material, MOST_TOLD + 1) {
+    match first_open(alloc, book, after, material) {
         Err(fault) => Reply::Refused(Refusal::from(fault)),
-        Ok(rows) => answer_demands(alloc, rows.as_slice()),
+        Ok((open, rows)) => answer_demands(open.as_slice(), rows),
     }
 }
 
@@ -118,8 +164,8 @@ fn both(job: Option<Job>, part: Option<Part>) -> Option<(Job, Part)>
     Some((job, part))
 }
 
-// A job and its part, where both are there.
-fn job_with_part<B: Book>(
+/// A job and its part, where both are there.
+pub fn job_with_part<B: Book>(
     alloc: Global,
     book: &mut B,
     number: u32,
@@ -133,12 +179,16 @@ fn job_with_part<B: Book>(
 }
 
 // A job as lists tell it, and its part, where both are there.
-fn head_with_part<B: Book>(book: &mut B, number: u32) -> Result<Option<(JobHead, Part)>, BookFault>
+fn head_with_part<B: Book>(
+    alloc: Global,
+    book: &mut B,
+    number: u32,
+) -> Result<Option<(JobHead, Part)>, BookFault>
     ensures found { OnContent B.Book book.old book.new
         (λ m. IfOk result (λ found. found ≡ head_with_part m number)) }
     ensures keeps { Unchanged B.Book (CountsFailure result) book.old book.new }
 {
-    let Some(head) = book.job_head(number)? else {
+    let Some(head) = book.job_head(alloc, number)? else {
         return Ok(None);
     };
     match book.part(head.part)? {
@@ -147,12 +197,19 @@ fn head_with_part<B: Book>(book: &mut B, number: u32) -> Result<Option<(JobHead,
     }
 }
 
+// How a job is told that lists tell so, with its part.
+fn told_head(head: &JobHead, part: &Part) -> JobRow
+    ensures { Some result ≡ told_row (Some (head.now, part.now)) }
+{
+    job_row(head.begun, head.due, head.act, head.part, head.cuts, part)
+}
+
 // Puts a job's row after others, where the job is there with its part.
 fn push_job(rows: &mut JobList, found: Option<(JobHead, Part)>) -> Result<(), AllocError>
     ensures { OnOk result (rows.new ≡ rows.old ++ filter_map told_row (found ∷ [])) }
 {
     match found {
-        Some((head, part)) => rows.push(job_row(head.act, head.part, head.cuts, &part)),
+        Some((head, part)) => rows.push(told_head(&head, &part)),
         None => Ok(()),
     }
 }
@@ -165,7 +222,7 @@ fn job_rows<B: Book>(alloc: Global, book: &mut B, numbers: &[u32]) -> Result<Job
 {
     let mut rows = JobList::new(alloc);
     for number in numbers {
-        let found = head_with_part(book, *number)?;
+        let found = head_with_part(alloc, book, *number)?;
         push_job(&mut rows, found)?;
     }
     Ok(rows)
@@ -198,6 +255,31 @@ pub fn jobs<B: Book>(alloc: Global, book: &mut B, after: u32) -> Reply
     }
 }
 
+// The terminal that has begun a job, or 0.
+fn begun_by<B: Book>(book: &mut B, job: u32) -> Result<u32, BookFault>
+    ensures terminal { OnContent B.Book book.old book.new
+        (λ m. IfOk result (λ terminal. terminal ≡ begun_by m job)) }
+    ensures keeps { Unchanged B.Book (CountsFailure result) book.old book.new }
+{
+    match book.begun(job)? {
+        Some(row) => Ok(row.terminal),
+        None => Ok(0),
+    }
+}
+
+// A job that is there with its part.
+fn known_job<B: Book>(alloc: Global, book: &mut B, job: &Job, part: &Part) -> Reply
+    ensures answer { OnContent B.Book book.old book.new
+        (λ m. result ≢ Refused NoMemory → result ≢ Refused StoreFault
+        → result ≡ told_job m (Some (job.now, part.now))) }
+    ensures keeps { Unchanged B.Book (CountsReply result) book.old book.new }
+{
+    match begun_by(book, job.act) {
+        Err(fault) => Reply::Refused(Refusal::from(fault)),
+        Ok(begun) => answer_job(alloc, job, part, begun),
+    }
+}
+
 /// A job and its plan.
 pub fn job<B: Book>(alloc: Global, book: &mut B, number: u32) -> Reply
     ensures answer { OnContent B.Book book.old book.new (λ m. Answers m (query.Job number) result) }
@@ -206,7 +288,7 @@ pub fn job<B: Book>(alloc: Global, book: &mut B, number: u32) -> Reply
     match job_with_part(alloc, book, number) {
         Err(fault) => Reply::Refused(Refusal::from(fault)),
         Ok(None) => Reply::Refused(Refusal::NoJob),
-        Ok(Some((job, part))) => answer_job(alloc, &job, &part),
+        Ok(Some((job, part))) => known_job(alloc, book, &job, &part),
     }
 }
 
@@ -215,8 +297,9 @@ fn row_of_order<B: Book>(alloc: Global, book: &mut B, order: Code) -> Result<Ord
     ensures row { OnContent B.Book book.old book.new (λ m. IfOk result (IsOrderRow m order)) }
     ensures keeps { Unchanged B.Book (CountsFailure result) book.old book.new }
 {
+    let note = book.note(alloc, order)?;
     let lines = book.lines_of(alloc, order)?;
-    Ok(order_row(order, lines.as_slice()))
+    Ok(order_row(alloc, order, note, lines.as_slice()))
 }
 
 // The rows of orders, as they are told.
@@ -261,6 +344,18 @@ pub fn orders<B: Book>(alloc: Global, book: &mut B, after: Option<Code>) -> Repl
     }
 }
 
+// The lines of an order as they are told.
+fn line_rows<B: Book>(alloc: Global, book: &mut B, order: Code) -> Result<DemandRows, BookFault>
+    ensures rows { OnContent B.Book book.old book.new (λ m. IfOk result
+        (λ rows. (lines : List DemandOf) × AreLines m order lines
+        × (rows ≡ map (demand_row m) lines))) }
+    ensures keeps { Unchanged B.Book (CountsFailure result) book.old book.new }
+{
+    let lines = book.lines_of(alloc, order)?;
+    let rows = demand_rows(alloc, book, lines.as_slice())?;
+    Ok(rows)
+}
+
 // The lines of an order that is there.
 fn known_lines<B: Book>(alloc: Global, book: &mut B, order: Code) -> Reply
     ensures answer { OnContent B.Book book.old book.new
@@ -268,7 +363,7 @@ fn known_lines<B: Book>(alloc: Global, book: &mut B, order: Code) -> Reply
         → IsLinesAnswer m order true result) }
     ensures keeps { Unchanged B.Book (CountsReply result) book.old book.new }
 {
-    match book.lines_of(alloc, order) {
+    match line_rows(alloc, book, order) {
         Err(fault) => Reply::Refused(Refusal::from(fault)),
         Ok(lines) => Reply::Lines { lines, order },
     }

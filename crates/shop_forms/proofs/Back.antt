@@ -8,7 +8,7 @@ use Rattle.cut_tree.specs.declared.halts.Halt.TheVariants.{First, Listed}
 use Rattle.std.specs.Option.{option_or}
 use Rattle.std.specs.Cmp.Derive.{both_true}
 use Rattle.shop_records.specs.declared.messages.Command.{Command}
-use Rattle.shop_records.specs.declared.messages.Command.TheVariants.{AddMaterial, Receive, AddOrder, Reserve, Done, Break, Release, Scrap, GiveBack, Import, Amend}
+use Rattle.shop_records.specs.declared.messages.Command.TheVariants.{AddMaterial, Receive, AddOrder, Reserve, Done, Break, Release, Scrap, GiveBack, Import, Amend, Undo, Note, Extend, Begin}
 use Rattle.shop_records.specs.declared.imports.Form.TheVariants.{Csv, Cgcut}
 use Rattle.shop_records.specs.declared.messages.Message.{Message}
 use Rattle.shop_files.specs.declared.orders.OrderLine.{OrderLine}
@@ -23,9 +23,9 @@ use Rattle.serde_json.specs.Find.{get, as_number, as_str, as_u64}
 use Rattle.serde_json.specs.Read.{read}
 use Rattle.serde_json.specs.Written.{compact_text}
 use Rattle.serde_json.proofs.Numbers.{number_of-decimal}
-use Rattle.shop_forms.specs.Forms.{message_of, sent_head, sent_of, from_one, command_of, material_command, receive_command, order_command, reserve_command, import_in, problem_command, import_by, import_command, amend_command, query_of, asked_of, reply_of, made_of, order_made, reserve_made, ended_cells, first_cuts, listed_cuts, lost_cut, list_data, break_command, has_few_cuts, lines_data, message_data, reply_data, json_texts, HasWideNumbers}
+use Rattle.shop_forms.specs.Forms.{message_of, sent_head, sent_of, from_one, command_of, material_command, receive_command, order_command, reserve_command, import_in, problem_command, import_by, import_command, amend_command, query_of, asked_of, reply_of, made_of, order_made, reserve_made, ended_cells, first_cuts, listed_cuts, lost_cut, list_data, plain_break, saving_break, note_command, extend_command, extend_made, undo_made, begin_made, has_few_cuts, lines_data, message_data, reply_data, json_texts, HasWideNumbers}
 use Rattle.shop_records.specs.Refusals.{refusal_number}
-use Rattle.shop_forms.proofs.ListedRows.{cuts_there, lines_there, rack_numbers, rack_shallow, rack_json, materials_numbers, materials_shallow, materials_json, parts_numbers, parts_shallow, parts_json, demands_numbers, demands_shallow, demands_json, jobs_numbers, jobs_shallow, jobs_json, orders_numbers, orders_shallow, orders_json, shallow_first_of_two, shallow_first_of_three, shallow_fourth}
+use Rattle.shop_forms.proofs.ListedRows.{cuts_there, lines_there, rack_numbers, rack_shallow, rack_json, materials_numbers, materials_shallow, materials_json, parts_numbers, parts_shallow, parts_json, demands_numbers, demands_shallow, demands_json, jobs_numbers, jobs_shallow, jobs_json, orders_numbers, orders_shallow, orders_json, pieces_numbers, pieces_shallow, pieces_json, steps_numbers, steps_shallow, steps_json, shallow_seventh, shallow_first_of_two, shallow_first_of_three, shallow_fourth}
 use Rattle.shop_forms.proofs.Readable.{read-compact, wide, read_readable, message_readable, made_readable}
 use Rattle.shop_forms.proofs.EntryRows.{entries_numbers, entries_deep, entries_json, entries_shallow}
 use Rattle.shop_forms.specs.Fields.{kind_text, small, number_at}
@@ -78,8 +78,12 @@ one_wrong : (d : Data) (cut : ℕ) → get (codes "lost") d ≡ Some (number (un
 one_wrong d cut p h = rw (number_there (codes "lost") d cut p h) refl
 
 read_break : (d : Data) (job : ℕ) (halt : Halt) → get (codes "job") d ≡ Some (number (unsigned job)) → IsNumber job → option_or (first_cuts d) (listed_cuts d) ≡ Some halt
-    → break_command d ≡ Some (Break job halt)
+    → plain_break d ≡ Some (Break job halt None)
 read_break d job halt p h is = rw (number_there (codes "job") d job p h, is) refl
+
+read_saving : (d : Data) (job : ℕ) (halt : Halt) (rest : ℕ) → get (codes "job") d ≡ Some (number (unsigned job)) → IsNumber job → option_or (first_cuts d) (listed_cuts d) ≡ Some halt
+    → get (codes "rest") d ≡ Some (number (unsigned rest)) → IsNumber rest → saving_break d ≡ Some (Break job halt (Some rest))
+read_saving d job halt rest p h is q k = rw (number_there (codes "job") d job p h, is, number_there (codes "rest") d rest q k) refl
 
 read_sent : (d : Data) (word : List ℕ) (terminal n : ℕ) (command : Command)
     → get (codes "ask") d ≡ None → get (codes "do") d ≡ Some (string word) → get (codes "terminal") d ≡ Some (number (unsigned terminal)) → get (codes "number") d ≡ Some (number (unsigned n))
@@ -103,6 +107,16 @@ read_amend : (d : Data) (demand wanted : ℕ) → get (codes "demand") d ≡ Som
     → IsCommand (Amend demand wanted) → amend_command d ≡ Some (Amend demand wanted)
 read_amend d demand wanted p q h = rw (number_there (codes "demand") d demand p h.0, number_there (codes "wanted") d wanted q h.1) refl
 
+read_note : (d : Data) (order : List ℕ) (due : ℕ) (text : List ℕ)
+    → get (codes "order") d ≡ Some (string order) → get (codes "due") d ≡ Some (number (unsigned due)) → get (codes "text") d ≡ Some (string text)
+    → IsCommand (Note order due text) → note_command d ≡ Some (Note order due text)
+read_note d order due text p q r h = rw (code_there (codes "order") d order p h.0, number_there (codes "due") d due q h.1, text_there (codes "text") d text r) refl
+
+read_extend : (d : Data) (order : List ℕ) (lines : List OrderLine)
+    → get (codes "order") d ≡ Some (string order) → get (codes "lines") d ≡ Some (lines_data lines)
+    → IsCommand (Extend order lines) → extend_command d ≡ Some (Extend order lines)
+read_extend d order lines p q h = rw (code_there (codes "order") d order p h.0, lines_there (codes "lines") d lines q h.1) refl
+
 sent_back_by : (terminal n : ℕ) (command : Command) → IsNumber terminal → IsNumber n → IsCommand command
     → sent_of (message_data (record { terminal = terminal; number = n; command = command })) ≡ Some (record { terminal = terminal; number = n; command = command })
 sent_back_by terminal n (AddMaterial material kind kerf min_long min_short) p q h =
@@ -122,18 +136,30 @@ sent_back_by terminal n (Reserve part tree) p q h =
 sent_back_by terminal n (Done job) p q h =
     let d = message_data (record { terminal = terminal; number = n; command = Done job }) in
     read_sent d (codes "done") terminal n (Done job) refl refl refl refl p q (ap (option_map Done) (number_there (codes "job") d job refl h))
-sent_back_by terminal n (Break job (First cuts lost)) p q h =
-    let d = message_data (record { terminal = terminal; number = n; command = Break job (First cuts lost) }) in
-    read_sent d (codes "break") terminal n (Break job (First cuts lost)) refl refl refl refl p q
+sent_back_by terminal n (Break job (First cuts lost) None) p q h =
+    let d = message_data (record { terminal = terminal; number = n; command = Break job (First cuts lost) None }) in
+    read_sent d (codes "break") terminal n (Break job (First cuts lost) None) refl refl refl refl p q
     (read_break d job (First cuts lost) refl h.0 (read_first d cuts lost refl refl h.1))
-sent_back_by terminal n (Break job (Listed cuts None)) p q h =
-    let d = message_data (record { terminal = terminal; number = n; command = Break job (Listed cuts None) }) in
-    read_sent d (codes "break") terminal n (Break job (Listed cuts None)) refl refl refl refl p q
+sent_back_by terminal n (Break job (First cuts lost) (Some rest)) p q h =
+    let d = message_data (record { terminal = terminal; number = n; command = Break job (First cuts lost) (Some rest) }) in
+    read_sent d (codes "break") terminal n (Break job (First cuts lost) (Some rest)) refl refl refl refl p q
+    (read_saving d job (First cuts lost) rest refl h.0 (read_first d cuts lost refl refl h.1) refl h.2)
+sent_back_by terminal n (Break job (Listed cuts None) None) p q h =
+    let d = message_data (record { terminal = terminal; number = n; command = Break job (Listed cuts None) None }) in
+    read_sent d (codes "break") terminal n (Break job (Listed cuts None) None) refl refl refl refl p q
     (read_break d job (Listed cuts None) refl h.0 (read_listed d cuts None refl (none_wrong d refl) h.1.0))
-sent_back_by terminal n (Break job (Listed cuts (Some cut))) p q h =
-    let d = message_data (record { terminal = terminal; number = n; command = Break job (Listed cuts (Some cut)) }) in
-    read_sent d (codes "break") terminal n (Break job (Listed cuts (Some cut))) refl refl refl refl p q
+sent_back_by terminal n (Break job (Listed cuts None) (Some rest)) p q h =
+    let d = message_data (record { terminal = terminal; number = n; command = Break job (Listed cuts None) (Some rest) }) in
+    read_sent d (codes "break") terminal n (Break job (Listed cuts None) (Some rest)) refl refl refl refl p q
+    (read_saving d job (Listed cuts None) rest refl h.0 (read_listed d cuts None refl (none_wrong d refl) h.1.0) refl h.2)
+sent_back_by terminal n (Break job (Listed cuts (Some cut)) None) p q h =
+    let d = message_data (record { terminal = terminal; number = n; command = Break job (Listed cuts (Some cut)) None }) in
+    read_sent d (codes "break") terminal n (Break job (Listed cuts (Some cut)) None) refl refl refl refl p q
     (read_break d job (Listed cuts (Some cut)) refl h.0 (read_listed d cuts (Some cut) refl (one_wrong d cut refl h.1.1) h.1.0))
+sent_back_by terminal n (Break job (Listed cuts (Some cut)) (Some rest)) p q h =
+    let d = message_data (record { terminal = terminal; number = n; command = Break job (Listed cuts (Some cut)) (Some rest) }) in
+    read_sent d (codes "break") terminal n (Break job (Listed cuts (Some cut)) (Some rest)) refl refl refl refl p q
+    (read_saving d job (Listed cuts (Some cut)) rest refl h.0 (read_listed d cuts (Some cut) refl (one_wrong d cut refl h.1.1) h.1.0) refl h.2)
 sent_back_by terminal n (Release job) p q h =
     let d = message_data (record { terminal = terminal; number = n; command = Release job }) in
     read_sent d (codes "release") terminal n (Release job) refl refl refl refl p q (ap (option_map Release) (number_there (codes "job") d job refl h))
@@ -154,6 +180,18 @@ sent_back_by terminal n (Import order (Cgcut material) text) p q h =
 sent_back_by terminal n (Amend demand wanted) p q h =
     let d = message_data (record { terminal = terminal; number = n; command = Amend demand wanted }) in
     read_sent d (codes "amend") terminal n (Amend demand wanted) refl refl refl refl p q (read_amend d demand wanted refl refl h)
+sent_back_by terminal n (Undo job) p q h =
+    let d = message_data (record { terminal = terminal; number = n; command = Undo job }) in
+    read_sent d (codes "undo") terminal n (Undo job) refl refl refl refl p q (ap (option_map Undo) (number_there (codes "job") d job refl h))
+sent_back_by terminal n (Note order due text) p q h =
+    let d = message_data (record { terminal = terminal; number = n; command = Note order due text }) in
+    read_sent d (codes "note") terminal n (Note order due text) refl refl refl refl p q (read_note d order due text refl refl refl h)
+sent_back_by terminal n (Extend order lines) p q h =
+    let d = message_data (record { terminal = terminal; number = n; command = Extend order lines }) in
+    read_sent d (codes "extend") terminal n (Extend order lines) refl refl refl refl p q (read_extend d order lines refl refl h)
+sent_back_by terminal n (Begin job) p q h =
+    let d = message_data (record { terminal = terminal; number = n; command = Begin job }) in
+    read_sent d (codes "begin") terminal n (Begin job) refl refl refl refl p q (ap (option_map Begin) (number_there (codes "job") d job refl h))
 
 pub sent_back : (message : Message) → IsMessage message → sent_of (message_data message) ≡ Some message
 sent_back message h = sent_back_by message.terminal message.number message.command h.terminal h.number h.command
@@ -184,6 +222,20 @@ read_ended : (d : Data) (job kerf pieces rack scrap : ℕ)
 read_ended d job kerf pieces rack scrap p q r s t h =
     rw (number_there (codes "job") d job p h, wide_there (codes "kerf") d kerf q, wide_there (codes "pieces") d pieces r, wide_there (codes "rack") d rack s, wide_there (codes "scrap") d scrap t) refl
 
+read_extend_reply : (d : Data) (count first : ℕ) (order : List ℕ)
+    → get (codes "count") d ≡ Some (number (unsigned count)) → get (codes "first") d ≡ Some (number (unsigned first)) → get (codes "order") d ≡ Some (string order)
+    → IsMade (reply.Extend count first order) → extend_made d ≡ Some (reply.Extend count first order)
+read_extend_reply d count first order p q r h =
+    rw (number_there (codes "count") d count p h.0, number_there (codes "first") d first q h.1, code_there (codes "order") d order r h.2) refl
+
+read_undo_reply : (d : Data) (job : ℕ) (part : Name) → get (codes "job") d ≡ Some (number (unsigned job)) → get (codes "part") d ≡ Some (string (name_text part))
+    → IsMade (reply.Undo job part) → undo_made d ≡ Some (reply.Undo job part)
+read_undo_reply d job part p q h = rw (number_there (codes "job") d job p h.0, name_there (codes "part") d part q h.1) refl
+
+read_begin_reply : (d : Data) (before job : ℕ) → get (codes "before") d ≡ Some (number (unsigned before)) → get (codes "job") d ≡ Some (number (unsigned job))
+    → IsMade (reply.Begin before job) → begin_made d ≡ Some (reply.Begin before job)
+read_begin_reply d before job p q h = rw (number_there (codes "before") d before p h.0, number_there (codes "job") d job q h.1) refl
+
 pub reply_back : (answer : Reply) → IsMade answer → reply_of (reply_data answer) ≡ Some answer
 reply_back (reply.AddMaterial material) h =
     ap (option_map reply.AddMaterial) (code_there (codes "material") (reply_data (reply.AddMaterial material)) material refl h)
@@ -206,6 +258,11 @@ reply_back (reply.Import act count first order) h =
 reply_back (reply.Amend demand wanted) h =
     let d = reply_data (reply.Amend demand wanted) in
     rw (number_there (codes "demand") d demand refl h.0, number_there (codes "wanted") d wanted refl h.1) refl
+reply_back (reply.Undo job part) h = read_undo_reply (reply_data (reply.Undo job part)) job part refl refl h
+reply_back (reply.Note order) h = ap (option_map reply.Note) (code_there (codes "order") (reply_data (reply.Note order)) order refl h)
+reply_back (reply.Extend count first order) h =
+    read_extend_reply (reply_data (reply.Extend count first order)) count first order refl refl refl h
+reply_back (reply.Begin before job) h = read_begin_reply (reply_data (reply.Begin before job)) before job refl refl h
 reply_back (reply.Totals material received stock rack pieces kerf scrap returned) h = absurd h
 reply_back (reply.Rack material parts) h = absurd h
 reply_back (reply.Trace batch h of part root state w x y) made = absurd made
@@ -216,13 +273,15 @@ reply_back (reply.Materials materials) made = absurd made
 reply_back (reply.Parts material more parts) made = absurd made
 reply_back (reply.Demands demands more) made = absurd made
 reply_back (reply.Jobs jobs more) made = absurd made
-reply_back (reply.Job cuts h job kerf material part state tree w) made = absurd made
+reply_back (reply.Job begun cuts h job kerf material part state tree w) made = absurd made
 reply_back (reply.Terminal last terminal) made = absurd made
 reply_back (reply.Orders more orders) made = absurd made
 reply_back (reply.Lines lines order) made = absurd made
 reply_back (reply.Shop began entries last) made = absurd made
 reply_back (reply.History entries more) made = absurd made
 reply_back (reply.Story entries more) made = absurd made
+reply_back (reply.Pieces more pieces) made = absurd made
+reply_back (reply.Steps job kerf material part state steps) made = absurd made
 reply_back (reply.Refused refusal) h = absurd h
 
 -- ---- texts
@@ -248,6 +307,10 @@ reply_read (reply.Scrap part) wide_ones = read_readable _ (made_readable (reply.
 reply_read (reply.GiveBack part) wide_ones = read_readable _ (made_readable (reply.GiveBack part) wide_ones)
 reply_read (reply.Import act count first order) wide_ones = read_readable _ (made_readable (reply.Import act count first order) wide_ones)
 reply_read (reply.Amend demand wanted) wide_ones = read_readable _ (made_readable (reply.Amend demand wanted) wide_ones)
+reply_read (reply.Undo job part) wide_ones = read_readable _ (made_readable (reply.Undo job part) wide_ones)
+reply_read (reply.Note order) wide_ones = read_readable _ (made_readable (reply.Note order) wide_ones)
+reply_read (reply.Extend count first order) wide_ones = read_readable _ (made_readable (reply.Extend count first order) wide_ones)
+reply_read (reply.Begin before job) wide_ones = read_readable _ (made_readable (reply.Begin before job) wide_ones)
 reply_read (reply.Totals material received stock rack pieces kerf scrap returned) wide_ones =
     read-compact (reply_data (reply.Totals material received stock rack pieces kerf scrap returned)) (IsNumber-decimal kerf wide_ones.0, (tt, (tt, (IsNumber-decimal pieces wide_ones.1, (IsNumber-decimal rack wide_ones.2, (IsNumber-decimal received wide_ones.3, (IsNumber-decimal returned wide_ones.4, (IsNumber-decimal scrap wide_ones.5, (IsNumber-decimal stock wide_ones.6, tt))))))))) (omega arith) (rw (number_of-decimal kerf wide_ones.0, number_of-decimal pieces wide_ones.1, number_of-decimal rack wide_ones.2, number_of-decimal received wide_ones.3, number_of-decimal returned wide_ones.4, number_of-decimal scrap wide_ones.5, number_of-decimal stock wide_ones.6) refl)
 reply_read (reply.Rack material parts) wide_ones =
@@ -268,8 +331,8 @@ reply_read (reply.Demands demands more) wide_ones =
     read-compact (reply_data (reply.Demands demands more)) (demands_numbers demands wide_ones, (tt, (tt, tt))) (shallow_first_of_three _ (demands_shallow demands)) (rw (demands_json demands wide_ones) refl)
 reply_read (reply.Jobs jobs more) wide_ones =
     read-compact (reply_data (reply.Jobs jobs more)) (jobs_numbers jobs wide_ones, (tt, (tt, tt))) (shallow_first_of_three _ (jobs_shallow jobs)) (rw (jobs_json jobs wide_ones) refl)
-reply_read (reply.Job cuts h job kerf material part state tree w) wide_ones =
-    read-compact (reply_data (reply.Job cuts h job kerf material part state tree w)) (IsNumber-decimal cuts wide_ones.0, (IsNumber-decimal h wide_ones.1, (IsNumber-decimal job wide_ones.2, (IsNumber-decimal kerf wide_ones.3, (tt, (tt, (tt, (tt, (tt, (IsNumber-decimal w wide_ones.4, tt)))))))))) (omega arith) (rw (number_of-decimal cuts wide_ones.0, number_of-decimal h wide_ones.1, number_of-decimal job wide_ones.2, number_of-decimal kerf wide_ones.3, number_of-decimal w wide_ones.4) refl)
+reply_read (reply.Job begun cuts h job kerf material part state tree w) wide_ones =
+    read-compact (reply_data (reply.Job begun cuts h job kerf material part state tree w)) (IsNumber-decimal begun wide_ones.0, (IsNumber-decimal cuts wide_ones.1, (IsNumber-decimal h wide_ones.2, (IsNumber-decimal job wide_ones.3, (IsNumber-decimal kerf wide_ones.4, (tt, (tt, (tt, (tt, (tt, (IsNumber-decimal w wide_ones.5, tt))))))))))) (omega arith) (rw (number_of-decimal begun wide_ones.0, number_of-decimal cuts wide_ones.1, number_of-decimal h wide_ones.2, number_of-decimal job wide_ones.3, number_of-decimal kerf wide_ones.4, number_of-decimal w wide_ones.5) refl)
 reply_read (reply.Terminal last terminal) wide_ones =
     read-compact (reply_data (reply.Terminal last terminal)) (IsNumber-decimal last wide_ones.0, (tt, (IsNumber-decimal terminal wide_ones.1, tt))) (omega arith) (rw (number_of-decimal last wide_ones.0, number_of-decimal terminal wide_ones.1) refl)
 reply_read (reply.Orders more orders) wide_ones =
@@ -282,6 +345,10 @@ reply_read (reply.History entries more) wide_ones =
     read-compact (reply_data (reply.History entries more)) (entries_numbers entries wide_ones, (tt, (tt, tt))) (entries_shallow _ (entries_deep entries wide_ones)) (rw (entries_json entries wide_ones) refl)
 reply_read (reply.Story entries more) wide_ones =
     read-compact (reply_data (reply.Story entries more)) (entries_numbers entries wide_ones, (tt, (tt, tt))) (entries_shallow _ (entries_deep entries wide_ones)) (rw (entries_json entries wide_ones) refl)
+reply_read (reply.Pieces more pieces) wide_ones =
+    read-compact (reply_data (reply.Pieces more pieces)) (tt, (tt, (pieces_numbers pieces wide_ones, tt))) (shallow_last _ (pieces_shallow pieces)) (rw (pieces_json pieces wide_ones) refl)
+reply_read (reply.Steps job kerf material part state steps) wide_ones =
+    read-compact (reply_data (reply.Steps job kerf material part state steps)) (IsNumber-decimal job wide_ones.0, (IsNumber-decimal kerf wide_ones.1, (tt, (tt, (tt, (tt, (steps_numbers steps wide_ones.2, tt))))))) (shallow_seventh _ (steps_shallow steps)) (rw (number_of-decimal job wide_ones.0, number_of-decimal kerf wide_ones.1, steps_json steps wide_ones.2) refl)
 reply_read (reply.Refused refusal) wide_ones =
     read-compact (reply_data (reply.Refused refusal)) (tt, (IsNumber-decimal (refusal_number refusal) wide_ones, tt)) (omega arith) (rw (number_of-decimal (refusal_number refusal) wide_ones) refl)
 
@@ -298,6 +365,10 @@ made_wide (reply.Scrap part) h = tt
 made_wide (reply.GiveBack part) h = tt
 made_wide (reply.Import act count first order) h = (wide act h.0, wide count h.1, wide first h.2)
 made_wide (reply.Amend demand wanted) h = (wide demand h.0, wide wanted h.1)
+made_wide (reply.Undo job part) h = wide job h.0
+made_wide (reply.Note order) h = tt
+made_wide (reply.Extend count first order) h = (wide count h.0, wide first h.1)
+made_wide (reply.Begin before job) h = (wide before h.0, wide job h.1)
 made_wide (reply.Totals material received stock rack pieces kerf scrap returned) h = absurd h
 made_wide (reply.Rack material parts) h = absurd h
 made_wide (reply.Trace batch h of part root state w x y) made = absurd made
@@ -308,13 +379,15 @@ made_wide (reply.Materials materials) made = absurd made
 made_wide (reply.Parts material more parts) made = absurd made
 made_wide (reply.Demands demands more) made = absurd made
 made_wide (reply.Jobs jobs more) made = absurd made
-made_wide (reply.Job cuts h job kerf material part state tree w) made = absurd made
+made_wide (reply.Job begun cuts h job kerf material part state tree w) made = absurd made
 made_wide (reply.Terminal last terminal) made = absurd made
 made_wide (reply.Orders more orders) made = absurd made
 made_wide (reply.Lines lines order) made = absurd made
 made_wide (reply.Shop began entries last) made = absurd made
 made_wide (reply.History entries more) made = absurd made
 made_wide (reply.Story entries more) made = absurd made
+made_wide (reply.Pieces more pieces) made = absurd made
+made_wide (reply.Steps job kerf material part state steps) made = absurd made
 made_wide (reply.Refused refusal) h = absurd h
 
 pub told_text_read : (answer : Reply) → HasWideNumbers answer → read (json_texts.of_reply answer) ≡ Some (reply_data answer)

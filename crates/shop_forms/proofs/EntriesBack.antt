@@ -3,7 +3,6 @@ use Rattle.std.proofs.Common.{◌≡◌, List, Bool, Some, refl, sym, ap, ◌∙
 use Rattle.std.specs.Prelude.{All, option_map, option_and_then}
 use Rattle.serde_json.specs.Data.{Data, boolean, number, unsigned}
 use Rattle.serde_json.specs.Find.{get}
-use Rattle.serde_json.specs.Read.{read}
 use Rattle.shop_records.specs.declared.journal.EntryTold.{EntryTold}
 use Rattle.shop_records.specs.declared.messages.Message.{Message}
 use Rattle.shop_records.specs.declared.messages.Reply.{Reply}
@@ -33,6 +32,10 @@ made_is (reply.Scrap part) h = refl
 made_is (reply.GiveBack part) h = refl
 made_is (reply.Import act count first order) h = refl
 made_is (reply.Amend demand wanted) h = refl
+made_is (reply.Undo job part) h = refl
+made_is (reply.Note order) h = refl
+made_is (reply.Extend count first order) h = refl
+made_is (reply.Begin before job) h = refl
 made_is (reply.Totals material received stock rack pieces kerf scrap returned) h = absurd h
 made_is (reply.Rack material parts) h = absurd h
 made_is (reply.Trace batch h of part root state w x y) made = absurd made
@@ -43,13 +46,15 @@ made_is (reply.Materials materials) made = absurd made
 made_is (reply.Parts material more parts) made = absurd made
 made_is (reply.Demands demands more) made = absurd made
 made_is (reply.Jobs jobs more) made = absurd made
-made_is (reply.Job cuts h job kerf material part state tree w) made = absurd made
+made_is (reply.Job begun cuts h job kerf material part state tree w) made = absurd made
 made_is (reply.Terminal last terminal) made = absurd made
 made_is (reply.Orders more orders) made = absurd made
 made_is (reply.Lines lines order) made = absurd made
 made_is (reply.Shop began entries last) made = absurd made
 made_is (reply.History entries more) made = absurd made
 made_is (reply.Story entries more) made = absurd made
+made_is (reply.Pieces more pieces) made = absurd made
+made_is (reply.Steps job kerf material part state steps) made = absurd made
 made_is (reply.Refused refusal) h = absurd h
 
 -- the fields of an entry with these values

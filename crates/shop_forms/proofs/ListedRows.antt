@@ -11,17 +11,19 @@ use Rattle.serde_json.specs.View.{items_of}
 use Rattle.serde_json.specs.Written.{outline, items_outline}
 use Rattle.serde_json.proofs.Numbers.{number_of-decimal}
 use Rattle.shop_files.specs.declared.orders.OrderLine.{OrderLine}
-use Rattle.shop_records.specs.declared.records.Demand.{Demand}
+use Rattle.shop_records.specs.declared.records.DemandRow.{DemandRow}
 use Rattle.shop_records.specs.declared.records.JobRow.{JobRow}
 use Rattle.shop_records.specs.declared.records.Material.{Material}
 use Rattle.shop_records.specs.declared.records.OrderRow.{OrderRow}
 use Rattle.shop_records.specs.declared.records.Part.{Part}
 use Rattle.shop_records.specs.declared.records.RackRow.{RackRow}
+use Rattle.shop_records.specs.declared.pieces.PieceRow.{PieceRow}
+use Rattle.shop_records.specs.declared.pieces.StepRow.{StepRow}
 use Rattle.shop_records.specs.Columns.{state_of}
 use Rattle.shop_records.specs.Messages.{IsLine, IsNumber}
 use Rattle.shop_forms.specs.Fields.{number_of, numbers_at}
-use Rattle.shop_forms.specs.Forms.{line_fields, line_of, lines_at, line_data, lines_data, list_data, material_data, part_data, demand_row_data, job_row_data, order_row_data, rack_row_data}
-use Rattle.shop_forms.specs.Told.{HasWideSides, HasWideLimits, HasWidePart, HasWideDemand, HasWideJob, HasWideOrder}
+use Rattle.shop_forms.specs.Forms.{line_fields, line_of, lines_at, line_data, lines_data, list_data, material_data, part_data, demand_row_data, job_row_data, order_row_data, piece_data, rack_row_data, step_data}
+use Rattle.shop_forms.specs.Told.{HasWideSides, HasWideLimits, HasWidePart, HasWideDemand, HasWideJob, HasWideOrder, HasWidePiece, HasWideStep, cut_place, demand_cut}
 use Rattle.shop_forms.proofs.FieldFacts.{small_is, number_there, code_there, flag_there}
 use Rattle.shop_forms.proofs.Lists.{rows_numbers, rows_shallow, rows_json, rows_there}
 
@@ -142,41 +144,47 @@ parts_json ps h = rows_json part_data HasWidePart part_json ps h
 
 -- ---- demands
 
-demand_numbers : (d : Demand) → HasWideDemand d → HasNumbers (outline (demand_row_data d))
-demand_numbers d h = (
-  IsNumber-decimal d.number h.0,
-  (
-    IsNumber-decimal d.size.h h.1,
-    (
-      IsNumber-decimal d.line h.2,
+demand_numbers : (row : DemandRow) → HasWideDemand row → HasNumbers (outline (demand_row_data row))
+demand_numbers row h =
+    let d = row.demand in (
+      IsNumber-decimal d.number h.0,
       (
-        IsNumber-decimal d.made h.3,
-        (tt, (tt, (IsNumber-decimal d.reserved h.4, (tt, (IsNumber-decimal d.size.w h.5, (IsNumber-decimal d.wanted h.6, (IsNumber-decimal d.worth h.7, tt))))))),
+        IsNumber-decimal row.due h.1,
+        (
+          IsNumber-decimal d.size.h h.2,
+          (
+            IsNumber-decimal d.line h.3,
+            (
+              IsNumber-decimal d.made h.4,
+              (tt, (tt, (IsNumber-decimal d.reserved h.5, (tt, (IsNumber-decimal d.size.w h.6, (IsNumber-decimal d.wanted h.7, (IsNumber-decimal d.worth h.8, tt))))))),
+            ),
+          ),
+        ),
       ),
-    ),
-  ),
-)
+    )
 
-demand_json : (d : Demand) → HasWideDemand d → of_json (outline (demand_row_data d)) ≡ Some (demand_row_data d)
-demand_json d h =
-    rw (number_of-decimal d.number h.0, number_of-decimal d.size.h h.1, number_of-decimal d.line h.2, number_of-decimal d.made h.3, number_of-decimal d.reserved h.4, number_of-decimal d.size.w h.5, number_of-decimal d.wanted h.6, number_of-decimal d.worth h.7) refl
+demand_json : (row : DemandRow) → HasWideDemand row → of_json (outline (demand_row_data row)) ≡ Some (demand_row_data row)
+demand_json row h =
+    let d = row.demand in
+    rw (number_of-decimal d.number h.0, number_of-decimal row.due h.1, number_of-decimal d.size.h h.2, number_of-decimal d.line h.3, number_of-decimal d.made h.4, number_of-decimal d.reserved h.5, number_of-decimal d.size.w h.6, number_of-decimal d.wanted h.7, number_of-decimal d.worth h.8) refl
 
-pub demands_numbers : (ds : List Demand) → All HasWideDemand ds → ItemsHaveNumbers (items_outline (items_of (map demand_row_data ds)))
+pub demands_numbers : (ds : List DemandRow) → All HasWideDemand ds → ItemsHaveNumbers (items_outline (items_of (map demand_row_data ds)))
 demands_numbers ds h = rows_numbers demand_row_data HasWideDemand demand_numbers ds h
 
-pub demands_shallow : (ds : List Demand) → items_depth (items_outline (items_of (map demand_row_data ds))) ≤ 1
+pub demands_shallow : (ds : List DemandRow) → items_depth (items_outline (items_of (map demand_row_data ds))) ≤ 1
 demands_shallow ds = rows_shallow demand_row_data HasWideDemand (λ d. omega arith) ds
 
-pub demands_json : (ds : List Demand) → All HasWideDemand ds → of_items (items_outline (items_of (map demand_row_data ds))) ≡ Some (items_of (map demand_row_data ds))
+pub demands_json : (ds : List DemandRow) → All HasWideDemand ds → of_items (items_outline (items_of (map demand_row_data ds))) ≡ Some (items_of (map demand_row_data ds))
 demands_json ds h = rows_json demand_row_data HasWideDemand demand_json ds h
 
 -- ---- waiting jobs
 
 job_numbers : (j : JobRow) → HasWideJob j → HasNumbers (outline (job_row_data j))
-job_numbers j h = (IsNumber-decimal j.cuts h.0, (IsNumber-decimal j.h h.1, (IsNumber-decimal j.job h.2, (tt, (tt, (IsNumber-decimal j.w h.3, tt))))))
+job_numbers j h = (IsNumber-decimal j.begun h.0, (IsNumber-decimal j.cuts h.1, (IsNumber-decimal j.due h.2, (IsNumber-decimal j.h h.3, (IsNumber-decimal j.job h.4, (tt, (tt, (IsNumber-decimal j.w h.5, tt))))))))
 
 job_json : (j : JobRow) → HasWideJob j → of_json (outline (job_row_data j)) ≡ Some (job_row_data j)
-job_json j h = rw (number_of-decimal j.cuts h.0, number_of-decimal j.h h.1, number_of-decimal j.job h.2, number_of-decimal j.w h.3) refl
+job_json j h =
+    rw (number_of-decimal j.begun h.0, number_of-decimal j.cuts h.1, number_of-decimal j.due h.2, number_of-decimal j.h h.3, number_of-decimal j.job h.4, number_of-decimal j.w h.5) refl
 
 pub jobs_numbers : (js : List JobRow) → All HasWideJob js → ItemsHaveNumbers (items_outline (items_of (map job_row_data js)))
 jobs_numbers js h = rows_numbers job_row_data HasWideJob job_numbers js h
@@ -190,10 +198,12 @@ jobs_json js h = rows_json job_row_data HasWideJob job_json js h
 -- ---- orders
 
 order_numbers : (o : OrderRow) → HasWideOrder o → HasNumbers (outline (order_row_data o))
-order_numbers o h = (IsNumber-decimal o.lines h.0, (IsNumber-decimal o.made h.1, (tt, (IsNumber-decimal o.reserved h.2, (IsNumber-decimal o.wanted h.3, tt)))))
+order_numbers o h =
+    (IsNumber-decimal o.due h.0, (IsNumber-decimal o.lines h.1, (IsNumber-decimal o.made h.2, (tt, (IsNumber-decimal o.reserved h.3, (tt, (IsNumber-decimal o.wanted h.4, tt)))))))
 
 order_json : (o : OrderRow) → HasWideOrder o → of_json (outline (order_row_data o)) ≡ Some (order_row_data o)
-order_json o h = rw (number_of-decimal o.lines h.0, number_of-decimal o.made h.1, number_of-decimal o.reserved h.2, number_of-decimal o.wanted h.3) refl
+order_json o h =
+    rw (number_of-decimal o.due h.0, number_of-decimal o.lines h.1, number_of-decimal o.made h.2, number_of-decimal o.reserved h.3, number_of-decimal o.wanted h.4) refl
 
 pub orders_numbers : (os : List OrderRow) → All HasWideOrder os → ItemsHaveNumbers (items_outline (items_of (map order_row_data os)))
 orders_numbers os h = rows_numbers order_row_data HasWideOrder order_numbers os h
@@ -203,6 +213,55 @@ orders_shallow os = rows_shallow order_row_data HasWideOrder (λ o. omega arith)
 
 pub orders_json : (os : List OrderRow) → All HasWideOrder os → of_items (items_outline (items_of (map order_row_data os))) ≡ Some (items_of (map order_row_data os))
 orders_json os h = rows_json order_row_data HasWideOrder order_json os h
+
+-- ---- pieces
+
+piece_numbers : (p : PieceRow) → HasWidePiece p → HasNumbers (outline (piece_data p))
+piece_numbers p h =
+    (IsNumber-decimal p.at h.0, (tt, (IsNumber-decimal p.demand h.1, (IsNumber-decimal p.h h.2, (IsNumber-decimal p.line h.3, (tt, (tt, (tt, (tt, (IsNumber-decimal p.w h.4, tt))))))))))
+
+piece_json : (p : PieceRow) → HasWidePiece p → of_json (outline (piece_data p)) ≡ Some (piece_data p)
+piece_json p h =
+    rw (number_of-decimal p.at h.0, number_of-decimal p.demand h.1, number_of-decimal p.h h.2, number_of-decimal p.line h.3, number_of-decimal p.w h.4) refl
+
+pub pieces_numbers : (ps : List PieceRow) → All HasWidePiece ps → ItemsHaveNumbers (items_outline (items_of (map piece_data ps)))
+pieces_numbers ps h = rows_numbers piece_data HasWidePiece piece_numbers ps h
+
+pub pieces_shallow : (ps : List PieceRow) → items_depth (items_outline (items_of (map piece_data ps))) ≤ 1
+pieces_shallow ps = rows_shallow piece_data HasWidePiece (λ p. omega arith) ps
+
+pub pieces_json : (ps : List PieceRow) → All HasWidePiece ps → of_items (items_outline (items_of (map piece_data ps))) ≡ Some (items_of (map piece_data ps))
+pieces_json ps h = rows_json piece_data HasWidePiece piece_json ps h
+
+-- ---- nodes of a plan
+
+step_numbers : (r : StepRow) → HasWideStep r → HasNumbers (outline (step_data r))
+step_numbers r h = (
+  IsNumber-decimal (demand_cut r.step.what) h.0,
+  (
+    IsNumber-decimal r.step.h h.1,
+    (
+      IsNumber-decimal r.line h.2,
+      (
+        IsNumber-decimal r.step.node h.3,
+        (tt, (tt, (IsNumber-decimal (cut_place r.step.what) h.4, (tt, (tt, (IsNumber-decimal r.step.w h.5, (tt, (IsNumber-decimal r.step.x h.6, (IsNumber-decimal r.step.y h.7, tt))))))))),
+      ),
+    ),
+  ),
+)
+
+step_json : (r : StepRow) → HasWideStep r → of_json (outline (step_data r)) ≡ Some (step_data r)
+step_json r h =
+    rw (number_of-decimal (demand_cut r.step.what) h.0, number_of-decimal r.step.h h.1, number_of-decimal r.line h.2, number_of-decimal r.step.node h.3, number_of-decimal (cut_place r.step.what) h.4, number_of-decimal r.step.w h.5, number_of-decimal r.step.x h.6, number_of-decimal r.step.y h.7) refl
+
+pub steps_numbers : (rs : List StepRow) → All HasWideStep rs → ItemsHaveNumbers (items_outline (items_of (map step_data rs)))
+steps_numbers rs h = rows_numbers step_data HasWideStep step_numbers rs h
+
+pub steps_shallow : (rs : List StepRow) → items_depth (items_outline (items_of (map step_data rs))) ≤ 1
+steps_shallow rs = rows_shallow step_data HasWideStep (λ r. omega arith) rs
+
+pub steps_json : (rs : List StepRow) → All HasWideStep rs → of_items (items_outline (items_of (map step_data rs))) ≡ Some (items_of (map step_data rs))
+steps_json rs h = rows_json step_data HasWideStep step_json rs h
 
 -- ---- how deep their replies are
 
@@ -217,3 +276,9 @@ shallow_first_of_three n h = let e : max (suc n) (max 0 (max 0 0)) ≤ 126 = max
 pub shallow_fourth : (n : ℕ) → n ≤ 1 → suc (max 0 (max 0 (max 0 (max (suc n) 0)))) ≤ 127
 shallow_fourth n h =
     let e : max 0 (max 0 (max 0 (max (suc n) 0))) ≤ 126 = max-le (omega arith) (max-le (omega arith) (max-le (omega arith) (max-le (omega (arith, h)) (omega arith)))) in omega (arith, e)
+
+-- one with six members and then a list of objects
+pub shallow_seventh : (n : ℕ) → n ≤ 1 → suc (max 0 (max 0 (max 0 (max 0 (max 0 (max 0 (max (suc n) 0))))))) ≤ 127
+shallow_seventh n h =
+    let inner : max 0 (max 0 (max 0 (max (suc n) 0))) ≤ 126 = max-le (omega arith) (max-le (omega arith) (max-le (omega arith) (max-le (omega (arith, h)) (omega arith)))) in
+    let e : max 0 (max 0 (max 0 (max 0 (max 0 (max 0 (max (suc n) 0)))))) ≤ 126 = max-le (omega arith) (max-le (omega arith) (max-le (omega arith) inner)) in omega (arith, e)

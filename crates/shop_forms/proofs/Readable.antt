@@ -5,7 +5,7 @@ use Rattle.std.proofs.Math.Nat.{max-le}
 use Rattle.cut_tree.specs.declared.halts.Halt.TheVariants.{First, Listed}
 use Rattle.shop_records.specs.declared.imports.Form.TheVariants.{Csv, Cgcut}
 use Rattle.shop_records.specs.declared.messages.Command.{Command}
-use Rattle.shop_records.specs.declared.messages.Command.TheVariants.{AddMaterial, Receive, AddOrder, Reserve, Done, Break, Release, Scrap, GiveBack, Import, Amend}
+use Rattle.shop_records.specs.declared.messages.Command.TheVariants.{AddMaterial, Receive, AddOrder, Reserve, Done, Break, Release, Scrap, GiveBack, Import, Amend, Undo, Note, Extend, Begin}
 use Rattle.shop_records.specs.declared.messages.Message.{Message}
 use Rattle.shop_records.specs.declared.messages.Reply.{Reply}
 use Rattle.shop_records.specs.declared.messages.Reply.TheVariants as reply
@@ -59,6 +59,10 @@ shallow n h = let e : max 0 (max (suc n) (max 0 (max 0 (max 0 0)))) ≤ 2 = max-
 shallow_first : (n : ℕ) → n ≤ 1 → suc (max (suc n) (max 0 (max 0 (max 0 (max 0 (max 0 0)))))) ≤ 3
 shallow_first n h = let e : max (suc n) (max 0 (max 0 (max 0 (max 0 (max 0 0))))) ≤ 2 = max-le (omega (arith, h)) (omega arith) in omega (arith, e)
 
+-- and one member more
+shallow_first_more : (n : ℕ) → n ≤ 1 → suc (max (suc n) (max 0 (max 0 (max 0 (max 0 (max 0 (max 0 0))))))) ≤ 3
+shallow_first_more n h = let e : max (suc n) (max 0 (max 0 (max 0 (max 0 (max 0 (max 0 0)))))) ≤ 2 = max-le (omega (arith, h)) (omega arith) in omega (arith, e)
+
 message_readable_by : (terminal n : ℕ) (command : Command) → IsNumber terminal → IsNumber n → IsCommand command
     → let d = message_data (record { terminal = terminal; number = n; command = command }) in IsReadable d
 message_readable_by terminal n (AddMaterial material kind kerf min_long min_short) p q h =
@@ -100,18 +104,30 @@ message_readable_by terminal n (Done job) p q h =
     let d = message_data (record { terminal = terminal; number = n; command = Done job }) in
     readable d (tt, (IsNumber-decimal job (wide job h), (IsNumber-decimal n (wide n q), (IsNumber-decimal terminal (wide terminal p), tt)))) (omega arith)
     (rw (number_of-decimal job (wide job h), number_of-decimal n (wide n q), number_of-decimal terminal (wide terminal p)) refl)
-message_readable_by terminal n (Break job (First cuts lost)) p q h =
-    let d = message_data (record { terminal = terminal; number = n; command = Break job (First cuts lost) }) in
+message_readable_by terminal n (Break job (First cuts lost) None) p q h =
+    let d = message_data (record { terminal = terminal; number = n; command = Break job (First cuts lost) None }) in
     readable d (IsNumber-decimal cuts (wide cuts h.1), (tt, (IsNumber-decimal job (wide job h.0), (tt, (IsNumber-decimal n (wide n q), (IsNumber-decimal terminal (wide terminal p), tt)))))) (omega arith)
     (rw (number_of-decimal cuts (wide cuts h.1), number_of-decimal job (wide job h.0), number_of-decimal n (wide n q), number_of-decimal terminal (wide terminal p)) refl)
-message_readable_by terminal n (Break job (Listed cuts None)) p q h =
-    let d = message_data (record { terminal = terminal; number = n; command = Break job (Listed cuts None) }) in
+message_readable_by terminal n (Break job (First cuts lost) (Some rest)) p q h =
+    let d = message_data (record { terminal = terminal; number = n; command = Break job (First cuts lost) (Some rest) }) in
+    readable d (IsNumber-decimal cuts (wide cuts h.1), (tt, (IsNumber-decimal job (wide job h.0), (tt, (IsNumber-decimal n (wide n q), (IsNumber-decimal rest (wide rest h.2), (IsNumber-decimal terminal (wide terminal p), tt))))))) (omega arith)
+    (rw (number_of-decimal cuts (wide cuts h.1), number_of-decimal job (wide job h.0), number_of-decimal n (wide n q), number_of-decimal rest (wide rest h.2), number_of-decimal terminal (wide terminal p)) refl)
+message_readable_by terminal n (Break job (Listed cuts None) None) p q h =
+    let d = message_data (record { terminal = terminal; number = n; command = Break job (Listed cuts None) None }) in
     readable d (cuts_numbers cuts h.1.0, (tt, (IsNumber-decimal job (wide job h.0), (tt, (IsNumber-decimal n (wide n q), (IsNumber-decimal terminal (wide terminal p), tt)))))) (shallow_first _ (cuts_shallow cuts))
     (rw (cuts_json cuts h.1.0, number_of-decimal job (wide job h.0), number_of-decimal n (wide n q), number_of-decimal terminal (wide terminal p)) refl)
-message_readable_by terminal n (Break job (Listed cuts (Some cut))) p q h =
-    let d = message_data (record { terminal = terminal; number = n; command = Break job (Listed cuts (Some cut)) }) in
+message_readable_by terminal n (Break job (Listed cuts None) (Some rest)) p q h =
+    let d = message_data (record { terminal = terminal; number = n; command = Break job (Listed cuts None) (Some rest) }) in
+    readable d (cuts_numbers cuts h.1.0, (tt, (IsNumber-decimal job (wide job h.0), (tt, (IsNumber-decimal n (wide n q), (IsNumber-decimal rest (wide rest h.2), (IsNumber-decimal terminal (wide terminal p), tt))))))) (shallow_first_more _ (cuts_shallow cuts))
+    (rw (cuts_json cuts h.1.0, number_of-decimal job (wide job h.0), number_of-decimal n (wide n q), number_of-decimal rest (wide rest h.2), number_of-decimal terminal (wide terminal p)) refl)
+message_readable_by terminal n (Break job (Listed cuts (Some cut)) None) p q h =
+    let d = message_data (record { terminal = terminal; number = n; command = Break job (Listed cuts (Some cut)) None }) in
     readable d (cuts_numbers cuts h.1.0, (tt, (IsNumber-decimal job (wide job h.0), (IsNumber-decimal cut (wide cut h.1.1), (IsNumber-decimal n (wide n q), (IsNumber-decimal terminal (wide terminal p), tt)))))) (shallow_first _ (cuts_shallow cuts))
     (rw (cuts_json cuts h.1.0, number_of-decimal job (wide job h.0), number_of-decimal cut (wide cut h.1.1), number_of-decimal n (wide n q), number_of-decimal terminal (wide terminal p)) refl)
+message_readable_by terminal n (Break job (Listed cuts (Some cut)) (Some rest)) p q h =
+    let d = message_data (record { terminal = terminal; number = n; command = Break job (Listed cuts (Some cut)) (Some rest) }) in
+    readable d (cuts_numbers cuts h.1.0, (tt, (IsNumber-decimal job (wide job h.0), (IsNumber-decimal cut (wide cut h.1.1), (IsNumber-decimal n (wide n q), (IsNumber-decimal rest (wide rest h.2), (IsNumber-decimal terminal (wide terminal p), tt))))))) (shallow_first_more _ (cuts_shallow cuts))
+    (rw (cuts_json cuts h.1.0, number_of-decimal job (wide job h.0), number_of-decimal cut (wide cut h.1.1), number_of-decimal n (wide n q), number_of-decimal rest (wide rest h.2), number_of-decimal terminal (wide terminal p)) refl)
 message_readable_by terminal n (Release job) p q h =
     let d = message_data (record { terminal = terminal; number = n; command = Release job }) in
     readable d (tt, (IsNumber-decimal job (wide job h), (IsNumber-decimal n (wide n q), (IsNumber-decimal terminal (wide terminal p), tt)))) (omega arith)
@@ -136,6 +152,22 @@ message_readable_by terminal n (Amend demand wanted) p q h =
     let d = message_data (record { terminal = terminal; number = n; command = Amend demand wanted }) in
     readable d (IsNumber-decimal demand (wide demand h.0), (tt, (IsNumber-decimal n (wide n q), (IsNumber-decimal terminal (wide terminal p), (IsNumber-decimal wanted (wide wanted h.1), tt))))) (omega arith)
     (rw (number_of-decimal demand (wide demand h.0), number_of-decimal n (wide n q), number_of-decimal terminal (wide terminal p), number_of-decimal wanted (wide wanted h.1)) refl)
+message_readable_by terminal n (Undo job) p q h =
+    let d = message_data (record { terminal = terminal; number = n; command = Undo job }) in
+    readable d (tt, (IsNumber-decimal job (wide job h), (IsNumber-decimal n (wide n q), (IsNumber-decimal terminal (wide terminal p), tt)))) (omega arith)
+    (rw (number_of-decimal job (wide job h), number_of-decimal n (wide n q), number_of-decimal terminal (wide terminal p)) refl)
+message_readable_by terminal n (Note order due text) p q h =
+    let d = message_data (record { terminal = terminal; number = n; command = Note order due text }) in
+    readable d (tt, (IsNumber-decimal due (wide due h.1), (IsNumber-decimal n (wide n q), (tt, (IsNumber-decimal terminal (wide terminal p), (tt, tt)))))) (omega arith)
+    (rw (number_of-decimal due (wide due h.1), number_of-decimal n (wide n q), number_of-decimal terminal (wide terminal p)) refl)
+message_readable_by terminal n (Extend order lines) p q h =
+    let d = message_data (record { terminal = terminal; number = n; command = Extend order lines }) in
+    readable d (tt, (lines_numbers lines h.1, (IsNumber-decimal n (wide n q), (tt, (IsNumber-decimal terminal (wide terminal p), tt))))) (shallow _ (lines_shallow lines))
+    (rw (lines_json lines h.1, number_of-decimal n (wide n q), number_of-decimal terminal (wide terminal p)) refl)
+message_readable_by terminal n (Begin job) p q h =
+    let d = message_data (record { terminal = terminal; number = n; command = Begin job }) in
+    readable d (tt, (IsNumber-decimal job (wide job h), (IsNumber-decimal n (wide n q), (IsNumber-decimal terminal (wide terminal p), tt)))) (omega arith)
+    (rw (number_of-decimal job (wide job h), number_of-decimal n (wide n q), number_of-decimal terminal (wide terminal p)) refl)
 
 pub message_readable : (message : Message) → IsMessage message → IsReadable (message_data message)
 message_readable message h = message_readable_by message.terminal message.number message.command h.terminal h.number h.command
@@ -163,6 +195,14 @@ made_readable (reply.Import act count first order) wide_ones =
     readable (made_data (reply.Import act count first order)) (IsNumber-decimal act wide_ones.0, (IsNumber-decimal count wide_ones.1, (IsNumber-decimal first wide_ones.2, (tt, (tt, tt))))) (omega arith) (rw (number_of-decimal act wide_ones.0, number_of-decimal count wide_ones.1, number_of-decimal first wide_ones.2) refl)
 made_readable (reply.Amend demand wanted) wide_ones =
     readable (made_data (reply.Amend demand wanted)) (IsNumber-decimal demand wide_ones.0, (tt, (IsNumber-decimal wanted wide_ones.1, tt))) (omega arith) (rw (number_of-decimal demand wide_ones.0, number_of-decimal wanted wide_ones.1) refl)
+made_readable (reply.Undo job part) wide_ones =
+    readable (made_data (reply.Undo job part)) (IsNumber-decimal job wide_ones, (tt, (tt, tt))) (omega arith) (rw (number_of-decimal job wide_ones) refl)
+made_readable (reply.Note order) wide_ones =
+    readable (made_data (reply.Note order)) (tt, (tt, tt)) (omega arith) refl
+made_readable (reply.Extend count first order) wide_ones =
+    readable (made_data (reply.Extend count first order)) (IsNumber-decimal count wide_ones.0, (IsNumber-decimal first wide_ones.1, (tt, (tt, tt)))) (omega arith) (rw (number_of-decimal count wide_ones.0, number_of-decimal first wide_ones.1) refl)
+made_readable (reply.Begin before job) wide_ones =
+    readable (made_data (reply.Begin before job)) (IsNumber-decimal before wide_ones.0, (IsNumber-decimal job wide_ones.1, (tt, tt))) (omega arith) (rw (number_of-decimal before wide_ones.0, number_of-decimal job wide_ones.1) refl)
 made_readable (reply.Totals material received stock rack pieces kerf scrap returned) wide_ones = nothing_readable
 made_readable (reply.Rack material parts) wide_ones = nothing_readable
 made_readable (reply.Trace batch h of part root state w x y) wide_ones = nothing_readable
@@ -173,13 +213,15 @@ made_readable (reply.Materials materials) wide_ones = nothing_readable
 made_readable (reply.Parts material more parts) wide_ones = nothing_readable
 made_readable (reply.Demands demands more) wide_ones = nothing_readable
 made_readable (reply.Jobs jobs more) wide_ones = nothing_readable
-made_readable (reply.Job cuts h job kerf material part state tree w) wide_ones = nothing_readable
+made_readable (reply.Job begun cuts h job kerf material part state tree w) wide_ones = nothing_readable
 made_readable (reply.Terminal last terminal) wide_ones = nothing_readable
 made_readable (reply.Orders more orders) wide_ones = nothing_readable
 made_readable (reply.Lines lines order) wide_ones = nothing_readable
 made_readable (reply.Shop began entries last) wide_ones = nothing_readable
 made_readable (reply.History entries more) wide_ones = nothing_readable
 made_readable (reply.Story entries more) wide_ones = nothing_readable
+made_readable (reply.Pieces more pieces) wide_ones = nothing_readable
+made_readable (reply.Steps job kerf material part state steps) wide_ones = nothing_readable
 made_readable (reply.Refused refusal) wide_ones = nothing_readable
 
 pub message_told_readable : (found : Option Message) → IfSome found IsMessage → IsReadable (message_told found)

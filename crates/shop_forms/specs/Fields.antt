@@ -6,7 +6,7 @@ use Rattle.cut_measure.specs.declared.sizes.Kind.TheVariants.{Bar, Sheet}
 use Rattle.cut_measure.specs.Codes.{code_of}
 use Rattle.cut_measure.specs.Names.{Name, spelled_name, name_text}
 use Rattle.shop_records.specs.declared.records.JobState.{JobState}
-use Rattle.shop_records.specs.declared.records.JobState.TheVariants.{Waiting, Done, Broken, Released}
+use Rattle.shop_records.specs.declared.records.JobState.TheVariants.{Waiting, Done, Broken, Released, Undone}
 use Rattle.shop_records.specs.declared.records.StateWord.{StateWord}
 use Rattle.shop_records.specs.declared.records.StateWord.TheVariants as state
 use Rattle.serde_json.specs.Data.{Data, boolean, number, string, unsigned, Items, no_items, item, Members, member}
@@ -104,12 +104,14 @@ state_text state.Piece = codes "piece"
 state_text state.Kerf = codes "kerf"
 state_text state.Scrap = codes "scrap"
 state_text state.Returned = codes "returned"
+state_text state.Undone = codes "undone"
 
 abbrev pub job_state_text : JobState → List ℕ
 job_state_text Waiting = codes "waiting"
 job_state_text Done = codes "done"
 job_state_text Broken = codes "broken"
 job_state_text Released = codes "released"
+job_state_text Undone = codes "undone"
 
 abbrev pub text_member : List ℕ → List ℕ → Members → Members
 text_member key text more = member key (string text) more

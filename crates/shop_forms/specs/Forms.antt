@@ -7,7 +7,7 @@ use Rattle.cut_tree.specs.declared.halts.Halt.{Halt}
 use Rattle.cut_tree.specs.declared.halts.Halt.TheVariants.{First, Listed}
 use Rattle.cut_tree.specs.declared.token.TheConstants.{MOST_CUTS}
 use Rattle.shop_records.specs.declared.messages.Command.{Command}
-use Rattle.shop_records.specs.declared.messages.Command.TheVariants.{AddMaterial, Receive, AddOrder, Reserve, Done, Break, Release, Scrap, GiveBack, Import, Amend}
+use Rattle.shop_records.specs.declared.messages.Command.TheVariants.{AddMaterial, Receive, AddOrder, Reserve, Done, Break, Release, Scrap, GiveBack, Import, Amend, Undo, Note, Extend, Begin}
 use Rattle.shop_records.specs.declared.imports.Form.{Form}
 use Rattle.shop_records.specs.declared.imports.Form.TheVariants.{Csv, Cgcut}
 use Rattle.shop_records.specs.declared.messages.Message.{Message}
@@ -16,13 +16,17 @@ use Rattle.shop_records.specs.declared.messages.Query.{Query}
 use Rattle.shop_records.specs.declared.journal.EntryTold.{EntryTold}
 use Rattle.shop_records.specs.declared.journal.Subject.{Subject}
 use Rattle.shop_records.specs.declared.journal.Subject.TheVariants as subject
-use Rattle.shop_records.specs.declared.records.Demand.{Demand}
+use Rattle.shop_records.specs.declared.records.DemandRow.{DemandRow}
 use Rattle.shop_records.specs.declared.records.JobRow.{JobRow}
 use Rattle.shop_records.specs.declared.records.JobState.{JobState}
 use Rattle.shop_records.specs.declared.records.Material.{Material}
 use Rattle.shop_records.specs.declared.records.OrderRow.{OrderRow}
 use Rattle.shop_records.specs.declared.records.Part.{Part}
 use Rattle.shop_records.specs.declared.records.RackRow.{RackRow}
+use Rattle.shop_records.specs.declared.pieces.PieceRow.{PieceRow}
+use Rattle.shop_records.specs.declared.pieces.PieceSource.{PieceSource}
+use Rattle.shop_records.specs.declared.pieces.PieceSource.TheVariants as source
+use Rattle.shop_records.specs.declared.pieces.StepRow.{StepRow}
 use Rattle.shop_records.specs.declared.messages.Query.TheVariants as query
 use Rattle.shop_records.specs.declared.messages.Reply.{Reply}
 use Rattle.shop_records.specs.declared.messages.Reply.TheVariants as reply
@@ -34,7 +38,7 @@ use Rattle.serde_json.specs.Find.{get}
 use Rattle.serde_json.specs.Read.{read}
 use Rattle.serde_json.specs.View.{items_of}
 use Rattle.serde_json.specs.Written.{compact_text}
-use Rattle.shop_forms.specs.Told.{HasWideSides, HasWideLimits, HasWidePart, HasWideDemand, HasWideJob, HasWideOrder}
+use Rattle.shop_forms.specs.Told.{HasWideSides, HasWideLimits, HasWidePart, HasWideDemand, HasWideJob, HasWideOrder, HasWidePiece, HasWideStep, cut_place, demand_cut, is_turned, name_or_none, order_or_none, state_or_none, what_text}
 use Rattle.shop_forms.specs.Fields.{number_at, wide_at, numbers_at, flag_at, text_at, code_at, name_at, kind_at, after_at, code_after_at, has_keys, word_at, elements_at, all_of, row, kind_text, state_text, job_state_text, text_member, number_member, name_member, flag_member}
 
 -- A command has a row of keys that is read, the keys that are printed but `terminal` and `number`, in byte order, and the same
@@ -109,9 +113,13 @@ line_data l =
 abbrev pub lines_data : List OrderLine → Data
 lines_data lines = array (items_of (map line_data lines))
 
+-- a command with an order's lines, by its word
+abbrev pub lined_members : (word order : List ℕ) → List OrderLine → Members
+lined_members word order lines =
+    text_member (codes "do") word (member (codes "lines") (lines_data lines) (text_member (codes "order") order no_members))
+
 abbrev pub order_members : List ℕ → List OrderLine → Members
-order_members order lines =
-    text_member (codes "do") (codes "order") (member (codes "lines") (lines_data lines) (text_member (codes "order") order no_members))
+order_members order lines = lined_members (codes "order") order lines
 
 abbrev pub order_made : Data → Option Reply
 order_made d =
@@ -186,8 +194,19 @@ first_cuts d = option_and_then (λ cuts. option_map (λ lost. First cuts lost) (
 abbrev pub listed_cuts : Data → Option Halt
 listed_cuts d = option_and_then (λ cuts. option_map (λ lost. Listed cuts lost) (lost_cut (codes "lost") d)) (numbers_at (codes "cuts") d)
 
+-- a halt without a rest of the cut that went wrong
+abbrev pub plain_break : Data → Option Command
+plain_break d = option_and_then (λ job. option_map (λ halt. Break job halt None) (option_or (first_cuts d) (listed_cuts d))) (number_at (codes "job") d)
+
+-- a halt with one
+abbrev pub saving_break : Data → Option Command
+saving_break d =
+    option_and_then (λ job. option_and_then (λ halt. option_map (λ rest. Break job halt (Some rest)) (number_at (codes "rest") d))
+    (option_or (first_cuts d) (listed_cuts d))) (number_at (codes "job") d)
+
+-- by the number of its keys
 abbrev pub break_command : Data → Option Command
-break_command d = option_and_then (λ job. option_map (λ halt. Break job halt) (option_or (first_cuts d) (listed_cuts d))) (number_at (codes "job") d)
+break_command d = if has_keys 6 d then plain_break d else row 7 saving_break d
 
 abbrev pub list_data : List ℕ → Data
 list_data cuts = array (items_of (map (λ cut. number (unsigned cut)) cuts))
@@ -201,10 +220,15 @@ lost_data (First cuts lost) = boolean lost
 lost_data (Listed cuts None) = boolean false
 lost_data (Listed cuts (Some cut)) = number (unsigned cut)
 
-abbrev pub break_members : ℕ → Halt → Members
-break_members job halt =
+-- the rest, where there is one
+abbrev pub rest_members : Option ℕ → Members
+rest_members None = no_members
+rest_members (Some rest) = number_member (codes "rest") rest no_members
+
+abbrev pub break_members : ℕ → Halt → Option ℕ → Members
+break_members job halt rest =
     member (codes "cuts") (cuts_data halt) (text_member (codes "do") (codes "break") (number_member (codes "job") job
-    (member (codes "lost") (lost_data halt) no_members)))
+    (member (codes "lost") (lost_data halt) (rest_members rest))))
 
 abbrev pub break_made : Data → Option Reply
 break_made d = option_map (λ c. reply.Break c.0 c.1 c.2 c.3 c.4) (ended_cells d)
@@ -312,6 +336,73 @@ amend_made d =
 abbrev pub amend_told : (demand wanted : ℕ) → Data
 amend_told demand wanted =
     object (number_member (codes "demand") demand (text_member (codes "ok") (codes "amend") (number_member (codes "wanted") wanted no_members)))
+
+-- ---- a job that is undone
+
+abbrev pub undo_command : Data → Option Command
+undo_command d = option_map Undo (number_at (codes "job") d)
+
+abbrev pub undo_members : ℕ → Members
+undo_members job = job_members (codes "undo") job
+
+abbrev pub undo_made : Data → Option Reply
+undo_made d = option_and_then (λ job. option_map (λ part. reply.Undo job part) (name_at (codes "part") d)) (number_at (codes "job") d)
+
+abbrev pub undo_told : ℕ → Name → Data
+undo_told job part =
+    object (number_member (codes "job") job (text_member (codes "ok") (codes "undo") (name_member (codes "part") part no_members)))
+
+-- ---- what is said of an order
+
+abbrev pub note_command : Data → Option Command
+note_command d =
+    option_and_then (λ order. option_and_then (λ due. option_map (λ text. Note order due text)
+    (text_at (codes "text") d)) (number_at (codes "due") d)) (code_at (codes "order") d)
+
+abbrev pub note_members : (order : List ℕ) → (due : ℕ) → (text : List ℕ) → Members
+note_members order due text =
+    text_member (codes "do") (codes "note") (number_member (codes "due") due (text_member (codes "order") order
+    (text_member (codes "text") text no_members)))
+
+abbrev pub note_made : Data → Option Reply
+note_made d = option_map reply.Note (code_at (codes "order") d)
+
+abbrev pub note_told : List ℕ → Data
+note_told order = object (text_member (codes "ok") (codes "note") (text_member (codes "order") order no_members))
+
+-- ---- further lines of an order
+
+abbrev pub extend_command : Data → Option Command
+extend_command d = option_and_then (λ order. option_map (λ lines. Extend order lines) (lines_at (codes "lines") d)) (code_at (codes "order") d)
+
+abbrev pub extend_members : List ℕ → List OrderLine → Members
+extend_members order lines = lined_members (codes "extend") order lines
+
+abbrev pub extend_made : Data → Option Reply
+extend_made d =
+    option_and_then (λ count. option_and_then (λ first. option_map (λ order. reply.Extend count first order)
+    (code_at (codes "order") d)) (number_at (codes "first") d)) (number_at (codes "count") d)
+
+abbrev pub extend_told : (count first : ℕ) → List ℕ → Data
+extend_told count first order =
+    object (number_member (codes "count") count (number_member (codes "first") first (text_member (codes "ok") (codes "extend")
+    (text_member (codes "order") order no_members))))
+
+-- ---- a job that is begun
+
+abbrev pub begin_command : Data → Option Command
+begin_command d = option_map Begin (number_at (codes "job") d)
+
+abbrev pub begin_members : ℕ → Members
+begin_members job = job_members (codes "begin") job
+
+abbrev pub begin_made : Data → Option Reply
+begin_made d =
+    option_and_then (λ before. option_map (λ job. reply.Begin before job) (number_at (codes "job") d)) (number_at (codes "before") d)
+
+abbrev pub begin_told : (before job : ℕ) → Data
+begin_told before job =
+    object (number_member (codes "before") before (number_member (codes "job") job (text_member (codes "ok") (codes "begin") no_members)))
 
 -- ---- queries, and the replies to them
 
@@ -435,17 +526,19 @@ parts_told material more parts =
     (member (codes "parts") (rows_data part_data parts) no_members))))
 
 -- a demand as an object, its keys in byte order: an open one of a list, and each line of an order
-abbrev pub demand_row_data : Demand → Data
-demand_row_data d =
-    object (number_member (codes "demand") d.number (number_member (codes "h") d.size.h (number_member (codes "line") d.line
-    (number_member (codes "made") d.made (text_member (codes "material") d.material (text_member (codes "order") d.order
-    (number_member (codes "reserved") d.reserved (flag_member (codes "turn") d.may_turn (number_member (codes "w") d.size.w
-    (number_member (codes "wanted") d.wanted (number_member (codes "worth") d.worth no_members)))))))))))
+abbrev pub demand_row_data : DemandRow → Data
+demand_row_data row =
+    let d = row.demand in
+    object (number_member (codes "demand") d.number (number_member (codes "due") row.due (number_member (codes "h") d.size.h
+    (number_member (codes "line") d.line (number_member (codes "made") d.made (text_member (codes "material") d.material
+    (text_member (codes "order") d.order (number_member (codes "reserved") d.reserved (flag_member (codes "turn") d.may_turn
+    (number_member (codes "w") d.size.w (number_member (codes "wanted") d.wanted (number_member (codes "worth") d.worth no_members))))))))))))
 
 abbrev pub job_row_data : JobRow → Data
 job_row_data j =
-    object (number_member (codes "cuts") j.cuts (number_member (codes "h") j.h (number_member (codes "job") j.job
-    (text_member (codes "material") j.material (name_member (codes "part") j.part (number_member (codes "w") j.w no_members))))))
+    object (number_member (codes "begun") j.begun (number_member (codes "cuts") j.cuts (number_member (codes "due") j.due
+    (number_member (codes "h") j.h (number_member (codes "job") j.job (text_member (codes "material") j.material
+    (name_member (codes "part") j.part (number_member (codes "w") j.w no_members))))))))
 
 -- what is told of rows after a number: the list at its word, and whether others follow
 abbrev pub after_told : {T : Type 0} → List ℕ → (T → Data) → List T → Bool → Data
@@ -455,23 +548,25 @@ after_told word said rows more =
 -- an order as an object, its keys in byte order
 abbrev pub order_row_data : OrderRow → Data
 order_row_data o =
-    object (number_member (codes "lines") o.lines (number_member (codes "made") o.made (text_member (codes "order") o.order
-    (number_member (codes "reserved") o.reserved (number_member (codes "wanted") o.wanted no_members)))))
+    object (number_member (codes "due") o.due (number_member (codes "lines") o.lines (number_member (codes "made") o.made
+    (text_member (codes "order") o.order (number_member (codes "reserved") o.reserved (text_member (codes "text") o.text
+    (number_member (codes "wanted") o.wanted no_members)))))))
 
 abbrev pub orders_told : Bool → List OrderRow → Data
 orders_told more orders =
     object (flag_member (codes "more") more (text_member (codes "ok") (codes "orders") (member (codes "orders") (rows_data order_row_data orders) no_members)))
 
 -- the lines of an order, each as in a list of demands
-abbrev pub lines_told : List Demand → List ℕ → Data
+abbrev pub lines_told : List DemandRow → List ℕ → Data
 lines_told lines order =
     object (member (codes "lines") (rows_data demand_row_data lines) (text_member (codes "ok") (codes "lines") (text_member (codes "order") order no_members)))
 
-abbrev pub job_told : (cuts h job kerf : ℕ) → (material : List ℕ) → Name → JobState → (tree : List ℕ) → (w : ℕ) → Data
-job_told cuts h job kerf material part state tree w =
-    object (number_member (codes "cuts") cuts (number_member (codes "h") h (number_member (codes "job") job (number_member (codes "kerf") kerf
-    (text_member (codes "material") material (text_member (codes "ok") (codes "job") (name_member (codes "part") part
-    (text_member (codes "state") (job_state_text state) (text_member (codes "tree") tree (number_member (codes "w") w no_members))))))))))
+abbrev pub job_told : (begun cuts h job kerf : ℕ) → (material : List ℕ) → Name → JobState → (tree : List ℕ) → (w : ℕ) → Data
+job_told begun cuts h job kerf material part state tree w =
+    object (number_member (codes "begun") begun (number_member (codes "cuts") cuts (number_member (codes "h") h (number_member (codes "job") job
+    (number_member (codes "kerf") kerf (text_member (codes "material") material (text_member (codes "ok") (codes "job")
+    (name_member (codes "part") part (text_member (codes "state") (job_state_text state) (text_member (codes "tree") tree
+    (number_member (codes "w") w no_members)))))))))))
 
 abbrev pub terminal_told : (last terminal : ℕ) → Data
 terminal_told last terminal =
@@ -495,6 +590,47 @@ shop_told began entries last =
     object (number_member (codes "began") began (number_member (codes "entries") entries (number_member (codes "last") last
     (text_member (codes "ok") (codes "shop") no_members))))
 
+-- whose pieces are asked for: where there is one key more than `ask` and `after`, at most one of these stands for something
+abbrev pub source_of : Data → Option PieceSource
+source_of d =
+    option_or (option_map source.Order (code_at (codes "order") d))
+    (option_or (option_map source.Batch (code_at (codes "batch") d)) (option_map source.Unit (name_at (codes "unit") d)))
+
+abbrev pub pieces_query : Data → Option Query
+pieces_query d =
+    option_and_then (λ from. option_map (λ after. query.Pieces from after) (after_at (codes "after") d)) (source_of d)
+
+-- a piece as an object, its keys in byte order
+abbrev pub piece_data : PieceRow → Data
+piece_data p =
+    object (number_member (codes "at") p.at (text_member (codes "batch") p.batch (number_member (codes "demand") p.demand
+    (number_member (codes "h") p.h (number_member (codes "line") p.line (text_member (codes "material") p.material
+    (text_member (codes "order") p.order (name_member (codes "part") p.part (name_member (codes "root") p.root
+    (number_member (codes "w") p.w no_members))))))))))
+
+abbrev pub pieces_told : Bool → List PieceRow → Data
+pieces_told more pieces =
+    object (flag_member (codes "more") more (text_member (codes "ok") (codes "pieces") (member (codes "pieces") (rows_data piece_data pieces) no_members)))
+
+abbrev pub steps_query : Data → Option Query
+steps_query d = option_map query.Steps (number_at (codes "job") d)
+
+-- a node of a plan as an object, its keys in byte order
+abbrev pub step_data : StepRow → Data
+step_data r =
+    object (number_member (codes "demand") (demand_cut r.step.what) (number_member (codes "h") r.step.h (number_member (codes "line") r.line
+    (number_member (codes "node") r.step.node (text_member (codes "order") (order_or_none r.order)
+    (text_member (codes "part") (name_or_none r.part) (number_member (codes "place") (cut_place r.step.what)
+    (text_member (codes "state") (state_or_none r.state) (flag_member (codes "turned") (is_turned r.step.what)
+    (number_member (codes "w") r.step.w (text_member (codes "what") (what_text r.step.what)
+    (number_member (codes "x") r.step.x (number_member (codes "y") r.step.y no_members)))))))))))))
+
+abbrev pub steps_told : (job kerf : ℕ) → (material : List ℕ) → Name → JobState → List StepRow → Data
+steps_told job kerf material part state steps =
+    object (number_member (codes "job") job (number_member (codes "kerf") kerf (text_member (codes "material") material
+    (text_member (codes "ok") (codes "steps") (name_member (codes "part") part (text_member (codes "state") (job_state_text state)
+    (member (codes "steps") (rows_data step_data steps) no_members)))))))
+
 -- the rows of lists with other keys than one beside `ask`, by their words
 abbrev pub list_query : List ℕ → Data → Option Query
 list_query word d =
@@ -502,7 +638,8 @@ list_query word d =
     else (if bytes_eq word (codes "parts") then row 3 parts_query d
     else (if bytes_eq word (codes "demands") then demands_query d
     else (if bytes_eq word (codes "shop") then row 1 (λ d. Some query.Shop) d
-    else (if bytes_eq word (codes "story") then row 3 story_query d else None))))
+    else (if bytes_eq word (codes "story") then row 3 story_query d
+    else (if bytes_eq word (codes "pieces") then row 3 pieces_query d else None)))))
 
 -- the rows with one key beside `ask`, by its word
 abbrev pub short_query : List ℕ → Data → Option Query
@@ -516,7 +653,8 @@ short_query word d =
     else (if bytes_eq word (codes "terminal") then terminal_query d
     else (if bytes_eq word (codes "orders") then orders_query d
     else (if bytes_eq word (codes "lines") then lines_query d
-    else (if bytes_eq word (codes "history") then history_query d else None)))))))))
+    else (if bytes_eq word (codes "history") then history_query d
+    else (if bytes_eq word (codes "steps") then steps_query d else None))))))))))
 
 -- the rows by the word of `ask`, each with `ask`
 abbrev pub asked_of : List ℕ → Data → Option Query
@@ -538,12 +676,16 @@ command_of word d =
     else (if bytes_eq word (codes "order") then row 5 order_command d
     else (if bytes_eq word (codes "reserve") then row 5 reserve_command d
     else (if bytes_eq word (codes "done") then row 4 done_command d
-    else (if bytes_eq word (codes "break") then row 6 break_command d
+    else (if bytes_eq word (codes "break") then break_command d
     else (if bytes_eq word (codes "release") then row 4 release_command d
     else (if bytes_eq word (codes "scrap") then row 4 scrap_command d
     else (if bytes_eq word (codes "return") then row 4 return_command d
     else (if bytes_eq word (codes "import") then import_command d
-    else (if bytes_eq word (codes "amend") then row 5 amend_command d else None))))))))))
+    else (if bytes_eq word (codes "amend") then row 5 amend_command d
+    else (if bytes_eq word (codes "undo") then row 4 undo_command d
+    else (if bytes_eq word (codes "note") then row 6 note_command d
+    else (if bytes_eq word (codes "extend") then row 5 extend_command d
+    else (if bytes_eq word (codes "begin") then row 4 begin_command d else None))))))))))))))
 
 -- the word of `do`, the terminal and the number
 abbrev pub sent_head : Data → Option (List ℕ × ℕ × ℕ)
@@ -558,7 +700,7 @@ sent_of d =
 
 -- a halt lists at most 255 cuts
 abbrev pub has_few_cuts : Command → Bool
-has_few_cuts (Break job (Listed cuts lost)) = nat_le (length cuts) MOST_CUTS
+has_few_cuts (Break job (Listed cuts lost) rest) = nat_le (length cuts) MOST_CUTS
 has_few_cuts _ = true
 
 -- terminal 0 sends nothing, and no terminal a long list of cuts
@@ -575,12 +717,16 @@ command_members (Receive material batch w h count) = receive_members material ba
 command_members (AddOrder order lines) = order_members order lines
 command_members (Reserve part tree) = reserve_members part tree
 command_members (Done job) = done_members job
-command_members (Break job halt) = break_members job halt
+command_members (Break job halt rest) = break_members job halt rest
 command_members (Release job) = release_members job
 command_members (Scrap part) = scrap_members part
 command_members (GiveBack part) = return_members part
 command_members (Import order form text) = import_members order form text
 command_members (Amend demand wanted) = amend_members demand wanted
+command_members (Undo job) = undo_members job
+command_members (Note order due text) = note_members order due text
+command_members (Extend order lines) = extend_members order lines
+command_members (Begin job) = begin_members job
 
 -- a command's keys with `terminal` and `number`, as an object
 abbrev pub sent_data : (terminal n : ℕ) → Members → Data
@@ -606,7 +752,11 @@ made_of word d =
     else (if bytes_eq word (codes "scrap") then row 2 scrap_made d
     else (if bytes_eq word (codes "return") then row 2 return_made d
     else (if bytes_eq word (codes "import") then row 5 import_made d
-    else (if bytes_eq word (codes "amend") then row 3 amend_made d else None))))))))))
+    else (if bytes_eq word (codes "amend") then row 3 amend_made d
+    else (if bytes_eq word (codes "undo") then row 3 undo_made d
+    else (if bytes_eq word (codes "note") then row 2 note_made d
+    else (if bytes_eq word (codes "extend") then row 4 extend_made d
+    else (if bytes_eq word (codes "begin") then row 3 begin_made d else None))))))))))))))
 
 abbrev pub reply_of : Data → Option Reply
 reply_of d = option_and_then (λ word. made_of word d) (text_at (codes "ok") d)
@@ -624,6 +774,10 @@ made_data (reply.Scrap part) = scrap_told part
 made_data (reply.GiveBack part) = return_told part
 made_data (reply.Import act count first order) = import_told act count first order
 made_data (reply.Amend demand wanted) = amend_told demand wanted
+made_data (reply.Undo job part) = undo_told job part
+made_data (reply.Note order) = note_told order
+made_data (reply.Extend count first order) = extend_told count first order
+made_data (reply.Begin before job) = begin_told before job
 made_data _ = null
 
 -- ---- entries, with what is kept of their messages
@@ -669,6 +823,10 @@ reply_data (reply.Scrap part) = made_data (reply.Scrap part)
 reply_data (reply.GiveBack part) = made_data (reply.GiveBack part)
 reply_data (reply.Import act count first order) = made_data (reply.Import act count first order)
 reply_data (reply.Amend demand wanted) = made_data (reply.Amend demand wanted)
+reply_data (reply.Undo job part) = made_data (reply.Undo job part)
+reply_data (reply.Note order) = made_data (reply.Note order)
+reply_data (reply.Extend count first order) = made_data (reply.Extend count first order)
+reply_data (reply.Begin before job) = made_data (reply.Begin before job)
 reply_data (reply.Totals material received stock rack pieces kerf scrap returned) = totals_told material received stock rack pieces kerf scrap returned
 reply_data (reply.Rack material parts) = rack_told material parts
 reply_data (reply.Trace batch h of part root state w x y) = trace_data batch (name_text part) (name_text root) (state_text state) h of w x y
@@ -679,13 +837,15 @@ reply_data (reply.Materials materials) = materials_told materials
 reply_data (reply.Parts material more parts) = parts_told material more parts
 reply_data (reply.Demands demands more) = after_told (codes "demands") demand_row_data demands more
 reply_data (reply.Jobs jobs more) = after_told (codes "jobs") job_row_data jobs more
-reply_data (reply.Job cuts h job kerf material part state tree w) = job_told cuts h job kerf material part state tree w
+reply_data (reply.Job begun cuts h job kerf material part state tree w) = job_told begun cuts h job kerf material part state tree w
 reply_data (reply.Terminal last terminal) = terminal_told last terminal
 reply_data (reply.Orders more orders) = orders_told more orders
 reply_data (reply.Lines lines order) = lines_told lines order
 reply_data (reply.Shop began entries last) = shop_told began entries last
 reply_data (reply.History entries more) = entries_told (codes "history") entries more
 reply_data (reply.Story entries more) = entries_told (codes "story") entries more
+reply_data (reply.Pieces more pieces) = pieces_told more pieces
+reply_data (reply.Steps job kerf material part state steps) = steps_told job kerf material part state steps
 reply_data (reply.Refused refusal) =
     object (text_member (codes "name") (refusal_name refusal) (number_member (codes "refused") (refusal_number refusal) no_members))
 
@@ -702,6 +862,10 @@ HasWideMade (reply.Scrap part) = Unit {0}
 HasWideMade (reply.GiveBack part) = Unit {0}
 HasWideMade (reply.Import act count first order) = IsWide act × IsWide count × IsWide first
 HasWideMade (reply.Amend demand wanted) = IsWide demand × IsWide wanted
+HasWideMade (reply.Undo job part) = IsWide job
+HasWideMade (reply.Note order) = Unit {0}
+HasWideMade (reply.Extend count first order) = IsWide count × IsWide first
+HasWideMade (reply.Begin before job) = IsWide before × IsWide job
 HasWideMade _ = Unit {0}
 
 -- the same of an entry, and its message is one
@@ -722,6 +886,10 @@ HasWideNumbers (reply.Scrap part) = HasWideMade (reply.Scrap part)
 HasWideNumbers (reply.GiveBack part) = HasWideMade (reply.GiveBack part)
 HasWideNumbers (reply.Import act count first order) = HasWideMade (reply.Import act count first order)
 HasWideNumbers (reply.Amend demand wanted) = HasWideMade (reply.Amend demand wanted)
+HasWideNumbers (reply.Undo job part) = HasWideMade (reply.Undo job part)
+HasWideNumbers (reply.Note order) = HasWideMade (reply.Note order)
+HasWideNumbers (reply.Extend count first order) = HasWideMade (reply.Extend count first order)
+HasWideNumbers (reply.Begin before job) = HasWideMade (reply.Begin before job)
 HasWideNumbers (reply.Totals material received stock rack pieces kerf scrap returned) =
     IsWide kerf × IsWide pieces × IsWide rack × IsWide received × IsWide returned × IsWide scrap × IsWide stock
 HasWideNumbers (reply.Rack material parts) = All HasWideSides parts
@@ -734,13 +902,15 @@ HasWideNumbers (reply.Materials materials) = All HasWideLimits materials
 HasWideNumbers (reply.Parts material more parts) = All HasWidePart parts
 HasWideNumbers (reply.Demands demands more) = All HasWideDemand demands
 HasWideNumbers (reply.Jobs jobs more) = All HasWideJob jobs
-HasWideNumbers (reply.Job cuts h job kerf material part state tree w) = IsWide cuts × IsWide h × IsWide job × IsWide kerf × IsWide w
+HasWideNumbers (reply.Job begun cuts h job kerf material part state tree w) = IsWide begun × IsWide cuts × IsWide h × IsWide job × IsWide kerf × IsWide w
 HasWideNumbers (reply.Terminal last terminal) = IsWide last × IsWide terminal
 HasWideNumbers (reply.Orders more orders) = All HasWideOrder orders
 HasWideNumbers (reply.Lines lines order) = All HasWideDemand lines
 HasWideNumbers (reply.Shop began entries last) = IsWide began × IsWide entries × IsWide last
 HasWideNumbers (reply.History entries more) = All HasWideEntry entries
 HasWideNumbers (reply.Story entries more) = All HasWideEntry entries
+HasWideNumbers (reply.Pieces more pieces) = All HasWidePiece pieces
+HasWideNumbers (reply.Steps job kerf material part state steps) = IsWide job × IsWide kerf × All HasWideStep steps
 HasWideNumbers (reply.Refused refusal) = IsWide (refusal_number refusal)
 
 -- ---- texts

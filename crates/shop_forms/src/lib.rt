@@ -17,5 +17,6 @@ pub use fields::{
 pub use laws::{entries_read_back, one_kind_of_value, one_text, read_back};
 pub use words::{job_state_word, kind_word, see_part, state_word, wide};
 pub use writing::{
-    Member, new_writer, value_of, write_flag, write_number, write_object, write_text, written_text,
+    Member, new_writer, value_of, write_flag, write_name, write_number, write_object, write_text,
+    written_text,
 };

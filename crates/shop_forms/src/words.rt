@@ -1,11 +1,14 @@
-//! The words for kinds and states in JSON, and readings by which the range of a number or a name is known.
+//! The words for kinds and states in JSON, how a plan's node is told, and readings by which the range of a number or a name is
+//! known.
 
 ghost use Rattle.std.specs.Prelude.{◌≡◌};
 ghost use Rattle.cut_measure.specs.Names.{IsName};
 ghost use Rattle.shop_records.specs.Messages.{IsNumber};
 ghost use Rattle.shop_forms.specs.Fields.{job_state_text, kind_text, state_text};
+ghost use Rattle.shop_forms.specs.Told.{what_text, cut_place, demand_cut, is_turned, order_or_none, state_or_none};
 
-use cut_measure::{Kind, PartName};
+use cut_measure::{Axis, Code, Kind, PartName};
+use cut_tree::Token;
 use shop_records::{JobState, StateWord};
 
 /// The word for a kind of material.
@@ -30,6 +33,7 @@ pub fn state_word(state: StateWord) -> &'static str
         StateWord::Kerf => "kerf",
         StateWord::Scrap => "scrap",
         StateWord::Returned => "returned",
+        StateWord::Undone => "undone",
     }
 }
 
@@ -42,6 +46,69 @@ pub fn job_state_word(state: JobState) -> &'static str
         JobState::Done => "done",
         JobState::Broken => "broken",
         JobState::Released => "released",
+        JobState::Undone => "undone",
+    }
+}
+
+// What is done at a node of a plan.
+pub(crate) fn what_word(what: Token) -> &'static str
+    ensures { result.now ≡ what_text what }
+{
+    match what {
+        Token::Cut(Axis::X, _) => "cut x",
+        Token::Cut(Axis::Y, _) => "cut y",
+        Token::Piece(_, _) => "piece",
+        Token::Rest => "rest",
+    }
+}
+
+// The place of a cut, else 0.
+pub(crate) fn cut_place(what: Token) -> u32
+    ensures { result ≡ cut_place what }
+{
+    match what {
+        Token::Cut(_, place) => place,
+        Token::Piece(_, _) | Token::Rest => 0,
+    }
+}
+
+// The demand of a piece, else 0.
+pub(crate) fn demand_cut(what: Token) -> u32
+    ensures { result ≡ demand_cut what }
+{
+    match what {
+        Token::Piece(demand, _) => demand,
+        Token::Cut(_, _) | Token::Rest => 0,
+    }
+}
+
+// Whether it is a piece that is turned.
+pub(crate) fn is_turned(what: Token) -> bool
+    ensures { result ≡ is_turned what }
+{
+    match what {
+        Token::Piece(_, turned) => turned,
+        Token::Cut(_, _) | Token::Rest => false,
+    }
+}
+
+// An order's code, or an empty text.
+pub(crate) fn order_or_none(order: &Option<Code>) -> &str
+    ensures { result.now ≡ order_or_none order.now }
+{
+    match order {
+        Some(order) => order.as_str(),
+        None => "",
+    }
+}
+
+// The word for the state of a part, or an empty text.
+pub(crate) fn state_or_none(state: Option<StateWord>) -> &'static str
+    ensures { result.now ≡ state_or_none state }
+{
+    match state {
+        Some(state) => state_word(state),
+        None => "",
     }
 }
 

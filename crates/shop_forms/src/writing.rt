@@ -128,8 +128,8 @@ fn write_list(writer: &mut Writer, numbers: &[u32]) -> Result<(), AllocError>
     Ok(())
 }
 
-// Writes a key with a part's name.
-fn write_name(
+/// Writes a key with a part's name.
+pub fn write_name(
     alloc: Global,
     writer: &mut Writer,
     key: &str,

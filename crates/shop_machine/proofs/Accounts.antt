@@ -1,23 +1,39 @@
 -- What holds of each history and the content that it gives.
-use Rattle.std.proofs.Common.{◌≡◌, ℕ, ◌+◌, ◌≤◌, List, [], ◌∷◌, ◌++◌, map, length, true, false, nat_eq, sym, ap, ◌∙◌, arith, inl, inr}
+use Rattle.std.proofs.Common.{◌≡◌, ℕ, ◌+◌, ◌≤◌, ◌<◌, true≢false, List, [], ◌∷◌, ◌++◌, map, length, true, false, nat_eq, sym, ap, ◌∙◌, arith, inl, inr}
 use Rattle.std.specs.Prelude.{Some, if◌then◌else◌, ◌&&◌}
 use Rattle.std.specs.FinMap.{FinMap, get}
+use Rattle.std.specs.Ordering.{nat_cmp}
 use Rattle.cut_measure.specs.Names.{Name, name_cmp}
 use Rattle.cut_measure.specs.Measures.{Extent, below}
 use Rattle.shop_records.specs.declared.records.Material.{Material}
 use Rattle.shop_records.specs.declared.records.Part.{Part}
 use Rattle.shop_records.specs.declared.records.State.{State}
-use Rattle.shop_records.specs.declared.records.State.TheVariants.{Standing}
+use Rattle.shop_records.specs.declared.records.State.TheVariants.{Standing, Cut, Undone}
 use Rattle.shop_records.specs.declared.records.Job.{Job}
-use Rattle.shop_records.specs.Columns.{is_free}
+use Rattle.shop_records.specs.Columns.{is_free, is_waiting}
 use Rattle.shop_records.specs.Content.{Content, material_at, part_at, job_at, in_state}
 use Rattle.shop_machine.specs.Machine.{Effect, Receives}
-use Rattle.shop_machine.specs.History.{ReceivedUnit, acts_in, acts_of, units_in, units_of, material_by, unit_material, material_rule, Reservation, job_of, Owner, stands_as, EachCellIsOwned, ordered_lines}
+use Rattle.shop_machine.specs.History.{ReceivedUnit, acts_in, acts_of, units_in, units_of, material_by, unit_material, material_rule, Reservation, job_of, Owner, stands_as, owner_before, is_gone, IsOwner, EachCellIsOwned, ordered_lines}
 use Rattle.shop_records.specs.Elements.{IsIn}
 use Rattle.shop_records.proofs.Basics.{nat_cases, name_cases, in_append, in_later, in_map}
 use Rattle.shop_machine.proofs.OrderedLines.{AskFor}
 
 -- ---- what effects say
+
+-- before the end of a job, this part had the cell, and stood
+pub record WasOwner (effects : List Effect) (job : ℕ) (p : Part) (x y : ℕ) : Type 0 where
+  pub owner : Owner
+  pub found : owner_before effects job p.root x y ≡ Some owner
+  pub same : IsOwner owner x y (in_state Standing p)
+
+-- before the end of the job that cut it, a part had each of its cells
+abbrev pub HadItsCells : List Effect → Part → Type 0
+HadItsCells effects p =
+    (job x y : ℕ) → p.state ≡ Cut job → p.x ≤ x → x < p.x + p.size.w → p.y ≤ y → y < p.y + p.size.h → WasOwner effects job p x y
+
+-- no part of a kind is cut
+pub never_cut : (effects : List Effect) (p : Part) → is_gone p.state ≡ false → HadItsCells effects p
+never_cut effects p whole job x y cut = absurd (true≢false (ap is_gone (sym cut) ∙ whole))
 
 -- a part came from a received unit and lies inside it
 pub record IsRow (effects : List Effect) (p : Part) : Type 0 where
@@ -27,6 +43,7 @@ pub record IsRow (effects : List Effect) (p : Part) : Type 0 where
   pub material : unit.material ≡ p.material
   pub across : p.x + p.size.w ≤ unit.size.w
   pub down : p.y + p.size.h ≤ unit.size.h
+  pub cut : HadItsCells effects p
 
 -- the row of a unit under its own name, cut or not
 pub record IsWhole (parts : FinMap name_cmp Part) (unit : ReceivedUnit) : Type 0 where
@@ -40,6 +57,12 @@ pub record IsWhole (parts : FinMap name_cmp Part) (unit : ReceivedUnit) : Type 0
 abbrev pub reservation : Job → Reservation
 reservation job = record { part = job.part; tree = job.plan.tree }
 
+-- a job is there, and doesn't wait
+pub record IsOver (jobs : FinMap nat_cmp Job) (number : ℕ) : Type 0 where
+  pub job : Job
+  pub found : get jobs number ≡ Some job
+  pub over : is_waiting job.state ≡ false
+
 -- the content's rows are what the effects say of them
 pub record Follows (effects : List Effect) (content : Content) : Type 0 where
   pub acts : content.last_act ≡ acts_of effects
@@ -50,6 +73,7 @@ pub record Follows (effects : List Effect) (content : Content) : Type 0 where
   pub jobs : (number : ℕ) (job : Job) → job_at content number ≡ Some job → job_of effects number ≡ Some (reservation job)
   pub wholes : (unit : ReceivedUnit) → IsIn unit (units_of effects) → IsWhole content.parts unit
   pub cells : EachCellIsOwned effects content
+  pub over : (n : Name) (p : Part) (job : ℕ) → part_at content n ≡ Some p → p.state ≡ Cut job → IsOver content.jobs job
 
 -- ---- units
 
@@ -95,18 +119,48 @@ pub material_is : (effects : List Effect) (u : ReceivedUnit) → IsIn u (units_o
 material_is [] u i = absurd i
 material_is (done ∷ earlier) u i = unit_material_by earlier done (material_is earlier) u i
 
-pub row_later : (done : Effect) (earlier : List Effect) (p : Part) → IsRow earlier p → IsRow (done ∷ earlier) p
-row_later done earlier p r = record {
+-- what is done doesn't end the job that cut a part
+abbrev pub EndsNot : Effect → List Effect → Part → Type 0
+EndsNot done earlier p =
+    (job x y : ℕ) → p.state ≡ Cut job → owner_before (done ∷ earlier) job p.root x y ≡ owner_before earlier job p.root x y
+
+pub row_later : (done : Effect) (earlier : List Effect) (p : Part) → EndsNot done earlier p → IsRow earlier p → IsRow (done ∷ earlier) p
+row_later done earlier p ends_not r = record {
   unit = r.unit;
   received = in_later r.unit (units_in (acts_of earlier + 1) done) (units_of earlier) r.received;
   root = r.root;
   material = r.material;
   across = r.across;
   down = r.down;
+  cut = λ job x y is left right top bottom.
+      let was = r.cut job x y is left right top bottom in
+      record { owner = was.owner; found = ends_not job x y is ∙ was.found; same = was.same };
 }
 
-pub row_restated : (effects : List Effect) (p : Part) (s : State) → IsRow effects p → IsRow effects (in_state s p)
-row_restated effects p s r = record { unit = r.unit; received = r.received; root = r.root; material = r.material; across = r.across; down = r.down }
+pub row_restated : (effects : List Effect) (p : Part) (s : State) → is_gone s ≡ false → IsRow effects p → IsRow effects (in_state s p)
+row_restated effects p s whole r = record {
+  unit = r.unit;
+  received = r.received;
+  root = r.root;
+  material = r.material;
+  across = r.across;
+  down = r.down;
+  cut = never_cut effects (in_state s p) whole;
+}
+
+pub undone_cut : (a b : ℕ) → Undone a ≡ Cut b → ⊥
+undone_cut a b e = cc
+
+pub row_undone : (effects : List Effect) (p : Part) (job : ℕ) → IsRow effects p → IsRow effects (in_state (Undone job) p)
+row_undone effects p job r = record {
+  unit = r.unit;
+  received = r.received;
+  root = r.root;
+  material = r.material;
+  across = r.across;
+  down = r.down;
+  cut = λ by x y cut left right top bottom. absurd (undone_cut job by cut);
+}
 
 pub stands_yes : (p : Name) (w : Owner) → w.name ≡ p → w.state ≡ Standing → stands_as p w ≡ true
 stands_yes p w e s =

@@ -24,6 +24,7 @@ is_uncut (state.Piece demand) = true
 is_uncut state.Kerf = true
 is_uncut state.Scrap = true
 is_uncut state.Returned = true
+is_uncut (state.Undone job) = false
 
 -- the cells of a part of the material that isn't cut into parts
 abbrev pub cells_left : List ℕ → Part → ℕ
@@ -43,6 +44,7 @@ one_of true whole (state.Piece demand) n = omega arith
 one_of true whole state.Kerf n = omega arith
 one_of true whole state.Scrap n = omega arith
 one_of true whole state.Returned n = omega arith
+one_of true whole (state.Undone job) n = omega arith
 
 in_one : (code : List ℕ) (part : Part)
     → cells_as Stock code part + cells_as Rack code part + cells_as Pieces code part + cells_as Kerf code part + cells_as Scrap code part + cells_as Returned code part ≡ cells_left code part

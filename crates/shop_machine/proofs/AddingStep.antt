@@ -61,6 +61,7 @@ module _ (texts : Texts) (message : Message) (m : Content) (code : List ℕ) (ki
             ];
         parts = λ name part is. placed_more m (after None) grows name part (stock.parts name part is);
         jobs = λ number j is. job_more m (after None) grows number j (λ w. record { same = refl; none_yet = w.none_yet }) (stock.jobs number j is);
+        halts = stock.halts;
         demands = λ number d is.
             let old = stock.demands number d is in
             demand_more m (after None) grows (omega arith) number d old (record { few = old.counted.few; reserved = old.counted.reserved; made = old.counted.made });
@@ -95,6 +96,12 @@ module _ (texts : Texts) (message : Message) (m : Content) (code : List ℕ) (ki
     parts = All-nil _;
     rising = no_pairs (λ (a b : Part). name_cmp a.name b.name ≡ Less);
     moved = tt;
+    undone = All-nil _;
+    apart = no_pairs (λ (a b : Part). name_cmp a.name b.name ≡ Less);
+    halt = tt;
+    begun = tt;
+    extended = tt;
+    note = tt;
     job = tt;
     order = tt;
     demands = All-nil _;
@@ -163,10 +170,11 @@ module _ (texts : Texts) (message : Message) (earlier : List Effect) (old : Cont
             | inr n ↦ ap (λ b. if b then Some rule else material_rule earlier code) n.1
                 ∙ f.rules code m (sym (get_other codes_total codes_same old.materials material new code n.0) ∙ g)
           ];
-          rows = λ n p k. row_later (Rules material rule) earlier p (f.rows n p k);
+          rows = λ n p k. row_later (Rules material rule) earlier p (λ job x y is. refl) (f.rows n p k);
           jobs = f.jobs;
           wholes = f.wholes;
           cells = f.cells;
+          over = f.over;
         }
     by_known (Some m) found allowed = record {
       acts = (let e : old.last_act ≡ acts_of earlier = f.acts in omega arith);
@@ -178,10 +186,11 @@ module _ (texts : Texts) (message : Message) (earlier : List Effect) (old : Cont
             ap (λ b. if b then Some rule else material_rule earlier code) y.1 ∙ ap Some (sym (known_rule m kind rule allowed)) ∙ ap (λ (v : Material). Some v.limits) (sym is))
         | inr n ↦ ap (λ b. if b then Some rule else material_rule earlier code) n.1 ∙ f.rules code other g
       ];
-      rows = λ n p k. row_later (Rules material rule) earlier p (f.rows n p k);
+      rows = λ n p k. row_later (Rules material rule) earlier p (λ job x y is. refl) (f.rows n p k);
       jobs = f.jobs;
       wholes = f.wholes;
       cells = f.cells;
+      over = f.over;
     }
 
     pub by_material : material_refusal (material_at old material) kind rule ≡ None → Next (Rules material rule) (material_change (material_at old material) material kind rule)

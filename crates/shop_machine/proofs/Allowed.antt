@@ -13,7 +13,7 @@ use Rattle.cut_tree.specs.Tree.{count_of}
 use Rattle.cut_tree.specs.Patterns.{Pattern}
 use Rattle.cut_tree.proofs.LeafCounts.{counted}
 use Rattle.shop_records.specs.declared.records.State.{State}
-use Rattle.shop_records.specs.declared.records.State.TheVariants.{Standing, Reserved, Cut, Piece, Kerf, Scrap, Returned}
+use Rattle.shop_records.specs.declared.records.State.TheVariants.{Standing, Reserved, Cut, Piece, Kerf, Scrap, Returned, Undone}
 use Rattle.shop_records.specs.declared.refusals.Refusal.{Refusal}
 use Rattle.shop_records.specs.Columns.{is_free}
 use Rattle.shop_machine.specs.Recounts.{plan_leaves}
@@ -94,3 +94,4 @@ free_stands (Piece demand) e = cc
 free_stands Kerf e = cc
 free_stands Scrap e = cc
 free_stands Returned e = cc
+free_stands (Undone job) e = cc

@@ -90,6 +90,7 @@ module _ (m : Content) (stock : IsStock m) (number : ℕ) (row : Demand) (found 
     materials = stock.materials;
     parts = λ name part is. placed_more m after grows name part (stock.parts name part is);
     jobs = λ n j is. job_more m after grows n j (λ w. record { same = refl; none_yet = w.none_yet }) (stock.jobs n j is);
+    halts = stock.halts;
     demands = λ n d is.
         elim (found_after n d is) [
           | inl q ↦ subst (λ k. IsDemand after k d) (sym q.0) (subst (IsDemand after row.number) (sym q.1) row_after)
@@ -111,6 +112,12 @@ module _ (m : Content) (stock : IsStock m) (number : ℕ) (row : Demand) (found 
     parts = All-nil _;
     rising = no_pairs (λ (a b : Part). name_cmp a.name b.name ≡ Less);
     moved = tt;
+    undone = All-nil _;
+    apart = no_pairs (λ (a b : Part). name_cmp a.name b.name ≡ Less);
+    halt = tt;
+    begun = tt;
+    extended = tt;
+    note = tt;
     job = tt;
     order = tt;
     demands = all_from (IsMovedDemand m) (amended wanted row ∷ []) (put_row (IsMovedDemand m) (record { before = row; found = there; is = refl }));
@@ -137,10 +144,11 @@ module _ (texts : Texts) (message : Message) (earlier : List Effect) (old : Cont
     numbers = f.numbers ∙ sym (lines_amended row.number wanted (ordered_lines earlier));
     lines = line_amended (ordered_lines earlier) old.demands row wanted found f.lines;
     rules = f.rules;
-    rows = λ n p k. row_later (Amends row.number wanted) earlier p (f.rows n p k);
+    rows = λ n p k. row_later (Amends row.number wanted) earlier p (λ job x y is. refl) (f.rows n p k);
     jobs = f.jobs;
     wholes = f.wholes;
     cells = f.cells;
+    over = f.over;
   }
 
   pub amends : (demand wanted : ℕ) (read : Reading) (change : Change) (row : Demand) → demand_at old demand ≡ Some row → change ≡ amend_change row wanted

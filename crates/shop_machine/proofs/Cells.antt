@@ -17,7 +17,7 @@ use Rattle.shop_records.specs.declared.records.State.TheVariants.{Standing, Cut,
 use Rattle.shop_records.specs.Content.{with_parts, in_state}
 use Rattle.shop_machine.specs.Ending.{row_part, fate}
 use Rattle.shop_machine.specs.Receiving.{unit_part, unit_parts}
-use Rattle.shop_machine.specs.History.{Owner, owner_at, is_cut, standing_as, HasCellOf, IsOwner, HasOwner}
+use Rattle.shop_machine.specs.History.{Owner, owner_at, is_gone, standing_as, HasCellOf, IsOwner, HasOwner}
 use Rattle.shop_records.specs.Elements.{IsIn}
 use Rattle.shop_records.proofs.Basics.{names_total, names_same, names_equal, name_cases, same_some, none_some, get_same, get_other, all_in, any_in, pair_in, in_map, map_in, put_cases}
 
@@ -30,12 +30,12 @@ sizes_equal a b p q = λ i. record { w = p i; h = q i }
 
 -- ---- a part whose state changes, not being cut before or after
 
-module _ (m : FinMap name_cmp Part) (named : Named m) (p : Name) (row : Part) (kept : get m p ≡ Some row) (whole : is_cut row.state ≡ false) where
+module _ (m : FinMap name_cmp Part) (named : Named m) (p : Name) (row : Part) (kept : get m p ≡ Some row) (whole : is_gone row.state ≡ false) where
   -- a cell of the part
   in_part : (found : Option Owner) (u : Name) (x y : ℕ) (o : HasOwner m found u x y) → o.part.name ≡ p → o.part ≡ row
   in_part found u x y o e = same_some o.part row (sym o.kept ∙ ap (get m) e ∙ kept)
 
-  pub restated : (s : State) → is_cut s ≡ false → standing_as s ≡ standing_as row.state
+  pub restated : (s : State) → is_gone s ≡ false → standing_as s ≡ standing_as row.state
       → (found : Option Owner) (u : Name) (x y : ℕ) → HasOwner m found u x y → HasOwner (insert m p (in_state s row)) found u x y
   restated s open' stays found u x y o =
       let new = insert m p (in_state s row) in
@@ -80,7 +80,7 @@ module _ (m : FinMap name_cmp Part) (named : Named m) (p : Name) (row : Part) (k
       ]
 
   -- a standing part as a whole gets a state that stays
-  pub turned : (s : State) → is_cut s ≡ false → standing_as s ≡ s → (found after : Option Owner) (u : Name) (x y : ℕ)
+  pub turned : (s : State) → is_gone s ≡ false → standing_as s ≡ s → (found after : Option Owner) (u : Name) (x y : ℕ)
       → ((w : Owner) → found ≡ Some w → w.name ≡ p → standing_as row.state ≡ w.state → after ≡ Some (record w { state = s }))
       → ((w : Owner) → found ≡ Some w → (w.name ≡ p → ⊥) → after ≡ Some w)
       → HasOwner m found u x y → HasOwner (insert m p (in_state s row)) after u x y
@@ -128,7 +128,7 @@ module _ (m : FinMap name_cmp Part) (named : Named m) (p : Name) (row : Part) (k
 
 -- ---- a part that is cut
 
-kept_or_not : (b : Bool) → is_cut (if b then Standing else Scrap) ≡ false
+kept_or_not : (b : Bool) → is_gone (if b then Standing else Scrap) ≡ false
 kept_or_not true = refl
 kept_or_not false = refl
 
@@ -136,7 +136,7 @@ kept_stands : (b : Bool) → standing_as (if b then Standing else Scrap) ≡ (if
 kept_stands true = refl
 kept_stands false = refl
 
-fate_whole : (rule : Rule) (of : of_row.Owner) (size : Extent) → is_cut (fate rule of size) ≡ false
+pub fate_whole : (rule : Rule) (of : of_row.Owner) (size : Extent) → is_gone (fate rule of size) ≡ false
 fate_whole rule (owner.Piece demand) size = refl
 fate_whole rule owner.Rest size = kept_or_not (is_kept rule size)
 fate_whole rule owner.Kerf size = refl
@@ -150,7 +150,7 @@ fate_stands rule owner.Kerf size = refl
 fate_stands rule owner.Uncut size = kept_stands (is_kept rule size)
 fate_stands rule owner.Lost size = refl
 
-module _ (m : FinMap name_cmp Part) (named : Named m) (p : Name) (row : Part) (kept : get m p ≡ Some row) (whole : is_cut row.state ≡ false) (stands : standing_as row.state ≡ Standing)
+module _ (m : FinMap name_cmp Part) (named : Named m) (p : Name) (row : Part) (kept : get m p ≡ Some row) (whole : is_gone row.state ≡ false) (stands : standing_as row.state ≡ Standing)
     (job : ℕ) (unused : (node : ℕ) → get m (record { act = job; node = node }) ≡ None)
     (rule : Rule) (tree : Tree) (outcome : ℕ → Outcome) (rows : List Row) (laid : IsLaid tree row.size.w row.size.h rule.kerf outcome rows) where
   abbrev pub after_cuts : FinMap name_cmp Part
@@ -222,7 +222,7 @@ module _ (m : FinMap name_cmp Part) (named : Named m) (p : Name) (row : Part) (k
       (held, record { root = h.root; whole = whole; right = omega arith; left = omega arith; below = omega arith; above = omega arith })
 
   no_cell : (u : Name) (x y : ℕ) (q : Part) → q ≡ in_state (Cut job) row → HasCellOf u x y q → ⊥
-  no_cell u x y q e h = true≢false (ap (λ (v : Part). is_cut v.state) (sym e) ∙ h.whole)
+  no_cell u x y q e h = true≢false (ap (λ (v : Part). is_gone v.state) (sym e) ∙ h.whole)
 
   abbrev spot_at : ℕ → ℕ → Spot
   spot_at i j = spot_of tree row.size.w row.size.h rule.kerf outcome 0 0 i j

@@ -11,6 +11,7 @@ use Rattle.shop_records.specs.declared.records.State.TheVariants.{Cut}
 use Rattle.shop_records.specs.declared.records.JobState.{JobState}
 use Rattle.shop_records.specs.declared.records.Material.{Material}
 use Rattle.shop_records.specs.declared.records.Job.{Job}
+use Rattle.shop_records.specs.declared.records.JobHalt.{JobHalt}
 use Rattle.shop_records.specs.declared.records.Part.{Part}
 use Rattle.shop_records.specs.declared.records.Demand.{Demand}
 use Rattle.shop_records.specs.declared.records.Totals.{Totals}
@@ -18,16 +19,16 @@ use Rattle.shop_machine.specs.Moving.{tally, moved_totals}
 use Rattle.shop_records.specs.declared.refusals.Refusal.TheVariants.{StoreFault, BadCut, JobOver}
 use Rattle.shop_records.specs.Columns.{is_waiting}
 use Rattle.shop_machine.specs.Decisions.{first_of, no_change}
-use Rattle.shop_machine.specs.Ending.{job_refusal, can_end, rests, row_part, ended_state, ended_reply, end_change}
+use Rattle.shop_machine.specs.Ending.{job_refusal, can_end, rests, row_part, ended_state, ended_reply, kept_halt, end_change}
 use Rattle.shop_machine.specs.declared.recounts.FoundLeaf.{FoundLeaf}
 use Rattle.shop_machine.specs.Recounts.{HasRow, CanBeMade, pieces_in}
 use Rattle.shop_records.specs.Content.{in_state}
 
 -- a waiting job, by whether its rows are there
-pub job_test : (stop : Stop) (j : Job) (part : Part) (material : Material) (at : ℕ → Option Demand) (totals : Totals) (b : Bool) → is_waiting j.state ≡ true → can_end j.plan.tree stop ≡ true
+pub job_test : (stop : Stop) (j : Job) (part : Part) (material : Material) (at : ℕ → Option Demand) (totals : Totals) (b : Bool) → is_waiting j.state ≡ true → can_end j.plan stop ≡ true
     → rests j (Some part) (Some material) at totals ≡ b → job_refusal stop (Some j) (Some part) (Some material) at totals ≡ first_of ((not b, StoreFault) ∷ [])
 job_test stop j part material at totals b waits can there =
-    ap (λ w. first_of ((not w, JobOver) ∷ (not (can_end j.plan.tree stop), BadCut) ∷ (not (rests j (Some part) (Some material) at totals), StoreFault) ∷ [])) waits
+    ap (λ w. first_of ((not w, JobOver) ∷ (not (can_end j.plan stop), BadCut) ∷ (not (rests j (Some part) (Some material) at totals), StoreFault) ∷ [])) waits
     ∙ ap (λ c. first_of ((not c, BadCut) ∷ (not (rests j (Some part) (Some material) at totals), StoreFault) ∷ [])) can ∙ ap (λ r. first_of ((not r, StoreFault) ∷ [])) there
 
 -- what holds of a job with the rows on which it rested, of the rows that were found
@@ -43,24 +44,25 @@ worked stop E found on None at totals j part rule is_j is_p is_m allowed it = ab
 
     not_allowed : (found : Option Job) (on : Option Part) (j : Job) (part : Part) → found ≡ Some j → on ≡ Some part → job_refusal stop found on None at totals ≡ None → ⊥
     not_allowed found on j part is_j is_p allowed =
-        by (not (is_waiting j.state)) (not (can_end j.plan.tree stop))
+        by (not (is_waiting j.state)) (not (can_end j.plan stop))
         (subst (λ (o : Option Part). job_refusal stop (Some j) o None at totals ≡ None) is_p (subst (λ (o : Option Job). job_refusal stop o on None at totals ≡ None) is_j allowed))
 worked stop E found on (Some m) at totals j part rule is_j is_p is_m allowed it =
     subst (λ (o : Option Job). MatchOption o ⊥ (λ j. MatchOption on ⊥ (λ p. E j p m.limits))) (sym is_j)
     (subst (λ (o : Option Part). MatchOption o ⊥ (λ p. E j p m.limits)) (sym is_p) (subst (λ (r : Rule). E j part r) (sym is_m) it))
 
 -- the change of a job that ended so, from its parts and their cells
-pub end_made : (stop : Stop) (j : Job) (part : Part) (rule : Rule) (t : Totals) (laid : List Row) (rows : List Demand) (parts : List Part) (come moved : Totals) (answer : Reply) (state : JobState)
-    (base : Change) → base ≡ no_change answer → state ≡ ended_state stop → parts ≡ map (row_part part rule j.act) laid → come ≡ tally (map (row_part part rule j.act) laid)
+pub end_made : (stop : Stop) (j : Job) (part : Part) (rule : Rule) (t : Totals) (laid : List Row) (rows : List Demand) (parts : List Part) (come moved : Totals) (answer : Reply) (state : JobState) (halt : Option JobHalt)
+    (base : Change) → base ≡ no_change answer → state ≡ ended_state stop → halt ≡ kept_halt stop j.act → parts ≡ map (row_part part rule j.act) laid → come ≡ tally (map (row_part part rule j.act) laid)
     → moved ≡ moved_totals part come t → answer ≡ ended_reply stop j.act come
     → record base {
       parts = parts;
       moved = Some (in_state (Cut j.act) part);
       job = Some (record j { state = state });
+      halt = halt;
       demands = rows;
       totals = Some (record { material = part.material; totals = moved });
     } ≡ end_change stop j part rule t laid rows
-end_made stop j part rule t laid rows parts come moved answer state base e s f c m g =
+end_made stop j part rule t laid rows parts come moved answer state halt base e s h f c m g =
     let made = map (row_part part rule j.act) laid in
     let told : answer ≡ ended_reply stop j.act (tally made) = g ∙ ap (ended_reply stop j.act) c in
     let sums : moved ≡ moved_totals part (tally made) t = m ∙ ap (λ (come : Totals). moved_totals part come t) c in
@@ -69,6 +71,7 @@ end_made stop j part rule t laid rows parts come moved answer state base e s f c
       parts = f i;
       moved = Some (in_state (Cut j.act) part);
       job = Some (record j { state = s i });
+      halt = h i;
       demands = rows;
       totals = Some (record { material = part.material; totals = sums i });
     }

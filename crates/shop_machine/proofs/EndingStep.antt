@@ -1,11 +1,11 @@
 -- Waiting jobs, and contents after their ends.
-use Rattle.std.proofs.Common.{◌≡◌, ℕ, ◌+◌, ◌*◌, ◌≤◌, ◌<◌, List, [], map, Bool, true, false, refl, sym, ap, subst, ◌∙◌, arith}
-use Rattle.std.specs.Prelude.{nat_eq, Some, None, sum_by, count_by, ◌&&◌, if◌then◌else◌, Option, nat_le, ◌==◌, not}
+use Rattle.std.proofs.Common.{◌≡◌, ℕ, ◌+◌, ◌*◌, ◌≤◌, ◌<◌, List, [], map, Bool, true, false, true≢false, inl, inr, refl, sym, ap, subst, ◌∙◌, arith}
+use Rattle.std.specs.Prelude.{IfSome, nat_eq, Some, None, sum_by, count_by, ◌&&◌, if◌then◌else◌, Option, nat_le, ◌==◌, not}
 use Rattle.std.proofs.lemmas.Bool.{ne_eqb, not-false, eq-eqb, le-leb}
 use Rattle.std.specs.declared.cmp.Ordering.TheVariants.{Less}
 use Rattle.std.specs.Ordering.{is_eq}
 use Rattle.std.specs.Cmp.{nat_cmp_total}
-use Rattle.std.specs.FinMap.{insert, values, nat_cmp-IsAntisymmetric}
+use Rattle.std.specs.FinMap.{get, insert, values, nat_cmp-IsAntisymmetric}
 use Rattle.std.specs.List.{list_all}
 use Rattle.std.proofs.lemmas.List.Sums.{sum_by-le-sum_by}
 use Rattle.std.proofs.lemmas.Nat.{mul-le}
@@ -29,6 +29,7 @@ use Rattle.shop_records.specs.declared.records.Material.{Material}
 use Rattle.shop_records.specs.declared.records.Part.{Part}
 use Rattle.shop_records.specs.declared.records.State.TheVariants as state
 use Rattle.shop_records.specs.declared.records.Job.{Job}
+use Rattle.shop_records.specs.declared.records.JobHalt.{JobHalt}
 use Rattle.shop_records.specs.declared.records.JobState.{JobState}
 use Rattle.shop_records.specs.declared.records.JobState.TheVariants as job
 use Rattle.shop_records.specs.declared.records.Demand.{Demand}
@@ -44,19 +45,19 @@ use Rattle.shop_records.specs.declared.records.Column.TheVariants as column
 use Rattle.shop_records.specs.Messages.{Texts, pair_of, IsMade, IsNumber, IsWide}
 use Rattle.shop_records.specs.Same.{same_name}
 use Rattle.shop_records.specs.Columns.{is_there, is_piece_for, is_waiting, state_of, is_reserved_for, is_counted}
-use Rattle.shop_records.specs.Content.{Content, part_at, job_at, demand_at, kept_at, changed, in_state, material_of, part_of_job, totals_of, totals_for}
+use Rattle.shop_records.specs.Content.{Content, part_at, job_at, halt_at, with_halt, demand_at, kept_at, changed, in_state, material_of, part_of_job, totals_of, totals_for}
 use Rattle.shop_machine.specs.Recounts.{AreRecounted, with_laid, with_freed, pieces_in, plan_leaves}
-use Rattle.shop_machine.specs.Ending.{IsWork, fate, row_part, ended_state, ended_reply, end_change, release_change, end_refusal, can_end, has_reserved, rests, job_refusal}
+use Rattle.shop_machine.specs.Ending.{IsWork, fate, row_part, ended_state, ended_reply, kept_halt, end_change, release_change, end_refusal, can_end, has_reserved, rests, job_refusal}
 use Rattle.shop_machine.specs.Moving.{cells_counted, tally, has_cells, moved_totals}
 use Rattle.shop_machine.specs.Machine.{keeping}
 use Rattle.shop_records.specs.Elements.{IsIn}
-use Rattle.shop_records.specs.Soundness.{IsPlaced, IsWaiting, IsJob, IsCounted, IsMovedJob, Fits, reserved_in}
-use Rattle.shop_records.proofs.Basics.{in_map, same_some, map_in, earlier_node}
+use Rattle.shop_records.specs.Soundness.{IsPlaced, IsWaiting, IsJob, IsHalted, IsCounted, IsMovedJob, Fits, reserved_in}
+use Rattle.shop_records.proofs.Basics.{in_map, same_some, map_in, earlier_node, none_at, get_same}
 use Rattle.shop_machine.proofs.Inside.{row_inside}
-use Rattle.shop_records.proofs.Puts.{pairs_in, pairs_more, map_pairs, in_counted, sum_map, sum_as, sum_none, is_known, sum_over, some_known}
+use Rattle.shop_records.proofs.Puts.{pairs_in, pairs_more, map_pairs, in_counted, sum_map, sum_as, sum_none, is_known, sum_over, some_known, found_one}
 use Rattle.shop_machine.proofs.AddedUp.{cells_as, cells_left, is_uncut}
 use Rattle.shop_machine.proofs.Moved.{LeavesOthers, no_laid, no_freed}
-use Rattle.shop_machine.proofs.Grown.{IsStock, Grows, on_more}
+use Rattle.shop_machine.proofs.Grown.{IsStock, Grows, on_more, halts_kept}
 use Rattle.shop_machine.proofs.PartStep.{IsPartStep, grows, step_stock, step_fits, untouched, made_after, less_apart}
 use Rattle.shop_machine.proofs.Tallied.{sums_stay, sums_move, held}
 use Rattle.shop_machine.proofs.ReservingStep.{left_as_before}
@@ -71,7 +72,7 @@ job_waits m stop number j found allowed =
 
 -- ---- what becomes of a rectangle
 
-fate_uncut : (rule : Rule) (o : Owner) (size : Extent) → is_uncut (fate rule o size) ≡ true
+pub fate_uncut : (rule : Rule) (o : Owner) (size : Extent) → is_uncut (fate rule o size) ≡ true
 fate_uncut rule (owner.Piece demand) size = refl
 fate_uncut rule owner.Rest size = by (is_kept rule size)
   where
@@ -86,7 +87,7 @@ fate_uncut rule owner.Uncut size = by (is_kept rule size)
     by false = refl
 fate_uncut rule owner.Lost size = refl
 
-fate_piece : (number : ℕ) (rule : Rule) (o : Owner) (size : Extent) → is_piece_for number (fate rule o size) ≡ is_owner_of number o
+pub fate_piece : (number : ℕ) (rule : Rule) (o : Owner) (size : Extent) → is_piece_for number (fate rule o size) ≡ is_owner_of number o
 fate_piece number rule (owner.Piece demand) size = refl
 fate_piece number rule owner.Rest size = by (is_kept rule size)
   where
@@ -180,6 +181,7 @@ module _ (m : Content) (stock : IsStock m) (number : ℕ) (j : Job) (part : Part
           plan = is_job.plan;
           kerf = is_job.kerf;
           on = record { row = on.row; found = on.found; material = on.material; known = on.known; width = on.width; height = on.height; kerf = on.kerf };
+          called = is_job.called;
           demands = λ number some. more.demands number (is_job.demands number some);
           waits = λ is. absurd (let no : true ≡ false = sym is ∙ no_wait in cc);
         }
@@ -226,32 +228,59 @@ module _ (m : Content) (stock : IsStock m) (number : ℕ) (j : Job) (part : Part
       let few = old.few in
       let was = old.reserved in
       let less = reserved_less m stock number j part material work waits job.Released refl d in
-      let same = made_after m stock part state.Standing [] None released release_step with_freed j.plan.tree (no_freed m.demands j.plan.tree) freed_keeps rows recounted None texts message (reply.Release j.act) d in
+      let same = made_after m stock part state.Standing [] None released release_step with_freed j.plan.tree (no_freed m.demands j.plan.tree) freed_keeps rows recounted None None texts message (reply.Release j.act) d in
       let made = old.made in
       record { few = omega (arith, few); reserved = omega (arith, was, less); made = omega (arith, made, same) }
 
   pub release_stock : IsStock after_release
   release_stock =
-      step_stock m stock part state.Standing [] None released release_step with_freed j.plan.tree (no_freed m.demands j.plan.tree) freed_keeps rows recounted None texts message (reply.Release j.act)
+      step_stock m stock part state.Standing [] None released release_step with_freed j.plan.tree (no_freed m.demands j.plan.tree) freed_keeps rows recounted None None texts message (reply.Release j.act)
       (job_over m stock number j part material work waits job.Released refl after_release refl
-      (grows m stock part state.Standing [] None released release_step with_freed j.plan.tree (no_freed m.demands j.plan.tree) freed_keeps rows recounted None texts message (reply.Release j.act)))
+      (grows m stock part state.Standing [] None released release_step with_freed j.plan.tree (no_freed m.demands j.plan.tree) freed_keeps rows recounted None None texts message (reply.Release j.act)))
       (λ n other is apart w.
-      untouched m stock part state.Standing [] None released release_step with_freed j.plan.tree (no_freed m.demands j.plan.tree) freed_keeps rows recounted None texts message (reply.Release j.act)
+      untouched m stock part state.Standing [] None released release_step with_freed j.plan.tree (no_freed m.demands j.plan.tree) freed_keeps rows recounted None None texts message (reply.Release j.act)
       other w (not_other m stock number j part material work waits n other is apart) (λ x i e. i))
+      (λ number kept is. halts_kept m released refl number kept (stock.halts number kept is))
       released_counts
 
   pub release_fits : kept_at m (pair_of message) ≡ None → Fits m (keeping texts message (release_change j part rows))
   release_fits =
-      step_fits m stock part state.Standing [] None released release_step with_freed j.plan.tree (no_freed m.demands j.plan.tree) freed_keeps rows recounted None texts message (reply.Release j.act)
-      (job_fits m stock number j part material work waits job.Released refl) tt
+      step_fits m stock part state.Standing [] None released release_step with_freed j.plan.tree (no_freed m.demands j.plan.tree) freed_keeps rows recounted None None texts message (reply.Release j.act)
+      (job_fits m stock number j part material work waits job.Released refl) tt tt
       (sums_stay m.parts part state.Standing [] (here m stock number j part material work waits) (λ x i. absurd i) tt (stands m stock number j part material work waits) refl (λ code c. refl))
       released_counts
 
 -- ---- the work on a job ended
 
-no_wait : (stop : Stop) → is_waiting (ended_state stop) ≡ false
+pub no_wait : (stop : Stop) → is_waiting (ended_state stop) ≡ false
 no_wait stop.All = refl
 no_wait (stop.After halt) = refl
+no_wait (stop.Saved halt rest) = refl
+
+unhalted : (m : Content) (j : Job) → halt_at m j.act ≡ None → (s : Stop) → IfSome (kept_halt s j.act) (λ (kept : JobHalt). halt_at m kept.job ≡ None)
+unhalted m j none stop.All = tt
+unhalted m j none (stop.After halt) = none
+unhalted m j none (stop.Saved halt rest) = none
+
+halted_one : (m : Content) (stock : IsStock m) (j : Job) (s : Stop) → is_waiting (ended_state s) ≡ false → (new : JobHalt) → new.job ≡ j.act → (n : ℕ) (kept : JobHalt) → get (insert m.halts new.job new) n ≡ Some kept
+    → IsHalted (insert m.jobs j.act (record j { state = ended_state s })) n kept
+halted_one m stock j s no_more new of n kept is =
+    let over_job : Job = record j { state = ended_state s } in
+    elim (found_one nat_cmp_total nat_cmp-IsAntisymmetric m.halts new.job new n kept is) [
+      | inl q ↦ record {
+        of = ap (λ (v : JobHalt). v.job) q.1 ∙ sym q.0;
+        job = over_job;
+        found = ap (get (insert m.jobs j.act over_job)) (q.0 ∙ of) ∙ get_same nat_cmp_total nat_cmp-IsAntisymmetric m.jobs j.act over_job;
+        over = no_more;
+      }
+      | inr q ↦ halts_kept m over_job no_more n kept (stock.halts n kept q.1)
+    ]
+
+halted_after : (m : Content) (stock : IsStock m) (j : Job) (s : Stop) → is_waiting (ended_state s) ≡ false → (n : ℕ) (kept : JobHalt) → get (with_halt (kept_halt s j.act) m.halts) n ≡ Some kept
+    → IsHalted (insert m.jobs j.act (record j { state = ended_state s })) n kept
+halted_after m stock j stop.All no_more n kept is = halts_kept m (record j { state = job.Done }) no_more n kept (stock.halts n kept is)
+halted_after m stock j (stop.After halt) no_more n kept is = halted_one m stock j (stop.After halt) no_more (record { job = j.act; halt = halt; rest = None }) refl n kept is
+halted_after m stock j (stop.Saved halt rest) no_more n kept is = halted_one m stock j (stop.Saved halt rest) no_more (record { job = j.act; halt = halt; rest = Some rest }) refl n kept is
 
 module _ (m : Content) (stock : IsStock m) (number : ℕ) (j : Job) (part : Part) (material : Material) (work : IsWork m number j part material) (waits : is_waiting j.state ≡ true)
     (stop : Stop) (laid : List Row) (is_laid : IsLaid j.plan.tree j.plan.w j.plan.h j.plan.kerf (outcome_of stop) laid) where
@@ -412,7 +441,7 @@ module _ (m : Content) (stock : IsStock m) (number : ℕ) (j : Job) (part : Part
         let few = old.few in
         let was = old.reserved in
         let less = reserved_less m stock number j part material work waits (ended_state stop) is_over d in
-        let more = made_after m stock part (state.Cut j.act) made None over end_step (with_laid laid) j.plan.tree others_left laid_keeps rows recounted told_totals texts message answer d in
+        let more = made_after m stock part (state.Cut j.act) made None over end_step (with_laid laid) j.plan.tree others_left laid_keeps rows recounted told_totals (kept_halt stop j.act) texts message answer d in
         let pieces = pieces_made d in
         let of = old.made in
         let room = enough m stock number j part material work waits d before is in
@@ -420,21 +449,31 @@ module _ (m : Content) (stock : IsStock m) (number : ℕ) (j : Job) (part : Part
         let laid_of = few_laid d in
         record { few = omega (arith, few, room, own, laid_of); reserved = omega (arith, was, less); made = omega (arith, of, more, pieces, own) }
 
+    -- no halt is kept of a waiting job
+    none_kept : halt_at m j.act ≡ None
+    none_kept =
+        none_at (halt_at m j.act)
+        (λ kept is.
+        let was = stock.halts j.act kept is in
+        let it : was.job ≡ j = same_some was.job j (sym was.found ∙ job_here m stock number j part material work waits) in
+        true≢false (sym waits ∙ ap (λ (v : Job). is_waiting v.state) (sym it) ∙ was.over))
+
     pub end_stock : IsStock after_end
     end_stock =
-        step_stock m stock part (state.Cut j.act) made None over end_step (with_laid laid) j.plan.tree others_left laid_keeps rows recounted told_totals texts message answer
+        step_stock m stock part (state.Cut j.act) made None over end_step (with_laid laid) j.plan.tree others_left laid_keeps rows recounted told_totals (kept_halt stop j.act) texts message answer
         (job_over m stock number j part material work waits (ended_state stop) is_over after_end refl
-        (grows m stock part (state.Cut j.act) made None over end_step (with_laid laid) j.plan.tree others_left laid_keeps rows recounted told_totals texts message answer))
+        (grows m stock part (state.Cut j.act) made None over end_step (with_laid laid) j.plan.tree others_left laid_keeps rows recounted told_totals (kept_halt stop j.act) texts message answer))
         (λ n other is apart w.
-        untouched m stock part (state.Cut j.act) made None over end_step (with_laid laid) j.plan.tree others_left laid_keeps rows recounted told_totals texts message answer
+        untouched m stock part (state.Cut j.act) made None over end_step (with_laid laid) j.plan.tree others_left laid_keeps rows recounted told_totals (kept_halt stop j.act) texts message answer
         other w (not_other m stock number j part material work waits n other is apart)
         (λ x i e. other_act m stock number j part material work waits n other is apart (sym (ap (λ (p : Part). p.name.act) (made_of x i).2) ∙ e)))
+        (halted_after m stock j stop is_over)
         end_counts
 
     pub end_fits : kept_at m (pair_of message) ≡ None → Fits m (keeping texts message (end_change stop j part material.limits (totals_of m part.material) laid rows))
     end_fits =
-        step_fits m stock part (state.Cut j.act) made None over end_step (with_laid laid) j.plan.tree others_left laid_keeps rows recounted told_totals texts message answer
-        (job_fits m stock number j part material work waits (ended_state stop) is_over) (placed m stock number j part material work waits).known
+        step_fits m stock part (state.Cut j.act) made None over end_step (with_laid laid) j.plan.tree others_left laid_keeps rows recounted told_totals (kept_halt stop j.act) texts message answer
+        (job_fits m stock number j part material work waits (ended_state stop) is_over) (unhalted m j none_kept stop) (placed m stock number j part material work waits).known
         (sums_move m.parts part (state.Cut j.act) made end_step.there end_step.new
         (pairs_more (λ (a b : Part). name_cmp a.name b.name ≡ Less) (λ (a b : Part). a.name ≡ b.name → ⊥) (λ a b. less_apart a.name b.name) made end_step.rising)
         (λ x i. ap (λ (p : Part). p.material) (made_of x i).2) received_none (tally made)
@@ -446,6 +485,7 @@ module _ (m : Content) (stock : IsStock m) (number : ℕ) (j : Job) (part : Part
 reply_made : (stop : Stop) (number : ℕ) (parts : List Part) → IsNumber number → ((column : Column) → IsWide (cells_counted column parts)) → IsMade (ended_reply stop number (tally parts))
 reply_made stop.All number parts small few = (small, few column.Kerf, few column.Pieces, few column.Rack, few column.Scrap)
 reply_made (stop.After halt) number parts small few = (small, few column.Kerf, few column.Pieces, few column.Rack, few column.Scrap)
+reply_made (stop.Saved halt rest) number parts small few = (small, few column.Kerf, few column.Pieces, few column.Rack, few column.Scrap)
 
 module _ (m : Content) (stock : IsStock m) (number : ℕ) (j : Job) (part : Part) (material : Material) (work : IsWork m number j part material) (waits : is_waiting j.state ≡ true)
     (stop : Stop) (laid : List Row) (is_laid : IsLaid j.plan.tree j.plan.w j.plan.h j.plan.kerf (outcome_of stop) laid) where
@@ -481,8 +521,8 @@ job_agrees stop None part material at totals h = λ e. cc
 job_agrees stop (Some j) part material at totals h = by (is_waiting j.state) refl
   where
     by : (b : Bool) → is_waiting j.state ≡ b
-        → NoFault (if not b then Some JobOver else (if not (can_end j.plan.tree stop) then Some BadCut else (if not (rests j part material at totals) then Some StoreFault else None)))
-    by true e = other (not (can_end j.plan.tree stop)) _ _ (λ f. cc) (no_such (rests j part material at totals) (h j refl e))
+        → NoFault (if not b then Some JobOver else (if not (can_end j.plan stop) then Some BadCut else (if not (rests j part material at totals) then Some StoreFault else None)))
+    by true e = other (not (can_end j.plan stop)) _ _ (λ f. cc) (no_such (rests j part material at totals) (h j refl e))
     by false e = λ f. cc
 
 module _ (m : Content) (stock : IsStock m) where

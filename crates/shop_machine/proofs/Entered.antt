@@ -6,10 +6,11 @@ use Rattle.std.specs.Cmp.{nat_cmp_total}
 use Rattle.std.specs.Ordering.{nat_cmp}
 use Rattle.std.specs.FinMap.{FinMap, empty, get, get-empty, insert, len, len-empty, len-insert, nat_cmp-IsAntisymmetric}
 use Rattle.shop_records.specs.declared.journal.Entry.{Entry as EntryRow}
+use Rattle.shop_records.specs.declared.records.JobHalt.{JobHalt}
 use Rattle.shop_records.specs.declared.texts.Pair.{Pair}
 use Rattle.shop_records.specs.Messages.{Texts}
 use Rattle.shop_records.specs.Content.{Content, kept_at, entry_at, entry_count, last_entry, last_time, of_found, forgotten}
-use Rattle.shop_records.specs.Soundness.{IsEntry, AreEntries, IsSound}
+use Rattle.shop_records.specs.Soundness.{IsEntry, AreEntries, IsHalted, IsSound}
 use Rattle.shop_records.proofs.Basics.{none_at, get_same, get_other, none_some}
 use Rattle.shop_records.proofs.Puts.{found_one, some_known, is_known, still_there}
 use Rattle.shop_machine.proofs.Grown.{Grows, IsStock, stock_of, placed_more, job_more, demand_more}
@@ -18,37 +19,51 @@ use Rattle.shop_machine.proofs.Grown.{Grows, IsStock, stock_of, placed_more, job
 abbrev pub with_entries : FinMap nat_cmp EntryRow → Content → Content
 with_entries entries content = record content { entries = entries }
 
+-- and with other rows of where the work on jobs halted
+abbrev pub with_rest : FinMap nat_cmp JobHalt → FinMap nat_cmp EntryRow → Content → Content
+with_rest halts entries content = record content { halts = halts; entries = entries }
+
 -- ---- a sound content is sound but for its entries
 
-stock_entries : (m : Content) (entries : FinMap nat_cmp EntryRow) → IsStock m → IsStock (with_entries entries m)
-stock_entries m entries stock =
-    let after : Content = with_entries entries m in
+stock_entries : (m : Content) (halts : FinMap nat_cmp JobHalt) (entries : FinMap nat_cmp EntryRow)
+    → ((number : ℕ) (row : JobHalt) → get halts number ≡ Some row → IsHalted m.jobs number row) → IsStock m → IsStock (with_rest halts entries m)
+stock_entries m halts entries halted stock =
+    let after : Content = with_rest halts entries m in
     let grows : Grows m after = record { materials = λ code x is. is; parts = λ name p is. (p.state, is); demands = λ number h. h; orders = λ code is. is; acts = omega arith } in
     record {
       in_range = record { acts = stock.in_range.acts; last = stock.in_range.last; last_demand = stock.in_range.last_demand; received = stock.in_range.received; adds_up = stock.in_range.adds_up };
       materials = stock.materials;
       parts = λ name part is. placed_more m after grows name part (stock.parts name part is);
       jobs = λ number j is. job_more m after grows number j (λ w. record { same = refl; none_yet = w.none_yet }) (stock.jobs number j is);
+      halts = halted;
       demands = λ number d is.
           let old = stock.demands number d is in
           demand_more m after grows (omega arith) number d old (record { few = old.counted.few; reserved = old.counted.reserved; made = old.counted.made });
       lines = stock.lines;
     }
 
-pub sound_entries : (texts : Texts) (m : Content) (entries : FinMap nat_cmp EntryRow) → IsSound texts m → AreEntries (with_entries entries m) → IsSound texts (with_entries entries m)
-sound_entries texts m entries sound are =
-    let stock = stock_entries m entries (stock_of texts m sound) in
+sound_rest : (texts : Texts) (m : Content) (halts : FinMap nat_cmp JobHalt) (entries : FinMap nat_cmp EntryRow)
+    → ((number : ℕ) (row : JobHalt) → get halts number ≡ Some row → IsHalted m.jobs number row) → IsSound texts m → AreEntries (with_rest halts entries m)
+    → IsSound texts (with_rest halts entries m)
+sound_rest texts m halts entries halted sound are =
+    let stock = stock_entries m halts entries halted (stock_of texts m sound) in
     record {
       in_range = stock.in_range;
       materials = stock.materials;
       parts = stock.parts;
       jobs = stock.jobs;
+      halts = stock.halts;
+      begun = sound.begun;
+      notes = sound.notes;
       demands = stock.demands;
       lines = stock.lines;
       kept = sound.kept;
       imports = λ code row is. let i = sound.imports code row is in record { ordered = i.ordered; answer = i.answer; tells = i.tells };
       entries = are;
     }
+
+pub sound_entries : (texts : Texts) (m : Content) (entries : FinMap nat_cmp EntryRow) → IsSound texts m → AreEntries (with_entries entries m) → IsSound texts (with_entries entries m)
+sound_entries texts m entries sound are = sound_rest texts m m.halts entries sound.halts sound are
 
 -- ---- no entries
 
@@ -61,9 +76,9 @@ no_entries_at content none = record {
   rising = λ a b one other is is_too le. absurd (none_some one (sym (get-empty nat_cmp a) ∙ sym (ap (λ (es : FinMap nat_cmp EntryRow). get es a) none) ∙ is));
 }
 
--- a sound content that forgets its entries is sound
+-- a sound content that forgets its entries, and where the work on its jobs halted, is sound
 pub sound_forgotten : (texts : Texts) (m : Content) → IsSound texts m → IsSound texts (forgotten m)
-sound_forgotten texts m sound = sound_entries texts m empty sound (no_entries_at (forgotten m) refl)
+sound_forgotten texts m sound = sound_rest texts m empty empty (λ number row is. absurd (none_some row (sym (get-empty nat_cmp number) ∙ is))) sound (no_entries_at (forgotten m) refl)
 
 -- ---- entries that stay
 

@@ -1,5 +1,5 @@
 -- The definitions on small examples: STEEL comes in bars, GLASS in sheets.
-use Rattle.std.proofs.Common.{◌≡◌, ℕ, List, [], ◌∷◌, false, refl, arith}
+use Rattle.std.proofs.Common.{◌≡◌, ℕ, List, [], ◌∷◌, true, false, refl, arith}
 use Rattle.std.specs.Prelude.{Option, Some, None, codes}
 use Rattle.cut_measure.specs.Measures.{cells_of}
 use Rattle.cut_measure.specs.declared.sizes.Kind.TheVariants.{Bar, Sheet}
@@ -7,12 +7,13 @@ use Rattle.cut_measure.specs.declared.sizes.Axis.TheVariants.{X, Y}
 use Rattle.cut_measure.specs.Names.{Name}
 use Rattle.cut_tree.specs.Tree.{Tree, Piece, Rest, Cut}
 use Rattle.cut_tree.specs.Cells.{spot_of}
+use Rattle.cut_tree.specs.declared.halts.Halt.TheVariants.{First}
 use Rattle.shop_records.specs.declared.records.State.{State}
 use Rattle.shop_records.specs.declared.records.State.TheVariants as state
 use Rattle.shop_records.specs.declared.records.Material.{Material}
 use Rattle.shop_records.specs.declared.records.Demand.{Demand}
 use Rattle.shop_records.specs.declared.refusals.Refusal.TheVariants.{NoMaterial, BadSize, BadCount, TooMuch, NumbersSpent, MaterialExists, BadMaterial, BadLine, NoDemand, TooMany}
-use Rattle.shop_records.specs.declared.messages.Command.TheVariants.{AddMaterial, Receive, AddOrder, Reserve, Done, Amend}
+use Rattle.shop_records.specs.declared.messages.Command.TheVariants.{AddMaterial, Receive, AddOrder, Reserve, Done, Break, Undo, Amend}
 use Rattle.shop_files.specs.declared.orders.OrderLine.{OrderLine}
 use Rattle.shop_records.specs.declared.records.Column.TheVariants as column
 use Rattle.shop_records.specs.Readings.{unread, Plan}
@@ -254,3 +255,49 @@ rest_of_the_remnant = refl
 still_a_piece : owner_of (effects_of remnant_cut) sheet 3 2 ≡ is_there (state.Piece 1) 2 2 4 3 3 2
 unfolding remnant_cut two_pieces sheet_tree rest_tree spot_of
 still_a_piece = refl
+
+-- The cut of the remnant is taken back, and then the sheet's: each time the cells are owned as before.
+remnant_undone : List Entry
+remnant_undone = record { message = record { terminal = 1; number = 9; command = Undo 3 }; read = unread } ∷ remnant_cut
+
+both_undone : List Entry
+both_undone = record { message = record { terminal = 1; number = 10; command = Undo 2 }; read = unread } ∷ remnant_undone
+
+remnant_stands : owner_of (effects_of remnant_undone) sheet 6 1 ≡ is_there state.Standing 2 4 5 8 1 1
+unfolding remnant_undone remnant_cut two_pieces sheet_tree rest_tree spot_of
+remnant_stands = refl
+
+-- what the other job made stays
+piece_stays : owner_of (effects_of remnant_undone) sheet 3 2 ≡ is_there (state.Piece 1) 2 2 4 3 3 2
+unfolding remnant_undone remnant_cut two_pieces sheet_tree rest_tree spot_of
+piece_stays = refl
+
+sheet_stands : owner_of (effects_of both_undone) sheet 6 1 ≡ is_there state.Standing 1 0 10 8 6 1
+unfolding both_undone remnant_undone remnant_cut two_pieces sheet_tree rest_tree spot_of
+sheet_stands = refl
+
+no_kerf_left : owner_of (effects_of both_undone) sheet 4 7 ≡ is_there state.Standing 1 0 10 8 4 7
+unfolding both_undone remnant_undone remnant_cut two_pieces sheet_tree rest_tree spot_of
+no_kerf_left = refl
+
+-- The first cut of the sheet goes wrong, and five columns are left: they stand under the next node, and what is before them
+-- is lost.
+first_cut_lost : Option ℕ → List Entry
+first_cut_lost rest =
+    record { message = record { terminal = 1; number = 5; command = Break 2 (First 0 true) rest }; read = unread }
+    ∷ record { message = record { terminal = 1; number = 4; command = Reserve (record { act = 1; node = 0 }) (codes "x4 y3 p1 p2 r") }; read = Plan (record { tree = sheet_tree; w = 10; h = 8; kerf = 1 }) }
+    ∷ record { message = record { terminal = 1; number = 2; command = Receive (codes "GLASS") (codes "B-1") 10 8 1 }; read = unread }
+    ∷ record { message = record { terminal = 1; number = 1; command = AddMaterial (codes "GLASS") Sheet 1 5 4 }; read = unread } ∷ []
+
+rest_is_kept : owner_of (effects_of (first_cut_lost (Some 5))) sheet 6 1 ≡ is_there state.Standing 2 1 5 8 1 1
+unfolding first_cut_lost sheet_tree spot_of
+rest_is_kept = refl
+
+last_lost_column : owner_of (effects_of (first_cut_lost (Some 5))) sheet 4 2 ≡ is_there state.Scrap 2 0 5 8 4 2
+unfolding first_cut_lost sheet_tree spot_of
+last_lost_column = refl
+
+-- without a rest all is lost
+all_lost : owner_of (effects_of (first_cut_lost None)) sheet 6 1 ≡ is_there state.Scrap 2 0 10 8 6 1
+unfolding first_cut_lost sheet_tree spot_of
+all_lost = refl

@@ -3,7 +3,7 @@ use Rattle.std.proofs.Common.{◌≡◌, ℕ, zero, suc, List, [], ◌∷◌, �
 use Rattle.std.specs.Prelude.{None}
 use Rattle.std.specs.Option.{option_map}
 use Rattle.std.specs.Ordering.{nat_cmp}
-use Rattle.std.specs.FinMap.{FinMap, empty, get-empty}
+use Rattle.std.specs.FinMap.{FinMap, get-empty}
 use Rattle.cut_measure.specs.Codes.{code_cmp}
 use Rattle.cut_measure.specs.Names.{name_cmp}
 use Rattle.shop_records.specs.declared.journal.Entry.{Entry as EntryRow}
@@ -12,7 +12,7 @@ use Rattle.shop_records.specs.declared.messages.Message.{Message}
 use Rattle.shop_records.specs.declared.messages.Command.{Command}
 use Rattle.shop_records.specs.Messages.{Texts}
 use Rattle.shop_records.specs.Readings.{Reading}
-use Rattle.shop_records.specs.Content.{Content, fresh, changed}
+use Rattle.shop_records.specs.Content.{Content, fresh, changed, forgotten}
 use Rattle.shop_machine.specs.Machine.{Reads, refusal_of, Makes, keeping, keeping_at, Effect, effects}
 use Rattle.shop_records.specs.Soundness.{IsSound}
 use Rattle.shop_machine.specs.History.{Entry, effects_of, Gives, MayForget, nth_line}
@@ -41,11 +41,12 @@ from_start = record {
   jobs = λ k job g. absurd (none_some job (sym (get-empty nat_cmp k) ∙ g));
   wholes = λ unit i. absurd i;
   cells = λ unit i. absurd i;
+  over = λ n p job g cut. absurd (none_some p (sym (get-empty name_cmp n) ∙ g));
 }
 
 -- what effects say of a content they say whatever its entries are
-follows_entries : (effects : List Effect) (content : Content) (entries : FinMap nat_cmp EntryRow) → Follows effects content → Follows effects (with_entries entries content)
-follows_entries effects content entries f = record {
+follows_entries : (done : List Effect) (content : Content) (entries : FinMap nat_cmp EntryRow) → Follows done content → Follows done (with_entries entries content)
+follows_entries done content entries f = record {
   acts = f.acts;
   numbers = f.numbers;
   lines = f.lines;
@@ -54,11 +55,26 @@ follows_entries effects content entries f = record {
   jobs = f.jobs;
   wholes = f.wholes;
   cells = f.cells;
+  over = f.over;
 }
 
-follows_left : (effects : List Effect) (left content : Content) → MayForget left content → Follows effects left → Follows effects content
-follows_left effects left content (inl same) f = subst (Follows effects) (sym same) f
-follows_left effects left content (inr same) f = subst (Follows effects) (sym same) (follows_entries effects left empty f)
+-- and wherever the work on its jobs halted
+follows_forgotten : (done : List Effect) (content : Content) → Follows done content → Follows done (forgotten content)
+follows_forgotten done content f = record {
+  acts = f.acts;
+  numbers = f.numbers;
+  lines = f.lines;
+  rules = f.rules;
+  rows = f.rows;
+  jobs = f.jobs;
+  wholes = f.wholes;
+  cells = f.cells;
+  over = f.over;
+}
+
+follows_left : (done : List Effect) (left content : Content) → MayForget left content → Follows done left → Follows done content
+follows_left done left content (inl same) f = subst (Follows done) (sym same) f
+follows_left done left content (inr same) f = subst (Follows done) (sym same) (follows_forgotten done left f)
 
 -- where each content that a history gives is sound
 module _ (texts : Texts) (sound : (history : List Entry) (content : Content) → Gives texts history content → IsSound texts content) where

@@ -1,8 +1,9 @@
 -- What stays true of parts, jobs and demands when a content grows.
-use Rattle.std.proofs.Common.{◌≡◌, ℕ, ◌≤◌, ◌<◌, List, true, refl, sym, ap, ◌∙◌, arith, []}
+use Rattle.std.proofs.Common.{◌≡◌, ℕ, ◌≤◌, ◌<◌, List, true, false, refl, sym, ap, ◌∙◌, arith, [], inl, inr}
 use Rattle.std.specs.Prelude.{Some, None, IsSome, AllPairs}
 use Rattle.std.specs.declared.cmp.Ordering.TheVariants.{Less}
-use Rattle.std.specs.FinMap.{FinMap}
+use Rattle.std.specs.Cmp.{nat_cmp_total}
+use Rattle.std.specs.FinMap.{FinMap, get, insert, nat_cmp-IsAntisymmetric}
 use Rattle.std.proofs.lemmas.List.Elements.{All-nil}
 use Rattle.cut_measure.specs.Codes.{code_cmp}
 use Rattle.cut_measure.specs.Names.{Name, name_cmp}
@@ -12,15 +13,17 @@ use Rattle.shop_records.specs.declared.records.Material.{Material}
 use Rattle.shop_records.specs.declared.records.Part.{Part}
 use Rattle.shop_records.specs.declared.records.State.{State}
 use Rattle.shop_records.specs.declared.records.Job.{Job}
+use Rattle.shop_records.specs.declared.records.JobHalt.{JobHalt}
 use Rattle.shop_records.specs.declared.records.Demand.{Demand}
-use Rattle.shop_records.specs.Content.{Content, pair_cmp, material_at, part_at, job_at, has_order, demand_at, kept_at, in_state}
-use Rattle.shop_records.specs.Soundness.{IsInRange, IsKnown, IsPlaced, IsOnPart, IsWaiting, IsJob, IsDemand, IsCounted, AreDifferent, IsSound, Fits}
+use Rattle.shop_records.specs.Content.{Content, pair_cmp, material_at, part_at, job_at, halt_at, has_order, demand_at, kept_at, in_state}
+use Rattle.shop_records.specs.Soundness.{IsInRange, IsKnown, IsPlaced, IsOnPart, IsWaiting, IsJob, IsHalted, IsDemand, IsCounted, AreDifferent, IsSound, Fits}
 use Rattle.shop_records.specs.declared.messages.Message.{Message}
 use Rattle.shop_records.specs.declared.messages.Reply.{Reply}
 use Rattle.shop_records.specs.Messages.{Texts, pair_of}
 use Rattle.shop_machine.specs.Decisions.{no_change}
 use Rattle.shop_machine.specs.Machine.{keeping}
-use Rattle.shop_records.proofs.Basics.{same_some, none_at}
+use Rattle.shop_records.proofs.Basics.{same_some, none_at, nat_cases, get_same, get_other}
+use Rattle.shop_records.specs.Columns.{is_waiting}
 use Rattle.shop_records.proofs.Puts.{some_known, is_known}
 
 -- a content with other kept messages and imports
@@ -45,6 +48,7 @@ pub record IsStock (content : Content) : Type 0 where
   pub materials : (code : List ℕ) (material : Material) → material_at content code ≡ Some material → IsKnown code material
   pub parts : (name : Name) (part : Part) → part_at content name ≡ Some part → IsPlaced content name part
   pub jobs : (number : ℕ) (job : Job) → job_at content number ≡ Some job → IsJob content number job
+  pub halts : (number : ℕ) (row : JobHalt) → halt_at content number ≡ Some row → IsHalted content.jobs number row
   pub demands : (number : ℕ) (demand : Demand) → demand_at content number ≡ Some demand → IsDemand content number demand
   pub lines : AreDifferent content
 
@@ -113,9 +117,28 @@ module _ (old new : Content) (grows : Grows old new) where
         plan = j.plan;
         kerf = j.kerf;
         on = on_more job j.on;
+        called = j.called;
         demands = λ number some. grows.demands number (j.demands number some);
         waits = λ is. let w = j.waits is in waiting_more job (f w) w;
       }
+
+-- what is kept of halts, after a job got a state in which it doesn't wait
+pub halts_kept : (m : Content) (j : Job) → is_waiting j.state ≡ false → (number : ℕ) (row : JobHalt) → IsHalted m.jobs number row → IsHalted (insert m.jobs j.act j) number row
+halts_kept m j over number row was =
+    elim (nat_cases number j.act) [
+      | inl y ↦ record {
+        of = was.of;
+        job = j;
+        found = ap (get (insert m.jobs j.act j)) y.0 ∙ get_same nat_cmp_total nat_cmp-IsAntisymmetric m.jobs j.act j;
+        over = over;
+      }
+      | inr n ↦ record {
+        of = was.of;
+        job = was.job;
+        found = get_other nat_cmp_total nat_cmp-IsAntisymmetric m.jobs j.act j number n.0 ∙ was.found;
+        over = was.over;
+      }
+    ]
 
 -- no part is named after an act to come
 pub none_later : (content : Content) → IsInRange content → (name : Name) → content.last_act < name.act → part_at content name ≡ None
@@ -147,7 +170,7 @@ pub no_pairs : {X : Type 0} (R : X → X → Type 0) → AllPairs R []
 no_pairs R i j d before within = absurd (omega arith)
 
 pub stock_of : (texts : Texts) (m : Content) → IsSound texts m → IsStock m
-stock_of texts m sound = record { in_range = sound.in_range; materials = sound.materials; parts = sound.parts; jobs = sound.jobs; demands = sound.demands; lines = sound.lines }
+stock_of texts m sound = record { in_range = sound.in_range; materials = sound.materials; parts = sound.parts; jobs = sound.jobs; halts = sound.halts; demands = sound.demands; lines = sound.lines }
 
 -- ---- what changes nothing but messages
 
@@ -160,6 +183,7 @@ same_stock m kept imports stock =
       materials = stock.materials;
       parts = λ name part is. placed_more m after grows name part (stock.parts name part is);
       jobs = λ number j is. job_more m after grows number j (λ w. record { same = refl; none_yet = w.none_yet }) (stock.jobs number j is);
+      halts = stock.halts;
       demands = λ number d is.
           let old = stock.demands number d is in
           demand_more m after grows (omega arith) number d old (record { few = old.counted.few; reserved = old.counted.reserved; made = old.counted.made });
@@ -172,7 +196,13 @@ nothing_fits m texts message answer new = record {
   parts = All-nil _;
   rising = no_pairs (λ (a b : Part). name_cmp a.name b.name ≡ Less);
   moved = tt;
+  undone = All-nil _;
+  apart = no_pairs (λ (a b : Part). name_cmp a.name b.name ≡ Less);
   job = tt;
+  halt = tt;
+  begun = tt;
+  extended = tt;
+  note = tt;
   order = tt;
   demands = All-nil _;
   wanted = All-nil _;

@@ -1,5 +1,5 @@
 -- What an import does to what a content follows.
-use Rattle.std.proofs.Common.{◌≡◌, ℕ, ◌+◌, List, [], ◌∷◌, ◌++◌, sym, subst, arith, inl, inr}
+use Rattle.std.proofs.Common.{refl, ◌≡◌, ℕ, ◌+◌, List, [], ◌∷◌, sym, subst, arith, inl, inr}
 use Rattle.std.specs.Prelude.{None}
 use Rattle.shop_records.specs.declared.imports.Form.{Form}
 use Rattle.shop_records.specs.declared.changes.Change.{Change}
@@ -29,10 +29,11 @@ module _ (texts : Texts) (message : Message) (earlier : List Effect) (old : Cont
     numbers = f.numbers;
     lines = f.lines;
     rules = f.rules;
-    rows = λ n p k. row_later nothing earlier p (f.rows n p k);
+    rows = λ n p k. row_later nothing earlier p (λ job x y is. refl) (f.rows n p k);
     jobs = f.jobs;
     wholes = f.wholes;
     cells = f.cells;
+    over = f.over;
   }
 
   by_accepted : (order : List ℕ) (form : Form) (text : List ℕ) (read : Reading) (change : Change) → IsAccepted texts old order form text read change

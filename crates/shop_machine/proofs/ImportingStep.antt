@@ -130,6 +130,12 @@ module _ (texts : Texts) (m : Content) (order : List ℕ) where
         parts = o.parts;
         rising = o.rising;
         moved = o.moved;
+        undone = o.undone;
+        apart = o.apart;
+        halt = o.halt;
+        begun = o.begun;
+        extended = o.extended;
+        note = o.note;
         job = o.job;
         order = o.order;
         demands = o.demands;
@@ -153,6 +159,12 @@ module _ (texts : Texts) (m : Content) (order : List ℕ) where
         parts = r.parts;
         rising = r.rising;
         moved = o.moved;
+        undone = o.undone;
+        apart = o.apart;
+        halt = o.halt;
+        begun = o.begun;
+        extended = o.extended;
+        note = o.note;
         job = o.job;
         order = o.order;
         demands = o.demands;

@@ -15,6 +15,7 @@ pub mod RecountedRows
 pub mod SharedCells
 pub mod Inside
 pub mod Cells
+pub mod PutBack
 -- what a history says of the content
 pub mod OrderedLines
 pub mod Accounts
@@ -42,8 +43,17 @@ pub mod EndingStep
 pub mod EndingEffect
 -- a standing part as a whole gets another state
 pub mod RetiringStep
+-- undoing a job
+pub mod UndoingDecision
+pub mod Undoable
+pub mod UndoingStep
+pub mod UndoingEffect
 -- amending a demand
 pub mod AmendingStep
+-- further lines of an order
+pub mod ExtendingStep
+-- what is said of an order, and who has begun a job
+pub mod SayingStep
 -- every command, every history and every run
 pub mod Sound
 pub mod Given
@@ -55,4 +65,6 @@ pub mod Newest
 pub mod OneResult
 pub mod Timeless
 -- the definitions on small examples
+pub mod OwnersBefore
 pub mod Examples
+pub mod FloorExamples

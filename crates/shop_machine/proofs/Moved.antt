@@ -65,7 +65,7 @@ module _ (old : FinMap nat_cmp Demand) (recount : ℕ → Demand → Demand) (tr
         | inr q ↦ subst (λ (o : Option Demand). IsSome o) (sym q.1) h
       ]
 
-same_demand : (a b : Demand) → a.number ≡ b.number → a.order ≡ b.order → a.line ≡ b.line → a.material ≡ b.material → a.size ≡ b.size → a.may_turn ≡ b.may_turn
+pub same_demand : (a b : Demand) → a.number ≡ b.number → a.order ≡ b.order → a.line ≡ b.line → a.material ≡ b.material → a.size ≡ b.size → a.may_turn ≡ b.may_turn
     → a.worth ≡ b.worth → a.wanted ≡ b.wanted → a.reserved ≡ b.reserved → a.made ≡ b.made → a ≡ b
 same_demand a b n o l m s t w x r d i =
     record { number = n i; order = o i; line = l i; material = m i; size = s i; may_turn = t i; worth = w i; wanted = x i; reserved = r i; made = d i }

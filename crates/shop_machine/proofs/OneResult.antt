@@ -12,12 +12,15 @@ use Rattle.cut_tree.specs.declared.halts.Stop.{Stop}
 use Rattle.cut_tree.specs.declared.halts.Stop.TheVariants as stop
 use Rattle.cut_tree.specs.Tree.{Tree, count_of}
 use Rattle.cut_tree.specs.Patterns.{Pattern}
-use Rattle.cut_tree.specs.Stops.{outcome_of}
+use Rattle.cut_tree.specs.Stops.{halted, outcome_of}
 use Rattle.cut_tree.proofs.OneLaidList.{one_laid}
 use Rattle.shop_records.specs.declared.records.Material.{Material}
 use Rattle.shop_records.specs.declared.records.Part.{Part}
 use Rattle.shop_records.specs.declared.records.State.TheVariants as state
 use Rattle.shop_records.specs.declared.records.Job.{Job}
+use Rattle.shop_records.specs.declared.records.JobHalt.{JobHalt}
+use Rattle.shop_records.specs.declared.records.JobState.{JobState}
+use Rattle.shop_records.specs.declared.records.JobState.TheVariants as job
 use Rattle.shop_records.specs.declared.records.Demand.{Demand}
 use Rattle.shop_records.specs.declared.records.Totals.{Totals}
 use Rattle.shop_records.specs.declared.imports.Form.{Form}
@@ -25,20 +28,21 @@ use Rattle.shop_records.specs.declared.imports.Form.TheVariants.{Csv, Cgcut}
 use Rattle.shop_records.specs.declared.journal.Entry.{Entry as EntryRow}
 use Rattle.shop_records.specs.declared.changes.Change.{Change}
 use Rattle.shop_records.specs.declared.messages.Command.{Command}
-use Rattle.shop_records.specs.declared.messages.Command.TheVariants.{AddMaterial, Receive, AddOrder, Reserve, Done, Break, Release, Scrap, GiveBack, Import, Amend}
+use Rattle.shop_records.specs.declared.messages.Command.TheVariants.{AddMaterial, Receive, AddOrder, Reserve, Done, Break, Release, Scrap, GiveBack, Import, Amend, Undo, Note, Extend, Begin}
 use Rattle.shop_records.specs.declared.messages.Reply.TheVariants as reply
 use Rattle.shop_records.specs.Readings.{Reading, unread, Plan, Lines, Problem, Again}
-use Rattle.shop_records.specs.Content.{Content, part_at, demand_at, totals_of, with_demands}
+use Rattle.shop_records.specs.Content.{Content, part_at, halt_at, demand_at, totals_of, with_demands}
 use Rattle.shop_records.specs.Elements.{IsIn}
-use Rattle.shop_machine.specs.Recounts.{AreRecounted, with_reserved, with_freed, with_laid}
+use Rattle.shop_machine.specs.Recounts.{AreRecounted, with_reserved, with_freed, with_laid, with_unmade}
 use Rattle.shop_machine.specs.Reserving.{IsReservation, reserve_change}
 use Rattle.shop_machine.specs.Ending.{IsWork, IsEnd, IsRelease, end_change, release_change}
 use Rattle.shop_machine.specs.Retiring.{turn_change}
 use Rattle.shop_machine.specs.Importing.{ImportMakes}
 use Rattle.shop_machine.specs.Amending.{amend_change}
+use Rattle.shop_machine.specs.Undoing.{IsUndo, laid_by, stop_of, undo_change}
 use Rattle.shop_machine.specs.Machine.{Makes, entry_order}
-use Rattle.shop_records.proofs.Basics.{all_in, any_in, demand_cases, same_some}
-use Rattle.shop_machine.proofs.Entered.{with_entries}
+use Rattle.shop_records.proofs.Basics.{all_in, any_in, demand_cases, none_some, same_some}
+use Rattle.shop_machine.proofs.Entered.{with_rest}
 
 -- ---- rows of demands, in any order
 
@@ -82,8 +86,12 @@ pub record IsSame (command : Command) (one other : Change) : Type 0 where
   pub material : one.material ≡ other.material
   pub parts : one.parts ≡ other.parts
   pub moved : one.moved ≡ other.moved
+  pub undone : one.undone ≡ other.undone
   pub job : one.job ≡ other.job
+  pub halt : one.halt ≡ other.halt
+  pub begun : one.begun ≡ other.begun
   pub order : one.order ≡ other.order
+  pub note : one.note ≡ other.note
   pub demands : (m : FinMap nat_cmp Demand) → with_demands one.demands m ≡ with_demands other.demands m
   pub entered : entry_order command one.demands ≡ entry_order command other.demands
   pub act : one.act ≡ other.act
@@ -96,8 +104,12 @@ itself command change = record {
   material = refl;
   parts = refl;
   moved = refl;
+  undone = refl;
   job = refl;
+  halt = refl;
+  begun = refl;
   order = refl;
+  note = refl;
   demands = λ m. refl;
   entered = refl;
   act = refl;
@@ -126,8 +138,12 @@ module _ (at : ℕ → Option Demand) where
         material = refl;
         parts = refl;
         moved = refl;
+        undone = refl;
         job = refl;
+        halt = refl;
+        begun = refl;
         order = refl;
+        note = refl;
         demands = rows_same at with_reserved plan.tree p.rows q.rows p.recounted q.recounted;
         entered = refl;
         act = refl;
@@ -146,8 +162,12 @@ module _ (at : ℕ → Option Demand) where
         material = refl;
         parts = refl;
         moved = refl;
+        undone = refl;
         job = refl;
+        halt = refl;
+        begun = refl;
         order = refl;
+        note = refl;
         demands = rows_same at (with_laid p.laid) j.plan.tree p.rows q.rows p.recounted (subst (λ (l : List Row). AreRecounted at (with_laid l) j.plan.tree q.rows) laid q.recounted);
         entered = none p.rows ∙ sym (none q.rows);
         act = refl;
@@ -163,8 +183,12 @@ module _ (at : ℕ → Option Demand) where
         material = refl;
         parts = refl;
         moved = refl;
+        undone = refl;
         job = refl;
+        halt = refl;
+        begun = refl;
         order = refl;
+        note = refl;
         demands = rows_same at with_freed j.plan.tree p.rows q.rows p.recounted q.recounted;
         entered = refl;
         act = refl;
@@ -172,6 +196,42 @@ module _ (at : ℕ → Option Demand) where
         import = refl;
         answer = refl;
       })
+
+  undone_same : (number : ℕ) (j : Job) (kept also_kept : Option JobHalt) (part : Part) (rule : Rule) (totals : Totals) (one other : Change)
+      → (p : IsUndo j kept part rule totals at one) (q : IsUndo j also_kept part rule totals at other) → q.end ≡ p.end → IsSame (Undo number) one other
+  undone_same number j kept also_kept part rule totals one other p q same =
+      both_are (Undo number) one other (undo_change p.end j part rule totals p.rows) (undo_change p.end j part rule totals q.rows)
+      p.is (q.is ∙ ap (λ (s : Stop). undo_change s j part rule totals q.rows) same)
+      (record {
+        material = refl;
+        parts = refl;
+        moved = refl;
+        undone = refl;
+        job = refl;
+        halt = refl;
+        begun = refl;
+        order = refl;
+        note = refl;
+        demands = rows_same at (with_unmade (laid_by p.end j)) j.plan.tree p.rows q.rows p.recounted
+            (subst (λ (s : Stop). AreRecounted at (with_unmade (laid_by s j)) j.plan.tree q.rows) same q.recounted);
+        entered = refl;
+        act = refl;
+        demand = refl;
+        import = refl;
+        answer = refl;
+      })
+
+-- the work on a job ended so, where what is kept of it in two contents agrees
+one_end : (j : Job) (state : JobState) (kept also_kept : Option JobHalt) (one other : Stop) → ((r s : JobHalt) → kept ≡ Some r → also_kept ≡ Some s → r ≡ s)
+    → stop_of j state kept ≡ Some one → stop_of j state also_kept ≡ Some other → other ≡ one
+one_end j job.Waiting kept also_kept one other agree p q = absurd (none_some one p)
+one_end j job.Done kept also_kept one other agree p q = same_some other one (sym q ∙ p)
+one_end j job.Broken None also_kept one other agree p q = absurd (none_some one p)
+one_end j job.Broken (Some r) None one other agree p q = absurd (none_some other q)
+one_end j job.Broken (Some r) (Some s) one other agree p q =
+    same_some other one (sym q ∙ ap (λ (row : JobHalt). stop_of j job.Broken (Some row)) (sym (agree r s refl refl)) ∙ p)
+one_end j job.Released kept also_kept one other agree p q = absurd (none_some one p)
+one_end j job.Undone kept also_kept one other agree p q = absurd (none_some one p)
 
 import_same : (order : List ℕ) (form : Form) (text : List ℕ) (totals : List ℕ → Totals) (act first : ℕ) (read : Reading) (one other : Change)
     → ImportMakes order form text totals act first read one → ImportMakes order form text totals act first read other → one ≡ other
@@ -188,11 +248,13 @@ import_same order (Cgcut material) text totals act first (Problem size pieces) o
 import_same order (Cgcut material) text totals act first (Again None) one other p q = absurd p
 import_same order (Cgcut material) text totals act first (Again (Some answer)) one other p q = p ∙ sym q
 
--- ---- by cases on the command, over two contents that differ in entries alone
+-- ---- by cases on the command, over two contents that differ in their entries alone, and in of which jobs it is kept where the work
+-- on them halted
 
-module _ (a : Content) (entries : FinMap nat_cmp EntryRow) where
+module _ (a : Content) (halts : FinMap nat_cmp JobHalt) (entries : FinMap nat_cmp EntryRow)
+    (agree : (n : ℕ) (r s : JobHalt) → halt_at a n ≡ Some r → get halts n ≡ Some s → r ≡ s) where
   abbrev b : Content
-  b = with_entries entries a
+  b = with_rest halts entries a
 
   -- the same job, part and material
   module _ (number : ℕ) (j k : Job) (p q : Part) (m n : Material) (work : IsWork a number j p m) (other : IsWork b number k q n) where
@@ -219,6 +281,13 @@ module _ (a : Content) (entries : FinMap nat_cmp EntryRow) where
         subst (λ (x : Part). IsRelease j x (demand_at a) change) same_part
         (subst (λ (x : Job). IsRelease x q (demand_at a) change) same_job release)
 
+    undo_alike : (change : Change) → IsUndo k (halt_at b k.act) q n.limits (totals_of a q.material) (demand_at a) change
+        → IsUndo j (halt_at b j.act) p m.limits (totals_of a p.material) (demand_at a) change
+    undo_alike change undo =
+        subst (λ (x : Material). IsUndo j (halt_at b j.act) p x.limits (totals_of a p.material) (demand_at a) change) same_material
+        (subst (λ (x : Part). IsUndo j (halt_at b j.act) x n.limits (totals_of a x.material) (demand_at a) change) same_part
+        (subst (λ (x : Job). IsUndo x (halt_at b x.act) q n.limits (totals_of a q.material) (demand_at a) change) same_job undo))
+
   pub one_change : (command : Command) (read : Reading) (one other : Change) → Makes a command read one → Makes b command read other → IsSame command one other
   one_change (AddMaterial material kind kerf min_long min_short) read one other p q = equal_same (AddMaterial material kind kerf min_long min_short) one other (p ∙ sym q)
   one_change (Receive material batch w h count) read one other p q = equal_same (Receive material batch w h count) one other (p ∙ sym q)
@@ -232,9 +301,9 @@ module _ (a : Content) (entries : FinMap nat_cmp EntryRow) where
   one_change (Done number) read one other p q =
       ended_same (demand_at a) (Done number) (λ demands. refl) stop.All p.0 p.1 p.2.limits (totals_of a p.1.material) one other p.4
       (ends_alike number p.0 q.0 p.1 q.1 p.2 q.2 p.3 q.3 stop.All other q.4)
-  one_change (Break number halt) read one other p q =
-      ended_same (demand_at a) (Break number halt) (λ demands. refl) (stop.After halt) p.0 p.1 p.2.limits (totals_of a p.1.material) one other p.4
-      (ends_alike number p.0 q.0 p.1 q.1 p.2 q.2 p.3 q.3 (stop.After halt) other q.4)
+  one_change (Break number halt rest) read one other p q =
+      ended_same (demand_at a) (Break number halt rest) (λ demands. refl) (halted halt rest) p.0 p.1 p.2.limits (totals_of a p.1.material) one other p.4
+      (ends_alike number p.0 q.0 p.1 q.1 p.2 q.2 p.3 q.3 (halted halt rest) other q.4)
   one_change (Release number) read one other p q =
       released_same (demand_at a) number p.0 p.1 one other p.4 (release_alike number p.0 q.0 p.1 q.1 p.2 q.2 p.3 q.3 other q.4)
   one_change (Scrap part) read one other p q =
@@ -248,3 +317,10 @@ module _ (a : Content) (entries : FinMap nat_cmp EntryRow) where
   one_change (Amend demand wanted) read one other p q =
       let row : p.0 ≡ q.0 = same_some p.0 q.0 (sym p.1 ∙ q.1) in
       equal_same (Amend demand wanted) one other (p.2 ∙ ap (λ (r : Demand). amend_change r wanted) row ∙ sym q.2)
+  one_change (Undo number) read one other p q =
+      let also = undo_alike number p.0 q.0 p.1 q.1 p.2 q.2 p.3 q.3 other q.4 in
+      undone_same (demand_at a) number p.0 (halt_at a p.0.act) (halt_at b p.0.act) p.1 p.2.limits (totals_of a p.1.material) one other p.4 also
+      (one_end p.0 p.0.state (halt_at a p.0.act) (halt_at b p.0.act) p.4.end also.end (agree p.0.act) p.4.ended also.ended)
+  one_change (Note order due text) read one other p q = equal_same (Note order due text) one other (p ∙ sym q)
+  one_change (Extend order lines) read one other p q = equal_same (Extend order lines) one other (p ∙ sym q)
+  one_change (Begin number) read one other p q = equal_same (Begin number) one other (p ∙ sym q)

@@ -1,11 +1,12 @@
 -- A content after an order was added.
-use Rattle.std.proofs.Common.{◌≡◌, ℕ, zero, suc, ◌+◌, ◌≤◌, ◌<◌, ◌⊎◌, inl, inr, List, [], ◌∷◌, length, Bool, true, false, refl, sym, ap, subst, ◌∙◌, arith}
+use Rattle.std.proofs.Common.{◌≡◌, ◌≢◌, ℕ, zero, suc, ◌+◌, ◌-◌, ◌≤◌, ◌<◌, ◌⊎◌, inl, inr, List, [], ◌∷◌, length, Bool, true, false, true≢false, refl, sym, ap, subst, ◌∙◌, arith}
 use Rattle.std.proofs.lemmas.List.Elements.{All-nil}
 use Rattle.std.proofs.lemmas.Bool.{and_parts, not-false, leb-true, ltb-true, ltb-false}
-use Rattle.std.specs.Prelude.{Option, Some, None, IsSome, if◌then◌else◌, nat_le, nat_lt, ◌&&◌, not}
+use Rattle.std.specs.Prelude.{Option, Some, None, IsSome, if◌then◌else◌, nat_le, nat_lt, ◌&&◌, not, All, AllPairs}
 use Rattle.std.specs.declared.cmp.Ordering.TheVariants.{Less}
 use Rattle.std.specs.Cmp.{nat_cmp_total}
 use Rattle.std.specs.FinMap.{FinMap, nat_cmp-IsAntisymmetric}
+use Rattle.std.specs.FinSet as set
 use Rattle.cut_measure.specs.Codes.{code_cmp}
 use Rattle.cut_measure.specs.Names.{name_cmp}
 use Rattle.cut_measure.specs.declared.ranges.TheConstants.{MOST_NUMBERS}
@@ -22,7 +23,7 @@ use Rattle.shop_records.specs.declared.records.Material.{Material}
 use Rattle.shop_records.specs.declared.refusals.Refusal.TheVariants.{NumbersSpent, OrderExists, BadLine}
 use Rattle.shop_records.specs.Messages.{Texts, pair_of}
 use Rattle.shop_records.specs.Columns.{is_piece_for, is_waiting}
-use Rattle.shop_records.specs.Content.{Content, pair_cmp, material_at, has_order, demand_at, kept_at, changed}
+use Rattle.shop_records.specs.Content.{Content, pair_cmp, material_at, has_order, demand_at, kept_at, with_order, with_demands, changed}
 use Rattle.shop_records.specs.Elements.{IsIn}
 use Rattle.shop_records.specs.Soundness.{IsDemand, IsNewDemand, AreDifferent, Fits, reserved_in, made_in}
 use Rattle.shop_machine.specs.Ordering.{new_demand, new_demands, order_change, order_refusal, line_refusal, lines_refusal, is_good_line}
@@ -52,7 +53,7 @@ line_known : (last : ℕ) (line : OrderLine) (o : Option Material) → line_refu
 line_known last line None e = cc
 line_known last line (Some m) e = refl
 
-lines_known : (at : List ℕ → Option Material) (last : ℕ) (lines : List OrderLine) → lines_refusal at last lines ≡ None → (line : OrderLine) → IsIn line lines → IsSome (at line.material)
+pub lines_known : (at : List ℕ → Option Material) (last : ℕ) (lines : List OrderLine) → lines_refusal at last lines ≡ None → (line : OrderLine) → IsIn line lines → IsSome (at line.material)
 lines_known at last [] e line i = absurd i
 lines_known at last (l ∷ lines) e line (inl s) =
     let here = or_none (line_refusal last l (at l.material)) (lines_refusal at l.line lines) e in
@@ -66,7 +67,7 @@ line_after last line (Some m) e =
     let good = not-false (is_good_line last line m.kind) (none_of (not (is_good_line last line m.kind)) BadLine None e).0 in
     ltb-true last line.line (and_parts _ _ (and_parts _ _ (and_parts _ _ (and_parts _ _ (and_parts _ _ (and_parts _ _ good).0).0).0).0).0).0
 
-lines_after : (at : List ℕ → Option Material) (last : ℕ) (lines : List OrderLine) → lines_refusal at last lines ≡ None → (line : OrderLine) → IsIn line lines → last < line.line
+pub lines_after : (at : List ℕ → Option Material) (last : ℕ) (lines : List OrderLine) → lines_refusal at last lines ≡ None → (line : OrderLine) → IsIn line lines → last < line.line
 lines_after at last [] e line i = absurd i
 lines_after at last (l ∷ lines) e line i =
     let here = or_none (line_refusal last l (at l.material)) (lines_refusal at l.line lines) e in
@@ -76,7 +77,7 @@ lines_after at last (l ∷ lines) e line i =
       | inr j ↦ let later : l.line < line.line = lines_after at l.line lines here.1 line j in omega (arith, first, later)
     ]
 
-lines_rise : (at : List ℕ → Option Material) (last : ℕ) (lines : List OrderLine) → lines_refusal at last lines ≡ None → Pairwise (λ (a b : OrderLine). a.line < b.line) lines
+pub lines_rise : (at : List ℕ → Option Material) (last : ℕ) (lines : List OrderLine) → lines_refusal at last lines ≡ None → Pairwise (λ (a b : OrderLine). a.line < b.line) lines
 lines_rise at last [] e = tt
 lines_rise at last (l ∷ lines) e =
     let more = (or_none (line_refusal last l (at l.material)) (lines_refusal at l.line lines) e).1 in
@@ -162,8 +163,17 @@ none_reserved number j h = by (is_waiting j.state) refl
     by true e = zero_of (count_of j.plan.tree number) (h e)
     by false e = refl
 
-module _ (m : Content) (stock : IsStock m) (order : List ℕ) (lines : List OrderLine)
-    (ordered : IsOrder (has_order m order) (material_at m) lines (m.last_demand + 1)) where
+-- lines that an order may get: their materials are known, their numbers rise and are free, and the order has no demand of one
+pub record AreMore (m : Content) (order : List ℕ) (lines : List OrderLine) : Type 0 where
+  pub some : 1 ≤ length lines
+  pub known : (line : OrderLine) → IsIn line lines → IsSome (material_at m line.material)
+  pub rising : Pairwise (λ (a b : OrderLine). a.line < b.line) lines
+  pub numbers : m.last_demand + 1 + length lines ≤ MOST_NUMBERS + 1
+  pub unlike : (number : ℕ) (row : Demand) → demand_at m number ≡ Some row → row.order ≡ order → (line : OrderLine) → IsIn line lines → row.line ≡ line.line → ⊥
+
+-- the order is there already, or is new
+module _ (m : Content) (stock : IsStock m) (order : List ℕ) (lines : List OrderLine) (more : AreMore m order lines)
+    (new : Option (List ℕ)) (order_then : set.contains (with_order new m.orders) order ≡ true) where
   abbrev first : ℕ
   first = m.last_demand + 1
 
@@ -190,7 +200,11 @@ module _ (m : Content) (stock : IsStock m) (order : List ℕ) (lines : List Orde
 
   module _ (kept : FinMap pair_cmp Kept) (imports : FinMap code_cmp ImportRow) where
     abbrev after : Content
-    after = with_messages kept imports (changed m (order_change order lines first))
+    after = with_messages kept imports (record m {
+      orders = with_order new m.orders;
+      demands = with_demands rows m.demands;
+      last_demand = first + length lines - 1;
+    })
 
     found_after : (number : ℕ) (d : Demand) → demand_at after number ≡ Some d → (IsIn d rows × (d.number ≡ number)) ⊎ (demand_at m number ≡ Some d)
     found_after number d is =
@@ -209,7 +223,7 @@ module _ (m : Content) (stock : IsStock m) (order : List ℕ) (lines : List Orde
         ]
 
     grows : Grows m after
-    grows = record { materials = λ code x is. is; parts = λ name p is. (p.state, is); demands = there_after; orders = order_kept m (Some order); acts = omega arith }
+    grows = record { materials = λ code x is. is; parts = λ name p is. (p.state, is); demands = there_after; orders = order_kept m new; acts = omega arith }
 
     row_new : (number : ℕ) (d : Demand) → IsNew order first lines d → d.number ≡ number → IsDemand after number d
     row_new number d r e =
@@ -222,8 +236,8 @@ module _ (m : Content) (stock : IsStock m) (order : List ℕ) (lines : List Orde
           numbered = e;
           least = omega (arith, least, same, e);
           so_far = omega (arith, most, same, e);
-          ordered = subst (λ (x : Demand). has_order after x.order ≡ true) (sym r.is) (order_there m order);
-          known = subst (λ (x : Demand). IsSome (material_at m x.material)) (sym r.is) (ordered.known r.line r.there);
+          ordered = subst (λ (x : Demand). has_order after x.order ≡ true) (sym r.is) order_then;
+          known = subst (λ (x : Demand). IsSome (material_at m x.material)) (sym r.is) (more.known r.line r.there);
           counted = record {
             few = omega (arith, none, unmade);
             reserved = none ∙ sym (none_reserved_yet number (omega (arith, least, same, e)));
@@ -231,18 +245,16 @@ module _ (m : Content) (stock : IsStock m) (order : List ℕ) (lines : List Orde
           };
         }
 
-    -- a demand that was there is of another order than a new one
-    old_apart : (number : ℕ) (old new : Demand) → demand_at m number ≡ Some old → IsIn new rows → old.order ≡ new.order → ⊥
-    old_apart number old new is i e =
-        let of : new.order ≡ order = ap (λ (x : Demand). x.order) (new_in order first lines new i).is in
-        let yes : has_order m order ≡ true = subst (λ code. has_order m code ≡ true) (e ∙ of) (stock.demands number old is).ordered in
-        let no = ordered.unused in
-        cc
+    -- a demand of the order that was there is of another line than a new one
+    old_apart : (number : ℕ) (old new : Demand) → demand_at m number ≡ Some old → IsIn new rows → old.order ≡ new.order → old.line ≡ new.line → ⊥
+    old_apart number old new is i e l =
+        let r = new_in order first lines new i in
+        more.unlike number old is (e ∙ ap (λ (x : Demand). x.order) r.is) r.line r.there (l ∙ ap (λ (x : Demand). x.line) r.is)
 
     -- new demands of the same line are one
     new_same : (a b : Demand) → IsIn a rows → IsIn b rows → a.line ≡ b.line → a.number ≡ b.number
     new_same a b i j e =
-        elim (pair_in (λ (x y : Demand). x.line ≡ y.line → ⊥) rows (pairs_from (λ (x y : Demand). x.line ≡ y.line → ⊥) rows (lines_apart order first lines ordered.rising)) a b i j) [
+        elim (pair_in (λ (x y : Demand). x.line ≡ y.line → ⊥) rows (pairs_from (λ (x y : Demand). x.line ≡ y.line → ⊥) rows (lines_apart order first lines more.rising)) a b i j) [
           | inl same ↦ ap (λ (x : Demand). x.number) same
           | inr apart ↦ elim apart [ inl off ↦ absurd (off e) | inr off ↦ absurd (off (sym e)) ]
         ]
@@ -253,19 +265,19 @@ module _ (m : Content) (stock : IsStock m) (order : List ℕ) (lines : List Orde
           | inl p ↦
               elim (found_after b other is_too) [
                 | inl q ↦ sym p.1 ∙ new_same one other p.0 q.0 lines ∙ q.1
-                | inr q ↦ absurd (old_apart b other one q p.0 (sym orders))
+                | inr q ↦ absurd (old_apart b other one q p.0 (sym orders) (sym lines))
               ]
           | inr p ↦
               elim (found_after b other is_too) [
-                | inl q ↦ absurd (old_apart a one other p q.0 orders)
+                | inl q ↦ absurd (old_apart a one other p q.0 orders lines)
                 | inr q ↦ stock.lines a b one other p q orders lines
               ]
         ]
 
-    pub order_stock : IsStock after
-    order_stock =
-        let some = ordered.some in
-        let numbers = ordered.numbers in
+    pub more_stock : IsStock after
+    more_stock =
+        let some = more.some in
+        let numbers = more.numbers in
         record {
           in_range = record {
             acts = stock.in_range.acts;
@@ -277,6 +289,7 @@ module _ (m : Content) (stock : IsStock m) (order : List ℕ) (lines : List Orde
           materials = stock.materials;
           parts = λ name part is. placed_more m after grows name part (stock.parts name part is);
           jobs = λ number j is. job_more m after grows number j (λ w. record { same = refl; none_yet = w.none_yet }) (stock.jobs number j is);
+          halts = stock.halts;
           demands = λ number d is.
               elim (found_after number d is) [
                 | inl q ↦ row_new number d (new_in order first lines d q.0) q.1
@@ -287,14 +300,52 @@ module _ (m : Content) (stock : IsStock m) (order : List ℕ) (lines : List Orde
           lines = different;
         }
 
-  row_fits : (x : Demand) → IsNew order first lines x → IsNewDemand m order x
+  pub row_fits : (x : Demand) → IsNew order first lines x → IsNewDemand m order x
   row_fits x r =
       let least = r.least in
       let same : x.number ≡ r.number = ap (λ (d : Demand). d.number) r.is in
       let later : m.last_demand < x.number = omega (arith, least, same) in
-      record { new = none_later x.number later; later = later; of = ap (λ (d : Demand). d.order) r.is }
+      record {
+        new = none_later x.number later;
+        later = later;
+        of = ap (λ (d : Demand). d.order) r.is;
+        unlike = λ n row is same line. more.unlike n row is same r.line r.there (line ∙ ap (λ (d : Demand). d.line) r.is);
+      }
 
-  pub order_fits : (texts : Texts) (message : Message) → kept_at m (pair_of message) ≡ None → Fits m (keeping texts message (order_change order lines first))
+  pub rows_fit : All (IsNewDemand m order) rows
+  rows_fit = all_from (IsNewDemand m order) rows (λ x i. row_fits x (new_in order first lines x i))
+
+  pub rows_wanted : All (λ (d : Demand). IsSome (material_at m d.material) × (d.reserved + d.made ≤ d.wanted)) rows
+  rows_wanted = all_from (λ (d : Demand). IsSome (material_at m d.material) × (d.reserved + d.made ≤ d.wanted)) rows
+      (λ x i. let r = new_in order first lines x i in
+      subst (λ (d : Demand). IsSome (material_at m d.material) × (d.reserved + d.made ≤ d.wanted)) (sym r.is) (more.known r.line r.there, omega arith))
+
+  pub rows_once : AllPairs (λ (a b : Demand). a.number ≢ b.number) rows
+  rows_once = pairs_from (λ (a b : Demand). a.number ≡ b.number → ⊥) rows (new_apart order first lines)
+
+  pub rows_apart : AllPairs (λ (a b : Demand). a.line ≢ b.line) rows
+  rows_apart = pairs_from (λ (a b : Demand). a.line ≡ b.line → ⊥) rows (lines_apart order first lines more.rising)
+
+-- ---- an order that is new
+
+module _ (m : Content) (stock : IsStock m) (order : List ℕ) (lines : List OrderLine)
+    (ordered : IsOrder (has_order m order) (material_at m) lines (m.last_demand + 1)) where
+  first_lines : AreMore m order lines
+  first_lines = record {
+    some = ordered.some;
+    known = ordered.known;
+    rising = ordered.rising;
+    numbers = ordered.numbers;
+    unlike = λ number row is same line i e.
+        let yes : has_order m order ≡ true = subst (λ code. has_order m code ≡ true) same (stock.demands number row is).ordered in
+        let no = ordered.unused in
+        absurd (true≢false (sym yes ∙ no));
+  }
+
+  pub order_stock : (kept : FinMap pair_cmp Kept) (imports : FinMap code_cmp ImportRow) → IsStock (with_messages kept imports (changed m (order_change order lines (m.last_demand + 1))))
+  order_stock kept imports = more_stock m stock order lines first_lines (Some order) (order_there m order) kept imports
+
+  pub order_fits : (texts : Texts) (message : Message) → kept_at m (pair_of message) ≡ None → Fits m (keeping texts message (order_change order lines (m.last_demand + 1)))
   order_fits texts message new =
       let some = ordered.some in
       let numbers = ordered.numbers in
@@ -303,14 +354,18 @@ module _ (m : Content) (stock : IsStock m) (order : List ℕ) (lines : List Orde
         parts = All-nil _;
         rising = no_pairs (λ (a b : Part). name_cmp a.name b.name ≡ Less);
         moved = tt;
+        undone = All-nil _;
+        apart = no_pairs (λ (a b : Part). name_cmp a.name b.name ≡ Less);
+        halt = tt;
+        begun = tt;
+        extended = tt;
+        note = tt;
         job = tt;
         order = ordered.unused;
-        demands = all_from (IsNewDemand m order) rows (λ x i. row_fits x (new_in order first lines x i));
-        wanted = all_from (λ (d : Demand). IsSome (material_at m d.material) × (d.reserved + d.made ≤ d.wanted)) rows
-            (λ x i. let r = new_in order first lines x i in
-            subst (λ (d : Demand). IsSome (material_at m d.material) × (d.reserved + d.made ≤ d.wanted)) (sym r.is) (ordered.known r.line r.there, omega arith));
-        once = pairs_from (λ (a b : Demand). a.number ≡ b.number → ⊥) rows (new_apart order first lines);
-        lines = pairs_from (λ (a b : Demand). a.line ≡ b.line → ⊥) rows (lines_apart order first lines ordered.rising);
+        demands = rows_fit m stock order lines first_lines (Some order) (order_there m order);
+        wanted = rows_wanted m stock order lines first_lines (Some order) (order_there m order);
+        once = rows_once m stock order lines first_lines (Some order) (order_there m order);
+        lines = rows_apart m stock order lines first_lines (Some order) (order_there m order);
         totals = tt;
         sums = λ c. refl;
         act = tt;
@@ -345,8 +400,9 @@ module _ (earlier : List Effect) (old : Content) (f : Follows earlier old) (kept
     numbers = (let e = f.numbers in let more = lines_more order lines (ordered_lines earlier) in omega (arith, e, more));
     lines = lines_put order lines (ordered_lines earlier) old.demands (old.last_demand + 1) (ap (λ n. n + 1) f.numbers) f.lines;
     rules = f.rules;
-    rows = λ n p k. row_later (Orders order lines) earlier p (f.rows n p k);
+    rows = λ n p k. row_later (Orders order lines) earlier p (λ job x y is. refl) (f.rows n p k);
     jobs = f.jobs;
     wholes = f.wholes;
     cells = f.cells;
+    over = f.over;
   }

@@ -1,5 +1,5 @@
 -- A content after a part got another state, with new parts beside it, a job, and recounted demands.
-use Rattle.std.proofs.Common.{◌≡◌, ℕ, ◌+◌, ◌≤◌, ◌<◌, inl, inr, List, true, false, refl, sym, ap, subst, ◌∙◌, arith}
+use Rattle.std.proofs.Common.{◌≡◌, ℕ, ◌+◌, ◌≤◌, ◌<◌, inl, inr, List, [], true, false, refl, sym, ap, subst, ◌∙◌, arith}
 use Rattle.std.specs.Prelude.{Option, Some, None, IsSome, IfSome, MatchOption, sum_by, count_by}
 use Rattle.std.specs.declared.cmp.Ordering.TheVariants.{Less, Equal}
 use Rattle.std.specs.Cmp.{nat_cmp_total, tied_itself}
@@ -11,6 +11,7 @@ use Rattle.shop_records.specs.declared.records.Part.{Part}
 use Rattle.shop_records.specs.declared.records.State.{State}
 use Rattle.shop_records.specs.declared.records.State.TheVariants as state
 use Rattle.shop_records.specs.declared.records.Job.{Job}
+use Rattle.shop_records.specs.declared.records.JobHalt.{JobHalt}
 use Rattle.shop_records.specs.declared.records.Demand.{Demand}
 use Rattle.shop_records.specs.declared.records.Column.TheVariants.{Received}
 use Rattle.shop_records.specs.declared.changes.Change.{Change}
@@ -19,16 +20,17 @@ use Rattle.shop_records.specs.declared.messages.Message.{Message}
 use Rattle.shop_records.specs.declared.messages.Reply.{Reply}
 use Rattle.shop_records.specs.Messages.{Texts, pair_of}
 use Rattle.shop_records.specs.Columns.{is_there, is_piece_for}
-use Rattle.shop_records.specs.Content.{Content, material_at, part_at, job_at, has_order, demand_at, kept_at, changed, with_number, in_state, totals_of}
+use Rattle.shop_records.specs.Content.{Content, material_at, part_at, job_at, halt_at, has_order, demand_at, kept_at, changed, with_number, in_state, totals_of}
 use Rattle.shop_machine.specs.Recounts.{AreRecounted}
 use Rattle.shop_machine.specs.Machine.{keeping}
 use Rattle.shop_records.specs.Elements.{IsIn}
-use Rattle.shop_records.specs.Soundness.{IsPlaced, IsWaiting, IsJob, IsDemand, IsCounted, IsNewPart, IsNewJob, IsMovedJob, IsMovedDemand, TotalsFit, with_totals, Fits}
+use Rattle.shop_records.specs.Soundness.{IsPlaced, IsWaiting, IsJob, IsHalted, IsDemand, IsCounted, IsNewPart, IsNewJob, IsMovedJob, IsMovedDemand, TotalsFit, with_totals, Fits}
 use Rattle.shop_records.proofs.Basics.{names_total, same_some}
 use Rattle.shop_records.proofs.Puts.{Pairwise, all_from, pairs_from, pairs_more, not_both, found_one}
 use Rattle.shop_machine.proofs.AddedUp.{cells_as, cells_left, is_uncut}
 use Rattle.shop_machine.proofs.Moved.{LeavesOthers, IsRecount, row_recount, recount_of, demand_there, found_moved, still_moved, other_moved, received_moved, adds_up_moved, made_moved}
-use Rattle.shop_machine.proofs.Grown.{IsStock, Grows, Untouched, placed_more, job_more, different_more}
+use Rattle.std.proofs.lemmas.List.Elements.{All-nil}
+use Rattle.shop_machine.proofs.Grown.{IsStock, Grows, Untouched, placed_more, job_more, different_more, no_pairs}
 
 standing_no_piece : (s : State) → is_there s ≡ true → (number : ℕ) → is_piece_for number s ≡ false
 standing_no_piece state.Standing e number = refl
@@ -38,6 +40,7 @@ standing_no_piece (state.Piece demand) e number = cc
 standing_no_piece state.Kerf e number = cc
 standing_no_piece state.Scrap e number = cc
 standing_no_piece state.Returned e number = cc
+standing_no_piece (state.Undone job) e number = refl
 
 pub standing_uncut : (s : State) → is_there s ≡ true → is_uncut s ≡ true
 standing_uncut state.Standing e = refl
@@ -47,6 +50,7 @@ standing_uncut (state.Piece demand) e = refl
 standing_uncut state.Kerf e = refl
 standing_uncut state.Scrap e = refl
 standing_uncut state.Returned e = refl
+standing_uncut (state.Undone job) e = cc
 
 pub less_apart : (a b : Name) → name_cmp a b ≡ Less → a ≡ b → ⊥
 less_apart a b less e =
@@ -74,14 +78,19 @@ few_numbers (Some a) last few h = h.1
 module _ (m : Content) (stock : IsStock m) (row : Part) (s : State) (made : List Part) (act : Option ℕ) (job : Job) (step : IsPartStep m row s made act)
     (recount : ℕ → Demand → Demand) (tree : Tree) (none : LeavesOthers m.demands recount tree)
     (keeps : (n : ℕ) (d : Demand) → recount n d ≡ record d { reserved = (recount n d).reserved; made = (recount n d).made })
-    (rows : List Demand) (recounted : AreRecounted (demand_at m) recount tree rows) (totals : Option MaterialTotals) (texts : Texts) (message : Message) (answer : Reply) where
+    (rows : List Demand) (recounted : AreRecounted (demand_at m) recount tree rows) (totals : Option MaterialTotals) (halt : Option JobHalt) (texts : Texts) (message : Message) (answer : Reply) where
   abbrev step_change : Change
   step_change = record {
     material = None;
     parts = made;
     moved = Some (in_state s row);
+    undone = [];
     job = Some job;
+    halt = halt;
+    begun = None;
     order = None;
+    extended = None;
+    note = None;
     demands = rows;
     totals = totals;
     act = act;
@@ -140,6 +149,7 @@ module _ (m : Content) (stock : IsStock m) (row : Part) (s : State) (made : List
 
   module _ (new_job : IsJob after job.act job)
       (others : (number : ℕ) (j : Job) → job_at m number ≡ Some j → (number ≡ job.act → ⊥) → IsWaiting m j → Untouched m after grows j)
+      (halted : (number : ℕ) (kept : JobHalt) → halt_at after number ≡ Some kept → IsHalted after.jobs number kept)
       (counts : (number : ℕ) (before : Demand) → demand_at m number ≡ Some before → IsCounted after number (recount (count_of tree number) before)) where
     demand_after : (number : ℕ) (d : Demand) → IsRecount m.demands recount tree rows recounted none number d → IsDemand after number d
     demand_after number d r =
@@ -203,11 +213,12 @@ module _ (m : Content) (stock : IsStock m) (row : Part) (s : State) (made : List
             | inl q ↦ subst (λ n. IsJob after n j) (sym q.0) (subst (IsJob after job.act) (sym q.1) new_job)
             | inr q ↦ job_more m after grows number j (others number j q.1 q.0) (stock.jobs number j q.1)
           ];
+      halts = halted;
       demands = λ number d is. demand_after number d (recount_of m.demands recount tree rows recounted none number d is);
       lines = different_more m after same_line stock.lines;
     }
 
-  module _ (job_fits : MatchOption act (IsMovedJob m job) (λ a. IsNewJob m a job)) (totals_fit : TotalsFit m None totals)
+  module _ (job_fits : MatchOption act (IsMovedJob m job) (λ a. IsNewJob m a job)) (halt_fits : IfSome halt (λ kept. halt_at m kept.job ≡ None)) (totals_fit : TotalsFit m None totals)
       (sums : (code : List ℕ) → totals_of after code ≡ with_totals totals code (totals_of m code))
       (counts : (number : ℕ) (before : Demand) → demand_at m number ≡ Some before → IsCounted after number (recount (count_of tree number) before)) where
     demand_moved : (x : Demand) → IsRecount m.demands recount tree rows recounted none x.number x → IsMovedDemand m x
@@ -238,6 +249,12 @@ module _ (m : Content) (stock : IsStock m) (row : Part) (s : State) (made : List
       parts = all_from (IsNewPart m) made (λ x i. record { new = step.new x i; known = (step.placed x i).known });
       rising = pairs_from (λ (a b : Part). name_cmp a.name b.name ≡ Less) made step.rising;
       moved = record { before = row; found = step.there; is = refl; known = (stock.parts row.name row step.there).known };
+      undone = All-nil _;
+      apart = no_pairs (λ (a b : Part). name_cmp a.name b.name ≡ Less);
+      halt = halt_fits;
+      begun = tt;
+      extended = tt;
+      note = tt;
       job = job_fits;
       order = tt;
       demands = all_from (IsMovedDemand m) rows (λ x i. demand_moved x (row_recount m.demands recount tree rows recounted none x x.number i refl));

@@ -1,5 +1,5 @@
 -- What a receipt does to what a content follows.
-use Rattle.std.proofs.Common.{◌≡◌, ℕ, ◌+◌, ◌<◌, ◌≤◌, List, ◌∷◌, map, refl, sym, ap, subst, arith, inl, inr}
+use Rattle.std.proofs.Common.{◌∙◌, true≢false, ◌≡◌, ℕ, ◌+◌, ◌<◌, ◌≤◌, List, ◌∷◌, map, refl, sym, ap, subst, arith, inl, inr}
 use Rattle.std.specs.Prelude.{Some}
 use Rattle.std.specs.FinMap.{FinMap, get}
 use Rattle.cut_measure.specs.Names.{Name, name_cmp}
@@ -14,11 +14,11 @@ use Rattle.shop_records.specs.Content.{Content, pair_cmp, totals_of, changed}
 use Rattle.shop_machine.specs.Receiving.{receive_change, unit_part}
 use Rattle.shop_records.specs.Soundness.{IsInRange}
 use Rattle.shop_machine.specs.Machine.{Effect, Receives}
-use Rattle.shop_machine.specs.History.{ReceivedUnit, acts_of, units_of, owner_by, owner_of, HasOwner}
+use Rattle.shop_machine.specs.History.{ReceivedUnit, acts_of, units_of, owner_of, is_gone, HasOwner}
 use Rattle.shop_records.proofs.Basics.{in_append, in_first, in_map, map_in}
 use Rattle.shop_machine.proofs.Cells.{after_receipt, received_cases, found_unit, kept_before, still_owned, new_owned}
 use Rattle.shop_machine.proofs.Grown.{with_messages}
-use Rattle.shop_machine.proofs.Accounts.{IsRow, IsWhole, Follows, unit_of, unit_acts, if_yes, if_no, row_later}
+use Rattle.shop_machine.proofs.Accounts.{IsRow, IsWhole, Follows, unit_of, unit_acts, if_yes, if_no, never_cut, row_later}
 
 module _ (earlier : List Effect) (old : Content) (range : IsInRange old) (f : Follows earlier old) (kept : FinMap pair_cmp Kept) (imports : FinMap code_cmp ImportRow) where
   abbrev Next : Effect → Change → Type 0
@@ -58,8 +58,9 @@ module _ (earlier : List Effect) (old : Content) (range : IsInRange old) (f : Fo
           material = refl;
           across = omega arith;
           down = omega arith;
+          cut = never_cut (Receives material batch size count ∷ earlier) (unit_part material batch size (acts_of earlier + 1) g.0) refl;
         })
-        | inr g ↦ row_later (Receives material batch size count) earlier p (f.rows n p g)
+        | inr g ↦ row_later (Receives material batch size count) earlier p (λ job x y is. refl) (f.rows n p g)
       ];
       jobs = f.jobs;
       wholes = λ unit i. elim (in_append unit (map received (below count)) (units_of earlier) i) [
@@ -84,18 +85,22 @@ module _ (earlier : List Effect) (old : Content) (range : IsInRange old) (f : Fo
                 let u : ReceivedUnit = received g.0 in
                 let a : x < w = subst (λ (v : ReceivedUnit). x < v.size.w) g.2 across in
                 let b : y < h = subst (λ (v : ReceivedUnit). y < v.size.h) g.2 down in
-                let new : HasOwner new_parts (owner_by (Receives material batch size count) earlier u.name x y (owner_of earlier u.name x y)) u.name x y =
-                new_owned old.parts material batch size (acts_of earlier + 1) count older g.0 (owner_by (Receives material batch size count) earlier u.name x y (owner_of earlier u.name x y)) x y g.1 a b
+                let new : HasOwner new_parts (owner_of (Receives material batch size count ∷ earlier) u.name x y) u.name x y =
+                new_owned old.parts material batch size (acts_of earlier + 1) count older g.0 (owner_of (Receives material batch size count ∷ earlier) u.name x y) x y g.1 a b
                 (if_yes (acts_of earlier + 1) (acts_of earlier + 1) (Some (record { state = Standing; name = u.name; size = size; x = x; y = y })) (owner_of earlier u.name x y) refl) in
-                subst (λ (v : ReceivedUnit). HasOwner new_parts (owner_by (Receives material batch size count) earlier v.name x y (owner_of earlier v.name x y)) v.name x y) (sym g.2) new)
+                subst (λ (v : ReceivedUnit). HasOwner new_parts (owner_of (Receives material batch size count ∷ earlier) v.name x y) v.name x y) (sym g.2) new)
             | inr k ↦ (
                 let a : unit.name.act ≤ acts_of earlier = unit_acts earlier unit k in
                 let apart : unit.name.act ≡ acts_of earlier + 1 → ⊥ = λ e. absurd (omega arith) in
                 still_owned old.parts material batch size (acts_of earlier + 1) count older (owner_of earlier unit.name x y)
-                (owner_by (Receives material batch size count) earlier unit.name x y (owner_of earlier unit.name x y)) unit.name x y apart
+                (owner_of (Receives material batch size count ∷ earlier) unit.name x y) unit.name x y apart
                 (if_no unit.name.act (acts_of earlier + 1) (Some (record { state = Standing; name = unit.name; size = size; x = x; y = y })) (owner_of earlier unit.name x y) apart)
                 (f.cells unit k x y across down))
           ];
+      over = λ n p job k cut. elim (received_cases old.parts material batch size (acts_of earlier + 1) count older n p k) [
+        | inl g ↦ absurd (true≢false (ap is_gone (sym cut ∙ ap (λ (q : Part). q.state) g.2)))
+        | inr g ↦ f.over n p job g cut
+      ];
     }
 
     pub by_receipt : Next (Receives material batch size count) (receive_change material batch size (old.last_act + 1) count (totals_of old material))

@@ -268,6 +268,7 @@ module _ (m : Content) (stock : IsStock m) (material batch : List ℕ) (w h coun
             same = other_after j.part (λ e. omega (arith, older, named, so_far, e));
             none_yet = λ node. other_after (record { act = j.act; node = node }) (λ e. omega (arith, named, so_far, e)) ∙ w.none_yet node;
           }) old;
+      halts = stock.halts;
       demands = λ number d is.
           let old = stock.demands number d is in
           demand_more m after grows (omega arith) number d old
@@ -343,6 +344,12 @@ module _ (m : Content) (stock : IsStock m) (material batch : List ℕ) (w h coun
         });
     rising = pairs_from (λ (a b : Part). name_cmp a.name b.name ≡ Less) units units_rise;
     moved = tt;
+    undone = All-nil _;
+    apart = no_pairs (λ (a b : Part). name_cmp a.name b.name ≡ Less);
+    halt = tt;
+    begun = tt;
+    extended = tt;
+    note = tt;
     job = tt;
     order = tt;
     demands = All-nil _;

@@ -1,22 +1,24 @@
 -- The demands of a plan's leaves, each once.
-use Rattle.std.proofs.Common.{◌≡◌, ◌≢◌, ℕ, zero, suc, ◌+◌, ◌-◌, ◌<◌, ◌≤◌, List, [], ◌∷◌, ◌++◌, length, get_or, take, drop, Bool, true, false, refl, sym, ap, subst, ◌∙◌, arith, inl, inr}
-use Rattle.std.specs.Prelude.{Option, Some, All, Any, AllPairs, MatchOption, ◌||◌, ◌&&◌}
+use Rattle.std.proofs.Common.{◌≡◌, ◌≢◌, ℕ, zero, suc, ◌+◌, ◌-◌, ◌<◌, ◌≤◌, List, [], ◌∷◌, ◌++◌, length, get_or, take, drop, Bool, true, false, true≢false, refl, sym, ap, subst, ◌∙◌, arith, inl, inr}
+use Rattle.std.specs.Prelude.{Option, Some, None, IfSome, All, Any, AllPairs, MatchOption, ◌||◌, ◌&&◌}
 use Rattle.std.specs.List.{list_any, list_all}
-use Rattle.std.proofs.lemmas.Bool.{cases_lt}
+use Rattle.std.proofs.lemmas.Bool.{cases_lt, leb-true}
 use Rattle.std.proofs.lemmas.List.{get_or_append_left, get_or-append_right, get_or_default, length-append, length-map, get_or-map}
 use Rattle.std.proofs.lemmas.List.Elements.{All-append, All-nil}
 use Rattle.std.proofs.lemmas.List.Quantifiers.{Any-push}
 use Rattle.std.proofs.Math.Seq.{take-length}
+use Rattle.cut_tree.specs.declared.lay.Row.{Row}
 use Rattle.cut_tree.specs.declared.leaves.Leaf.{Leaf}
 use Rattle.cut_tree.specs.Tree.{Tree, count_of}
 use Rattle.cut_tree.specs.Patterns.{Pattern}
 use Rattle.shop_records.specs.declared.records.Demand.{Demand}
 use Rattle.shop_machine.specs.declared.recounts.FoundLeaf.{FoundLeaf}
 use Rattle.shop_machine.specs.declared.recounts.Recount.{Recount}
-use Rattle.shop_machine.specs.declared.recounts.Recount.TheVariants.{Reserved, Laid, Freed}
-use Rattle.shop_machine.specs.Recounts.{AreRecounted, plan_leaves, AreDemandsFound, leaves_in, recount_by, HasRow, IsAddedOnce, IsAlike, IsNumbered}
+use Rattle.shop_machine.specs.declared.recounts.Recount.TheVariants.{Reserved, Laid, Freed, Unmade}
+use Rattle.shop_machine.specs.Recounts.{AreRecounted, plan_leaves, AreDemandsFound, leaves_in, recount_by, HasRow, IsAddedOnce, IsAlike, IsNumbered, pieces_in}
 use Rattle.shop_machine.specs.Reserving.{is_over}
 use Rattle.shop_machine.specs.Ending.{has_reserved}
+use Rattle.shop_machine.specs.Undoing.{has_made}
 use Rattle.shop_records.specs.Elements.{IsIn}
 use Rattle.shop_records.proofs.Basics.{at_in, in_at, in_map}
 use Rattle.shop_machine.proofs.Allowed.{leaf_with, leaf_counts}
@@ -47,6 +49,47 @@ reserved_more tree at (f ∷ fs) b d some found first e =
     e ∙ ap (λ ls. list_all (λ (leaf : Leaf). has_reserved (count_of tree leaf.demand) (at leaf.demand)) (leaves_in ls)) (all_after f fs)
     ∙ ap (λ o. o && list_all (λ (leaf : Leaf). has_reserved (count_of tree leaf.demand) (at leaf.demand)) (leaves_in fs))
     (sym (ap (has_reserved (count_of tree f.leaf.demand)) (sym (found 0 d (omega arith))) ∙ first))
+
+-- a first leaf that passes a test of its demand, and the others
+pub test_more : (test : ℕ → Option Demand → Bool) (at : ℕ → Option Demand) (leaves : List FoundLeaf) (b : Bool) (d : FoundLeaf) → 1 ≤ length leaves → AreDemandsFound at leaves
+    → test (get_or leaves 0 d).leaf.demand (get_or leaves 0 d).demand ≡ true
+    → b ≡ list_all (λ (leaf : Leaf). test leaf.demand (at leaf.demand)) (leaves_in (take (length leaves - 1) (drop 1 leaves)))
+    → b ≡ list_all (λ (leaf : Leaf). test leaf.demand (at leaf.demand)) (leaves_in leaves)
+test_more test at [] b d some found first e = absurd (omega arith)
+test_more test at (f ∷ fs) b d some found first e =
+    e ∙ ap (λ ls. list_all (λ (leaf : Leaf). test leaf.demand (at leaf.demand)) (leaves_in ls)) (all_after f fs)
+    ∙ ap (λ o. o && list_all (λ (leaf : Leaf). test leaf.demand (at leaf.demand)) (leaves_in fs)) (sym (ap (test f.leaf.demand) (sym (found 0 d (omega arith))) ∙ first))
+
+-- a first leaf that doesn't pass it
+pub test_none : (test : ℕ → Option Demand → Bool) (at : ℕ → Option Demand) (leaves : List FoundLeaf) (d : FoundLeaf) → 1 ≤ length leaves → AreDemandsFound at leaves
+    → test (get_or leaves 0 d).leaf.demand (get_or leaves 0 d).demand ≡ false
+    → false ≡ list_all (λ (leaf : Leaf). test leaf.demand (at leaf.demand)) (leaves_in leaves)
+test_none test at [] d some found first = absurd (omega arith)
+test_none test at (f ∷ fs) d some found first =
+    ap (λ o. o && list_all (λ (leaf : Leaf). test leaf.demand (at leaf.demand)) (leaves_in fs)) (sym (ap (test f.leaf.demand) (sym (found 0 d (omega arith))) ∙ first))
+
+-- a first leaf of whose demand as many are made as were laid, and the others
+module _ (laid : List Row) (tree : Tree) where
+  abbrev Unmakes : ℕ → Demand → Type 0
+  Unmakes n demand = pieces_in demand.number laid ≤ demand.made
+
+  pub made_rows : (leaves : List FoundLeaf) (d : FoundLeaf) → 1 ≤ length leaves → All IsNumbered leaves
+      → has_made (pieces_in (get_or leaves 0 d).leaf.demand laid) (get_or leaves 0 d).demand ≡ true
+      → All (HasRow Unmakes tree) (take (length leaves - 1) (drop 1 leaves)) → All (HasRow Unmakes tree) leaves
+  made_rows [] d some numbered here rest = absurd (omega arith)
+  made_rows (f ∷ fs) d some numbered here rest = by
+    where
+      after : All (HasRow Unmakes tree) fs
+      after = subst (All (HasRow Unmakes tree)) (all_after f fs) rest
+
+      head : (o : Option Demand) → IfSome o (λ (demand : Demand). demand.number ≡ f.leaf.demand) → has_made (pieces_in f.leaf.demand laid) o ≡ true
+          → MatchOption o ⊥ (λ (demand : Demand). (demand.number ≡ f.leaf.demand) × Unmakes (count_of tree f.leaf.demand) demand)
+      head None n e = absurd (true≢false (sym e))
+      head (Some demand) n e = (n, subst (λ k. pieces_in k laid ≤ demand.made) (sym n) (leb-true (pieces_in f.leaf.demand laid) demand.made e))
+
+      by : (k : ℕ) (e : FoundLeaf) → k < length (f ∷ fs) → HasRow Unmakes tree (get_or (f ∷ fs) k e)
+      by zero e within = head f.demand (numbered 0 e (omega arith)) here
+      by (suc k) e within = after k e (omega (arith, within))
 
 -- ---- a first leaf that is judged with a later one
 
@@ -142,6 +185,7 @@ pub number_kept : (how : Recount) (n : ℕ) (demand : Demand) → (recount_by ho
 number_kept Reserved n demand = refl
 number_kept (Laid laid) n demand = refl
 number_kept Freed n demand = refl
+number_kept (Unmade laid) n demand = refl
 
 any_row : (rows : List Demand) (a b : ℕ) → a ≡ b → Any (λ (row : Demand). row.number ≡ a) rows → Any (λ (row : Demand). row.number ≡ b) rows
 any_row rows a b e any = (any.0, any.1, any.2, any.3, any.4 ∙ e)

@@ -1,5 +1,5 @@
 -- What a reservation does to what a content follows.
-use Rattle.std.proofs.Common.{◌≡◌, ℕ, ◌+◌, List, refl, sym, ap, subst, ◌∙◌, inl, inr}
+use Rattle.std.proofs.Common.{arith, ◌≡◌, ℕ, ◌+◌, List, refl, sym, ap, subst, ◌∙◌, inl, inr}
 use Rattle.std.specs.Prelude.{Some}
 use Rattle.std.specs.Cmp.{nat_cmp_total}
 use Rattle.std.specs.FinMap.{get, insert, nat_cmp-IsAntisymmetric}
@@ -20,7 +20,7 @@ use Rattle.shop_machine.specs.Reserving.{reserve_change, IsReading, IsReservatio
 use Rattle.shop_machine.specs.Machine.{Reads, Effect, Reserves, effects}
 use Rattle.shop_machine.specs.Recounts.{AreRecounted, with_reserved}
 use Rattle.shop_records.specs.Soundness.{IsSound}
-use Rattle.shop_machine.specs.History.{acts_of, ordered_lines, job_of, owner_of, is_cut, standing_as}
+use Rattle.shop_machine.specs.History.{acts_of, ordered_lines, job_of, owner_of, is_gone, standing_as}
 use Rattle.shop_records.specs.Columns.{is_free}
 use Rattle.shop_records.specs.Readings.{Reading, Plan}
 use Rattle.shop_records.proofs.Basics.{nat_cases, same_some, get_same, get_other}
@@ -29,7 +29,7 @@ use Rattle.shop_machine.proofs.OrderedLines.{lines_recounted}
 use Rattle.shop_machine.proofs.Cells.{restated}
 use Rattle.shop_machine.proofs.Accounts.{reservation, Follows, if_yes, if_no}
 use Rattle.shop_machine.proofs.Allowed.{free_stands}
-use Rattle.shop_machine.proofs.Steps.{After, AfterAll, named, rows_restated, whole_restated}
+use Rattle.shop_machine.proofs.Steps.{After, AfterAll, named, rows_restated, cut_restated, whole_restated}
 
 module _ (texts : Texts) (message : Message) (earlier : List Effect) (old : Content) (sound : IsSound texts old) (f : Follows earlier old) where
   abbrev Next : Effect → Change → Type 0
@@ -48,7 +48,7 @@ module _ (texts : Texts) (message : Message) (earlier : List Effect) (old : Cont
       numbers = f.numbers;
       lines = lines_recounted (ordered_lines earlier) old.demands with_reserved plan.tree rows recounted (no_reserved old.demands plan.tree) (λ n d. refl) f.lines;
       rules = f.rules;
-      rows = rows_restated texts message earlier old sound f row (Reserved (acts_of earlier + 1)) kept_row (Reserves part plan.tree);
+      rows = rows_restated texts message earlier old sound f row (Reserved (acts_of earlier + 1)) refl kept_row (Reserves part plan.tree) (λ p job x y is. refl);
       jobs = λ k job g. elim (nat_cases k (acts_of earlier + 1)) [
         | inl y ↦ (
             let is : job ≡ new_job = same_some job new_job (sym g ∙ ap (get (insert old.jobs (acts_of earlier + 1) new_job)) y.0 ∙ get_same nat_cmp_total nat_cmp-IsAntisymmetric old.jobs (acts_of earlier + 1) new_job) in
@@ -57,10 +57,19 @@ module _ (texts : Texts) (message : Message) (earlier : List Effect) (old : Cont
         | inr n ↦ if_no k (acts_of earlier + 1) (Some (record { part = part; tree = plan.tree })) (job_of earlier k) n.0
             ∙ f.jobs k job (sym (get_other nat_cmp_total nat_cmp-IsAntisymmetric old.jobs (acts_of earlier + 1) new_job k n.0) ∙ g)
       ];
-      wholes = λ unit i. whole_restated texts message earlier old sound f row (Reserved (acts_of earlier + 1)) kept_row unit (f.wholes unit i);
+      wholes = λ unit i. whole_restated texts message earlier old sound f row (Reserved (acts_of earlier + 1)) refl kept_row unit (f.wholes unit i);
       cells = λ unit i x y across down.
-          restated old.parts (named texts message earlier old sound f) row.name row kept_row (ap is_cut stands) (Reserved (acts_of earlier + 1)) refl (ap standing_as (sym stands)) (owner_of earlier unit.name x y) unit.name x y
+          restated old.parts (named texts message earlier old sound f) row.name row kept_row (ap is_gone stands) (Reserved (acts_of earlier + 1)) refl (ap standing_as (sym stands)) (owner_of earlier unit.name x y) unit.name x y
           (f.cells unit i x y across down);
+      over = λ n q job k cut.
+          let was = f.over n q job (cut_restated texts message earlier old sound f row (Reserved (acts_of earlier + 1)) refl kept_row n q job k cut) cut in
+          let so_far = (sound.jobs job was.job was.found).so_far in
+          let e : old.last_act ≡ acts_of earlier = f.acts in
+          record {
+            job = was.job;
+            found = get_other nat_cmp_total nat_cmp-IsAntisymmetric old.jobs (acts_of earlier + 1) new_job job (λ is. absurd (omega (arith, is, so_far, e))) ∙ was.found;
+            over = was.over;
+          };
     }
 
     pub by_reservation : AreRecounted (demand_at old) with_reserved plan.tree rows → Next (Reserves part plan.tree) (reserve_change row plan (old.last_act + 1) rows)

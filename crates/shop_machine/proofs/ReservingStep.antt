@@ -3,10 +3,10 @@ use Rattle.std.proofs.Common.{◌≡◌, ℕ, zero, suc, ◌+◌, ◌*◌, ◌�
 use Rattle.std.specs.Prelude.{Some, None, ◌&&◌, if◌then◌else◌, Option, IsSome, is_some, nat_lt, ◌==◌, not}
 use Rattle.std.specs.Ordering.{is_eq}
 use Rattle.std.specs.Cmp.{nat_cmp_total}
-use Rattle.std.specs.FinMap.{nat_cmp-IsAntisymmetric}
+use Rattle.std.specs.FinMap.{insert, nat_cmp-IsAntisymmetric}
 use Rattle.std.proofs.lemmas.Bool.{not-false, ltb-false}
 use Rattle.cut_measure.specs.Codes.{code_cmp}
-use Rattle.cut_measure.specs.Names.{Name}
+use Rattle.cut_measure.specs.Names.{IsName, Name}
 use Rattle.cut_measure.specs.declared.ranges.TheConstants.{MOST_NUMBERS}
 use Rattle.cut_tree.specs.declared.token.Token.{Token}
 use Rattle.cut_tree.specs.Tree.{Tree, Piece, Rest, Trim, Cut, count_of, cut_count}
@@ -17,6 +17,7 @@ use Rattle.shop_records.specs.declared.records.Part.{Part}
 use Rattle.shop_records.specs.declared.records.State.{State}
 use Rattle.shop_records.specs.declared.records.State.TheVariants as state
 use Rattle.shop_records.specs.declared.records.Job.{Job}
+use Rattle.shop_records.specs.declared.records.JobHalt.{JobHalt}
 use Rattle.shop_records.specs.declared.records.JobState.TheVariants as job
 use Rattle.shop_records.specs.declared.records.Demand.{Demand}
 use Rattle.shop_records.specs.declared.messages.Message.{Message}
@@ -27,16 +28,16 @@ use Rattle.shop_records.specs.declared.refusals.Refusal.TheVariants.{NumbersSpen
 use Rattle.shop_records.specs.declared.messages.Command.TheVariants.{Reserve}
 use Rattle.shop_records.specs.Messages.{Texts, pair_of}
 use Rattle.shop_records.specs.Columns.{is_there, is_free, is_waiting}
-use Rattle.shop_records.specs.Content.{Content, material_at, part_at, job_at, demand_at, kept_at, changed, in_state, material_of}
+use Rattle.shop_records.specs.Content.{Content, material_at, part_at, job_at, halt_at, demand_at, kept_at, changed, in_state, material_of}
 use Rattle.shop_machine.specs.Recounts.{AreRecounted, with_reserved, plan_leaves}
 use Rattle.shop_machine.specs.Reserving.{IsReading, reserve_change, reserve_refusal, plan_refusal, leaf_refusal, leaves_refusal, is_too_many, is_over, fits_demand}
 use Rattle.shop_machine.specs.Machine.{keeping, refusal_of, Reads}
-use Rattle.shop_records.specs.Soundness.{IsWaiting, IsJob, IsCounted, Fits, reserved_in, made_in, IsOnPart}
+use Rattle.shop_records.specs.Soundness.{IsWaiting, IsJob, IsHalted, IsCounted, Fits, reserved_in, made_in, IsOnPart}
 use Rattle.shop_machine.specs.Decisions.{first_of}
 use Rattle.shop_records.specs.Same.{same_code}
 use Rattle.shop_records.specs.Elements.{IsIn}
 use Rattle.shop_records.specs.Readings.{Reading, plan_in, Plan}
-use Rattle.shop_records.proofs.Basics.{names_total, names_same, same_some, none_at, get_same}
+use Rattle.shop_records.proofs.Basics.{names_total, names_same, same_some, none_at, get_same, get_other}
 use Rattle.shop_records.proofs.Puts.{not_both, is_known, sum_new}
 use Rattle.shop_machine.proofs.Allowed.{narrow, free_stands, none_of, or_none, any_none, leaf_with}
 use Rattle.shop_machine.proofs.AddedUp.{cells_left, is_uncut}
@@ -186,7 +187,7 @@ module _ (m : Content) (stock : IsStock m) (name : Name) (text : List ℕ) (row 
 
   made_same : (number : ℕ) → made_in number after ≡ made_in number m
   made_same number =
-      let sum = made_after m stock row (state.Reserved act) [] (Some act) new_job step with_reserved plan.tree (no_reserved m.demands plan.tree) keeps rows recounted None texts message (reply.Reserve (cut_count plan.tree) act) number in
+      let sum = made_after m stock row (state.Reserved act) [] (Some act) new_job step with_reserved plan.tree (no_reserved m.demands plan.tree) keeps rows recounted None None texts message (reply.Reserve (cut_count plan.tree) act) number in
       sum ∙ omega arith
 
   few_after : (number : ℕ) (before : Demand) → demand_at m number ≡ Some before → (c : ℕ) → count_of plan.tree number ≡ c → before.reserved + c + before.made ≤ before.wanted
@@ -263,33 +264,46 @@ module _ (m : Content) (stock : IsStock m) (name : Name) (text : List ℕ) (row 
       by node p (inr (inl q)) = q.0
       by node p (inr (inr q)) = not_both (part_at m (record { act = act; node = node })) p (none_later m stock.in_range (record { act = act; node = node }) (omega arith)) q.1
 
-  job_after : IsJob after act new_job
-  job_after = record {
+  job_after : IsName name → IsJob after act new_job
+  job_after called = record {
     numbered = refl;
     least = omega arith;
     so_far = omega arith;
     plan = is_plan;
     kerf = refl;
     on = waiting.on;
+    called = subst IsName (sym (stock.parts name row there).named) called;
     demands = λ number some.
         let has = fitting.demands number some in
         demand_there m.demands with_reserved plan.tree rows recounted (no_reserved m.demands plan.tree) number (is_known (demand_at m number) has.demand has.found);
     waits = λ is. waiting;
   }
 
-  pub reserve_stock : IsStock after
-  reserve_stock =
-      step_stock m stock row (state.Reserved act) [] (Some act) new_job step with_reserved plan.tree (no_reserved m.demands plan.tree) keeps rows recounted None texts message (reply.Reserve (cut_count plan.tree) act)
-      job_after
+  -- of the new job no halt is kept
+  halted_after : (number : ℕ) (kept : JobHalt) → halt_at m number ≡ Some kept → IsHalted (insert m.jobs act new_job) number kept
+  halted_after number kept is =
+      let was = stock.halts number kept is in
+      record {
+        of = was.of;
+        job = was.job;
+        found = get_other nat_cmp_total nat_cmp-IsAntisymmetric m.jobs act new_job number (λ e. not_both (job_at m act) was.job no_job (ap (λ n. job_at m n) (sym e) ∙ was.found)) ∙ was.found;
+        over = was.over;
+      }
+
+  pub reserve_stock : IsName name → IsStock after
+  reserve_stock called =
+      step_stock m stock row (state.Reserved act) [] (Some act) new_job step with_reserved plan.tree (no_reserved m.demands plan.tree) keeps rows recounted None None texts message (reply.Reserve (cut_count plan.tree) act)
+      (job_after called)
       (λ number j is other w.
-      untouched m stock row (state.Reserved act) [] (Some act) new_job step with_reserved plan.tree (no_reserved m.demands plan.tree) keeps rows recounted None texts message (reply.Reserve (cut_count plan.tree) act)
+      untouched m stock row (state.Reserved act) [] (Some act) new_job step with_reserved plan.tree (no_reserved m.demands plan.tree) keeps rows recounted None None texts message (reply.Reserve (cut_count plan.tree) act)
       j w (free_unreserved row.state j.act fitting.free) (λ x i e. i))
+      halted_after
       counts
 
   pub reserve_fits : kept_at m (pair_of message) ≡ None → Fits m (keeping texts message (reserve_change row plan act rows))
   reserve_fits =
-      step_fits m stock row (state.Reserved act) [] (Some act) new_job step with_reserved plan.tree (no_reserved m.demands plan.tree) keeps rows recounted None texts message (reply.Reserve (cut_count plan.tree) act)
-      (record { numbered = refl; new = no_job; on = on_part; kerf = refl }) tt
+      step_fits m stock row (state.Reserved act) [] (Some act) new_job step with_reserved plan.tree (no_reserved m.demands plan.tree) keeps rows recounted None None texts message (reply.Reserve (cut_count plan.tree) act)
+      (record { numbered = refl; new = no_job; on = on_part; kerf = refl }) tt tt
       (sums_stay m.parts row (state.Reserved act) [] here (λ x i. absurd i) tt (ap is_there (free_stands row.state fitting.free)) refl (λ code c. refl))
       counts
 

@@ -28,7 +28,7 @@ use Rattle.shop_records.specs.Readings.{Reading}
 use Rattle.shop_machine.specs.Moving.{has_cells, tally}
 use Rattle.shop_machine.specs.Retiring.{scrap_refusal, return_refusal, turn_change}
 use Rattle.shop_machine.specs.Machine.{keeping, Effect, effects, Turns}
-use Rattle.shop_machine.specs.History.{turned_owner, acts_of, owner_of, is_cut, standing_as}
+use Rattle.shop_machine.specs.History.{turned_owner, acts_of, owner_of, is_gone, standing_as}
 use Rattle.shop_records.proofs.Basics.{same_some}
 use Rattle.shop_records.proofs.Puts.{not_both}
 use Rattle.shop_machine.proofs.AddedUp.{is_uncut}
@@ -40,7 +40,7 @@ use Rattle.shop_machine.proofs.Tallied.{sums_move, held}
 use Rattle.shop_machine.proofs.ReservingStep.{left_as_before}
 use Rattle.shop_machine.proofs.Cells.{turned}
 use Rattle.shop_machine.proofs.Accounts.{Follows, stands_yes, stands_no}
-use Rattle.shop_machine.proofs.Steps.{After, AfterAll, named, rows_restated, whole_restated}
+use Rattle.shop_machine.proofs.Steps.{After, AfterAll, named, rows_restated, whole_restated, cut_restated}
 
 -- a part that may become scrap stands
 pub scrap_stands : (found : Option Part) (row : Part) (totals : Totals) → found ≡ Some row → scrap_refusal found totals ≡ None → row.state ≡ Standing
@@ -145,6 +145,7 @@ module _ (m : Content) (stock : IsStock m) (name : Name) (row : Part) (found : p
           | inr r ↦ elim r [ inl q ↦ absurd q.0 | inr q ↦ placed_more m after grows n p (stock.parts n p q.1) ]
         ];
     jobs = λ number j is. job_more m after grows number j (untouched j) (stock.jobs number j is);
+    halts = stock.halts;
     demands = λ number d is.
         let old = stock.demands number d is in
         demand_more m after grows (omega arith) number d old
@@ -158,6 +159,12 @@ module _ (m : Content) (stock : IsStock m) (name : Name) (row : Part) (found : p
     parts = All-nil _;
     rising = no_pairs (λ (a b : Part). name_cmp a.name b.name ≡ Less);
     moved = record { before = row; found = there; is = refl; known = (stock.parts row.name row there).known };
+    undone = All-nil _;
+    apart = no_pairs (λ (a b : Part). name_cmp a.name b.name ≡ Less);
+    halt = tt;
+    begun = tt;
+    extended = tt;
+    note = tt;
     job = tt;
     order = tt;
     demands = All-nil _;
@@ -178,21 +185,22 @@ module _ (m : Content) (stock : IsStock m) (name : Name) (row : Part) (found : p
 
 module _ (texts : Texts) (message : Message) (earlier : List Effect) (old : Content) (sound : IsSound texts old) (f : Follows earlier old) where
   -- a standing part as a whole gets a state that stays
-  by_turn : (s : State) (row : Part) (answer : Reply) → is_cut s ≡ false → standing_as s ≡ s → part_at old row.name ≡ Some row → row.state ≡ Standing
+  by_turn : (s : State) (row : Part) (answer : Reply) → is_gone s ≡ false → standing_as s ≡ s → part_at old row.name ≡ Some row → row.state ≡ Standing
       → After texts message earlier old sound f (Turns row.name s) (turn_change s row (totals_of old row.material) answer)
   by_turn s row answer whole stays kept stands = record {
     acts = (let e : old.last_act ≡ acts_of earlier = f.acts in omega arith);
     numbers = f.numbers;
     lines = f.lines;
     rules = f.rules;
-    rows = rows_restated texts message earlier old sound f row s kept (Turns row.name s);
+    rows = rows_restated texts message earlier old sound f row s whole kept (Turns row.name s) (λ p job x y is. refl);
     jobs = f.jobs;
-    wholes = λ unit i. whole_restated texts message earlier old sound f row s kept unit (f.wholes unit i);
+    wholes = λ unit i. whole_restated texts message earlier old sound f row s whole kept unit (f.wholes unit i);
     cells = λ unit i x y across down.
-        turned old.parts (named texts message earlier old sound f) row.name row kept (ap is_cut stands) s whole stays (owner_of earlier unit.name x y) (turned_owner row.name s (owner_of earlier unit.name x y)) unit.name x y
+        turned old.parts (named texts message earlier old sound f) row.name row kept (ap is_gone stands) s whole stays (owner_of earlier unit.name x y) (turned_owner row.name s (owner_of earlier unit.name x y)) unit.name x y
         (λ w e name state. ap (turned_owner row.name s) e ∙ ap (λ b. if b then Some (record w { state = s }) else Some w) (stands_yes row.name w name (sym state ∙ ap standing_as stands)))
         (λ w e other. ap (turned_owner row.name s) e ∙ ap (λ b. if b then Some (record w { state = s }) else Some w) (stands_no row.name w other))
         (f.cells unit i x y across down);
+    over = λ n q job k cut. f.over n q job (cut_restated texts message earlier old sound f row s whole kept n q job k cut) cut;
   }
 
   abbrev Then : Command → Reading → Change → Type 0

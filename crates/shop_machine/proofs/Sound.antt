@@ -4,19 +4,24 @@ use Rattle.std.proofs.Math.Nat.{le-max_right}
 use Rattle.std.specs.Prelude.{Option, Some, None, length, IsSome, IfSome, ◌⊎◌, max}
 use Rattle.std.specs.Option.{option_map}
 use Rattle.std.specs.FinSet as set
-use Rattle.std.specs.FinMap.{get, insert, entries, get-empty, len-entries, len-empty, empty, values}
+use Rattle.std.specs.FinMap.{get, insert, entries, get-empty, len-entries, len-empty, empty, values, nat_cmp-IsAntisymmetric}
+use Rattle.std.specs.Cmp.{nat_cmp_total}
 use Rattle.std.specs.Ordering.{nat_cmp, is_eq}
 use Rattle.cut_measure.specs.Codes.{code_cmp}
 use Rattle.cut_measure.specs.Names.{Name, IsName, name_cmp}
 use Rattle.cut_tree.specs.declared.halts.Stop.TheVariants as stop
+use Rattle.cut_tree.specs.Stops.{halted}
 use Rattle.shop_records.specs.declared.records.TheConstants.{MOST_RECEIVED}
 use Rattle.shop_records.specs.declared.records.Material.{Material}
 use Rattle.shop_records.specs.declared.imports.ImportRow.{ImportRow}
 use Rattle.shop_records.specs.declared.records.Part.{Part}
+use Rattle.shop_records.specs.declared.records.Job.{Job}
+use Rattle.shop_records.specs.declared.records.JobBegin.{JobBegin}
+use Rattle.shop_records.specs.declared.notes.OrderNote.{OrderNote}
 use Rattle.shop_records.specs.declared.records.State.TheVariants as state
 use Rattle.shop_records.specs.declared.changes.Change.{Change}
 use Rattle.shop_records.specs.declared.messages.Command.{Command}
-use Rattle.shop_records.specs.declared.messages.Command.TheVariants.{AddMaterial, Receive, AddOrder, Reserve, Done, Break, Release, Scrap, GiveBack, Import, Amend}
+use Rattle.shop_records.specs.declared.messages.Command.TheVariants.{AddMaterial, Receive, AddOrder, Reserve, Done, Break, Release, Scrap, GiveBack, Import, Amend, Undo, Note, Extend, Begin}
 use Rattle.shop_records.specs.declared.messages.Message.{Message}
 use Rattle.shop_records.specs.declared.messages.Reply.TheVariants as reply
 use Rattle.shop_records.specs.declared.refusals.Refusal.TheVariants.{StoreFault}
@@ -25,11 +30,12 @@ use Rattle.shop_records.specs.declared.texts.Kept.{Kept}
 use Rattle.shop_records.specs.declared.journal.Entry.{Entry as EntryRow}
 use Rattle.shop_records.specs.Messages.{Texts, IsMessage, IsMade, pair_of, IsNumber, IsCommand}
 use Rattle.shop_records.specs.Readings.{Reading, plan_in}
-use Rattle.shop_records.specs.Content.{Content, fresh, pair_cmp, material_at, totals_in, AddsUp, has_order, kept_at, import_at, with_order, with_import, with_entry, entry_count, last_time, changed, part_at, demand_at, material_of, totals_of, totals_for}
+use Rattle.shop_records.specs.Content.{Content, fresh, pair_cmp, material_at, totals_in, AddsUp, has_order, job_at, begun_at, note_at, demands_of, of_found, kept_at, import_at, with_job, with_begun, with_note, with_order, with_import, with_entry, entry_count, last_time, changed, part_at, demand_at, material_of, totals_of, totals_for}
 use Rattle.shop_machine.specs.Adding.{material_change}
 use Rattle.shop_machine.specs.Machine.{Reads, refusal_of, Makes, entry_of, keeping, keeping_at, Effect, effects}
 use Rattle.shop_machine.specs.History.{Entry, Gives, MayForget}
-use Rattle.shop_records.specs.Soundness.{IsSound, Fits, IsKept, IsImport}
+use Rattle.shop_records.specs.Notes.{is_note}
+use Rattle.shop_records.specs.Soundness.{IsSound, Fits, IsKept, IsImport, IsBegun, IsNoted}
 use Rattle.shop_records.proofs.Basics.{codes_total, codes_same, key_cases, get_same, get_other}
 use Rattle.shop_machine.proofs.ImportingStep.{IsAccepted, accepted, import_stock, import_fits, import_told, import_order, import_agrees}
 use Rattle.shop_records.proofs.LinesKept.{order_kept, order_there}
@@ -40,13 +46,18 @@ use Rattle.shop_machine.proofs.ReceivingStep.{receive_stock, receive_fits, recei
 use Rattle.shop_machine.proofs.ReservingStep.{reserve_stock, reserve_fits, reading, fitting, reserve_agrees}
 use Rattle.shop_machine.proofs.RetiringStep.{scrap_stands, returned_stands, turn_stock, turn_fits, scrap_agrees, return_agrees, held_for, scraps, gives_back}
 use Rattle.shop_machine.proofs.AmendingStep.{amend_room, amend_stock, amend_fits, amend_agrees, amends}
+use Rattle.shop_machine.proofs.ExtendingStep.{extended_of, extend_stock, extend_fits, extend_agrees, by_lines}
+use Rattle.shop_machine.proofs.SayingStep.{said_stock, may_be_said, is_there, note_fits, begin_fits, note_agrees, begin_agrees, by_note, by_begin}
+use Rattle.shop_machine.proofs.Undoable.{undoable}
+use Rattle.shop_machine.proofs.UndoingStep.{undo_stock, undo_fits, undo_agrees}
+use Rattle.shop_machine.proofs.UndoingEffect.{undoes}
 use Rattle.shop_machine.proofs.Accounts.{Follows}
 use Rattle.shop_machine.proofs.Steps.{AfterAll}
 use Rattle.shop_machine.proofs.ReceivingEffect.{by_receipt}
 use Rattle.shop_machine.proofs.ImportingEffect.{by_import}
 use Rattle.shop_machine.proofs.ReservingEffect.{reserves}
 use Rattle.shop_machine.proofs.EndingEffect.{ends, breaks, releases}
-use Rattle.shop_machine.proofs.Grown.{IsStock, stock_of}
+use Rattle.shop_machine.proofs.Grown.{IsStock, stock_of, same_stock, with_messages}
 use Rattle.shop_machine.proofs.Entered.{entries_stay, no_entries_at, none_yet, entries_after, sound_entries, sound_forgotten}
 use Rattle.shop_machine.proofs.AddingStep.{material_stock, material_fits, material_agrees, made_material, by_material}
 
@@ -70,9 +81,9 @@ fits_by texts message m stock used (Done number) read change reads allowed makes
     subst (λ (c : Change). Fits m (keeping texts message c)) (sym makes.4.is)
     (end_fits m stock number makes.0 makes.1 makes.2 makes.3 (job_waits m stop.All number makes.0 makes.3.found allowed) stop.All makes.4.laid makes.4.is_laid
     makes.4.rows makes.4.recounted texts message new)
-fits_by texts message m stock used (Break number halt) read change reads allowed makes new =
+fits_by texts message m stock used (Break number halt rest) read change reads allowed makes new =
     subst (λ (c : Change). Fits m (keeping texts message c)) (sym makes.4.is)
-    (end_fits m stock number makes.0 makes.1 makes.2 makes.3 (job_waits m (stop.After halt) number makes.0 makes.3.found allowed) (stop.After halt) makes.4.laid makes.4.is_laid
+    (end_fits m stock number makes.0 makes.1 makes.2 makes.3 (job_waits m (halted halt rest) number makes.0 makes.3.found allowed) (halted halt rest) makes.4.laid makes.4.is_laid
     makes.4.rows makes.4.recounted texts message new)
 fits_by texts message m stock used (Release number) read change reads allowed makes new =
     subst (λ (c : Change). Fits m (keeping texts message c)) (sym makes.4.is)
@@ -88,81 +99,122 @@ fits_by texts message m stock used (Import order form text) read change reads al
 fits_by texts message m stock used (Amend demand wanted) read change reads allowed makes new =
     subst (λ (c : Change). Fits m (keeping texts message c)) (sym makes.2)
     (amend_fits m stock demand makes.0 makes.1 wanted (amend_room (demand_at m demand) makes.0 wanted makes.1 allowed) texts message new)
+fits_by texts message m stock used (Undo number) read change reads allowed makes new =
+    subst (λ (c : Change). Fits m (keeping texts message c)) (sym makes.4.is)
+    (undo_fits m stock makes.0 makes.1 makes.2 makes.4.end (undoable m stock number makes.0 makes.1 makes.2 makes.3 makes.4.end makes.4.ended allowed) makes.4.rows makes.4.recounted texts message new)
+fits_by texts message m stock used (Note order due text) read change reads allowed makes new =
+    subst (λ (c : Change). Fits m (keeping texts message c)) (sym makes)
+    (note_fits m texts message new order due text (may_be_said (has_order m order) due text allowed).0)
+fits_by texts message m stock used (Extend order lines) read change reads allowed makes new =
+    subst (λ (c : Change). Fits m (keeping texts message c)) (sym makes)
+    (extend_fits m stock order lines (extended_of m stock order lines allowed) texts message new)
+fits_by texts message m stock used (Begin number) read change reads allowed makes new =
+    subst (λ (c : Change). Fits m (keeping texts message c)) (sym makes)
+    (begin_fits m texts message new number (begun_at m number) (is_there (job_at m number) allowed))
 
 stock_by : (texts : Texts) (message : Message) (m : Content) (stock : IsStock m) (command : Command) (read : Reading) (change : Change) → Reads texts m command read
-    → refusal_of m command read ≡ None → Makes m command read change → IsStock (changed m (keeping texts message change))
-stock_by texts message m stock (AddMaterial material kind kerf min_long min_short) read change reads allowed makes =
+    → refusal_of m command read ≡ None → Makes m command read change → IsCommand command → IsStock (changed m (keeping texts message change))
+stock_by texts message m stock (AddMaterial material kind kerf min_long min_short) read change reads allowed makes is =
     subst (λ (c : Change). IsStock (changed m (keeping texts message c))) (sym makes) (material_stock texts message m material kind _ (material_at m material) refl allowed stock)
-stock_by texts message m stock (Receive material batch w h count) read change reads allowed makes =
+stock_by texts message m stock (Receive material batch w h count) read change reads allowed makes is =
     subst (λ (c : Change). IsStock (changed m (keeping texts message c))) (sym makes)
     (receive_stock m stock material batch w h count (receipt m material batch w h count read allowed) _ _)
-stock_by texts message m stock (AddOrder order lines) read change reads allowed makes =
+stock_by texts message m stock (AddOrder order lines) read change reads allowed makes is =
     subst (λ (c : Change). IsStock (changed m (keeping texts message c))) (sym makes)
     (order_stock m stock order lines (order_of (has_order m order) (material_at m) lines (m.last_demand + 1) allowed) _ _)
-stock_by texts message m stock (Reserve part text) read change reads allowed makes =
+stock_by texts message m stock (Reserve part text) read change reads allowed makes is =
     subst (λ (c : Change). IsStock (changed m (keeping texts message c))) (sym makes.4.is)
     (reserve_stock m stock part text makes.0 makes.1 makes.2 (reading texts m part text read makes.1 makes.3 reads) (fitting m part text read makes.0 makes.1 makes.2 makes.3 allowed)
-    makes.4.rows makes.4.recounted texts message)
-stock_by texts message m stock (Done number) read change reads allowed makes =
+    makes.4.rows makes.4.recounted texts message is.0)
+stock_by texts message m stock (Done number) read change reads allowed makes is =
     subst (λ (c : Change). IsStock (changed m (keeping texts message c))) (sym makes.4.is)
     (end_stock m stock number makes.0 makes.1 makes.2 makes.3 (job_waits m stop.All number makes.0 makes.3.found allowed) stop.All makes.4.laid makes.4.is_laid
     makes.4.rows makes.4.recounted texts message)
-stock_by texts message m stock (Break number halt) read change reads allowed makes =
+stock_by texts message m stock (Break number halt rest) read change reads allowed makes is =
     subst (λ (c : Change). IsStock (changed m (keeping texts message c))) (sym makes.4.is)
-    (end_stock m stock number makes.0 makes.1 makes.2 makes.3 (job_waits m (stop.After halt) number makes.0 makes.3.found allowed) (stop.After halt) makes.4.laid makes.4.is_laid
+    (end_stock m stock number makes.0 makes.1 makes.2 makes.3 (job_waits m (halted halt rest) number makes.0 makes.3.found allowed) (halted halt rest) makes.4.laid makes.4.is_laid
     makes.4.rows makes.4.recounted texts message)
-stock_by texts message m stock (Release number) read change reads allowed makes =
+stock_by texts message m stock (Release number) read change reads allowed makes is =
     subst (λ (c : Change). IsStock (changed m (keeping texts message c))) (sym makes.4.is)
     (release_stock m stock number makes.0 makes.1 makes.2 makes.3 (job_waits m stop.All number makes.0 makes.3.found allowed) makes.4.rows makes.4.recounted texts message)
-stock_by texts message m stock (Scrap part) read change reads allowed makes =
+stock_by texts message m stock (Scrap part) read change reads allowed makes is =
     subst (λ (c : Change). IsStock (changed m (keeping texts message c))) (sym makes.2)
     (turn_stock m stock part makes.0 makes.1 (scrap_stands (part_at m part) makes.0 (totals_for m (part_at m part)) makes.1 allowed) state.Scrap refl (λ number. refl) texts message (reply.Scrap makes.0.name))
-stock_by texts message m stock (GiveBack part) read change reads allowed makes =
+stock_by texts message m stock (GiveBack part) read change reads allowed makes is =
     subst (λ (c : Change). IsStock (changed m (keeping texts message c))) (sym makes.2)
     (turn_stock m stock part makes.0 makes.1 (returned_stands (part_at m part) makes.0 (totals_for m (part_at m part)) makes.1 allowed) state.Returned refl (λ number. refl) texts message (reply.GiveBack makes.0.name))
-stock_by texts message m stock (Import order form text) read change reads allowed makes =
+stock_by texts message m stock (Import order form text) read change reads allowed makes is =
     import_stock texts m order message form text read change stock (accepted texts m order form text read change reads allowed makes)
-stock_by texts message m stock (Amend demand wanted) read change reads allowed makes =
+stock_by texts message m stock (Amend demand wanted) read change reads allowed makes is =
     subst (λ (c : Change). IsStock (changed m (keeping texts message c))) (sym makes.2)
     (amend_stock m stock demand makes.0 makes.1 wanted (amend_room (demand_at m demand) makes.0 wanted makes.1 allowed) texts message)
+stock_by texts message m stock (Undo number) read change reads allowed makes is =
+    subst (λ (c : Change). IsStock (changed m (keeping texts message c))) (sym makes.4.is)
+    (undo_stock m stock makes.0 makes.1 makes.2 makes.4.end (undoable m stock number makes.0 makes.1 makes.2 makes.3 makes.4.end makes.4.ended allowed) makes.4.rows makes.4.recounted texts message)
+stock_by texts message m stock (Note order due text) read change reads allowed makes is =
+    subst (λ (c : Change). IsStock (changed m (keeping texts message c))) (sym makes) (said_stock (with_messages _ _ m) _ _ (same_stock m _ _ stock))
+stock_by texts message m stock (Extend order lines) read change reads allowed makes is =
+    subst (λ (c : Change). IsStock (changed m (keeping texts message c))) (sym makes) (extend_stock m stock order lines (extended_of m stock order lines allowed) _ _)
+stock_by texts message m stock (Begin number) read change reads allowed makes is =
+    subst (λ (c : Change). IsStock (changed m (keeping texts message c))) (sym makes) (said_stock (with_messages _ _ m) _ _ (same_stock m _ _ stock))
+
+-- each terminal that has begun a job has a number
+abbrev AreTerminals : Content → Type 0
+AreTerminals m = (number : ℕ) (row : JobBegin) → begun_at m number ≡ Some row → IsNumber row.terminal
+
+terminal_before : (o : Option JobBegin) → ((row : JobBegin) → o ≡ Some row → IsNumber row.terminal) → IsNumber (of_found (λ (row : JobBegin). row.terminal) o)
+terminal_before None is = omega arith
+terminal_before (Some row) is = is row refl
 
 -- the reply to what is accepted is one that an accepted message can get
-told_by : (texts : Texts) (m : Content) (stock : IsStock m) (command : Command) (read : Reading) (change : Change) → Reads texts m command read → refusal_of m command read ≡ None
+told_by : (texts : Texts) (m : Content) (stock : IsStock m) (terminals : AreTerminals m) (command : Command) (read : Reading) (change : Change) → Reads texts m command read → refusal_of m command read ≡ None
     → Makes m command read change → IsCommand command → IsMade change.reply
-told_by texts m stock (AddMaterial material kind kerf min_long min_short) read change reads allowed makes is =
+told_by texts m stock terminals (AddMaterial material kind kerf min_long min_short) read change reads allowed makes is =
     subst (λ (c : Change). IsMade c.reply) (sym makes) (made_material (material_at m material) material kind _ is.0)
-told_by texts m stock (Receive material batch w h count) read change reads allowed makes is =
+told_by texts m stock terminals (Receive material batch w h count) read change reads allowed makes is =
     let number = (receipt m material batch w h count read allowed).number in
     subst (λ (c : Change). IsMade c.reply) (sym makes) (omega (arith, number), is.4)
-told_by texts m stock (AddOrder order lines) read change reads allowed makes is =
+told_by texts m stock terminals (AddOrder order lines) read change reads allowed makes is =
     let ordered = order_of (has_order m order) (material_at m) lines (m.last_demand + 1) allowed in
     let some = ordered.some in
     let few = ordered.few in
     let numbers = ordered.numbers in
     subst (λ (c : Change). IsMade c.reply) (sym makes) (omega (arith, few), omega (arith, some, numbers), is.0)
-told_by texts m stock (Reserve part text) read change reads allowed makes is =
+told_by texts m stock terminals (Reserve part text) read change reads allowed makes is =
     let few = (reading texts m part text read makes.1 makes.3 reads).few_cuts in
     let number = (fitting m part text read makes.0 makes.1 makes.2 makes.3 allowed).number in
     subst (λ (c : Change). IsMade c.reply) (sym makes.4.is) (omega (arith, few), omega (arith, number))
-told_by texts m stock (Done number) read change reads allowed makes is =
+told_by texts m stock terminals (Done number) read change reads allowed makes is =
     subst (λ (c : Change). IsMade c.reply) (sym makes.4.is)
     (end_told m stock number makes.0 makes.1 makes.2 makes.3 (job_waits m stop.All number makes.0 makes.3.found allowed) stop.All makes.4.laid makes.4.is_laid)
-told_by texts m stock (Break number halt) read change reads allowed makes is =
+told_by texts m stock terminals (Break number halt rest) read change reads allowed makes is =
     subst (λ (c : Change). IsMade c.reply) (sym makes.4.is)
-    (end_told m stock number makes.0 makes.1 makes.2 makes.3 (job_waits m (stop.After halt) number makes.0 makes.3.found allowed) (stop.After halt) makes.4.laid makes.4.is_laid)
-told_by texts m stock (Release number) read change reads allowed makes is =
+    (end_told m stock number makes.0 makes.1 makes.2 makes.3 (job_waits m (halted halt rest) number makes.0 makes.3.found allowed) (halted halt rest) makes.4.laid makes.4.is_laid)
+told_by texts m stock terminals (Release number) read change reads allowed makes is =
     let waits = job_waits m stop.All number makes.0 makes.3.found allowed in
     let le = so_far m stock number makes.0 makes.1 makes.2 makes.3 waits in
     let last = stock.in_range.last in
     subst (λ (c : Change). IsMade c.reply) (sym makes.4.is) (omega (arith, le, last))
-told_by texts m stock (Scrap part) read change reads allowed makes is =
+told_by texts m stock terminals (Scrap part) read change reads allowed makes is =
     subst (λ (c : Change). IsMade c.reply) (sym makes.2) (subst IsName (sym (stock.parts part makes.0 makes.1).named) is)
-told_by texts m stock (GiveBack part) read change reads allowed makes is =
+told_by texts m stock terminals (GiveBack part) read change reads allowed makes is =
     subst (λ (c : Change). IsMade c.reply) (sym makes.2) (subst IsName (sym (stock.parts part makes.0 makes.1).named) is)
-told_by texts m stock (Import order form text) read change reads allowed makes is =
+told_by texts m stock terminals (Import order form text) read change reads allowed makes is =
     import_told texts m order form text read change (accepted texts m order form text read change reads allowed makes) is.0
-told_by texts m stock (Amend demand wanted) read change reads allowed makes is =
+told_by texts m stock terminals (Amend demand wanted) read change reads allowed makes is =
     subst (λ (c : Change). IsMade c.reply) (sym makes.2) (subst IsNumber (sym (stock.demands demand makes.0 makes.1).numbered) is.0, is.1)
+told_by texts m stock terminals (Undo number) read change reads allowed makes is =
+    let j = stock.jobs number makes.0 makes.3.found in
+    subst (λ (c : Change). IsMade c.reply) (sym makes.4.is) (subst IsNumber (sym j.numbered) is, j.called)
+told_by texts m stock terminals (Note order due text) read change reads allowed makes is = subst (λ (c : Change). IsMade c.reply) (sym makes) is.0
+told_by texts m stock terminals (Extend order lines) read change reads allowed makes is =
+    let extended = extended_of m stock order lines allowed in
+    let some = extended.more.some in
+    let few = extended.few in
+    let numbers = extended.more.numbers in
+    subst (λ (c : Change). IsMade c.reply) (sym makes) (omega (arith, few), omega (arith, some, numbers), is.0)
+told_by texts m stock terminals (Begin number) read change reads allowed makes is =
+    subst (λ (c : Change). IsMade c.reply) (sym makes) (terminal_before (begun_at m number) (terminals number), is)
 
 -- an import is kept with the order that it makes
 abbrev IsOrdered : Change → Type 0
@@ -179,13 +231,49 @@ ordered_by texts m (Receive material batch w h count) read change reads allowed 
 ordered_by texts m (AddOrder order lines) read change reads allowed makes = subst IsOrdered (sym makes) tt
 ordered_by texts m (Reserve part text) read change reads allowed makes = subst IsOrdered (sym makes.4.is) tt
 ordered_by texts m (Done number) read change reads allowed makes = subst IsOrdered (sym makes.4.is) tt
-ordered_by texts m (Break number halt) read change reads allowed makes = subst IsOrdered (sym makes.4.is) tt
+ordered_by texts m (Break number halt rest) read change reads allowed makes = subst IsOrdered (sym makes.4.is) tt
 ordered_by texts m (Release number) read change reads allowed makes = subst IsOrdered (sym makes.4.is) tt
 ordered_by texts m (Scrap part) read change reads allowed makes = subst IsOrdered (sym makes.2) tt
 ordered_by texts m (GiveBack part) read change reads allowed makes = subst IsOrdered (sym makes.2) tt
 ordered_by texts m (Import order form text) read change reads allowed makes =
     import_order texts m order form text read change (accepted texts m order form text read change reads allowed makes)
 ordered_by texts m (Amend demand wanted) read change reads allowed makes = subst IsOrdered (sym makes.2) tt
+ordered_by texts m (Undo number) read change reads allowed makes = subst IsOrdered (sym makes.4.is) tt
+ordered_by texts m (Note order due text) read change reads allowed makes = subst IsOrdered (sym makes) tt
+ordered_by texts m (Extend order lines) read change reads allowed makes = subst IsOrdered (sym makes) tt
+ordered_by texts m (Begin number) read change reads allowed makes = subst IsOrdered (sym makes) tt
+
+-- a job that is begun is there, and what is said of an order may be said of one that is there
+pub record IsSaid (m : Content) (change : Change) : Type 0 where
+  pub begun : IfSome change.begun (λ row. IsSome (job_at m row.job))
+  pub note : IfSome change.note (λ row. (has_order m row.order ≡ true) × (is_note row.due row.text ≡ true))
+
+said_by : (texts : Texts) (m : Content) (command : Command) (read : Reading) (change : Change) → Reads texts m command read → refusal_of m command read ≡ None
+    → Makes m command read change → IsSaid m change
+said_by texts m (AddMaterial material kind kerf min_long min_short) read change reads allowed makes = subst (IsSaid m) (sym makes) (by (material_at m material))
+  where
+    by : (known : Option Material) → IsSaid m (material_change known material kind (record { kerf = kerf; min_long = min_long; min_short = min_short }))
+    by None = record { begun = tt; note = tt }
+    by (Some row) = record { begun = tt; note = tt }
+said_by texts m (Receive material batch w h count) read change reads allowed makes = subst (IsSaid m) (sym makes) (record { begun = tt; note = tt })
+said_by texts m (AddOrder order lines) read change reads allowed makes = subst (IsSaid m) (sym makes) (record { begun = tt; note = tt })
+said_by texts m (Reserve part text) read change reads allowed makes = subst (IsSaid m) (sym makes.4.is) (record { begun = tt; note = tt })
+said_by texts m (Done number) read change reads allowed makes = subst (IsSaid m) (sym makes.4.is) (record { begun = tt; note = tt })
+said_by texts m (Break number halt rest) read change reads allowed makes = subst (IsSaid m) (sym makes.4.is) (record { begun = tt; note = tt })
+said_by texts m (Release number) read change reads allowed makes = subst (IsSaid m) (sym makes.4.is) (record { begun = tt; note = tt })
+said_by texts m (Scrap part) read change reads allowed makes = subst (IsSaid m) (sym makes.2) (record { begun = tt; note = tt })
+said_by texts m (GiveBack part) read change reads allowed makes = subst (IsSaid m) (sym makes.2) (record { begun = tt; note = tt })
+said_by texts m (Import order form text) read change reads allowed makes = by (accepted texts m order form text read change reads allowed makes)
+  where
+    by : IsAccepted texts m order form text read change → IsSaid m change
+    by (inl a) = subst (IsSaid m) (sym a.is) (record { begun = tt; note = tt })
+    by (inr (inl a)) = subst (IsSaid m) (sym a.is) (record { begun = tt; note = tt })
+    by (inr (inr a)) = subst (IsSaid m) (sym a.is) (record { begun = tt; note = tt })
+said_by texts m (Amend demand wanted) read change reads allowed makes = subst (IsSaid m) (sym makes.2) (record { begun = tt; note = tt })
+said_by texts m (Undo number) read change reads allowed makes = subst (IsSaid m) (sym makes.4.is) (record { begun = tt; note = tt })
+said_by texts m (Note order due text) read change reads allowed makes = subst (IsSaid m) (sym makes) (record { begun = tt; note = may_be_said (has_order m order) due text allowed })
+said_by texts m (Extend order lines) read change reads allowed makes = subst (IsSaid m) (sym makes) (record { begun = tt; note = tt })
+said_by texts m (Begin number) read change reads allowed makes = subst (IsSaid m) (sym makes) (record { begun = is_there (job_at m number) allowed; note = tt })
 
 -- a command's change writes no entry yet
 abbrev IsUnentered : Change → Type 0
@@ -202,7 +290,7 @@ unentered_by texts m (Receive material batch w h count) read change reads allowe
 unentered_by texts m (AddOrder order lines) read change reads allowed makes = subst IsUnentered (sym makes) refl
 unentered_by texts m (Reserve part text) read change reads allowed makes = subst IsUnentered (sym makes.4.is) refl
 unentered_by texts m (Done number) read change reads allowed makes = subst IsUnentered (sym makes.4.is) refl
-unentered_by texts m (Break number halt) read change reads allowed makes = subst IsUnentered (sym makes.4.is) refl
+unentered_by texts m (Break number halt rest) read change reads allowed makes = subst IsUnentered (sym makes.4.is) refl
 unentered_by texts m (Release number) read change reads allowed makes = subst IsUnentered (sym makes.4.is) refl
 unentered_by texts m (Scrap part) read change reads allowed makes = subst IsUnentered (sym makes.2) refl
 unentered_by texts m (GiveBack part) read change reads allowed makes = subst IsUnentered (sym makes.2) refl
@@ -213,6 +301,10 @@ unentered_by texts m (Import order form text) read change reads allowed makes = 
     by (inr (inl a)) = subst IsUnentered (sym a.is) refl
     by (inr (inr a)) = subst IsUnentered (sym a.is) refl
 unentered_by texts m (Amend demand wanted) read change reads allowed makes = subst IsUnentered (sym makes.2) refl
+unentered_by texts m (Undo number) read change reads allowed makes = subst IsUnentered (sym makes.4.is) refl
+unentered_by texts m (Note order due text) read change reads allowed makes = subst IsUnentered (sym makes) refl
+unentered_by texts m (Extend order lines) read change reads allowed makes = subst IsUnentered (sym makes) refl
+unentered_by texts m (Begin number) read change reads allowed makes = subst IsUnentered (sym makes) refl
 
 agrees_by : (texts : Texts) (m : Content) (sound : IsSound texts m) (stock : IsStock m) (command : Command) (read : Reading) → Reads texts m command read → refusal_of m command read ≢ Some StoreFault
 agrees_by texts m sound stock (AddMaterial material kind kerf min_long min_short) read reads = material_agrees (material_at m material) kind _
@@ -224,12 +316,16 @@ agrees_by texts m sound stock (Reserve part text) read reads =
     reserve_agrees (part_at m part) (material_of m (part_at m part)) (plan_in read) (demand_at m) (m.last_act + 1)
     (λ p there. subst (λ o. IsSome (material_of m o)) (sym there) (stock.parts part p there).known)
 agrees_by texts m sound stock (Done number) read reads = end_agrees m stock stop.All number
-agrees_by texts m sound stock (Break number halt) read reads = end_agrees m stock (stop.After halt) number
+agrees_by texts m sound stock (Break number halt rest) read reads = end_agrees m stock (halted halt rest) number
 agrees_by texts m sound stock (Release number) read reads = end_agrees m stock stop.All number
 agrees_by texts m sound stock (Scrap part) read reads = scrap_agrees (part_at m part) (totals_for m (part_at m part)) (held_for m stock part)
 agrees_by texts m sound stock (GiveBack part) read reads = return_agrees (part_at m part) (totals_for m (part_at m part)) (held_for m stock part)
 agrees_by texts m sound stock (Import order form text) read reads = import_agrees texts m order stock (λ row is. let i = sound.imports order row is in (i.answer, i.tells)) form text read reads
 agrees_by texts m sound stock (Amend demand wanted) read reads = amend_agrees (demand_at m demand) wanted
+agrees_by texts m sound stock (Undo number) read reads = undo_agrees m stock number
+agrees_by texts m sound stock (Note order due text) read reads = note_agrees (has_order m order) due text
+agrees_by texts m sound stock (Extend order lines) read reads = extend_agrees _ (material_at m) (demands_of m order) lines _
+agrees_by texts m sound stock (Begin number) read reads = begin_agrees (job_at m number)
 
 -- what it does is an account of the content that it leaves
 module _ (texts : Texts) (message : Message) (earlier : List Effect) (old : Content) (sound : IsSound texts old) (f : Follows earlier old) where
@@ -246,12 +342,17 @@ module _ (texts : Texts) (message : Message) (earlier : List Effect) (old : Cont
       subst (Then (AddOrder order lines) read) (sym makes) (by_order earlier old f _ _ order lines)
   by_message (Reserve part text) read change reads allowed makes = reserves texts message earlier old sound f part text read change makes.0 makes.1 makes.2 makes.3 reads makes.4
   by_message (Done done) read change reads allowed makes = ends texts message earlier old sound f done read change makes.0 makes.1 makes.2 allowed makes.3 makes.4
-  by_message (Break done halt) read change reads allowed makes = breaks texts message earlier old sound f done halt read change makes.0 makes.1 makes.2 allowed makes.3 makes.4
+  by_message (Break done halt rest) read change reads allowed makes = breaks texts message earlier old sound f done halt rest read change makes.0 makes.1 makes.2 allowed makes.3 makes.4
   by_message (Release released) read change reads allowed makes = releases texts message earlier old sound f released read change makes.0 makes.1 makes.2 allowed makes.3 makes.4
   by_message (Scrap part) read change reads allowed makes = scraps texts message earlier old sound f part read change makes.0 allowed makes.1 makes.2
   by_message (GiveBack part) read change reads allowed makes = gives_back texts message earlier old sound f part read change makes.0 allowed makes.1 makes.2
   by_message (Import order form text) read change reads allowed makes = by_import texts message earlier old sound f order form text read change reads allowed makes
   by_message (Amend demand wanted) read change reads allowed makes = amends texts message earlier old sound f demand wanted read change makes.0 makes.1 makes.2
+  by_message (Undo undone) read change reads allowed makes = undoes texts message earlier old sound f undone read change makes.0 makes.1 makes.2 allowed makes.3 makes.4
+  by_message (Note order due text) read change reads allowed makes = subst (Then (Note order due text) read) (sym makes) (by_note texts message earlier old sound f order due text)
+  by_message (Extend order lines) read change reads allowed makes = subst (Then (Extend order lines) read) (sym makes) (by_lines earlier old f _ _ order lines)
+  by_message (Begin begun) read change reads allowed makes =
+      subst (Then (Begin begun) read) (sym makes) (by_begin texts message earlier old sound f begun (begun_at old begun))
 
 -- ---- what is kept
 
@@ -319,6 +420,68 @@ kept_now texts m message change =
     is_known (kept_at (changed m (keeping texts message change)) (pair_of message)) (record { command = texts.of_message message; reply = texts.of_reply change.reply })
     (get_same pairs_total pairs_exact m.kept (pair_of message) (record { command = texts.of_message message; reply = texts.of_reply change.reply }))
 
+-- ---- what is said
+
+-- jobs that were there are there
+pub jobs_more : (m : Content) (job : Option Job) (number : ℕ) → IsSome (job_at m number) → IsSome (get (with_job job m.jobs) number)
+jobs_more m None number h = h
+jobs_more m (Some job) number h =
+    elim (key_cases nat_cmp_total nat_cmp-IsAntisymmetric number job.act) [
+      | inl y ↦ is_known (get (insert m.jobs job.act job) number) job (ap (get (insert m.jobs job.act job)) y.0 ∙ get_same nat_cmp_total nat_cmp-IsAntisymmetric m.jobs job.act job)
+      | inr n ↦ subst (λ (o : Option Job). IsSome o) (sym (get_other nat_cmp_total nat_cmp-IsAntisymmetric m.jobs job.act job number n.0)) h
+    ]
+
+pub begun_after : (texts : Texts) (m : Content) (message : Message) (change : Change) → IsMessage message → IfSome change.begun (λ row. IsSome (job_at m row.job))
+    → ((number : ℕ) (row : JobBegin) → begun_at m number ≡ Some row → IsBegun m.jobs number row)
+    → (number : ℕ) (row : JobBegin) → begun_at (changed m (keeping texts message change)) number ≡ Some row → IsBegun (with_job change.job m.jobs) number row
+begun_after texts m message change is_message there old = by change.begun there
+  where
+    begun_row : JobBegin → JobBegin
+    begun_row row = record row { terminal = message.terminal }
+
+    earlier : (number : ℕ) (row : JobBegin) → begun_at m number ≡ Some row → IsBegun (with_job change.job m.jobs) number row
+    earlier number row is =
+        let b = old number row is in
+        record { of = b.of; found = jobs_more m change.job number b.found; terminal = b.terminal }
+
+    by : (o : Option JobBegin) → IfSome o (λ row. IsSome (job_at m row.job))
+        → (number : ℕ) (row : JobBegin) → get (with_begun (option_map begun_row o) m.begun) number ≡ Some row → IsBegun (with_job change.job m.jobs) number row
+    by None there number row is = earlier number row is
+    by (Some new) there number row is =
+        elim (found_one nat_cmp_total nat_cmp-IsAntisymmetric m.begun new.job (begun_row new) number row is) [
+          | inl q ↦
+              record {
+                of = ap (λ (r : JobBegin). r.job) q.1 ∙ sym q.0;
+                found = jobs_more m change.job number (subst (λ n. IsSome (job_at m n)) (sym q.0) there);
+                terminal = subst (λ (r : JobBegin). IsNumber r.terminal) (sym q.1) is_message.terminal;
+              }
+          | inr q ↦ earlier number row q.1
+        ]
+
+pub notes_after : (texts : Texts) (m : Content) (message : Message) (change : Change) → IfSome change.note (λ row. (has_order m row.order ≡ true) × (is_note row.due row.text ≡ true))
+    → ((code : List ℕ) (row : OrderNote) → note_at m code ≡ Some row → IsNoted m.orders code row)
+    → (code : List ℕ) (row : OrderNote) → note_at (changed m (keeping texts message change)) code ≡ Some row → IsNoted (with_order change.order m.orders) code row
+notes_after texts m message change may old = by change.note may
+  where
+    earlier : (code : List ℕ) (row : OrderNote) → note_at m code ≡ Some row → IsNoted (with_order change.order m.orders) code row
+    earlier code row is =
+        let n = old code row is in
+        record { of = n.of; ordered = order_kept m change.order code n.ordered; good = n.good }
+
+    by : (o : Option OrderNote) → IfSome o (λ row. (has_order m row.order ≡ true) × (is_note row.due row.text ≡ true))
+        → (code : List ℕ) (row : OrderNote) → get (with_note o m.notes) code ≡ Some row → IsNoted (with_order change.order m.orders) code row
+    by None may code row is = earlier code row is
+    by (Some new) may code row is =
+        elim (found_one codes_total codes_same m.notes new.order new code row is) [
+          | inl q ↦
+              record {
+                of = ap (λ (r : OrderNote). r.order) q.1 ∙ sym q.0;
+                ordered = order_kept m change.order code (ap (has_order m) q.0 ∙ may.0);
+                good = subst (λ (r : OrderNote). is_note r.due r.text ≡ true) (sym q.1) may.1;
+              }
+          | inr q ↦ earlier code row q.1
+        ]
+
 -- ---- accepted changes
 
 -- what is accepted on a sound content fits it
@@ -331,7 +494,7 @@ fits_accepted texts m message read change sound reads allowed makes new =
 pub told_accepted : (texts : Texts) (m : Content) (message : Message) (read : Reading) (change : Change) → IsSound texts m → Reads texts m message.command read
     → refusal_of m message.command read ≡ None → Makes m message.command read change → IsMessage message → IsMade change.reply
 told_accepted texts m message read change sound reads allowed makes is =
-    told_by texts m (stock_of texts m sound) message.command read change reads allowed makes is.command
+    told_by texts m (stock_of texts m sound) (λ number row there. (sound.begun number row there).terminal) message.command read change reads allowed makes is.command
 
 -- what was kept of an import stays
 pub import_kept : (m : Content) (change : Change) → Fits m change → (code : List ℕ) (row : ImportRow) → import_at m code ≡ Some row → import_at (changed m change) code ≡ Some row
@@ -351,13 +514,17 @@ imports_kept texts m message read change sound reads allowed makes new =
 pub sound_after : (texts : Texts) (m : Content) (message : Message) (read : Reading) (change : Change) → IsSound texts m → Reads texts m message.command read
     → refusal_of m message.command read ≡ None → Makes m message.command read change → IsMessage message → IsSound texts (changed m (keeping texts message change))
 sound_after texts m message read change sound reads allowed makes is =
-    let stock = stock_by texts message m (stock_of texts m sound) message.command read change reads allowed makes in
+    let stock = stock_by texts message m (stock_of texts m sound) message.command read change reads allowed makes is.command in
     let told = told_accepted texts m message read change sound reads allowed makes is in
+    let said = said_by texts m message.command read change reads allowed makes in
     record {
       in_range = stock.in_range;
       materials = stock.materials;
       parts = stock.parts;
       jobs = stock.jobs;
+      halts = stock.halts;
+      begun = begun_after texts m message change is said.begun sound.begun;
+      notes = notes_after texts m message change said.note sound.notes;
       demands = stock.demands;
       lines = stock.lines;
       kept = kept_after texts m message change is told sound.kept;
@@ -383,8 +550,14 @@ fits_entered texts m message read change at sound reads allowed makes new =
       parts = fits.parts;
       rising = fits.rising;
       moved = fits.moved;
+      undone = fits.undone;
+      apart = fits.apart;
       job = fits.job;
+      halt = fits.halt;
+      begun = fits.begun;
       order = fits.order;
+      extended = fits.extended;
+      note = fits.note;
       demands = fits.demands;
       wanted = fits.wanted;
       once = fits.once;
@@ -441,6 +614,9 @@ fresh_sound texts = record {
   materials = λ code material is. absurd (not_both _ material (get-empty code_cmp code) is);
   parts = λ name part is. absurd (not_both _ part (get-empty name_cmp name) is);
   jobs = λ number job is. absurd (not_both _ job (get-empty nat_cmp number) is);
+  halts = λ number row is. absurd (not_both _ row (get-empty nat_cmp number) is);
+  begun = λ number row is. absurd (not_both _ row (get-empty nat_cmp number) is);
+  notes = λ code row is. absurd (not_both _ row (get-empty code_cmp code) is);
   demands = λ number demand is. absurd (not_both _ demand (get-empty nat_cmp number) is);
   lines = λ a b one other is is_too orders lines. absurd (not_both _ one (get-empty nat_cmp a) is);
   kept = λ pair row is. absurd (not_both _ row (get-empty pair_cmp pair) is);

@@ -80,6 +80,7 @@ as_standing c part (state.Piece demand) e = cc
 as_standing c part state.Kerf e = cc
 as_standing c part state.Scrap e = cc
 as_standing c part state.Returned e = cc
+as_standing c part (state.Undone job) e = cc
 
 -- the cells of a part that is there are in the sums
 within : (m : FinMap name_cmp Part) (part : Part) → get m part.name ≡ Some part → (c : Column) (code : List ℕ) → cells_as c code part ≤ cells_in c code (values m)
@@ -190,10 +191,10 @@ module _ (m : FinMap name_cmp Part) (part : Part) (s : State) (made : List Part)
 
 -- ---- the totals of a content hold its parts
 
-moves : (gone most n : ℕ) → gone ≤ n → n + most < 2 ^ 64 → can_move gone most n ≡ true
+pub moves : (gone most n : ℕ) → gone ≤ n → n + most < 2 ^ 64 → can_move gone most n ≡ true
 moves gone most n held room = ap (λ b. b && nat_lt (n + most) (2 ^ 64)) (le-leb gone n held) ∙ lt-ltb (n + most) (2 ^ 64) room
 
-six : (a b c d e f : Bool) → a ≡ true → b ≡ true → c ≡ true → d ≡ true → e ≡ true → f ≡ true → (a && b && c && d && e && f) ≡ true
+pub six : (a b c d e f : Bool) → a ≡ true → b ≡ true → c ≡ true → d ≡ true → e ≡ true → f ≡ true → (a && b && c && d && e && f) ≡ true
 six a b c d e f p q r s t u =
     ap (λ x. x && b && c && d && e && f) p ∙ ap (λ x. x && c && d && e && f) q ∙ ap (λ x. x && d && e && f) r ∙ ap (λ x. x && e && f) s ∙ ap (λ x. x && f) t ∙ u
 

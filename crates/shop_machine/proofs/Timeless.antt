@@ -4,8 +4,10 @@ use Rattle.std.specs.Prelude.{Option, Some, None, IsSome, MatchOption, is_some, 
 use Rattle.std.specs.Option.{option_map}
 use Rattle.std.specs.Cmp.{nat_cmp_total}
 use Rattle.std.specs.Ordering.{nat_cmp, is_eq}
-use Rattle.std.specs.FinMap.{empty, entries, find, get, get-entries, get-from_entries, insert, same_map, nat_cmp-IsAntisymmetric}
+use Rattle.std.specs.FinMap.{FinMap, empty, entries, find, get, get-empty, get-entries, get-from_entries, insert, same_map, nat_cmp-IsAntisymmetric}
 use Rattle.shop_records.specs.declared.imports.ImportRow.{ImportRow}
+use Rattle.shop_records.specs.declared.records.JobBegin.{JobBegin}
+use Rattle.shop_records.specs.declared.records.JobHalt.{JobHalt}
 use Rattle.shop_records.specs.declared.journal.Entry.{Entry as EntryRow}
 use Rattle.shop_records.specs.declared.texts.Kept.{Kept}
 use Rattle.shop_records.specs.declared.messages.Message.{Message}
@@ -14,13 +16,13 @@ use Rattle.shop_records.specs.declared.refusals.Refusal.{Refusal}
 use Rattle.shop_records.specs.Messages.{Texts, refusal_in, pair_of}
 use Rattle.shop_records.specs.Readings.{Reading}
 use Rattle.shop_records.specs.Journal.{word_of}
-use Rattle.shop_records.specs.Content.{Content, kept_at, entry_at, entry_count, last_time, forgotten, timeless, without_times, with_material, with_parts, with_moved, with_job, with_order, with_demands, with_import, with_number}
+use Rattle.shop_records.specs.Content.{Content, kept_at, entry_at, entry_count, last_time, forgotten, timeless, without_times, with_material, with_parts, with_moved, with_job, with_halt, with_begun, with_order, with_note, with_demands, with_import, with_number, halt_at, fresh}
 use Rattle.shop_records.specs.Soundness.{AreEntries, IsSound}
-use Rattle.shop_machine.specs.Machine.{Accepts, AcceptsAt, Refuses, StepNew, StepNewAt, StepAgain, Step, StepAt, Makes, entry_of, entry_part, changed_job}
+use Rattle.shop_machine.specs.Machine.{Accepts, AcceptsAt, Refuses, StepNew, StepNewAt, StepAgain, Step, StepAt, Makes, entry_of, entry_part, entry_job}
 use Rattle.shop_machine.specs.History.{Entry, Gives, GivesAll, MayForget}
-use Rattle.shop_records.proofs.Basics.{nat_cases, get_same, get_other}
-use Rattle.shop_records.proofs.Puts.{some_known}
-use Rattle.shop_machine.proofs.Entered.{with_entries}
+use Rattle.shop_records.proofs.Basics.{nat_cases, none_some, same_some, get_same, get_other}
+use Rattle.shop_records.proofs.Puts.{found_one, some_known}
+use Rattle.shop_machine.proofs.Entered.{with_rest}
 use Rattle.shop_machine.proofs.OneResult.{IsSame, one_change}
 use Rattle.shop_machine.proofs.Sound.{gives_sound}
 use Rattle.shop_machine.proofs.Newest.{all_gives}
@@ -44,11 +46,13 @@ timeless_at c n =
 -- two contents differ in their entries' times alone
 record IsLike (a b : Content) : Type 0 where
   rows : forgotten a ≡ forgotten b
+  halts : a.halts ≡ b.halts
   entered : (n : ℕ) → option_map timeless (entry_at a n) ≡ option_map timeless (entry_at b n)
 
 is_like : (a b : Content) → without_times a ≡ without_times b → IsLike a b
 is_like a b same = record {
   rows = ap forgotten same;
+  halts = ap (λ (c : Content). c.halts) same;
   entered = λ n. sym (timeless_at a n) ∙ ap (λ (c : Content). entry_at c n) same ∙ timeless_at b n;
 }
 
@@ -56,7 +60,7 @@ same_times : (a b : Content) → IsLike a b → without_times a ≡ without_time
 same_times a b like =
     let same : (without_times a).entries ≡ (without_times b).entries =
     same_map nat_cmp_total nat_cmp-IsAntisymmetric (without_times a).entries (without_times b).entries (λ n. timeless_at a n ∙ like.entered n ∙ sym (timeless_at b n)) in
-    λ i. with_entries (same i) (like.rows i)
+    λ i. with_rest (like.halts i) (same i) (like.rows i)
 
 some_mapped : {X Y : Type 0} (f : X → Y) (o : Option X) → is_some (option_map f o) ≡ is_some o
 some_mapped f None = refl
@@ -73,7 +77,7 @@ no_more_entries a b one other like (suc n) most =
     (other.each (suc n) there.0 there.1).so_far
 
 turned : (a b : Content) → IsLike a b → IsLike b a
-turned a b like = record { rows = sym like.rows; entered = λ n. sym (like.entered n) }
+turned a b like = record { rows = sym like.rows; halts = sym like.halts; entered = λ n. sym (like.entered n) }
 
 same_count : (a b : Content) → AreEntries a → AreEntries b → IsLike a b → entry_count a ≡ entry_count b
 same_count a b one other like =
@@ -81,15 +85,19 @@ same_count a b one other like =
     let most = no_more_entries b a other one (turned a b like) (entry_count b) (omega arith) in
     omega (arith, least, most)
 
+-- what is kept in both contents of where the work on a job halted is the same
+abbrev HaltsAgree : (a b : Content) → Type 0
+HaltsAgree a b = (n : ℕ) (r s : JobHalt) → halt_at a n ≡ Some r → halt_at b n ≡ Some s → r ≡ s
+
 -- ---- one step
 
 module _ (texts : Texts) (a b : Content) (message : Message) (read : Reading) (one other : Reply) (new also : Content)
-    (accepts : Accepts texts a message read one new) (again : Accepts texts b message read other also) (rows : forgotten a ≡ forgotten b) where
-  as_b : b ≡ with_entries b.entries a
-  as_b = ap (with_entries b.entries) (sym rows)
+    (accepts : Accepts texts a message read one new) (again : Accepts texts b message read other also) (rows : forgotten a ≡ forgotten b) (agree : HaltsAgree a b) where
+  as_b : b ≡ with_rest b.halts b.entries a
+  as_b = ap (with_rest b.halts b.entries) (sym rows)
 
   same : IsSame message.command accepts.change again.change
-  same = one_change a b.entries message.command read accepts.change again.change accepts.makes
+  same = one_change a b.halts b.entries agree message.command read accepts.change again.change accepts.makes
       (subst (λ (c : Content). Makes c message.command read again.change) as_b again.makes)
 
   pub same_answer : one ≡ other
@@ -98,12 +106,18 @@ module _ (texts : Texts) (a b : Content) (message : Message) (read : Reading) (o
   abbrev told : Reply → ImportRow → ImportRow
   told answer row = record row { reply = texts.of_reply answer }
 
+  abbrev begun_row : JobBegin → JobBegin
+  begun_row row = record row { terminal = message.terminal }
+
   abbrev made : Content
   made = record {
     materials = with_material accepts.change.material a.materials;
-    parts = with_parts accepts.change.parts (with_moved accepts.change.moved a.parts);
+    parts = with_parts accepts.change.parts (with_parts accepts.change.undone (with_moved accepts.change.moved a.parts));
     jobs = with_job accepts.change.job a.jobs;
+    halts = empty;
+    begun = with_begun (option_map begun_row accepts.change.begun) a.begun;
     orders = with_order accepts.change.order a.orders;
+    notes = with_note accepts.change.note a.notes;
     demands = with_demands accepts.change.demands a.demands;
     kept = insert a.kept (pair_of message) (record { command = texts.of_message message; reply = texts.of_reply accepts.change.reply });
     imports = with_import (option_map (told accepts.change.reply) accepts.change.import) a.imports;
@@ -115,9 +129,12 @@ module _ (texts : Texts) (a b : Content) (message : Message) (read : Reading) (o
   abbrev also_made : Content
   also_made = record {
     materials = with_material again.change.material a.materials;
-    parts = with_parts again.change.parts (with_moved again.change.moved a.parts);
+    parts = with_parts again.change.parts (with_parts again.change.undone (with_moved again.change.moved a.parts));
     jobs = with_job again.change.job a.jobs;
+    halts = empty;
+    begun = with_begun (option_map begun_row again.change.begun) a.begun;
     orders = with_order again.change.order a.orders;
+    notes = with_note again.change.note a.notes;
     demands = with_demands again.change.demands a.demands;
     kept = insert a.kept (pair_of message) (record { command = texts.of_message message; reply = texts.of_reply again.change.reply });
     imports = with_import (option_map (told again.change.reply) again.change.import) a.imports;
@@ -129,9 +146,12 @@ module _ (texts : Texts) (a b : Content) (message : Message) (read : Reading) (o
   same_made : made ≡ also_made
   same_made = λ i. record {
     materials = with_material (same.material i) a.materials;
-    parts = with_parts (same.parts i) (with_moved (same.moved i) a.parts);
+    parts = with_parts (same.parts i) (with_parts (same.undone i) (with_moved (same.moved i) a.parts));
     jobs = with_job (same.job i) a.jobs;
+    halts = empty;
+    begun = with_begun (option_map begun_row (same.begun i)) a.begun;
     orders = with_order (same.order i) a.orders;
+    notes = with_note (same.note i) a.notes;
     demands = same.demands a.demands i;
     kept = insert a.kept (pair_of message) (record { command = texts.of_message message; reply = texts.of_reply (same.answer i) });
     imports = with_import (option_map (told (same.answer i)) (same.import i)) a.imports;
@@ -144,9 +164,12 @@ module _ (texts : Texts) (a b : Content) (message : Message) (read : Reading) (o
   abbrev by_again : Content → Content
   by_again c = record {
     materials = with_material again.change.material c.materials;
-    parts = with_parts again.change.parts (with_moved again.change.moved c.parts);
+    parts = with_parts again.change.parts (with_parts again.change.undone (with_moved again.change.moved c.parts));
     jobs = with_job again.change.job c.jobs;
+    halts = empty;
+    begun = with_begun (option_map begun_row again.change.begun) c.begun;
     orders = with_order again.change.order c.orders;
+    notes = with_note again.change.note c.notes;
     demands = with_demands again.change.demands c.demands;
     kept = insert c.kept (pair_of message) (record { command = texts.of_message message; reply = texts.of_reply again.change.reply });
     imports = with_import (option_map (told again.change.reply) again.change.import) c.imports;
@@ -158,6 +181,30 @@ module _ (texts : Texts) (a b : Content) (message : Message) (read : Reading) (o
   -- the rows but for the entries are the same
   pub same_rows : forgotten new ≡ forgotten also
   same_rows = ap forgotten accepts.becomes ∙ same_made ∙ ap by_again rows ∙ sym (ap forgotten again.becomes)
+
+  -- the same of where the work on a job halted
+  halts_new : (n : ℕ) → halt_at new n ≡ get (with_halt accepts.change.halt a.halts) n
+  halts_new n = ap (λ (c : Content). halt_at c n) accepts.becomes
+
+  halts_also : (n : ℕ) → halt_at also n ≡ get (with_halt accepts.change.halt b.halts) n
+  halts_also n = ap (λ (c : Content). halt_at c n) again.becomes ∙ ap (λ (o : Option JobHalt). get (with_halt o b.halts) n) (sym same.halt)
+
+  put_agree : (o : Option JobHalt) (n : ℕ) (r s : JobHalt) → get (with_halt o a.halts) n ≡ Some r → get (with_halt o b.halts) n ≡ Some s → r ≡ s
+  put_agree None n r s p q = agree n r s p q
+  put_agree (Some row) n r s p q =
+      elim (found_one nat_cmp_total nat_cmp-IsAntisymmetric a.halts row.job row n r p) [
+        | inl y ↦ elim (found_one nat_cmp_total nat_cmp-IsAntisymmetric b.halts row.job row n s q) [
+          | inl z ↦ y.1 ∙ sym z.1
+          | inr z ↦ absurd (z.0 y.0)
+        ]
+        | inr y ↦ elim (found_one nat_cmp_total nat_cmp-IsAntisymmetric b.halts row.job row n s q) [
+          | inl z ↦ absurd (y.0 z.0)
+          | inr z ↦ agree n r s y.1 z.1
+        ]
+      ]
+
+  pub still_agree : HaltsAgree new also
+  still_agree n r s p q = put_agree accepts.change.halt n r s (sym (halts_new n) ∙ p) (sym (halts_also n) ∙ q)
 
   module _ (one_are : AreEntries a) (other_are : AreEntries b) (like : IsLike a b) where
     count : entry_count a ≡ entry_count b
@@ -176,7 +223,7 @@ module _ (texts : Texts) (a b : Content) (message : Message) (read : Reading) (o
       at = 0;
       word = word_of message.command;
       act = with_number (same.act i) 0;
-      job = changed_job (same.job i);
+      job = entry_job message.command (same.job i);
       order = same.entered i;
       part = entry_part message.command;
     }
@@ -204,16 +251,21 @@ module _ (texts : Texts) (a b : Content) (message : Message) (read : Reading) (o
               (λ e. off.0 (e ∙ sym (ap (λ k. k + 1) count)))))
         ]
 
+    same_halts : new.halts ≡ also.halts
+    same_halts =
+        ap (λ (c : Content). c.halts) accepts.becomes ∙ (λ i. with_halt (same.halt i) (like.halts i)) ∙ sym (ap (λ (c : Content). c.halts) again.becomes)
+
     still_like : IsLike new also
-    still_like = record { rows = same_rows; entered = λ n. ap (option_map timeless) (at_new n) ∙ put_both n ∙ sym (ap (option_map timeless) (at_also n)) }
+    still_like = record { rows = same_rows; halts = same_halts; entered = λ n. ap (option_map timeless) (at_new n) ∙ put_both n ∙ sym (ap (option_map timeless) (at_also n)) }
 
 -- of the same message on contents that differ in times alone, with the same reading
 pub one_step : (texts : Texts) (a b : Content) (message : Message) (read : Reading) (one other : Reply) (new also : Content) → IsSound texts a → IsSound texts b
     → without_times a ≡ without_times b → Accepts texts a message read one new → Accepts texts b message read other also → (one ≡ other) × (without_times new ≡ without_times also)
 one_step texts a b message read one other new also sound again_sound same accepts again =
-    let like = is_like a b same in (
-      same_answer texts a b message read one other new also accepts again like.rows,
-      same_times new also (still_like texts a b message read one other new also accepts again like.rows sound.entries again_sound.entries like),
+    let like = is_like a b same in
+    let agree : HaltsAgree a b = λ n r s p q. same_some r s (sym p ∙ ap (λ (m : FinMap nat_cmp JobHalt). get m n) like.halts ∙ q) in (
+      same_answer texts a b message read one other new also accepts again like.rows agree,
+      same_times new also (still_like texts a b message read one other new also accepts again like.rows agree sound.entries again_sound.entries like),
     )
 
 -- of one history
@@ -228,13 +280,29 @@ rows_left : (left content : Content) → MayForget left content → forgotten co
 rows_left left content (inl same) = ap forgotten same
 rows_left left content (inr same) = ap forgotten same
 
+-- what it keeps of where the work on a job halted was kept before
+halt_left : (left content : Content) → MayForget left content → (n : ℕ) (r : JobHalt) → halt_at content n ≡ Some r → halt_at left n ≡ Some r
+halt_left left content (inl same) n r is = ap (λ (c : Content). halt_at c n) (sym same) ∙ is
+halt_left left content (inr same) n r is = absurd (none_some r (sym (get-empty nat_cmp n) ∙ ap (λ (c : Content). halt_at c n) (sym same) ∙ is))
+
+no_halt : (content : Content) → content ≡ fresh → (n : ℕ) (r : JobHalt) → halt_at content n ≡ Some r → ⊥
+no_halt content given n r is = none_some r (sym (get-empty nat_cmp n) ∙ ap (λ (c : Content). halt_at c n) (sym given) ∙ is)
+
 -- of one history, whatever was forgotten
+both_rows : (texts : Texts) (history : List Entry) (a b : Content) → Gives texts history a → Gives texts history b → (forgotten a ≡ forgotten b) × HaltsAgree a b
+both_rows texts [] a b given again = (ap forgotten given ∙ sym (ap forgotten again), λ n r s p q. absurd (no_halt a given n r p))
+both_rows texts (entry ∷ earlier) a b (before, answer, given, is_message, new, left, accepts, forgets) (before', answer', given', is_message', new', left', accepts', forgets') =
+    let was = both_rows texts earlier before before' given given' in (
+      rows_left left a forgets
+          ∙ same_rows texts before before' entry.message entry.read answer answer' left left' accepts accepts' was.0 was.1
+          ∙ sym (rows_left left' b forgets'),
+      λ n r s p q.
+          still_agree texts before before' entry.message entry.read answer answer' left left' accepts accepts' was.0 was.1 n r s
+          (halt_left left a forgets n r p) (halt_left left' b forgets' n s q),
+    )
+
 pub one_history_rows : (texts : Texts) (history : List Entry) (a b : Content) → Gives texts history a → Gives texts history b → forgotten a ≡ forgotten b
-one_history_rows texts [] a b given again = ap forgotten given ∙ sym (ap forgotten again)
-one_history_rows texts (entry ∷ earlier) a b (before, answer, given, is_message, new, left, accepts, forgets) (before', answer', given', is_message', new', left', accepts', forgets') =
-    rows_left left a forgets
-    ∙ same_rows texts before before' entry.message entry.read answer answer' left left' accepts accepts' (one_history_rows texts earlier before before' given given')
-    ∙ sym (rows_left left' b forgets')
+one_history_rows texts history a b given again = (both_rows texts history a b given again).0
 
 -- ---- steps with a time
 

@@ -1,5 +1,5 @@
 -- The end of a job: all its cuts are made, or some of them, or it is released.
-use Rattle.std.specs.Prelude.{◌≡◌, ℕ, ◌+◌, ◌*◌, ◌&&◌, ◌==◌, List, [], ◌∷◌, map, Bool, false, not, nat_le, if◌then◌else◌, Option, Some, None, length, is_some, true, ◌||◌}
+use Rattle.std.specs.Prelude.{◌≡◌, ℕ, ◌+◌, ◌&&◌, ◌==◌, List, [], ◌∷◌, map, Bool, false, not, nat_le, if◌then◌else◌, Option, Some, None, length, is_some, true, ◌||◌}
 use Rattle.std.specs.List.{list_all}
 use Rattle.cut_measure.specs.declared.ranges.TheConstants.{MOST_WIDTH, MOST_HEIGHT, MOST_NUMBERS}
 use Rattle.cut_measure.specs.Measures.{Extent, Rule, is_kept}
@@ -10,14 +10,16 @@ use Rattle.cut_tree.specs.declared.halts.Halt.{Halt}
 use Rattle.cut_tree.specs.declared.halts.Halt.TheVariants.{First, Listed}
 use Rattle.cut_tree.specs.declared.halts.Stop.{Stop}
 use Rattle.cut_tree.specs.declared.halts.Stop.TheVariants as stop
-use Rattle.cut_tree.specs.Tree.{Tree, count_of}
-use Rattle.cut_tree.specs.Stops.{allows, outcome_of}
+use Rattle.cut_tree.specs.Patterns.{Pattern}
+use Rattle.cut_tree.specs.Tree.{count_of}
+use Rattle.cut_tree.specs.Stops.{allows, can_save, halted, outcome_of}
 use Rattle.cut_tree.specs.Laying.{IsLaid}
 use Rattle.shop_records.specs.declared.records.Material.{Material}
 use Rattle.shop_records.specs.declared.records.Part.{Part}
 use Rattle.shop_records.specs.declared.records.State.{State}
 use Rattle.shop_records.specs.declared.records.State.TheVariants.{Standing, Cut, Piece, Kerf, Scrap}
 use Rattle.shop_records.specs.declared.records.Job.{Job}
+use Rattle.shop_records.specs.declared.records.JobHalt.{JobHalt}
 use Rattle.shop_records.specs.declared.records.JobState.{JobState}
 use Rattle.shop_records.specs.declared.records.JobState.TheVariants as job
 use Rattle.shop_records.specs.declared.records.Demand.{Demand}
@@ -44,6 +46,13 @@ is_part_of j part =
     nat_le 1 j.act && nat_le j.act MOST_NUMBERS && is_reserved_for j.act part.state && part.size.w == j.plan.w && part.size.h == j.plan.h
     && nat_le (part.x + part.size.w) MOST_WIDTH && nat_le (part.y + part.size.h) MOST_HEIGHT
 
+-- The same of the part alone: the job has an act's number, and the part has the sides of its plan and lies in a unit. So it is in
+-- each content that a history gives, whatever the job's state.
+abbrev pub fits_part : Job → Part → Bool
+fits_part j part =
+    nat_le 1 j.act && nat_le j.act MOST_NUMBERS && part.size.w == j.plan.w && part.size.h == j.plan.h && nat_le (part.x + part.size.w) MOST_WIDTH
+    && nat_le (part.y + part.size.h) MOST_HEIGHT
+
 -- the part is the job's, and its material's totals hold it
 abbrev pub is_held : Job → Part → Totals → Bool
 is_held j part totals = is_part_of j part && has_cells part totals
@@ -61,16 +70,18 @@ abbrev pub has_begun : Halt → Bool
 has_begun (First cuts lost) = nat_le 1 cuts || lost
 has_begun (Listed cuts lost) = nat_le 1 (length cuts) || is_some lost
 
--- the work on the tree can have ended so, and where it halted, it had begun
-abbrev pub can_end : Tree → Stop → Bool
-can_end tree stop.All = true
-can_end tree (stop.After halt) = allows tree halt && has_begun halt
+-- The work on the plan can have ended so, and where it halted, it had begun; a rest is left only of a cut that went wrong,
+-- and is some of the side that the cut was to divide.
+abbrev pub can_end : Pattern → Stop → Bool
+can_end plan stop.All = true
+can_end plan (stop.After halt) = allows plan.tree halt && has_begun halt
+can_end plan (stop.Saved halt rest) = allows plan.tree halt && can_save plan halt rest
 
 -- why a job can't end so, if it can't; a job that is released ends as one whose cuts were all made
 abbrev pub job_refusal : Stop → Option Job → Option Part → Option Material → (ℕ → Option Demand) → Totals → Option Refusal
 job_refusal stop None part material at totals = Some NoJob
 job_refusal stop (Some j) part material at totals =
-    first_of ((not (is_waiting j.state), JobOver) ∷ (not (can_end j.plan.tree stop), BadCut) ∷ (not (rests j part material at totals), StoreFault) ∷ [])
+    first_of ((not (is_waiting j.state), JobOver) ∷ (not (can_end j.plan stop), BadCut) ∷ (not (rests j part material at totals), StoreFault) ∷ [])
 
 abbrev pub end_refusal : Content → Stop → Option Job → Option Refusal
 end_refusal old stop found =
@@ -110,11 +121,19 @@ row_part part rule act row =
 abbrev pub ended_state : Stop → JobState
 ended_state stop.All = job.Done
 ended_state (stop.After halt) = job.Broken
+ended_state (stop.Saved halt rest) = job.Broken
 
 -- the cells of the new parts, column by column, are told
 abbrev pub ended_reply : Stop → ℕ → Totals → Reply
 ended_reply stop.All number come = reply.Done number come.kerf come.pieces come.rack come.scrap
 ended_reply (stop.After halt) number come = reply.Break number come.kerf come.pieces come.rack come.scrap
+ended_reply (stop.Saved halt rest) number come = reply.Break number come.kerf come.pieces come.rack come.scrap
+
+-- where the work on the plan halted is kept
+abbrev pub kept_halt : Stop → ℕ → Option JobHalt
+kept_halt stop.All number = None
+kept_halt (stop.After halt) number = Some (record { job = number; halt = halt; rest = None })
+kept_halt (stop.Saved halt rest) number = Some (record { job = number; halt = halt; rest = Some rest })
 
 abbrev pub end_change : Stop → Job → Part → Rule → Totals → List Row → List Demand → Change
 end_change stop j part rule totals laid rows =
@@ -123,6 +142,7 @@ end_change stop j part rule totals laid rows =
       parts = made;
       moved = Some (in_state (Cut j.act) part);
       job = Some (record j { state = ended_state stop });
+      halt = kept_halt stop j.act;
       demands = rows;
       totals = Some (record { material = part.material; totals = moved_totals part (tally made) totals });
     }
@@ -141,8 +161,8 @@ abbrev pub IsDone : Job → Part → Rule → Totals → (ℕ → Option Demand)
 IsDone = IsEnd stop.All
 
 -- the work on the plan halted
-abbrev pub IsBroken : Halt → Job → Part → Rule → Totals → (ℕ → Option Demand) → Change → Type 0
-IsBroken halt = IsEnd (stop.After halt)
+abbrev pub IsBroken : Halt → Option ℕ → Job → Part → Rule → Totals → (ℕ → Option Demand) → Change → Type 0
+IsBroken halt rest = IsEnd (halted halt rest)
 
 abbrev pub release_change : Job → Part → List Demand → Change
 release_change j part rows =

@@ -26,7 +26,7 @@ use Rattle.shop_records.specs.Elements.{IsIn}
 use Rattle.shop_records.specs.Messages.{Texts, IsMessage, is_accepted, pair_of}
 use Rattle.shop_records.specs.Readings.{Reading}
 use Rattle.shop_records.specs.Content.{Content, fresh, part_at, demand_at, kept_at, entry_at, entry_count, forgotten, totals_of, AddsUp}
-use Rattle.shop_machine.specs.Machine.{Accepts, Effect, Rules, Receives, Orders, Reserves, Ends, Turns, Amends, effects}
+use Rattle.shop_machine.specs.Machine.{Accepts, Effect, Rules, Receives, Orders, Reserves, Ends, Turns, Amends, effects, Undoes}
 use Rattle.shop_machine.specs.Ending.{fate}
 use Rattle.shop_records.specs.Soundness.{IsCounted, reserved_in, made_in}
 
@@ -237,28 +237,52 @@ abbrev pub turned_owner : Name → State → Option Owner → Option Owner
 turned_owner part into None = None
 turned_owner part into (Some before) = if stands_as part before then Some (record before { state = into }) else Some before
 
--- by cases on what was done; a reserved part stands
-abbrev pub owner_by : Effect → List Effect → Name → ℕ → ℕ → Option Owner → Option Owner
-owner_by (Receives material batch size count) earlier unit x y before =
+-- The owner after a job's end was taken back: where it was a part that the job made, the owner before that end.
+abbrev pub undone_owner : ℕ → Option Owner → Option Owner → Option Owner
+undone_owner job ended None = None
+undone_owner job ended (Some before) = if before.name.act == job then ended else Some before
+
+-- By cases on what was done; a reserved part stands. A function gives the owner before the end of a job.
+abbrev pub owner_by : Effect → List Effect → Name → ℕ → ℕ → (ℕ → Option Owner) → Option Owner → Option Owner
+owner_by (Receives material batch size count) earlier unit x y ended before =
     if unit.act == acts_of earlier + 1 then Some (record { state = state.Standing; name = unit; size = size; x = x; y = y }) else before
-owner_by (Ends job outcome) earlier unit x y before =
+owner_by (Ends job outcome) earlier unit x y ended before =
     cut_owner (job_of earlier job) (material_rule earlier (unit_material earlier unit)) outcome job before
-owner_by (Turns part into) earlier unit x y before = turned_owner part into before
-owner_by _ earlier unit x y before = before
+owner_by (Undoes job) earlier unit x y ended before = undone_owner job (ended job) before
+owner_by (Turns part into) earlier unit x y ended before = turned_owner part into before
+owner_by _ earlier unit x y ended before = before
+
+-- the end of this job
+abbrev pub ends_job : ℕ → Effect → Bool
+ends_job job (Ends ended outcome) = ended == job
+ends_job job _ = false
+
+-- The owner of the cell (x, y) of a unit by what was done; or, where a job is given, by what was done before its end.
+abbrev pub owner_when : List Effect → Option ℕ → Name → ℕ → ℕ → Option Owner
+owner_when [] when unit x y = None
+owner_when (done ∷ earlier) None unit x y =
+    owner_by done earlier unit x y (λ job. owner_when earlier (Some job) unit x y) (owner_when earlier None unit x y)
+owner_when (done ∷ earlier) (Some job) unit x y =
+    if ends_job job done then owner_when earlier None unit x y else owner_when earlier (Some job) unit x y
 
 -- the owner of the cell (x, y) of a unit, by cases on the newest message
 abbrev pub owner_of : List Effect → Name → ℕ → ℕ → Option Owner
-owner_of [] unit x y = None
-owner_of (done ∷ earlier) unit x y = owner_by done earlier unit x y (owner_of earlier unit x y)
+owner_of effects unit x y = owner_when effects None unit x y
 
-abbrev pub is_cut : State → Bool
-is_cut state.Standing = false
-is_cut (state.Reserved job) = false
-is_cut (state.Cut job) = true
-is_cut (state.Piece demand) = false
-is_cut state.Kerf = false
-is_cut state.Scrap = false
-is_cut state.Returned = false
+-- its owner before the end of a job, by the effects before that end
+abbrev pub owner_before : List Effect → ℕ → Name → ℕ → ℕ → Option Owner
+owner_before effects job unit x y = owner_when effects (Some job) unit x y
+
+-- cut, or undone: it owns no cell
+abbrev pub is_gone : State → Bool
+is_gone state.Standing = false
+is_gone (state.Reserved job) = false
+is_gone (state.Cut job) = true
+is_gone (state.Piece demand) = false
+is_gone state.Kerf = false
+is_gone state.Scrap = false
+is_gone state.Returned = false
+is_gone (state.Undone job) = true
 
 -- a reserved part stands
 abbrev pub standing_as : State → State
@@ -269,11 +293,12 @@ standing_as (state.Piece demand) = state.Piece demand
 standing_as state.Kerf = state.Kerf
 standing_as state.Scrap = state.Scrap
 standing_as state.Returned = state.Returned
+standing_as (state.Undone job) = state.Undone job
 
--- a part that isn't cut has this cell of the unit
+-- a part that is neither cut nor undone has this cell of the unit
 pub record HasCellOf (unit : Name) (x y : ℕ) (part : Part) : Type 0 where
   pub root : part.root ≡ unit
-  pub whole : is_cut part.state ≡ false
+  pub whole : is_gone part.state ≡ false
   pub right : part.x ≤ x
   pub left : x < part.x + part.size.w
   pub below : part.y ≤ y
@@ -305,7 +330,7 @@ abbrev pub EachCellIsOwned : List Effect → Content → Type 0
 EachCellIsOwned effects content =
     (unit : ReceivedUnit) → IsIn unit (units_of effects) → (x y : ℕ) → x < unit.size.w → y < unit.size.h → OneOwner effects content unit.name x y
 
--- a part that isn't cut is the owner of each of its cells, in the state, at the place and with the sides that its row says
+-- a part that is neither cut nor undone is the owner of each of its cells, in the state, at the place and with the sides that its row says
 abbrev pub EachPartOwnsItsCells : List Effect → Content → Type 0
 EachPartOwnsItsCells effects content =
     (name : Name) (part : Part) → part_at content name ≡ Some part → (x y : ℕ) → HasCellOf part.root x y part

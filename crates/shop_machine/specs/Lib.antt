@@ -7,8 +7,12 @@ pub mod Importing
 pub mod Reserving
 pub mod Moving
 pub mod Ending
+pub mod Undoing
 pub mod Retiring
 pub mod Amending
+pub mod Noting
+pub mod Extending
+pub mod Beginning
 pub mod Machine
 pub mod History
 pub mod Sharing

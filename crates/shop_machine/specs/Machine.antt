@@ -6,7 +6,7 @@ use Rattle.cut_measure.specs.Measures.{Extent, Rule}
 use Rattle.cut_tree.specs.declared.halts.Stop.TheVariants as stop
 use Rattle.cut_tree.specs.Tree.{Tree}
 use Rattle.cut_tree.specs.Cells.{Outcome, all_made}
-use Rattle.cut_tree.specs.Stops.{outcome_after}
+use Rattle.cut_tree.specs.Stops.{outcome_of, halted}
 use Rattle.cut_tree.specs.Patterns.{Pattern}
 use Rattle.shop_records.specs.declared.records.Material.{Material}
 use Rattle.shop_records.specs.declared.records.Part.{Part}
@@ -14,11 +14,12 @@ use Rattle.shop_files.specs.declared.orders.OrderLine.{OrderLine}
 use Rattle.shop_records.specs.declared.records.State.{State}
 use Rattle.shop_records.specs.declared.records.State.TheVariants as state
 use Rattle.shop_records.specs.declared.records.Job.{Job}
+use Rattle.shop_records.specs.declared.records.JobBegin.{JobBegin}
 use Rattle.shop_records.specs.declared.records.Demand.{Demand}
 use Rattle.shop_records.specs.declared.texts.Kept.{Kept}
 use Rattle.shop_records.specs.declared.changes.Change.{Change}
 use Rattle.shop_records.specs.declared.messages.Command.{Command}
-use Rattle.shop_records.specs.declared.messages.Command.TheVariants.{AddMaterial, Receive, AddOrder, Reserve, Done, Break, Release, Scrap, GiveBack, Import, Amend}
+use Rattle.shop_records.specs.declared.messages.Command.TheVariants.{AddMaterial, Receive, AddOrder, Reserve, Done, Break, Release, Scrap, GiveBack, Import, Amend, Undo, Note, Extend, Begin}
 use Rattle.shop_records.specs.declared.imports.Form.{Form}
 use Rattle.shop_records.specs.declared.imports.Form.TheVariants.{Cgcut}
 use Rattle.shop_records.specs.declared.imports.ImportRow.{ImportRow}
@@ -32,7 +33,7 @@ use Rattle.shop_records.specs.Messages.{Texts, refusal_in, pair_of}
 use Rattle.shop_records.specs.Journal.{word_of}
 use Rattle.shop_records.specs.Readings.{Reading, unread, Plan, Lines, Problem, plan_in}
 use Rattle.shop_records.specs.Keeping.{KeepsReply}
-use Rattle.shop_records.specs.Content.{Content, material_at, part_at, job_at, has_order, demand_at, kept_at, import_at, entry_count, last_time, totals_of, totals_for, of_found, with_number, changed, material_of}
+use Rattle.shop_records.specs.Content.{Content, material_at, part_at, job_at, has_order, demand_at, kept_at, import_at, entry_count, last_time, totals_of, totals_for, of_found, with_number, changed, material_of, halt_at, begun_at, demands_of}
 use Rattle.shop_machine.specs.Adding.{material_refusal, material_change}
 use Rattle.shop_machine.specs.Receiving.{receive_refusal, receive_change}
 use Rattle.shop_machine.specs.Ordering.{order_refusal, order_change}
@@ -41,6 +42,10 @@ use Rattle.shop_machine.specs.Reserving.{IsReading, reserve_refusal, IsReservati
 use Rattle.shop_machine.specs.Ending.{end_refusal, IsWork, IsDone, IsBroken, IsRelease}
 use Rattle.shop_machine.specs.Retiring.{scrap_refusal, return_refusal, turn_change}
 use Rattle.shop_machine.specs.Amending.{amend_refusal, amend_change}
+use Rattle.shop_machine.specs.Undoing.{undo_refusal, IsUndo}
+use Rattle.shop_machine.specs.Noting.{note_refusal, note_change}
+use Rattle.shop_machine.specs.Extending.{extend_refusal, extend_change}
+use Rattle.shop_machine.specs.Beginning.{begin_refusal, begin_change}
 
 -- ---- commands
 
@@ -55,11 +60,15 @@ Reads texts old (AddMaterial material kind kerf min_long min_short) read = read 
 Reads texts old (Receive material batch w h count) read = read ≡ unread
 Reads texts old (AddOrder order lines) read = read ≡ unread
 Reads texts old (Done number) read = read ≡ unread
-Reads texts old (Break number halt) read = read ≡ unread
+Reads texts old (Break number halt rest) read = read ≡ unread
 Reads texts old (Release number) read = read ≡ unread
 Reads texts old (Scrap part) read = read ≡ unread
 Reads texts old (GiveBack part) read = read ≡ unread
 Reads texts old (Amend demand wanted) read = read ≡ unread
+Reads texts old (Undo number) read = read ≡ unread
+Reads texts old (Note order due text) read = read ≡ unread
+Reads texts old (Extend order lines) read = read ≡ unread
+Reads texts old (Begin number) read = read ≡ unread
 
 -- why a command is refused, if it is, what its text stands for being read
 abbrev pub refusal_of : Content → Command → Reading → Option Refusal
@@ -72,13 +81,18 @@ refusal_of old (AddOrder order lines) read =
 refusal_of old (Reserve part text) read =
     reserve_refusal (part_at old part) (material_of old (part_at old part)) (plan_in read) (demand_at old) (old.last_act + 1)
 refusal_of old (Done number) read = end_refusal old stop.All (job_at old number)
-refusal_of old (Break number halt) read = end_refusal old (stop.After halt) (job_at old number)
+refusal_of old (Break number halt rest) read = end_refusal old (halted halt rest) (job_at old number)
 refusal_of old (Release number) read = end_refusal old stop.All (job_at old number)
 refusal_of old (Scrap part) read = scrap_refusal (part_at old part) (totals_for old (part_at old part))
 refusal_of old (GiveBack part) read = return_refusal (part_at old part) (totals_for old (part_at old part))
 refusal_of old (Import order form text) read =
     import_refusal (has_order old order) (material_at old) (totals_of old) (old.last_act + 1) (old.last_demand + 1) form read
 refusal_of old (Amend demand wanted) read = amend_refusal (demand_at old demand) wanted
+refusal_of old (Undo number) read = undo_refusal old (job_at old number)
+refusal_of old (Note order due text) read = note_refusal (has_order old order) due text
+refusal_of old (Extend order lines) read =
+    extend_refusal (has_order old order) (material_at old) (demands_of old order) lines (old.last_demand + 1)
+refusal_of old (Begin number) read = begin_refusal (job_at old number)
 
 -- what a command changes where it is accepted, what its text stands for being read
 abbrev pub Makes : Content → Command → Reading → Change → Type 0
@@ -93,9 +107,9 @@ Makes old (Reserve part text) read change =
 Makes old (Done number) read change =
     (j : Job) × (part : Part) × (material : Material) × IsWork old number j part material
     × IsDone j part material.limits (totals_of old part.material) (demand_at old) change
-Makes old (Break number halt) read change =
+Makes old (Break number halt rest) read change =
     (j : Job) × (part : Part) × (material : Material) × IsWork old number j part material
-    × IsBroken halt j part material.limits (totals_of old part.material) (demand_at old) change
+    × IsBroken halt rest j part material.limits (totals_of old part.material) (demand_at old) change
 Makes old (Release number) read change =
     (j : Job) × (part : Part) × (material : Material) × IsWork old number j part material
     × IsRelease j part (demand_at old) change
@@ -106,6 +120,12 @@ Makes old (GiveBack part) read change =
 Makes old (Import order form text) read change =
     ImportMakes order form text (totals_of old) (old.last_act + 1) (old.last_demand + 1) read change
 Makes old (Amend demand wanted) read change = (row : Demand) × (demand_at old demand ≡ Some row) × (change ≡ amend_change row wanted)
+Makes old (Undo number) read change =
+    (j : Job) × (part : Part) × (material : Material) × IsWork old number j part material
+    × IsUndo j (halt_at old j.act) part material.limits (totals_of old part.material) (demand_at old) change
+Makes old (Note order due text) read change = change ≡ note_change order due text
+Makes old (Extend order lines) read change = change ≡ extend_change order lines (old.last_demand + 1)
+Makes old (Begin number) read change = change ≡ begin_change number (begun_at old number)
 
 -- ---- what commands do to cells
 
@@ -117,12 +137,14 @@ pub data Effect : Type 0 where
   Rules : (material : List ℕ) (rule : Rule) → Effect
   -- an act: units of one size are received
   Receives : (material batch : List ℕ) (size : Extent) (count : ℕ) → Effect
-  -- the lines of an order are asked for
+  -- lines of an order are asked for, the first ones or further ones
   Orders : (order : List ℕ) (lines : List OrderLine) → Effect
   -- an act: a part is to be cut by this tree
   Reserves : (part : Name) (tree : Tree) → Effect
   -- the cuts of a job are made as its outcome says
   Ends : (job : ℕ) (outcome : ℕ → Outcome) → Effect
+  -- the end of a job is taken back
+  Undoes : (job : ℕ) → Effect
   -- a standing part as a whole is in this state from now on
   Turns : (part : Name) (into : State) → Effect
   -- so many pieces of a demand are wanted from now on
@@ -144,12 +166,16 @@ effects (AddOrder order lines) read = Orders order lines ∷ []
 effects (Reserve part text) (Plan plan) = Reserves part plan.tree ∷ []
 effects (Reserve part text) _ = nothing ∷ []
 effects (Done job) read = Ends job all_made ∷ []
-effects (Break job halt) read = Ends job (outcome_after halt) ∷ []
+effects (Break job halt rest) read = Ends job (outcome_of (halted halt rest)) ∷ []
 effects (Release job) read = nothing ∷ []
 effects (Scrap part) read = Turns part state.Scrap ∷ []
 effects (GiveBack part) read = Turns part state.Returned ∷ []
 effects (Import order form text) read = import_effects order form read
 effects (Amend demand wanted) read = Amends demand wanted ∷ []
+effects (Undo job) read = Undoes job ∷ []
+effects (Note order due text) read = nothing ∷ []
+effects (Extend order lines) read = Orders order lines ∷ []
+effects (Begin job) read = nothing ∷ []
 
 -- ---- entries
 
@@ -157,20 +183,24 @@ abbrev pub first_order : List Demand → Option (List ℕ)
 first_order [] = None
 first_order (demand ∷ demands) = Some demand.order
 
--- the order that a command makes, also by an import that came again, or of which it amends a demand, from the demands of its
--- change
+-- the order that a command makes, also by an import that came again, extends, notes, or of which it amends a demand, from the
+-- demands of its change
 abbrev pub entry_order : Command → List Demand → Option (List ℕ)
 entry_order (AddMaterial material kind kerf min_long min_short) demands = None
 entry_order (Receive material batch w h count) demands = None
 entry_order (AddOrder order lines) demands = Some order
 entry_order (Reserve part text) demands = None
 entry_order (Done number) demands = None
-entry_order (Break number halt) demands = None
+entry_order (Break number halt rest) demands = None
 entry_order (Release number) demands = None
 entry_order (Scrap part) demands = None
 entry_order (GiveBack part) demands = None
 entry_order (Import order form text) demands = Some order
 entry_order (Amend demand wanted) demands = first_order demands
+entry_order (Undo number) demands = None
+entry_order (Note order due text) demands = Some order
+entry_order (Extend order lines) demands = Some order
+entry_order (Begin number) demands = None
 
 -- the part that a command reserves, scraps or returns
 abbrev pub entry_part : Command → Option Name
@@ -179,16 +209,38 @@ entry_part (Receive material batch w h count) = None
 entry_part (AddOrder order lines) = None
 entry_part (Reserve part text) = Some part
 entry_part (Done number) = None
-entry_part (Break number halt) = None
+entry_part (Break number halt rest) = None
 entry_part (Release number) = None
 entry_part (Scrap part) = Some part
 entry_part (GiveBack part) = Some part
 entry_part (Import order form text) = None
 entry_part (Amend demand wanted) = None
+entry_part (Undo number) = None
+entry_part (Note order due text) = None
+entry_part (Extend order lines) = None
+entry_part (Begin number) = None
 
--- the job that a change reserves, ends or releases, or 0
+-- the job that a change reserves, ends, releases or undoes, or 0
 abbrev pub changed_job : Option Job → ℕ
 changed_job found = of_found (λ (job : Job). job.act) found
+
+-- the job that a command reserves, begins, ends, releases or undoes, or 0, from the job of its change
+abbrev pub entry_job : Command → Option Job → ℕ
+entry_job (AddMaterial material kind kerf min_long min_short) found = changed_job found
+entry_job (Receive material batch w h count) found = changed_job found
+entry_job (AddOrder order lines) found = changed_job found
+entry_job (Reserve part text) found = changed_job found
+entry_job (Done number) found = changed_job found
+entry_job (Break number halt rest) found = changed_job found
+entry_job (Release number) found = changed_job found
+entry_job (Scrap part) found = changed_job found
+entry_job (GiveBack part) found = changed_job found
+entry_job (Import order form text) found = changed_job found
+entry_job (Amend demand wanted) found = changed_job found
+entry_job (Undo number) found = changed_job found
+entry_job (Note order due text) found = changed_job found
+entry_job (Extend order lines) found = changed_job found
+entry_job (Begin number) found = number
 
 -- the entry of a message, under this number and with this time: what it made by its command and its change
 abbrev pub entry_of : (number at : ℕ) → Message → Change → Entry
@@ -199,7 +251,7 @@ entry_of number at message change =
       at = at;
       word = word_of message.command;
       act = with_number change.act 0;
-      job = changed_job change.job;
+      job = entry_job message.command change.job;
       order = entry_order message.command change.demands;
       part = entry_part message.command;
     }
@@ -212,9 +264,11 @@ entering last_number last_at at message change =
 
 -- ---- steps and runs
 
--- the change that also keeps the message, with both texts, and of an import the text of its reply
+-- the change that also keeps the message, with both texts, and of an import the text of its reply, and which terminal has begun
+-- a job
 abbrev pub keeping : Texts → Message → Change → Change
 keeping texts message change = record change {
+  begun = option_map (λ (row : JobBegin). record row { terminal = message.terminal }) change.begun;
   import = option_map (λ (row : ImportRow). record row { reply = texts.of_reply change.reply }) change.import;
   kept = Some (record { pair = pair_of message; kept = record { command = texts.of_message message; reply = texts.of_reply change.reply } });
 }

@@ -9,7 +9,7 @@ use Rattle.cut_tree.specs.Counting.{is_demand_piece}
 use Rattle.shop_records.specs.declared.records.Demand.{Demand}
 use Rattle.shop_machine.specs.declared.recounts.FoundLeaf.{FoundLeaf}
 use Rattle.shop_machine.specs.declared.recounts.Recount.{Recount}
-use Rattle.shop_machine.specs.declared.recounts.Recount.TheVariants.{Reserved, Laid, Freed}
+use Rattle.shop_machine.specs.declared.recounts.Recount.TheVariants.{Reserved, Laid, Freed, Unmade}
 
 abbrev pub plan_leaves : Pattern → List Leaf
 plan_leaves plan = leaves_of plan.tree plan.w plan.h plan.kerf
@@ -37,6 +37,10 @@ pieces_in number laid = count_by (λ row. is_demand_piece number row.owner) laid
 abbrev pub with_laid : List Row → ℕ → Demand → Demand
 with_laid laid n demand = record demand { reserved = demand.reserved - n; made = demand.made + pieces_in demand.number laid }
 
+-- those that were laid aren't made any more
+abbrev pub with_unmade : List Row → ℕ → Demand → Demand
+with_unmade laid n demand = record demand { made = demand.made - pieces_in demand.number laid }
+
 abbrev pub leaves_in : List FoundLeaf → List Leaf
 leaves_in found = map (λ (f : FoundLeaf). f.leaf) found
 
@@ -48,12 +52,14 @@ abbrev pub recount_by : Recount → ℕ → Demand → Demand
 recount_by Reserved n demand = with_reserved n demand
 recount_by (Laid laid) n demand = with_laid laid.now n demand
 recount_by Freed n demand = with_freed n demand
+recount_by (Unmade laid) n demand = with_unmade laid.now n demand
 
 -- the counts stay in range
 abbrev pub CanRecount : Recount → ℕ → Demand → Type 0
 CanRecount Reserved n demand = demand.reserved + n < 2 ^ 32
 CanRecount (Laid laid) n demand = (n ≤ demand.reserved) × (demand.made + pieces_in demand.number laid.now < 2 ^ 32)
 CanRecount Freed n demand = n ≤ demand.reserved
+CanRecount (Unmade laid) n demand = pieces_in demand.number laid.now ≤ demand.made
 
 -- so many are reserved, and can be made
 abbrev pub CanBeMade : ℕ → Demand → Type 0

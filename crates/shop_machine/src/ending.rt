@@ -5,8 +5,8 @@ ghost use Rattle.std.specs.List.{list_all};
 ghost use Rattle.cut_measure.specs.declared.ranges.TheConstants.{MOST_HEIGHT, MOST_NUMBERS, MOST_WIDTH};
 ghost use Rattle.cut_tree.specs.Tree.{count_of};
 ghost use Rattle.cut_tree.specs.Laying.{IsLaid};
-ghost use Rattle.cut_tree.specs.Stops.{outcome_of, IsStopOf};
-ghost use Rattle.cut_tree.specs.declared.halts.Stop.TheVariants.{All as AllCuts, After};
+ghost use Rattle.cut_tree.specs.Stops.{outcome_of, halted, IsStopOf};
+ghost use Rattle.cut_tree.specs.declared.halts.Stop.TheVariants.{All as AllCuts};
 ghost use Rattle.shop_records.specs.declared.records.Material.{Material as MaterialOf};
 ghost use Rattle.shop_records.specs.declared.records.Demand.{Demand as DemandOf};
 ghost use Rattle.shop_machine.specs.declared.recounts.Recount.TheVariants.{Freed};
@@ -14,17 +14,17 @@ ghost use Rattle.shop_records.specs.declared.records.State.TheVariants.{Cut};
 ghost use Rattle.shop_records.specs.Messages.{is_accepted};
 ghost use Rattle.shop_machine.specs.Decisions.{Decides};
 ghost use Rattle.shop_machine.specs.Recounts.{plan_leaves, AreDemandsFound, AreRecounted, leaves_in, HasRow, CanBeMade, IsNumbered, pieces_in, with_laid};
-ghost use Rattle.shop_machine.specs.Ending.{has_reserved, IsEnd, IsDone, IsBroken, IsRelease, ended_reply, ended_state, fate, has_begun, can_end, is_part_of, is_held, job_refusal, rests, row_part};
+ghost use Rattle.shop_machine.specs.Ending.{has_reserved, IsEnd, IsDone, IsBroken, IsRelease, ended_reply, ended_state, kept_halt, fate, has_begun, can_end, is_part_of, fits_part, is_held, job_refusal, rests, row_part};
 ghost use Rattle.shop_machine.specs.Moving.{has_cells, tally, AreFew};
 
 use crate::decisions::no_change;
 use crate::moving::{has_cells, moved_totals, tally};
 use crate::recounts::{FoundLeaf, Recount, recounted_rows, stands_again, wide};
 use cut_measure::{Kind, Limits, MOST_HEIGHT, MOST_NUMBERS, MOST_WIDTH, PartName, Size};
-use cut_tree::{Halt, Owner, Plan, Row, Stop};
+use cut_tree::{Halt, Owner, Plan, Row, Stop, halted};
 use shop_records::{
-    Change, Demand, DemandList, Job, JobState, Material, MaterialTotals, Part, PartList, Refusal,
-    Reply, State, Totals,
+    Change, Demand, DemandList, Job, JobHalt, JobState, Material, MaterialTotals, Part, PartList,
+    Refusal, Reply, State, Totals,
 };
 use std::alloc::{AllocError, Global};
 
@@ -169,14 +169,15 @@ fn has_begun(halt: &Halt) -> bool
     }
 }
 
-// Whether the work on a plan can have ended so.
-fn can_end(plan: &Plan, stop: &Stop) -> bool
-    ensures test { result ≡ can_end plan.now.tree stop.now }
+/// Whether the work on a plan can have ended so.
+pub fn can_end(plan: &Plan, stop: &Stop) -> bool
+    ensures test { result ≡ can_end plan.now stop.now }
     ensures stop { IsTrue result → IsStopOf plan.now.tree stop.now }
 {
     match stop {
         Stop::All => true,
         Stop::After(halt) => plan.allows(halt) && has_begun(halt),
+        Stop::Saved(halt, rest) => plan.allows(halt) && plan.can_save(halt, *rest),
     }
 }
 
@@ -243,7 +244,7 @@ fn ended_state(stop: &Stop) -> JobState
 {
     match stop {
         Stop::All => JobState::Done,
-        Stop::After(_) => JobState::Broken,
+        Stop::After(_) | Stop::Saved(..) => JobState::Broken,
     }
 }
 
@@ -266,13 +267,38 @@ fn ended_reply(stop: &Stop, job: u32, come: &Totals) -> Reply
             rack,
             scrap,
         },
-        Stop::After(_) => Reply::Break {
+        Stop::After(_) | Stop::Saved(..) => Reply::Break {
             job,
             kerf,
             pieces,
             rack,
             scrap,
         },
+    }
+}
+
+// Where the work on a job's plan halted, to be kept.
+fn kept_halt(alloc: Global, stop: &Stop, job: u32) -> Result<Option<JobHalt>, AllocError>
+    ensures { IfOk result (λ halt. halt ≡ kept_halt stop.now job) }
+{
+    match stop {
+        Stop::All => Ok(None),
+        Stop::After(halt) => {
+            let halt = halt.copy(alloc)?;
+            Ok(Some(JobHalt {
+                job,
+                halt,
+                rest: None,
+            }))
+        }
+        Stop::Saved(halt, rest) => {
+            let halt = halt.copy(alloc)?;
+            Ok(Some(JobHalt {
+                job,
+                halt,
+                rest: Some(*rest),
+            }))
+        }
     }
 }
 
@@ -290,8 +316,8 @@ fn laid_rows(alloc: Global, plan: &Plan, stop: &Stop) -> Result<Vec<Row>, AllocE
     Ok(rows)
 }
 
-// The new parts of a job that ended so, and their cells, column by column.
-fn ended_parts(
+/// The parts that a job made that ended so, and their cells, column by column.
+pub(crate) fn ended_parts(
     alloc: Global,
     job: &Job,
     part: &Part,
@@ -299,7 +325,7 @@ fn ended_parts(
     stop: &Stop,
     rows: &[Row],
 ) -> Result<(PartList, Totals), AllocError>
-    requires part { IsTrue (is_part_of job.now part.now) }
+    requires part { IsTrue (fits_part job.now part.now) }
     requires laid { IsLaid job.now.plan.tree job.now.plan.w job.now.plan.h job.now.plan.kerf
         (outcome_of stop.now) rows.now }
     ensures parts { IfOk result
@@ -354,6 +380,7 @@ fn end(
     let demands = laid_demands(alloc, &job.plan, laid, leaves)?;
     let (parts, come) = ended_parts(alloc, &job, &part, limits, stop, laid)?;
     let reply = ended_reply(stop, job.act, &come);
+    let halt = kept_halt(alloc, stop, job.act)?;
     Ok(Change {
         parts,
         moved: Some(Part {
@@ -364,6 +391,7 @@ fn end(
             state: ended_state(stop),
             ..job
         }),
+        halt,
         demands,
         totals: Some(MaterialTotals {
             material: part.material,
@@ -462,17 +490,19 @@ pub fn decide_break(
     totals: Totals,
     leaves: &[FoundLeaf],
     halt: &Halt,
+    rest: Option<u32>,
 ) -> Result<Change, Refusal>
     requires numbered { All IsNumbered leaves.now }
     requires leaves { IfSome job (λ j. leaves_in leaves.now ≡ plan_leaves j.plan) }
     ensures decision { (at : ℕ → Option DemandOf) → AreDemandsFound at leaves.now
-        → Decides (job_refusal (After halt.now) job part material at totals)
+        → Decides (job_refusal (halted halt.now rest) job part material at totals)
         (λ change. MatchOption job ⊥
         (λ j. MatchOption part ⊥ (λ p. MatchOption material ⊥
-        (λ m. IsBroken halt.now j p m.limits totals at change)))) result }
+        (λ m. IsBroken halt.now rest j p m.limits totals at change)))) result }
     ensures told { IfOk result (λ change. IsTrue (is_accepted change.reply)) }
 {
-    let stop = Stop::After(halt.copy(alloc)?);
+    let halt = halt.copy(alloc)?;
+    let stop = halted(halt, rest);
     let change = decide_end(alloc, job, part, material, &totals, leaves, &stop)?;
     Ok(change)
 }

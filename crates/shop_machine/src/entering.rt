@@ -2,7 +2,7 @@
 
 ghost use Rattle.std.specs.Prelude.{◌≡◌, ◌≤◌, ◌+◌, ◌^◌, IfOk, IfErr};
 ghost use Rattle.shop_records.specs.declared.refusals.Refusal.TheVariants.{StoreFault};
-ghost use Rattle.shop_machine.specs.Machine.{entry_order, entry_part, first_order, changed_job, entry_of, entering};
+ghost use Rattle.shop_machine.specs.Machine.{entry_order, entry_part, first_order, changed_job, entry_job, entry_of, entering};
 
 use cut_measure::{Code, PartName};
 use shop_records::{Change, Command, Demand, Entry, Job, Message, Pair, Refusal, word_of};
@@ -17,12 +17,15 @@ fn first_order(demands: &[Demand]) -> Option<Code>
     }
 }
 
-// The order that a command makes, also by an import that came again, or of which it amends a demand.
+// The order that a command makes, also by an import that came again, extends, notes, or of which it amends a demand.
 fn entry_order(command: &Command, demands: &[Demand]) -> Option<Code>
     ensures { result ≡ entry_order command.now demands.now }
 {
     match command {
-        Command::AddOrder { order, .. } | Command::Import { order, .. } => Some(*order),
+        Command::AddOrder { order, .. }
+        | Command::Import { order, .. }
+        | Command::Note { order, .. }
+        | Command::Extend { order, .. } => Some(*order),
         Command::Amend { .. } => first_order(demands),
         _ => None,
     }
@@ -39,13 +42,23 @@ fn entry_part(command: &Command) -> Option<PartName>
     }
 }
 
-// The number of the job that a change reserves, ends or releases, or 0.
+// The number of the job that a change reserves, ends, releases or undoes, or 0.
 fn changed_job(job: &Option<Job>) -> u32
     ensures { result ≡ changed_job job.now }
 {
     match job {
         Some(job) => job.act,
         None => 0,
+    }
+}
+
+// The job that a command reserves, begins, ends, releases or undoes, or 0.
+fn entry_job(command: &Command, found: &Option<Job>) -> u32
+    ensures { result ≡ entry_job command.now found.now }
+{
+    match command {
+        Command::Begin { job } => *job,
+        _ => changed_job(found),
     }
 }
 
@@ -62,7 +75,7 @@ fn entry_of(number: u64, at: u64, message: &Message, change: &Change) -> Entry
         at,
         word: word_of(&message.command),
         act: change.act.unwrap_or(0),
-        job: changed_job(&change.job),
+        job: entry_job(&message.command, &change.job),
         order: entry_order(&message.command, change.demands.as_slice()),
         part: entry_part(&message.command),
     }

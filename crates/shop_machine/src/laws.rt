@@ -1,7 +1,9 @@
 //! What holds of every history of the shop: its content is sound, each cell has exactly one owner, and its newest part is
 //! written in entries, whose times decide nothing.
 
-ghost use Rattle.std.specs.Prelude.{◌≡◌, ◌≢◌, ◌≤◌, ◌+◌, ◌↔◌, ℕ, List, Some, None};
+ghost use Rattle.std.specs.Prelude.{◌≡◌, ◌≢◌, ◌≤◌, ◌+◌, ◌↔◌, ℕ, List, Some, None, ◌++◌, ◌∷◌, not, true};
+ghost use Rattle.std.specs.List.{list_all};
+ghost use Rattle.cut_measure.specs.Names.{Name};
 ghost use Rattle.cut_tree.specs.declared.lay.Row.{Row};
 ghost use Rattle.cut_tree.specs.Tree.{Tree, IsShaped};
 ghost use Rattle.cut_tree.specs.Cells.{Outcome};
@@ -16,8 +18,8 @@ ghost use Rattle.std.specs.FinMap.{len};
 ghost use Rattle.shop_records.specs.declared.messages.Reply.{Reply};
 ghost use Rattle.shop_records.specs.declared.journal.Entry.{Entry as EntryOf};
 ghost use Rattle.shop_records.specs.Content.{Content, kept_at, import_at, entry_at, entry_count, forgotten, without_times, changed};
-ghost use Rattle.shop_machine.specs.Machine.{Reads, refusal_of, Makes, keeping, keeping_at, Accepts, Step, StepAt};
-ghost use Rattle.shop_machine.specs.History.{Entry, Gives, GivesAll, IsAccountOf, AreNewest, pairs_of, entered_pairs};
+ghost use Rattle.shop_machine.specs.Machine.{Reads, refusal_of, Makes, keeping, keeping_at, Accepts, Step, StepAt, Effect, Ends};
+ghost use Rattle.shop_machine.specs.History.{Entry, Gives, GivesAll, IsAccountOf, AreNewest, pairs_of, entered_pairs, ends_job, owner_of, owner_before};
 ghost use Rattle.shop_records.specs.Soundness.{IsSound, Fits};
 ghost use Rattle.shop_machine.specs.Sharing.{SharesCells};
 
@@ -130,6 +132,16 @@ pub fn time_decides_nothing()
         → StepAt texts at old message answer new → Step texts old message answer new }
     ensures timed { (texts : Texts) (old new : Content) (message : Message) (answer : Reply)
         → Step texts old message answer new → (at : ℕ) × StepAt texts at old message answer new }
+{}
+
+/// The owner of a cell before a job's end, by which an undo gives the cell back, is its owner by the effects before that end,
+/// the last one, if there were more.
+pub fn owners_before_an_end()
+    ensures { (job : ℕ) (outcome : ℕ → Outcome) (later earlier : List Effect) (unit : Name)
+        (x y : ℕ)
+        → list_all (λ done. not (ends_job job done)) later ≡ true
+        → owner_before (later ++ Ends job outcome ∷ earlier) job unit x y
+        ≡ owner_of earlier unit x y }
 {}
 
 /// Rows are laid for a shaped tree exactly where they share the unit's cells out among its nodes: each row with its node's

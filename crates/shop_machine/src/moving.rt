@@ -43,7 +43,8 @@ pub fn tally_one(part: &Part) -> Totals
     tally(&[*part])
 }
 
-fn can_move(gone: u64, most: u64, total: u64) -> bool
+/// Whether a total holds what goes, and has room for so much more.
+pub(crate) fn can_move(gone: u64, most: u64, total: u64) -> bool
     ensures { result ≡ can_move gone most total }
 {
     gone <= total && most <= u64::MAX - total
@@ -63,8 +64,8 @@ pub fn has_cells(part: &Part, totals: &Totals) -> bool
         && can_move(gone.returned, most, totals.returned)
 }
 
-// A total when cells go and others come.
-fn moved_total(gone: u64, come: u64, total: u64, most: u64) -> u64
+/// A total when cells go and others come.
+pub(crate) fn moved_total(gone: u64, come: u64, total: u64, most: u64) -> u64
     requires holds { IsTrue (can_move gone most total) }
     requires few { come ≤ most }
     ensures { result ≡ total - gone + come }

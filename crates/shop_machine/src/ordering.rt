@@ -90,8 +90,8 @@ fn new_demand(order: Code, number: u32, line: &OrderLine) -> Demand
     }
 }
 
-// The demands of lines, numbered from `first` on.
-fn new_demands(
+/// The demands of lines, numbered from `first` on.
+pub(crate) fn new_demands(
     alloc: Global,
     order: Code,
     first: u32,

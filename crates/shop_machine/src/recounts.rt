@@ -33,6 +33,8 @@ pub enum Recount<'a> {
     Laid(&'a [Row]),
     /// They are free again.
     Freed,
+    /// Those that these rows lay aren't made any more.
+    Unmade(&'a [Row]),
 }
 
 /// A number of 32 bits as one of 64.
@@ -53,8 +55,8 @@ fn is_piece(owner: Owner, demand: u32) -> bool
     }
 }
 
-// How many of the laid rows are pieces of a demand.
-fn pieces_in(rows: &[Row], demand: u32) -> usize
+/// How many of the laid rows are pieces of a demand.
+pub(crate) fn pieces_in(rows: &[Row], demand: u32) -> usize
     ensures { result ≡ pieces_in demand rows.now }
 {
     rows.iter()
@@ -78,6 +80,10 @@ fn recounted(how: Recount, count: u32, demand: &Demand) -> Demand
         },
         Recount::Freed => Demand {
             reserved: demand.reserved - count,
+            ..*demand
+        },
+        Recount::Unmade(rows) => Demand {
+            made: demand.made - pieces_in(rows, demand.number) as u32,
             ..*demand
         },
     }

@@ -6,7 +6,8 @@ ghost use Rattle.shop_forms.specs.Fields.{row};
 ghost use Rattle.shop_forms.specs.Forms as form;
 
 use crate::listing::{
-    history_query, job_query, jobs_query, lines_query, list_query, orders_query, terminal_query,
+    history_query, job_query, jobs_query, lines_query, list_query, orders_query, steps_query,
+    terminal_query,
 };
 use serde_json::Value;
 use shop_forms::{code_at, has_keys, name_at, number_at, rows_at, word_at};
@@ -120,6 +121,8 @@ fn short_query(value: &Value, word: &str) -> Option<Query>
         lines_query(value)
     } else if word == "history" {
         history_query(value)
+    } else if word == "steps" {
+        steps_query(value)
     } else {
         None
     }

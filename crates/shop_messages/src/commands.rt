@@ -6,13 +6,13 @@ ghost use Rattle.shop_records.specs.Messages.{IsMessage, IsCommand, IsNumber};
 ghost use Rattle.shop_forms.specs.Forms as form;
 ghost use Rattle.shop_forms.specs.Forms.{message_data, sent_data};
 ghost use Rattle.shop_forms.specs.Tokens.{AddsValue};
-ghost use Rattle.shop_records.specs.declared.messages.Command.TheVariants.{AddMaterial, Receive, Reserve, Amend};
+ghost use Rattle.shop_records.specs.declared.messages.Command.TheVariants.{AddMaterial, Receive, Reserve, Amend, Note};
 ghost use Rattle.shop_forms.specs.Fields.{row};
 ghost use Rattle.cut_measure.specs.Names.{IsName};
 
 use crate::halting::{break_command, write_break};
 use crate::importing::{import_command, write_import};
-use crate::ordering::{order_command, see_lines, write_order};
+use crate::ordering::{extend_command, order_command, see_lines, write_order};
 use cut_measure::{Code, Kind, PartName};
 use json::Writer;
 use serde_json::Value;
@@ -53,6 +53,14 @@ pub(crate) fn command(
         import_command(alloc, value)
     } else if word == "amend" {
         Ok(amend_command(value))
+    } else if word == "undo" {
+        Ok(undo_command(value))
+    } else if word == "note" {
+        note_command(alloc, value)
+    } else if word == "extend" {
+        extend_command(alloc, value)
+    } else if word == "begin" {
+        Ok(begin_command(value))
     } else {
         Ok(None)
     }
@@ -85,16 +93,37 @@ pub fn write_message(
         } => write_receive(writer, pair, material, batch, *w, *h, *count),
         Command::AddOrder { order, lines } => {
             see_lines(lines.as_slice());
-            write_order(alloc, writer, pair, order.as_str(), lines.as_slice())
+            write_order(
+                alloc,
+                writer,
+                pair,
+                "order",
+                order.as_str(),
+                lines.as_slice(),
+            )
         }
         Command::Reserve { part, tree } => write_reserve(alloc, writer, pair, part, tree),
         Command::Done { job } => write_end(writer, pair, "done", *job),
-        Command::Break { job, halt } => write_break(writer, pair, *job, halt),
+        Command::Break { job, halt, rest } => write_break(writer, pair, *job, halt, *rest),
         Command::Release { job } => write_end(writer, pair, "release", *job),
         Command::Scrap { part } => write_turned(alloc, writer, pair, "scrap", part),
         Command::GiveBack { part } => write_turned(alloc, writer, pair, "return", part),
         Command::Import { order, form, text } => write_import(writer, pair, order, form, text),
         Command::Amend { demand, wanted } => write_amend(writer, pair, *demand, *wanted),
+        Command::Undo { job } => write_end(writer, pair, "undo", *job),
+        Command::Note { order, due, text } => write_note(writer, pair, order, *due, text),
+        Command::Extend { order, lines } => {
+            see_lines(lines.as_slice());
+            write_order(
+                alloc,
+                writer,
+                pair,
+                "extend",
+                order.as_str(),
+                lines.as_slice(),
+            )
+        }
+        Command::Begin { job } => write_end(writer, pair, "begin", *job),
     }
 }
 
@@ -265,7 +294,7 @@ fn release_command(value: &Value) -> Option<Command>
     Some(Command::Release { job })
 }
 
-// Writes a message that ends a job, by its word.
+// Writes a message on a job, by its word.
 fn write_end(writer: &mut Writer, pair: (u64, u64), word: &str, job: u32) -> Result<(), AllocError>
     ensures value { OnOk result (AddsValue writer.old writer.new
         (form.sent_data pair.0 pair.1 (form.job_members word.now job))) }
@@ -353,6 +382,72 @@ fn write_amend(
             Member::Number("number", pair.1),
             Member::Number("terminal", pair.0),
             Member::Number("wanted", wide(wanted)),
+        ],
+    )
+}
+
+// The command to undo a job.
+fn undo_command(value: &Value) -> Option<Command>
+    ensures { result ≡ row 4 form.undo_command (view value.now) }
+{
+    if !has_keys(value, 4) {
+        return None;
+    }
+    let job = number_at(value, "job")?;
+    Some(Command::Undo { job })
+}
+
+// The command that a job is begun.
+fn begin_command(value: &Value) -> Option<Command>
+    ensures { result ≡ row 4 form.begin_command (view value.now) }
+{
+    if !has_keys(value, 4) {
+        return None;
+    }
+    let job = number_at(value, "job")?;
+    Some(Command::Begin { job })
+}
+
+// The command to say something of an order.
+fn note_command(alloc: Global, value: &Value) -> Result<Option<Command>, AllocError>
+    ensures { IfOk result (λ command. command ≡ row 6 form.note_command (view value.now)) }
+{
+    if !has_keys(value, 6) {
+        return Ok(None);
+    }
+    let (Some(order), Some(due)) = (code_at(value, "order"), number_at(value, "due")) else {
+        return Ok(None);
+    };
+    match text_at(value, "text") {
+        Some(text) => {
+            let text = Text::from_str(alloc, text)?;
+            Ok(Some(Command::Note { order, due, text }))
+        }
+        None => Ok(None),
+    }
+}
+
+// Writes a message that says something of an order.
+fn write_note<'a>(
+    writer: &mut Writer,
+    pair: (u64, u64),
+    order: &'a Code,
+    due: u32,
+    text: &'a Text,
+) -> Result<(), AllocError>
+    ensures value { OnOk result (AddsValue writer.old writer.new
+        (sent_data pair.0 pair.1 (form.note_members order.now due text.now))) }
+    ensures seen { IsCommand (Note order.now due text.now) }
+{
+    write_object(
+        writer,
+        &[
+            Member::Text("do", "note"),
+            Member::Number("due", wide(due)),
+            Member::Number("number", pair.1),
+            Member::Text("order", order.as_str()),
+            Member::Number("terminal", pair.0),
+            Member::Text("text", text.as_str()),
         ],
     )
 }

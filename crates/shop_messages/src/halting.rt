@@ -1,10 +1,10 @@
 //! JSON of a job that breaks off: which cuts were made and which one went wrong, read and written.
 
-ghost use Rattle.std.specs.Prelude.{◌≡◌, IfOk, OnOk, All, codes};
+ghost use Rattle.std.specs.Prelude.{◌≡◌, IfOk, OnOk, All, Some, None, codes};
+ghost use Rattle.std.specs.Option.{option_or};
 ghost use Rattle.serde_json.specs.View.{view};
 ghost use Rattle.shop_records.specs.declared.messages.Command.TheVariants.{Break};
 ghost use Rattle.shop_records.specs.Messages.{IsCommand, IsNumber, IsHalt};
-ghost use Rattle.shop_forms.specs.Fields.{row};
 ghost use Rattle.shop_forms.specs.Forms as form;
 ghost use Rattle.shop_forms.specs.Forms.{sent_data};
 ghost use Rattle.shop_forms.specs.Members.{IsAt};
@@ -52,22 +52,65 @@ fn listed_cuts(alloc: Global, value: &Value) -> Result<Option<Halt>, AllocError>
     }
 }
 
-// The command that the work on a job halted.
-pub(crate) fn break_command(alloc: Global, value: &Value) -> Result<Option<Command>, AllocError>
-    ensures { IfOk result (λ command. command ≡ row 6 form.break_command (view value.now)) }
+// Which cuts were made, and whether one went wrong.
+fn halt_of(alloc: Global, value: &Value) -> Result<Option<Halt>, AllocError>
+    ensures { IfOk result (λ halt. halt
+        ≡ option_or (form.first_cuts (view value.now)) (form.listed_cuts (view value.now))) }
 {
-    if !has_keys(value, 6) {
-        return Ok(None);
+    if let Some(halt) = first_cuts(value) {
+        return Ok(Some(halt));
     }
+    let halt = listed_cuts(alloc, value)?;
+    Ok(halt)
+}
+
+// The command that the work on a job halted, without a rest of the cut that went wrong.
+fn plain_break(alloc: Global, value: &Value) -> Result<Option<Command>, AllocError>
+    ensures { IfOk result (λ command. command ≡ form.plain_break (view value.now)) }
+{
     let Some(job) = number_at(value, "job") else {
         return Ok(None);
     };
-    if let Some(halt) = first_cuts(value) {
-        return Ok(Some(Command::Break { job, halt }));
-    }
-    match listed_cuts(alloc, value)? {
-        Some(halt) => Ok(Some(Command::Break { job, halt })),
+    match halt_of(alloc, value)? {
+        Some(halt) => Ok(Some(Command::Break {
+            job,
+            halt,
+            rest: None,
+        })),
         None => Ok(None),
+    }
+}
+
+// The same with a rest.
+fn saving_break(alloc: Global, value: &Value) -> Result<Option<Command>, AllocError>
+    ensures { IfOk result (λ command. command ≡ form.saving_break (view value.now)) }
+{
+    let Some(job) = number_at(value, "job") else {
+        return Ok(None);
+    };
+    match halt_of(alloc, value)? {
+        Some(halt) => match number_at(value, "rest") {
+            Some(rest) => Ok(Some(Command::Break {
+                job,
+                halt,
+                rest: Some(rest),
+            })),
+            None => Ok(None),
+        },
+        None => Ok(None),
+    }
+}
+
+// The command that the work on a job halted.
+pub(crate) fn break_command(alloc: Global, value: &Value) -> Result<Option<Command>, AllocError>
+    ensures { IfOk result (λ command. command ≡ form.break_command (view value.now)) }
+{
+    if has_keys(value, 6) {
+        plain_break(alloc, value)
+    } else if has_keys(value, 7) {
+        saving_break(alloc, value)
+    } else {
+        Ok(None)
     }
 }
 
@@ -108,17 +151,16 @@ fn lost_member(halt: &Halt) -> Member<'static>
 }
 
 // Writes a message that breaks a job off.
-pub(crate) fn write_break(
+fn write_plain(
     writer: &mut Writer,
     pair: (u64, u64),
     job: u32,
     halt: &Halt,
 ) -> Result<(), AllocError>
     ensures value { OnOk result (AddsValue writer.old writer.new
-        (sent_data pair.0 pair.1 (form.break_members job halt.now))) }
-    ensures seen { IsCommand (Break job halt.now) }
+        (sent_data pair.0 pair.1 (form.break_members job halt.now None))) }
+    ensures seen { IsNumber job }
 {
-    see_halt(halt);
     write_object(
         writer,
         &[
@@ -130,6 +172,52 @@ pub(crate) fn write_break(
             Member::Number("terminal", pair.0),
         ],
     )
+}
+
+// The same with a rest of the cut that went wrong.
+fn write_saving(
+    writer: &mut Writer,
+    pair: (u64, u64),
+    job: u32,
+    halt: &Halt,
+    rest: u32,
+) -> Result<(), AllocError>
+    ensures value { OnOk result (AddsValue writer.old writer.new
+        (sent_data pair.0 pair.1 (form.break_members job halt.now (Some rest)))) }
+    ensures seen { IsNumber job }
+    ensures rest { IsNumber rest }
+{
+    write_object(
+        writer,
+        &[
+            cuts_member(halt),
+            Member::Text("do", "break"),
+            Member::Number("job", wide(job)),
+            lost_member(halt),
+            Member::Number("number", pair.1),
+            Member::Number("rest", wide(rest)),
+            Member::Number("terminal", pair.0),
+        ],
+    )
+}
+
+// Writes a message that breaks a job off, with a rest of the cut that went wrong or without.
+pub(crate) fn write_break(
+    writer: &mut Writer,
+    pair: (u64, u64),
+    job: u32,
+    halt: &Halt,
+    rest: Option<u32>,
+) -> Result<(), AllocError>
+    ensures value { OnOk result (AddsValue writer.old writer.new
+        (sent_data pair.0 pair.1 (form.break_members job halt.now rest))) }
+    ensures seen { IsCommand (Break job halt.now rest) }
+{
+    see_halt(halt);
+    match rest {
+        Some(rest) => write_saving(writer, pair, job, halt, rest),
+        None => write_plain(writer, pair, job, halt),
+    }
 }
 
 // Reads each cut, so that all are known to be in range.

@@ -1,4 +1,4 @@
-//! JSON of the queries for lists, for a job, for a terminal, for an order's lines and for entries.
+//! JSON of the queries for lists, for a job and its plan, for a terminal, for an order's lines, for entries and for pieces.
 
 ghost use Rattle.std.specs.Prelude.{◌≡◌, codes};
 ghost use Rattle.serde_json.specs.View.{view};
@@ -8,7 +8,7 @@ ghost use Rattle.shop_forms.specs.Forms as form;
 use cut_measure::{Code, PartName};
 use serde_json::Value;
 use shop_forms::{code_at, has_keys, name_at, number_at, text_at};
-use shop_records::{Query, Subject};
+use shop_records::{PieceSource, Query, Subject};
 
 // The name after which parts are asked for: none in an empty text.
 fn name_after(value: &Value) -> Option<Option<PartName>>
@@ -161,7 +161,49 @@ fn whole_story(value: &Value) -> Option<Query>
     }
 }
 
-// The query for a list of what is there, open or listed after a name, for the history as a whole, or for a story.
+// Whose pieces are asked for.
+fn source(value: &Value) -> Option<PieceSource>
+    ensures { result ≡ form.source_of (view value.now) }
+{
+    if let Some(order) = code_at(value, "order") {
+        Some(PieceSource::Order(order))
+    } else if let Some(batch) = code_at(value, "batch") {
+        Some(PieceSource::Batch(batch))
+    } else {
+        let unit = name_at(value, "unit")?;
+        Some(PieceSource::Unit(unit))
+    }
+}
+
+// The query for pieces after a name.
+fn pieces_query(value: &Value) -> Option<Query>
+    ensures { result ≡ form.pieces_query (view value.now) }
+{
+    let of = source(value)?;
+    let after = name_after(value)?;
+    Some(Query::Pieces { of, after })
+}
+
+// The query for pieces, among exactly its keys.
+fn whole_pieces(value: &Value) -> Option<Query>
+    ensures { result ≡ row 3 form.pieces_query (view value.now) }
+{
+    if has_keys(value, 3) {
+        pieces_query(value)
+    } else {
+        None
+    }
+}
+
+// The query for the nodes of a job's plan.
+pub(crate) fn steps_query(value: &Value) -> Option<Query>
+    ensures { result ≡ form.steps_query (view value.now) }
+{
+    let job = number_at(value, "job")?;
+    Some(Query::Steps { job })
+}
+
+// The query for a list of what is there, open or listed after a name, for the history as a whole, for a story, or for pieces.
 pub(crate) fn list_query(value: &Value, word: &str) -> Option<Query>
     ensures { result ≡ form.list_query word.now (view value.now) }
 {
@@ -187,6 +229,8 @@ pub(crate) fn list_query(value: &Value, word: &str) -> Option<Query>
         }
     } else if word == "story" {
         whole_story(value)
+    } else if word == "pieces" {
+        whole_pieces(value)
     } else {
         None
     }

@@ -1,4 +1,4 @@
-//! JSON of adding an order: its command, read and written.
+//! JSON of adding an order, or lines to one: the commands, read and written.
 
 ghost use Rattle.std.specs.Prelude.{◌≡◌, IfOk, OnOk, All};
 ghost use Rattle.serde_json.specs.View.{view};
@@ -30,19 +30,36 @@ pub(crate) fn order_command(alloc: Global, value: &Value) -> Result<Option<Comma
     }
 }
 
-// Writes a message that adds an order.
+// The command to add lines to an order.
+pub(crate) fn extend_command(alloc: Global, value: &Value) -> Result<Option<Command>, AllocError>
+    ensures { IfOk result (λ command. command ≡ row 5 form.extend_command (view value.now)) }
+{
+    if !has_keys(value, 5) {
+        return Ok(None);
+    }
+    match code_at(value, "order") {
+        Some(order) => match rows_at(alloc, value, "lines")? {
+            Some(lines) => Ok(Some(Command::Extend { order, lines })),
+            None => Ok(None),
+        },
+        None => Ok(None),
+    }
+}
+
+// Writes a message that adds an order, or lines to one, by its word.
 pub(crate) fn write_order(
     alloc: Global,
     writer: &mut Writer,
     pair: (u64, u64),
+    word: &str,
     order: &str,
     lines: &[OrderLine],
 ) -> Result<(), AllocError>
     ensures { OnOk result (AddsValue writer.old writer.new
-        (sent_data pair.0 pair.1 (form.order_members order.now lines.now))) }
+        (sent_data pair.0 pair.1 (form.lined_members word.now order.now lines.now))) }
 {
     writer.begin_object()?;
-    write_text(writer, "do", "order")?;
+    write_text(writer, "do", word)?;
     writer.key("lines")?;
     write_rows(alloc, writer, lines)?;
     write_number(writer, "number", pair.1)?;

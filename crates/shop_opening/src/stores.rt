@@ -9,7 +9,9 @@ use crate::before::{Found, LookFault, look_before};
 use crate::made::{Made, is_special};
 use cut_measure::Code;
 use shop_advice::{RowKey, RowName, StoreCause, StoreTable, VersionCause, look_at_store};
-use shop_store::{BookFault, Loaded, SqlBook, load_earlier_ledger, load_ledger};
+use shop_store::{
+    BookFault, Loaded, SqlBook, load_earlier_ledger, load_ledger, load_second_ledger,
+};
 use shop_tables::{NoRow, TableFault, find_last_entry, stray_entry};
 use sqlite::{Connection, Error, ErrorCode, FileFrom, FileStore, Leftover, Start, Unknown};
 use sqlite_disk::Disk;
@@ -157,6 +159,14 @@ fn row_name(row: NoRow) -> RowName {
             table: StoreTable::Journal,
             key: number_key(number),
         },
+        NoRow::Begun(number) => RowName {
+            table: StoreTable::Begun,
+            key: number_key(number),
+        },
+        NoRow::Note(code) => RowName {
+            table: StoreTable::Notes,
+            key: code_key(code),
+        },
     }
 }
 
@@ -168,7 +178,7 @@ fn contradiction(loaded: &Result<Loaded, TableFault>) -> VersionCause {
     }
 }
 
-// What is wrong in tables of version 3 or 2, entries aside.
+// What is wrong in tables of version 3, entries aside.
 fn contradiction_in<D: Disk + Drop>(
     alloc: Global,
     conn: &mut Connection<FileStore<D>>,
@@ -199,6 +209,15 @@ fn last_contradiction_in<D: Disk + Drop>(
     }
 }
 
+// What is wrong in tables of version 2.
+fn second_contradiction_in<D: Disk + Drop>(
+    alloc: Global,
+    conn: &mut Connection<FileStore<D>>,
+) -> VersionCause {
+    let loaded = load_second_ledger(alloc, conn);
+    contradiction(&loaded)
+}
+
 // What is wrong in tables of version 1.
 fn earlier_contradiction_in<D: Disk + Drop>(
     alloc: Global,
@@ -216,7 +235,7 @@ fn foreign_cause<D: Disk + Drop>(
     match version_of(conn) {
         Some(version) if version > 3 => VersionCause::Newer,
         Some(3) => last_contradiction_in(alloc, conn),
-        Some(2) => contradiction_in(alloc, conn),
+        Some(2) => second_contradiction_in(alloc, conn),
         Some(1) => earlier_contradiction_in(alloc, conn),
         _ => VersionCause::Foreign,
     }

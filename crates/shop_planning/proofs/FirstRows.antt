@@ -5,12 +5,10 @@ use Rattle.std.proofs.lemmas.List.{length-map, length-take, take-append-drop, ta
 use Rattle.std.proofs.lemmas.List.Elements.{filter-append}
 use Rattle.cut_measure.specs.declared.ranges.TheConstants.{MOST_NUMBERS}
 use Rattle.cut_measure.specs.declared.sizes.Kind.{Kind}
-use Rattle.cut_bound.specs.declared.limits.TheConstants.{MOST_ORDER_WANTS, MOST_PARTS}
-use Rattle.shop_records.specs.declared.records.Demand.{Demand}
+use Rattle.cut_bound.specs.declared.limits.TheConstants.{MOST_PARTS}
 use Rattle.shop_records.specs.declared.records.Part.{Part}
-use Rattle.shop_answers.specs.declared.planning.FoundDemand.{FoundDemand}
 use Rattle.shop_planning.specs.declared.asking.TheConstants.{FIRST_ROWS}
-use Rattle.shop_planning.specs.Asked.{can_be_planned, first_left, first_planned, has_left, with_row}
+use Rattle.shop_planning.specs.Asked.{can_be_planned, first_planned}
 
 -- where as many as are wanted stand among the first k rows, more rows don't matter
 pub first_of_more : {A : Type 0} (p : A → Bool) (n k m : ℕ) (xs : List A) → k ≤ m → length (take n (filter p (take k xs))) ≡ n → take n (filter p (take k xs)) ≡ take n (filter p (take m xs))
@@ -22,12 +20,6 @@ first_of_more p n k m xs le full =
     ∙ sym (take-append-le n prefix (filter p (drop k (take m xs))) enough)
     ∙ ap (take n) (sym (filter-append p (take k (take m xs)) (drop k (take m xs))))
     ∙ ap (λ l. take n (filter p l)) (take-append-drop k (take m xs))
-
-pub left_enough : (rows : List Demand) (found : List FoundDemand) → found ≡ first_left (take FIRST_ROWS rows) → length found ≡ MOST_ORDER_WANTS → found ≡ first_left (take MOST_NUMBERS rows)
-left_enough rows found is full =
-    let few = take MOST_ORDER_WANTS (filter has_left (take FIRST_ROWS rows)) in
-    let enough : length few ≡ MOST_ORDER_WANTS = sym (length-map few with_row) ∙ ap length (sym is) ∙ full in
-    is ∙ ap (map with_row) (first_of_more has_left MOST_ORDER_WANTS FIRST_ROWS MOST_NUMBERS rows (omega arith) enough)
 
 pub planned_enough : (kind : Kind) (rows : List Part) (found : List (Option Part)) → found ≡ first_planned kind (take FIRST_ROWS rows) → length found ≡ MOST_PARTS
     → found ≡ first_planned kind (take MOST_NUMBERS rows)

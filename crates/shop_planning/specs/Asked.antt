@@ -1,5 +1,5 @@
 -- The demands and the parts that a question asks for.
-use Rattle.std.specs.Prelude.{◌≡◌, ◌≤◌, ℕ, ◌&&◌, not, nat_lt, Bool, false, List, filter, length, map, take, Option, Some, None, IfSome}
+use Rattle.std.specs.Prelude.{◌≡◌, ◌≤◌, ℕ, ◌&&◌, not, nat_lt, Bool, false, List, count_by, filter, length, map, take, Option, Some, None, IfSome}
 use Rattle.cut_measure.specs.declared.ranges.TheConstants.{MOST_NUMBERS}
 use Rattle.cut_measure.specs.declared.sizes.Kind.{Kind}
 use Rattle.cut_measure.specs.declared.sizes.Kind.TheVariants.{Bar, Sheet}
@@ -10,7 +10,7 @@ use Rattle.shop_records.specs.declared.records.Demand.{Demand}
 use Rattle.shop_records.specs.declared.records.Part.{Part}
 use Rattle.shop_records.specs.Columns.{is_free}
 use Rattle.shop_records.specs.Content.{Content, demand_at, part_at}
-use Rattle.shop_records.specs.Lists.{open_demands, parts_after}
+use Rattle.shop_records.specs.Lists.{is_due_before, open_demands, parts_after}
 use Rattle.shop_answers.specs.declared.planning.FoundDemand.{FoundDemand}
 use Rattle.shop_answers.specs.Planning.{left_of}
 use Rattle.shop_plans.specs.declared.questions.PlansQuery.{PlansQuery}
@@ -29,14 +29,19 @@ with_row d = record { number = d.number; demand = Some d }
 abbrev pub has_left : Demand → Bool
 has_left d = nat_lt 0 (left_of d)
 
--- the first 100 of the rows of which something is left
-abbrev pub first_left : List Demand → List FoundDemand
-first_left rows = map with_row (take MOST_ORDER_WANTS (filter has_left rows))
+-- how many of these demands come before one: those that are due earlier, those without a day last, and of one day the lower
+-- numbers
+abbrev pub before_it : Content → List Demand → Demand → ℕ
+before_it content rows demand = count_by (λ other. is_due_before content other demand) rows
 
--- The demands that are named; or else the first 100 of the material, by rising number, of which something is left. As a
+-- the first 100 of them in that order, those that fewer than 100 come before; they keep the order in which they stand
+abbrev pub first_by_day : Content → List Demand → List Demand
+first_by_day content rows = filter (λ demand. nat_lt (before_it content rows demand) MOST_ORDER_WANTS) rows
+
+-- The demands that are named; or else the first 100 of the material by day of which something is left, by rising number. As a
 -- number is at most 2147483647, so many rows are all.
 abbrev pub demands_for : Content → List ℕ → Option (List ℕ) → List FoundDemand
-demands_for content code None = first_left (take MOST_NUMBERS (open_demands content 0 (Some code)))
+demands_for content code None = map with_row (first_by_day content (filter has_left (take MOST_NUMBERS (open_demands content 0 (Some code)))))
 demands_for content code (Some numbers) = map (found_demand content) numbers
 
 -- ---- parts

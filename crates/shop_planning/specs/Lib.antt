@@ -1,5 +1,6 @@
 pub mod Lists
 pub mod Asked
+pub mod ByDay
 pub mod Stock
 pub mod Faults
 pub mod Shares

@@ -1,14 +1,15 @@
 //! The demands and the parts that a question asks for, found in a book.
 
-ghost use Rattle.std.specs.Prelude.{◌≡◌, ◌≤◌, ◌++◌, ◌∷◌, [], IfOk, OnOk, length, map, take, Some, None};
+ghost use Rattle.std.specs.Prelude.{◌≡◌, ◌≤◌, ◌++◌, ◌∷◌, [], IfOk, OnOk, filter, length, map, take, Some, None};
 ghost use Rattle.cut_bound.specs.declared.limits.TheConstants.{MOST_PARTS};
 ghost use Rattle.shop_records.specs.Content.{part_at};
-ghost use Rattle.shop_records.specs.Lists.{open_demands, parts_after};
+ghost use Rattle.shop_records.specs.Lists.{parts_after};
 ghost use Rattle.shop_book.specs.Failures.{CountsFailure};
 ghost use Rattle.shop_book.specs.Kept.{Unchanged, OnContent};
 ghost use Rattle.shop_planning.specs.Asked as asked;
 
-use cut_bound::{MOST_ORDER_WANTS, MOST_PARTS};
+use crate::by_day::first_demands;
+use cut_bound::MOST_PARTS;
 use cut_measure::{Code, Kind, MOST_NUMBERS, PartName};
 use cut_plan::LONGEST_BAR;
 use shop_answers::{FoundDemand, left_of};
@@ -37,37 +38,17 @@ fn has_left(demand: &Demand) -> bool
     0 < left_of(demand)
 }
 
-// The first of the rows of which something is left.
-fn first_left(alloc: Global, rows: &[Demand]) -> Result<Vec<FoundDemand>, AllocError>
-    ensures { IfOk result (λ found. found.items ≡ asked.first_left rows.now) }
+// Those of the rows of which something is left.
+fn left_rows(alloc: Global, rows: &[Demand]) -> Result<Vec<Demand>, AllocError>
+    ensures { IfOk result (λ left. left.items ≡ filter asked.has_left rows.now) }
 {
     rows.iter()
         .filter(|demand| has_left(demand))
-        .take(MOST_ORDER_WANTS)
-        .map(|demand| FoundDemand {
-            number: demand.number,
-            demand: Some(*demand),
-        })
+        .copied()
         .collect(alloc)
 }
 
-// The same of the first open demands of a material, so many of them.
-fn first_open<B: Book>(
-    alloc: Global,
-    book: &mut B,
-    material: Code,
-    most: usize,
-) -> Result<Vec<FoundDemand>, BookFault>
-    ensures found { OnContent B.Book book.old book.new (λ m. IfOk result
-        (λ found. found.items ≡ asked.first_left (take most (open_demands m 0 (Some material))))) }
-    ensures keeps { Unchanged B.Book (CountsFailure result) book.old book.new }
-{
-    let rows = book.first_demands(alloc, 0, Some(material), most)?;
-    let found = first_left(alloc, rows.as_slice())?;
-    Ok(found)
-}
-
-// The first demands of a material of which something is left.
+// The first demands of a material by day of which something is left.
 fn left_demands<B: Book>(
     alloc: Global,
     book: &mut B,
@@ -77,11 +58,9 @@ fn left_demands<B: Book>(
         (λ m. IfOk result (λ found. found.items ≡ asked.demands_for m material None)) }
     ensures keeps { Unchanged B.Book (CountsFailure result) book.old book.new }
 {
-    let found = first_open(alloc, book, material, FIRST_ROWS)?;
-    if found.len() == MOST_ORDER_WANTS {
-        return Ok(found);
-    }
-    first_open(alloc, book, material, ALL_ROWS)
+    let rows = book.first_demands(alloc, 0, Some(material), ALL_ROWS)?;
+    let left = left_rows(alloc, rows.as_slice())?;
+    first_demands(alloc, book, &left)
 }
 
 fn push_demand(

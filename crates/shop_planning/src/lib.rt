@@ -3,6 +3,7 @@
 #![tactic(auto)]
 
 mod asking;
+mod by_day;
 mod laws;
 mod lists;
 mod planning;

@@ -25,6 +25,7 @@ is_there (state.Piece demand) = false
 is_there state.Kerf = false
 is_there state.Scrap = false
 is_there state.Returned = false
+is_there (state.Undone job) = false
 
 abbrev pub is_piece : State → Bool
 is_piece state.Standing = false
@@ -34,6 +35,7 @@ is_piece (state.Piece demand) = true
 is_piece state.Kerf = false
 is_piece state.Scrap = false
 is_piece state.Returned = false
+is_piece (state.Undone job) = false
 
 abbrev pub is_kerf : State → Bool
 is_kerf state.Standing = false
@@ -43,6 +45,7 @@ is_kerf (state.Piece demand) = false
 is_kerf state.Kerf = true
 is_kerf state.Scrap = false
 is_kerf state.Returned = false
+is_kerf (state.Undone job) = false
 
 abbrev pub is_scrap : State → Bool
 is_scrap state.Standing = false
@@ -52,6 +55,7 @@ is_scrap (state.Piece demand) = false
 is_scrap state.Kerf = false
 is_scrap state.Scrap = true
 is_scrap state.Returned = false
+is_scrap (state.Undone job) = false
 
 abbrev pub is_returned : State → Bool
 is_returned state.Standing = false
@@ -61,6 +65,7 @@ is_returned (state.Piece demand) = false
 is_returned state.Kerf = false
 is_returned state.Scrap = false
 is_returned state.Returned = true
+is_returned (state.Undone job) = false
 
 abbrev pub is_counted : Column → Part → Bool
 is_counted Received part = is_whole part
@@ -80,6 +85,7 @@ is_piece_for number (state.Piece demand) = demand == number
 is_piece_for number state.Kerf = false
 is_piece_for number state.Scrap = false
 is_piece_for number state.Returned = false
+is_piece_for number (state.Undone job) = false
 
 -- standing and not reserved
 abbrev pub is_free : State → Bool
@@ -90,6 +96,7 @@ is_free (state.Piece demand) = false
 is_free state.Kerf = false
 is_free state.Scrap = false
 is_free state.Returned = false
+is_free (state.Undone job) = false
 
 -- reserved for this job
 abbrev pub is_reserved_for : ℕ → State → Bool
@@ -100,12 +107,14 @@ is_reserved_for number (state.Piece demand) = false
 is_reserved_for number state.Kerf = false
 is_reserved_for number state.Scrap = false
 is_reserved_for number state.Returned = false
+is_reserved_for number (state.Undone job) = false
 
 abbrev pub is_waiting : JobState → Bool
 is_waiting job.Waiting = true
 is_waiting job.Done = false
 is_waiting job.Broken = false
 is_waiting job.Released = false
+is_waiting job.Undone = false
 
 -- a state without its number
 abbrev pub state_word : State → StateWord
@@ -116,8 +125,9 @@ state_word (state.Piece demand) = word.Piece
 state_word state.Kerf = word.Kerf
 state_word state.Scrap = word.Scrap
 state_word state.Returned = word.Returned
+state_word (state.Undone job) = word.Undone
 
--- the job of a reserved or a cut part, the demand of a piece, else 0
+-- the job of a reserved, a cut or an undone part, the demand of a piece, else 0
 abbrev pub state_of : State → ℕ
 state_of state.Standing = 0
 state_of (state.Reserved job) = job
@@ -126,6 +136,7 @@ state_of (state.Piece demand) = demand
 state_of state.Kerf = 0
 state_of state.Scrap = 0
 state_of state.Returned = 0
+state_of (state.Undone job) = job
 
 -- how a part on the rack is told
 abbrev pub rack_row : Part → RackRow

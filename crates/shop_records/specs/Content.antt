@@ -1,6 +1,7 @@
 -- What a book contains, as finite maps, and what a change makes of it.
-use Rattle.std.specs.Prelude.{filter, map as map_list, not, ◌≡◌, ℕ, ◌+◌, ◌*◌, ◌&&◌, List, [], ◌∷◌, Bool, if◌then◌else◌, Option, Some, None, option_and_then, sum_by}
+use Rattle.std.specs.Prelude.{filter, map as map_list, not, ◌≡◌, ℕ, ◌+◌, ◌*◌, ◌&&◌, ◌==◌, List, [], ◌∷◌, Bool, if◌then◌else◌, Option, Some, None, option_and_then, sum_by, max}
 use Rattle.std.specs.declared.cmp.Ordering.{Ordering}
+use Rattle.std.specs.Option.{option_or}
 use Rattle.std.specs.Ordering.{nat_cmp, is_eq, ordering_then}
 use Rattle.std.specs.FinMap as map
 use Rattle.std.specs.FinSet as set
@@ -11,6 +12,9 @@ use Rattle.shop_records.specs.declared.records.Part.{Part}
 use Rattle.shop_records.specs.declared.records.State.{State}
 use Rattle.shop_records.specs.declared.records.RackRow.{RackRow}
 use Rattle.shop_records.specs.declared.records.Job.{Job}
+use Rattle.shop_records.specs.declared.records.JobHalt.{JobHalt}
+use Rattle.shop_records.specs.declared.records.JobBegin.{JobBegin}
+use Rattle.shop_records.specs.declared.notes.OrderNote.{OrderNote}
 use Rattle.shop_records.specs.declared.records.Demand.{Demand}
 use Rattle.shop_records.specs.declared.records.Totals.{Totals}
 use Rattle.shop_records.specs.declared.records.Column.{Column}
@@ -27,14 +31,18 @@ use Rattle.shop_records.specs.Columns.{is_counted, is_there, is_whole, rack_row}
 abbrev pub pair_cmp : Pair → Pair → Ordering
 pair_cmp a b = ordering_then (nat_cmp a.terminal b.terminal) (nat_cmp a.number b.number)
 
--- The materials by their codes, the parts by their names, the jobs and the demands by their numbers, the codes of the
--- orders, the accepted messages by their pairs, the imports by their orders' codes, the entries by their numbers, and the last
--- numbers of an act and of a demand.
+-- The materials by their codes, the parts by their names, the jobs by their numbers, and so where the work on broken ones
+-- halted and which terminals have begun them; the codes of the orders, what is said of them by these codes, the demands by
+-- their numbers, the accepted messages by their pairs, the imports by their orders' codes, the entries by their numbers, and
+-- the last numbers of an act and of a demand.
 pub record Content : Type 0 where
   pub materials : map.FinMap code_cmp Material
   pub parts : map.FinMap name_cmp Part
   pub jobs : map.FinMap nat_cmp Job
+  pub halts : map.FinMap nat_cmp JobHalt
+  pub begun : map.FinMap nat_cmp JobBegin
   pub orders : set.FinSet code_cmp
+  pub notes : map.FinMap code_cmp OrderNote
   pub demands : map.FinMap nat_cmp Demand
   pub kept : map.FinMap pair_cmp Kept
   pub imports : map.FinMap code_cmp ImportRow
@@ -49,7 +57,10 @@ fresh =
       materials = map.empty;
       parts = map.empty;
       jobs = map.empty;
+      halts = map.empty;
+      begun = map.empty;
       orders = set.empty;
+      notes = map.empty;
       demands = map.empty;
       kept = map.empty;
       imports = map.empty;
@@ -72,9 +83,21 @@ part_at content name = map.get content.parts name
 abbrev pub job_at : Content → ℕ → Option Job
 job_at content number = map.get content.jobs number
 
+-- where the work on a broken job's plan halted
+abbrev pub halt_at : Content → ℕ → Option JobHalt
+halt_at content number = map.get content.halts number
+
+-- which terminal has begun a job
+abbrev pub begun_at : Content → ℕ → Option JobBegin
+begun_at content number = map.get content.begun number
+
 -- whether the order is there
 abbrev pub has_order : Content → List ℕ → Bool
 has_order content code = set.contains content.orders code
+
+-- what is said of an order
+abbrev pub note_at : Content → List ℕ → Option OrderNote
+note_at content code = map.get content.notes code
 
 abbrev pub demand_at : Content → ℕ → Option Demand
 demand_at content number = map.get content.demands number
@@ -101,9 +124,10 @@ last_entry content = entry_at content (entry_count content)
 abbrev pub last_time : Content → ℕ
 last_time content = of_found (λ (entry : Entry). entry.at) (last_entry content)
 
--- the content without its entries, as one is taken over from a version that had none
+-- the content without its entries, and without where the work on its jobs halted, as one is taken over from a version that
+-- kept neither
 abbrev pub forgotten : Content → Content
-forgotten content = record content { entries = map.empty }
+forgotten content = record content { halts = map.empty; entries = map.empty }
 
 -- an entry without its time
 abbrev pub timeless : Entry → Entry
@@ -123,6 +147,17 @@ material_of old part = option_and_then (λ (p : Part). material_at old p.materia
 -- a found job's part
 abbrev pub part_of_job : Content → Option Job → Option Part
 part_of_job old found = option_and_then (λ (j : Job). part_at old j.part) found
+
+-- ---- lines of orders
+
+-- the demands of an order, by rising number
+abbrev pub demands_of : Content → List ℕ → List Demand
+demands_of content order = filter (λ (demand : Demand). is_eq (code_cmp demand.order order)) (map.values content.demands)
+
+-- the greatest of their lines, 0 where there are none
+abbrev pub last_line : List Demand → ℕ
+last_line [] = 0
+last_line (demand ∷ demands) = max demand.line (last_line demands)
 
 -- ---- totals
 
@@ -168,6 +203,10 @@ AddsUp t = t.received ≡ t.stock + t.rack + t.pieces + t.kerf + t.scrap + t.ret
 abbrev pub is_listed : List ℕ → Part → Bool
 is_listed code part = is_eq (code_cmp part.material code) && is_there part.state
 
+-- the parts that are named after an act, by rising node
+abbrev pub parts_named : Content → ℕ → List Part
+parts_named content act = filter (λ part. part.name.act == act) (map.values content.parts)
+
 -- the parts of a material that stand, by rising act and then node
 abbrev pub parts_of : Content → List ℕ → List Part
 parts_of content code = filter (is_listed code) (map.values content.parts)
@@ -200,9 +239,21 @@ abbrev pub with_job : Option Job → map.FinMap nat_cmp Job → map.FinMap nat_c
 with_job None jobs = jobs
 with_job (Some job) jobs = map.insert jobs job.act job
 
+abbrev pub with_halt : Option JobHalt → map.FinMap nat_cmp JobHalt → map.FinMap nat_cmp JobHalt
+with_halt None halts = halts
+with_halt (Some row) halts = map.insert halts row.job row
+
+abbrev pub with_begun : Option JobBegin → map.FinMap nat_cmp JobBegin → map.FinMap nat_cmp JobBegin
+with_begun None begun = begun
+with_begun (Some row) begun = map.insert begun row.job row
+
 abbrev pub with_order : Option (List ℕ) → set.FinSet code_cmp → set.FinSet code_cmp
 with_order None orders = orders
 with_order (Some code) orders = set.insert orders code
+
+abbrev pub with_note : Option OrderNote → map.FinMap code_cmp OrderNote → map.FinMap code_cmp OrderNote
+with_note None notes = notes
+with_note (Some row) notes = map.insert notes row.order row
 
 abbrev pub with_demands : List Demand → map.FinMap nat_cmp Demand → map.FinMap nat_cmp Demand
 with_demands [] demands = demands
@@ -225,14 +276,21 @@ abbrev pub with_number : Option ℕ → ℕ → ℕ
 with_number None last = last
 with_number (Some number) last = number
 
+-- the order whose new lines a change's demands are, one that is new or gets further lines; without one they are there
+abbrev pub lines_for : Change → Option (List ℕ)
+lines_for change = option_or change.order change.extended
+
 -- the content with the rows of a change
 abbrev pub changed : Content → Change → Content
 changed content change =
     record {
       materials = with_material change.material content.materials;
-      parts = with_parts change.parts (with_moved change.moved content.parts);
+      parts = with_parts change.parts (with_parts change.undone (with_moved change.moved content.parts));
       jobs = with_job change.job content.jobs;
+      halts = with_halt change.halt content.halts;
+      begun = with_begun change.begun content.begun;
       orders = with_order change.order content.orders;
+      notes = with_note change.note content.notes;
       demands = with_demands change.demands content.demands;
       kept = with_kept change.kept content.kept;
       imports = with_import change.import content.imports;

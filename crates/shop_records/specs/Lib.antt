@@ -3,9 +3,11 @@ pub mod Same
 pub mod Elements
 -- rows, messages and refusals
 pub mod Columns
+pub mod SameRows
 pub mod Refusals
 pub mod Messages
 pub mod Journal
+pub mod Notes
 pub mod Readings
 pub mod Keeping
 -- what a book contains, what a change makes of it, and what holds of it

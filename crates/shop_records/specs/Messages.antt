@@ -7,7 +7,7 @@ use Rattle.shop_records.specs.declared.texts.Pair.{Pair}
 use Rattle.cut_tree.specs.declared.halts.Halt.{Halt}
 use Rattle.cut_tree.specs.declared.halts.Halt.TheVariants.{First, Listed}
 use Rattle.shop_records.specs.declared.messages.Command.{Command}
-use Rattle.shop_records.specs.declared.messages.Command.TheVariants.{AddMaterial, Receive, AddOrder, Reserve, Done, Break, Release, Scrap, GiveBack, Import, Amend}
+use Rattle.shop_records.specs.declared.messages.Command.TheVariants.{AddMaterial, Receive, AddOrder, Reserve, Done, Break, Release, Scrap, GiveBack, Import, Amend, Undo, Note, Extend, Begin}
 use Rattle.shop_records.specs.declared.imports.Form.{Form}
 use Rattle.shop_records.specs.declared.imports.Form.TheVariants.{Csv, Cgcut}
 use Rattle.shop_files.specs.declared.orders.OrderLine.{OrderLine}
@@ -52,12 +52,16 @@ IsCommand (Receive material batch w h count) =
 IsCommand (AddOrder order lines) = IsTrue (is_code order) × All IsLine lines
 IsCommand (Reserve part tree) = IsName part × IsTrue (is_utf8 tree)
 IsCommand (Done job) = IsNumber job
-IsCommand (Break job halt) = IsNumber job × IsHalt halt
+IsCommand (Break job halt rest) = IsNumber job × IsHalt halt × IfSome rest IsNumber
 IsCommand (Release job) = IsNumber job
 IsCommand (Scrap part) = IsName part
 IsCommand (GiveBack part) = IsName part
 IsCommand (Import order form text) = IsTrue (is_code order) × IsForm form × IsTrue (is_utf8 text)
 IsCommand (Amend demand wanted) = IsNumber demand × IsNumber wanted
+IsCommand (Undo job) = IsNumber job
+IsCommand (Note order due text) = IsTrue (is_code order) × IsNumber due × IsTrue (is_utf8 text)
+IsCommand (Extend order lines) = IsTrue (is_code order) × All IsLine lines
+IsCommand (Begin job) = IsNumber job
 
 -- what holds of every message
 pub record IsMessage (message : Message) : Type 0 where
@@ -78,6 +82,10 @@ IsMade (reply.Scrap part) = IsName part
 IsMade (reply.GiveBack part) = IsName part
 IsMade (reply.Import act count first order) = IsNumber act × IsNumber count × IsNumber first × IsTrue (is_code order)
 IsMade (reply.Amend demand wanted) = IsNumber demand × IsNumber wanted
+IsMade (reply.Undo job part) = IsNumber job × IsName part
+IsMade (reply.Note order) = IsTrue (is_code order)
+IsMade (reply.Extend count first order) = IsNumber count × IsNumber first × IsTrue (is_code order)
+IsMade (reply.Begin before job) = IsNumber before × IsNumber job
 IsMade (reply.Totals material received stock rack pieces kerf scrap returned) = ⊥
 IsMade (reply.Rack material parts) = ⊥
 IsMade (reply.Trace batch h of part root state w x y) = ⊥
@@ -88,13 +96,15 @@ IsMade (reply.Materials materials) = ⊥
 IsMade (reply.Parts material more parts) = ⊥
 IsMade (reply.Demands demands more) = ⊥
 IsMade (reply.Jobs jobs more) = ⊥
-IsMade (reply.Job cuts h job kerf material part state tree w) = ⊥
+IsMade (reply.Job begun cuts h job kerf material part state tree w) = ⊥
 IsMade (reply.Terminal last terminal) = ⊥
 IsMade (reply.Orders more orders) = ⊥
 IsMade (reply.Lines lines order) = ⊥
 IsMade (reply.Shop began entries last) = ⊥
 IsMade (reply.History entries more) = ⊥
 IsMade (reply.Story entries more) = ⊥
+IsMade (reply.Pieces more pieces) = ⊥
+IsMade (reply.Steps job kerf material part state steps) = ⊥
 IsMade (reply.Refused refusal) = ⊥
 
 -- the refusal that a reply tells of

@@ -1,7 +1,7 @@
 -- Numbers and names of refusals.
 use Rattle.std.specs.Prelude.{ℕ, List, codes}
 use Rattle.shop_records.specs.declared.refusals.Refusal.{Refusal}
-use Rattle.shop_records.specs.declared.refusals.Refusal.TheVariants.{BadMessage, NumberReused, NoMaterial, MaterialExists, BadMaterial, BadSize, BadCount, TooMuch, NumbersSpent, OrderExists, BadLine, NoDemand, NoOrder, NoPart, NotStanding, NotWhole, BadTree, WrongMaterial, WrongSize, TooMany, NoJob, JobOver, BadCut, BadText, NothingFits, TableTooLarge, BadStep, BadWant, NoMemory, StoreFault}
+use Rattle.shop_records.specs.declared.refusals.Refusal.TheVariants.{BadMessage, NumberReused, NoMaterial, MaterialExists, BadMaterial, BadSize, BadCount, TooMuch, NumbersSpent, OrderExists, BadLine, NoDemand, NoOrder, BadNote, NoPart, NotStanding, NotWhole, BadTree, WrongMaterial, WrongSize, TooMany, NoJob, JobOver, BadCut, NotOver, PartsMoved, BadText, NothingFits, TableTooLarge, BadStep, BadWant, NoMemory, StoreFault}
 
 abbrev pub refusal_number : Refusal → ℕ
 refusal_number BadMessage = 10
@@ -17,6 +17,7 @@ refusal_number OrderExists = 40
 refusal_number BadLine = 41
 refusal_number NoDemand = 42
 refusal_number NoOrder = 43
+refusal_number BadNote = 44
 refusal_number NoPart = 50
 refusal_number NotStanding = 51
 refusal_number NotWhole = 52
@@ -27,6 +28,8 @@ refusal_number TooMany = 63
 refusal_number NoJob = 70
 refusal_number JobOver = 71
 refusal_number BadCut = 72
+refusal_number NotOver = 73
+refusal_number PartsMoved = 74
 refusal_number BadText = 80
 refusal_number NothingFits = 90
 refusal_number TableTooLarge = 91
@@ -49,6 +52,7 @@ refusal_name OrderExists = codes "OrderExists"
 refusal_name BadLine = codes "BadLine"
 refusal_name NoDemand = codes "NoDemand"
 refusal_name NoOrder = codes "NoOrder"
+refusal_name BadNote = codes "BadNote"
 refusal_name NoPart = codes "NoPart"
 refusal_name NotStanding = codes "NotStanding"
 refusal_name NotWhole = codes "NotWhole"
@@ -59,6 +63,8 @@ refusal_name TooMany = codes "TooMany"
 refusal_name NoJob = codes "NoJob"
 refusal_name JobOver = codes "JobOver"
 refusal_name BadCut = codes "BadCut"
+refusal_name NotOver = codes "NotOver"
+refusal_name PartsMoved = codes "PartsMoved"
 refusal_name BadText = codes "BadText"
 refusal_name NothingFits = codes "NothingFits"
 refusal_name TableTooLarge = codes "TableTooLarge"

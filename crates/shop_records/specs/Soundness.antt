@@ -2,9 +2,12 @@
 use Rattle.std.specs.Prelude.{◌≡◌, ◌≢◌, ℕ, ◌+◌, ◌<◌, ◌≤◌, List, All, AllPairs, IsSome, IfSome, Option, Some, None, MatchOption, true, false, if◌then◌else◌, sum_by, count_by}
 use Rattle.std.specs.declared.cmp.Ordering.TheVariants.{Less}
 use Rattle.std.specs.FinMap as map
+use Rattle.std.specs.FinSet as set
+use Rattle.std.specs.Ordering.{nat_cmp}
 use Rattle.cut_measure.specs.declared.ranges.TheConstants.{MOST_WIDTH, MOST_HEIGHT, MOST_NUMBERS}
 use Rattle.cut_measure.specs.declared.sizes.Kind.TheVariants.{Bar}
-use Rattle.cut_measure.specs.Names.{Name, name_cmp}
+use Rattle.cut_measure.specs.Codes.{code_cmp}
+use Rattle.cut_measure.specs.Names.{Name, IsName, name_cmp}
 use Rattle.cut_measure.specs.Measures.{is_rule}
 use Rattle.cut_tree.specs.Tree.{count_of}
 use Rattle.cut_tree.specs.Patterns.{IsPlan}
@@ -13,6 +16,9 @@ use Rattle.shop_records.specs.declared.records.Material.{Material}
 use Rattle.shop_records.specs.declared.records.Part.{Part}
 use Rattle.shop_records.specs.declared.records.State.TheVariants.{Reserved}
 use Rattle.shop_records.specs.declared.records.Job.{Job}
+use Rattle.shop_records.specs.declared.records.JobHalt.{JobHalt}
+use Rattle.shop_records.specs.declared.records.JobBegin.{JobBegin}
+use Rattle.shop_records.specs.declared.notes.OrderNote.{OrderNote}
 use Rattle.shop_records.specs.declared.records.Demand.{Demand}
 use Rattle.shop_records.specs.declared.texts.Pair.{Pair}
 use Rattle.shop_records.specs.declared.texts.Kept.{Kept}
@@ -25,9 +31,10 @@ use Rattle.shop_records.specs.declared.changes.Change.{Change}
 use Rattle.shop_records.specs.declared.changes.MaterialTotals.{MaterialTotals}
 use Rattle.shop_records.specs.declared.records.Totals.{Totals}
 use Rattle.shop_records.specs.Columns.{is_piece_for, is_waiting}
-use Rattle.shop_records.specs.Messages.{Texts, IsMessage, pair_of}
-use Rattle.shop_records.specs.Content.{Content, material_at, part_at, job_at, has_order, demand_at, kept_at, import_at, entry_at, entry_count, last_time, totals_of, AddsUp, in_state, changed}
+use Rattle.shop_records.specs.Messages.{Texts, IsMessage, IsNumber, pair_of}
+use Rattle.shop_records.specs.Content.{Content, material_at, part_at, job_at, has_order, demand_at, kept_at, import_at, entry_at, entry_count, last_time, totals_of, AddsUp, in_state, changed, lines_for, halt_at, begun_at, note_at}
 use Rattle.shop_records.specs.Same.{same_code}
+use Rattle.shop_records.specs.Notes.{is_note}
 use Rattle.shop_records.specs.Keeping.{TellsKept, KeepsReply}
 
 -- Each part is named after an act so far, the numbers aren't spent, and of each material no more was received than may be,
@@ -89,7 +96,7 @@ pub record IsWaiting (content : Content) (job : Job) : Type 0 where
   pub none_yet : (node : ℕ) → part_at content (record { act = job.act; node = node }) ≡ None
 
 -- A job stands under its own number, which is an act's so far, and has a plan; in each of its states it is on its part, and
--- its pieces' demands are there.
+-- its pieces' demands are there; its part has a name that there may be.
 pub record IsJob (content : Content) (number : ℕ) (job : Job) : Type 0 where
   pub numbered : job.act ≡ number
   pub least : 1 ≤ number
@@ -97,8 +104,28 @@ pub record IsJob (content : Content) (number : ℕ) (job : Job) : Type 0 where
   pub plan : IsPlan job.plan
   pub kerf : job.kerf ≡ job.plan.kerf
   pub on : IsOnPart content job
+  pub called : IsName job.part
   pub demands : (number : ℕ) → 1 ≤ count_of job.plan.tree number → IsSome (demand_at content number)
   pub waits : is_waiting job.state ≡ true → IsWaiting content job
+
+-- where the work on a job halted is kept under the job's number, and the job is there and doesn't wait
+pub record IsHalted (jobs : map.FinMap nat_cmp Job) (number : ℕ) (row : JobHalt) : Type 0 where
+  pub of : row.job ≡ number
+  pub job : Job
+  pub found : map.get jobs number ≡ Some job
+  pub over : is_waiting job.state ≡ false
+
+-- which terminal has begun a job is kept under the job's number, and the job is there
+pub record IsBegun (jobs : map.FinMap nat_cmp Job) (number : ℕ) (row : JobBegin) : Type 0 where
+  pub of : row.job ≡ number
+  pub found : IsSome (map.get jobs number)
+  pub terminal : IsNumber row.terminal
+
+-- what is said of an order is kept under the order's code, the order is there, and it may be said
+pub record IsNoted (orders : set.FinSet code_cmp) (code : List ℕ) (row : OrderNote) : Type 0 where
+  pub of : row.order ≡ code
+  pub ordered : set.contains orders code ≡ true
+  pub good : is_note row.due row.text ≡ true
 
 -- how many pieces of a demand are in the plans of waiting jobs
 abbrev pub reserved_in : ℕ → Content → ℕ
@@ -155,6 +182,9 @@ pub record IsSound (texts : Texts) (content : Content) : Type 0 where
   pub materials : (code : List ℕ) (material : Material) → material_at content code ≡ Some material → IsKnown code material
   pub parts : (name : Name) (part : Part) → part_at content name ≡ Some part → IsPlaced content name part
   pub jobs : (number : ℕ) (job : Job) → job_at content number ≡ Some job → IsJob content number job
+  pub halts : (number : ℕ) (row : JobHalt) → halt_at content number ≡ Some row → IsHalted content.jobs number row
+  pub begun : (number : ℕ) (row : JobBegin) → begun_at content number ≡ Some row → IsBegun content.jobs number row
+  pub notes : (code : List ℕ) (row : OrderNote) → note_at content code ≡ Some row → IsNoted content.orders code row
   pub demands : (number : ℕ) (demand : Demand) → demand_at content number ≡ Some demand → IsDemand content number demand
   pub lines : AreDifferent content
   pub kept : (pair : Pair) (row : Kept) → kept_at content pair ≡ Some row → IsKept texts pair row
@@ -187,11 +217,12 @@ pub record IsMovedJob (content : Content) (job : Job) : Type 0 where
   pub is : job ≡ record before { state = job.state }
   pub part : IsSome (part_at content job.part)
 
--- a new demand is of the order, and has a new number
+-- a new demand is of the order, has a new number, and a line that no demand of the order has
 pub record IsNewDemand (content : Content) (order : List ℕ) (demand : Demand) : Type 0 where
   pub new : demand_at content demand.number ≡ None
   pub later : content.last_demand < demand.number
   pub of : demand.order ≡ order
+  pub unlike : (number : ℕ) (row : Demand) → demand_at content number ≡ Some row → row.order ≡ order → row.line ≢ demand.line
 
 -- a demand that moves is there, with other counts or another number wanted
 pub record IsMovedDemand (content : Content) (demand : Demand) : Type 0 where
@@ -217,21 +248,29 @@ with_totals None code before = before
 with_totals (Some row) code before = if same_code row.material code then row.totals else before
 
 -- Each row of the change is new, or is there and keeps all that never changes: a material of a new code; new parts whose
--- names rise; a part that moves; a job, new with an act and else one that moves; an order of a new code; demands of known
--- materials, each once, of which no more is reserved and made than wanted, with an order its own, of different lines, and
--- else ones that move; totals, such that each material has the sums of its parts after the change; numbers above the last
--- ones; an import of the new order; a message of a new pair; and its entry behind the last one.
+-- names rise; a part that moves, and parts that are undone, whose names rise; a job, new with an act and else one that moves;
+-- where the work on a job halted, of which that isn't kept yet; which terminal has begun a job that is there; an order of a new
+-- code, or one that is there and gets further lines, and not both; what is said of an order that is there; demands of known
+-- materials, each once, of which no more is reserved and made than wanted, with such an order its own, of new and different
+-- lines, and else ones that move; totals, such that each material has the sums of its parts after the change; numbers above the
+-- last ones; an import of the new order; a message of a new pair; and its entry behind the last one.
 pub record Fits (content : Content) (change : Change) : Type 0 where
   pub material : IfSome change.material (λ row. material_at content row.code ≡ None)
   pub parts : All (IsNewPart content) change.parts
   pub rising : AllPairs (λ a b. name_cmp a.name b.name ≡ Less) change.parts
   pub moved : IfSome change.moved (IsMovedPart content)
+  pub undone : All (IsMovedPart content) change.undone
+  pub apart : AllPairs (λ a b. name_cmp a.name b.name ≡ Less) change.undone
   pub job : IfSome change.job (λ job. MatchOption change.act (IsMovedJob content job) (λ act. IsNewJob content act job))
+  pub halt : IfSome change.halt (λ row. halt_at content row.job ≡ None)
+  pub begun : IfSome change.begun (λ row. IsSome (job_at content row.job))
   pub order : IfSome change.order (λ code. has_order content code ≡ false)
-  pub demands : MatchOption change.order (All (IsMovedDemand content) change.demands) (λ code. All (IsNewDemand content code) change.demands)
+  pub extended : IfSome change.extended (λ code. (has_order content code ≡ true) × (change.order ≡ None))
+  pub note : IfSome change.note (λ row. has_order content row.order ≡ true)
+  pub demands : MatchOption (lines_for change) (All (IsMovedDemand content) change.demands) (λ code. All (IsNewDemand content code) change.demands)
   pub wanted : All (λ demand. IsSome (material_at content demand.material) × (demand.reserved + demand.made ≤ demand.wanted)) change.demands
   pub once : AllPairs (λ a b. a.number ≢ b.number) change.demands
-  pub lines : IfSome change.order (λ code. AllPairs (λ a b. a.line ≢ b.line) change.demands)
+  pub lines : IfSome (lines_for change) (λ code. AllPairs (λ a b. a.line ≢ b.line) change.demands)
   pub totals : TotalsFit content change.material change.totals
   pub sums : (code : List ℕ) → totals_of (changed content change) code ≡ with_totals change.totals code (totals_of content code)
   pub act : IfSome change.act (λ act. (content.last_act < act) × (act ≤ MOST_NUMBERS))

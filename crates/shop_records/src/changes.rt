@@ -3,7 +3,8 @@
 use crate::imports::ImportRow;
 use crate::journal::Entry;
 use crate::messages::Reply;
-use crate::records::{Demand, Job, Material, Part, Totals};
+use crate::notes::OrderNote;
+use crate::records::{Demand, Job, JobBegin, JobHalt, Material, Part, Totals};
 use crate::texts::KeptMessage;
 use cut_measure::{Code, RowList};
 
@@ -33,11 +34,22 @@ pub struct Change {
     pub parts: PartList,
     /// A part that is there, in another state.
     pub moved: Option<Part>,
+    /// Parts that are there and own no cell from now on, in the state of the undone job that made them, by rising names.
+    pub undone: PartList,
     /// A job: a new one where an act is numbered, else one that is there, in another state.
     pub job: Option<Job>,
+    /// Where the work on the job's plan halted: a new row.
+    pub halt: Option<JobHalt>,
+    /// The terminal that has begun a job that is there: a new row, or one that takes the place of the job's own.
+    pub begun: Option<JobBegin>,
     /// An order's code that is used from now on.
     pub order: Option<Code>,
-    /// Demands: the new ones of the order, or, without an order, ones that are there, with other counts or another number wanted.
+    /// An order that is there and gets further lines. A change has no new order beside it.
+    pub extended: Option<Code>,
+    /// What is said of an order that is there: a new row, or one that takes the place of the order's own.
+    pub note: Option<OrderNote>,
+    /// Demands: new ones of the order that is new or gets further lines, or, without such an order, ones that are there, with
+    /// other counts or another number wanted.
     pub demands: DemandList,
     /// The totals of the material whose totals change: a new row where the material is new, else one that is there.
     pub totals: Option<MaterialTotals>,

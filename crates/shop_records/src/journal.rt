@@ -21,6 +21,10 @@ pub enum Word {
     Return,
     Import,
     Amend,
+    Undo,
+    Note,
+    Extend,
+    Begin,
 }
 
 impl Word {
@@ -40,6 +44,10 @@ impl Word {
             Word::Return => "return",
             Word::Import => "import",
             Word::Amend => "amend",
+            Word::Undo => "undo",
+            Word::Note => "note",
+            Word::Extend => "extend",
+            Word::Begin => "begin",
         }
     }
 }
@@ -60,6 +68,10 @@ pub fn word_of(command: &Command) -> Word
         Command::GiveBack { .. } => Word::Return,
         Command::Import { .. } => Word::Import,
         Command::Amend { .. } => Word::Amend,
+        Command::Undo { .. } => Word::Undo,
+        Command::Note { .. } => Word::Note,
+        Command::Extend { .. } => Word::Extend,
+        Command::Begin { .. } => Word::Begin,
     }
 }
 
@@ -75,9 +87,9 @@ pub struct Entry {
     pub word: Word,
     /// The number of the act that the message made, or 0.
     pub act: u32,
-    /// The job that it reserved, ended or released, or 0.
+    /// The job that it reserved, began, ended, released or undid, or 0.
     pub job: u32,
-    /// The order that it made, also by an import that came again, or of which it amended a demand.
+    /// The order that it made, also by an import that came again, extended, noted, or of which it amended a demand.
     pub order: Option<Code>,
     /// The part that it reserved, scrapped or returned.
     pub part: Option<PartName>,

@@ -5,6 +5,8 @@ mod changes;
 mod imports;
 mod journal;
 mod messages;
+mod notes;
+mod pieces;
 mod records;
 mod refusals;
 mod texts;
@@ -15,12 +17,14 @@ pub use cut_measure::RowList;
 pub use imports::{Form, ImportRow};
 pub use journal::{Entry, EntryTold, Subject, Word, word_of};
 pub use messages::{
-    CodeList, Command, EntryList, EntryRows, JobList, LineList, Message, NumberList, OrderList,
-    Query, RackList, Reply,
+    CodeList, Command, DemandRows, EntryList, EntryRows, JobList, LineList, Message, NumberList,
+    OrderList, PieceList, Query, RackList, Reply, StepList,
 };
+pub use notes::{LONGEST_NOTE, OrderNote, is_note};
+pub use pieces::{PieceRow, PieceSource, StepRow};
 pub use records::{
-    Column, Demand, Job, JobRow, JobState, MOST_RECEIVED, Material, OrderRow, Part, RackRow, State,
-    StateWord, Totals, no_totals,
+    Column, Demand, DemandRow, Job, JobBegin, JobHalt, JobRow, JobState, MOST_RECEIVED, Material,
+    OrderRow, Part, RackRow, State, StateWord, Totals, no_totals,
 };
 pub use refusals::Refusal;
 pub use shop_files::OrderLine;

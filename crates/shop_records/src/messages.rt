@@ -1,9 +1,10 @@
 //! What a terminal says to the shop, a command or a query, and what it is answered.
 
-use crate::changes::{DemandList, MaterialList, PartList};
+use crate::changes::{MaterialList, PartList};
 use crate::imports::Form;
 use crate::journal::{Entry, EntryTold, Subject};
-use crate::records::{JobRow, JobState, OrderRow, RackRow, StateWord};
+use crate::pieces::{PieceRow, PieceSource, StepRow};
+use crate::records::{DemandRow, JobRow, JobState, OrderRow, RackRow, StateWord};
 use crate::refusals::Refusal;
 use crate::texts::Text;
 use cut_measure::{Code, Kind, PartName, RowList};
@@ -21,6 +22,15 @@ pub type JobList = RowList<JobRow>;
 
 /// Orders as they are told, in order.
 pub type OrderList = RowList<OrderRow>;
+
+/// Demands as they are told, in order.
+pub type DemandRows = RowList<DemandRow>;
+
+/// Pieces as they are told, in order.
+pub type PieceList = RowList<PieceRow>;
+
+/// Nodes of a plan as they are told, in order.
+pub type StepList = RowList<StepRow>;
 
 /// Codes of orders, in order.
 pub type CodeList = RowList<Code>;
@@ -63,10 +73,11 @@ pub enum Command {
     Done {
         job: u32,
     },
-    /// The work on a job's plan halted.
+    /// The work on a job's plan halted; of the rectangle of the cut that went wrong a rest is left, if one is given.
     Break {
         job: u32,
         halt: Halt,
+        rest: Option<u32>,
     },
     Release {
         job: u32,
@@ -89,6 +100,25 @@ pub enum Command {
     Amend {
         demand: u32,
         wanted: u32,
+    },
+    /// Takes back that a job was done or broken.
+    Undo {
+        job: u32,
+    },
+    /// Says of an order on which day it is due, as 20261203, or 0 for none, and a text.
+    Note {
+        order: Code,
+        due: u32,
+        text: Text,
+    },
+    /// Adds lines to an order that is there.
+    Extend {
+        order: Code,
+        lines: LineList,
+    },
+    /// The terminal has begun to cut a waiting job.
+    Begin {
+        job: u32,
     },
 }
 
@@ -172,6 +202,15 @@ pub enum Query {
         about: Subject,
         after: u32,
     },
+    /// The first pieces of an order, a batch or a unit after a name, or from the first on.
+    Pieces {
+        of: PieceSource,
+        after: Option<PartName>,
+    },
+    /// The nodes of a job's plan, whatever its state, and what became of each.
+    Steps {
+        job: u32,
+    },
 }
 
 /// What a message or a query is answered. Sides and places are tenths of a millimetre.
@@ -231,6 +270,25 @@ pub enum Reply {
     Amend {
         demand: u32,
         wanted: u32,
+    },
+    /// The part that stands again.
+    Undo {
+        job: u32,
+        part: PartName,
+    },
+    Note {
+        order: Code,
+    },
+    /// How many lines were added, and the number of the first one's demand.
+    Extend {
+        count: u32,
+        first: u32,
+        order: Code,
+    },
+    /// The terminal that had begun the job before, or 0.
+    Begin {
+        before: u32,
+        job: u32,
     },
     /// Cells of a material.
     Totals {
@@ -295,7 +353,7 @@ pub enum Reply {
     },
     /// Open demands, by rising number, and whether others follow the last one.
     Demands {
-        demands: DemandList,
+        demands: DemandRows,
         more: bool,
     },
     /// Waiting jobs, by rising number, and whether others follow the last one.
@@ -303,8 +361,10 @@ pub enum Reply {
         jobs: JobList,
         more: bool,
     },
-    /// A job with its plan's text, and the material and the sides of its part. Lengths are tenths of a millimetre.
+    /// A job with its plan's text, the terminal that has begun it, or 0, and the material and the sides of its part. Lengths
+    /// are tenths of a millimetre.
     Job {
+        begun: u32,
         cuts: u32,
         h: u32,
         job: u32,
@@ -327,7 +387,7 @@ pub enum Reply {
     },
     /// All lines of an order, by rising line.
     Lines {
-        lines: DemandList,
+        lines: DemandRows,
         order: Code,
     },
     /// The time of the first entry, how many there are, and the time of the last one, in seconds since 1970-01-01 00:00
@@ -346,6 +406,21 @@ pub enum Reply {
     Story {
         entries: EntryList,
         more: bool,
+    },
+    /// Pieces by rising act and then node, and whether others follow the last one.
+    Pieces {
+        more: bool,
+        pieces: PieceList,
+    },
+    /// The nodes of a job's plan, by rising number, with the kerf, the material and the part that it is cut from. Lengths are
+    /// tenths of a millimetre.
+    Steps {
+        job: u32,
+        kerf: u32,
+        material: Code,
+        part: PartName,
+        state: JobState,
+        steps: StepList,
     },
     Refused(Refusal),
 }

@@ -3,8 +3,9 @@
 ghost use Rattle.std.specs.Prelude.{◌≡◌};
 ghost use Rattle.shop_records.specs.Content.{no_totals};
 
+use crate::texts::Text;
 use cut_measure::{Code, Kind, Limits, PartName, Size};
-use cut_tree::Plan;
+use cut_tree::{Halt, Plan};
 use std::alloc::{AllocError, Global};
 use std::cmp::Ordering;
 
@@ -29,6 +30,8 @@ pub enum State {
     Kerf,
     Scrap,
     Returned,
+    /// This job made it, and was undone: it owns no cell.
+    Undone(u32),
 }
 
 /// A state without its number, as it is told.
@@ -41,6 +44,7 @@ pub enum StateWord {
     Kerf,
     Scrap,
     Returned,
+    Undone,
 }
 
 impl State {
@@ -76,15 +80,16 @@ impl State {
             State::Kerf => StateWord::Kerf,
             State::Scrap => StateWord::Scrap,
             State::Returned => StateWord::Returned,
+            State::Undone(_) => StateWord::Undone,
         }
     }
 
-    /// The job of a reserved or a cut part, the demand of a piece, else 0.
+    /// The job of a reserved, a cut or an undone part, the demand of a piece, else 0.
     pub fn of(self) -> u32
         ensures { result ≡ state_of self }
     {
         match self {
-            State::Reserved(job) | State::Cut(job) => job,
+            State::Reserved(job) | State::Cut(job) | State::Undone(job) => job,
             State::Piece(demand) => demand,
             State::Standing | State::Kerf | State::Scrap | State::Returned => 0,
         }
@@ -114,6 +119,8 @@ pub enum JobState {
     Done,
     Broken,
     Released,
+    /// It was done or broken, and its part stands again.
+    Undone,
 }
 
 impl JobState {
@@ -175,6 +182,38 @@ impl Clone for Job {
     }
 }
 
+/// Where the work on a broken job's plan halted.
+#[derive(Debug, Drop)]
+pub struct JobHalt {
+    pub job: u32,
+    pub halt: Halt,
+    /// How many columns or rows, in tenths of a millimetre, are left of the rectangle of the cut that went wrong.
+    pub rest: Option<u32>,
+}
+
+impl JobHalt {
+    ghost use Rattle.std.specs.Prelude.{◌≡◌, IfOk};
+
+    /// The same halt in memory of its own.
+    pub fn copy(&self, alloc: Global) -> Result<JobHalt, AllocError>
+        ensures { IfOk result (λ copy. copy ≡ self.now) }
+    {
+        let halt = self.halt.copy(alloc)?;
+        Ok(JobHalt {
+            job: self.job,
+            halt,
+            rest: self.rest,
+        })
+    }
+}
+
+/// The terminal that has begun to cut a job.
+#[derive(Clone, Copy, Debug, PartialEq, Eq)]
+pub struct JobBegin {
+    pub job: u32,
+    pub terminal: u32,
+}
+
 /// What is wanted of one size: how many pieces in all, how many of them are reserved in plans of waiting jobs, and how
 /// many are made.
 #[derive(Clone, Copy, Debug, PartialEq)]
@@ -208,7 +247,11 @@ pub struct RackRow {
 /// tenths of a millimetre.
 #[derive(Clone, Copy, Debug, PartialEq)]
 pub struct JobRow {
+    /// The terminal that has begun it, or 0.
+    pub begun: u32,
     pub cuts: u32,
+    /// The least day on which an order is due that has a piece in the plan, or 0 where none has a day.
+    pub due: u32,
     pub h: u32,
     pub job: u32,
     pub material: Code,
@@ -216,14 +259,25 @@ pub struct JobRow {
     pub w: u32,
 }
 
-/// An order as it is told: how many lines it has, and how many pieces of all of them are made, reserved and wanted.
-#[derive(Clone, Copy, Debug, PartialEq)]
+/// An order as it is told: what is said of it, how many lines it has, and how many pieces of all of them are made, reserved
+/// and wanted.
+#[derive(Debug, Drop, PartialEq)]
 pub struct OrderRow {
+    /// The day on which it is due, as 20261203, or 0.
+    pub due: u32,
     pub lines: u64,
     pub made: u64,
     pub order: Code,
     pub reserved: u64,
+    pub text: Text,
     pub wanted: u64,
+}
+
+/// A demand as it is told, with the day on which its order is due, or 0.
+#[derive(Clone, Copy, Debug, PartialEq)]
+pub struct DemandRow {
+    pub demand: Demand,
+    pub due: u32,
 }
 
 /// What is told of a material, in cells: 0 to 1000000000000000 each, and the others add up to `received`.

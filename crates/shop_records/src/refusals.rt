@@ -34,6 +34,8 @@ pub enum Refusal {
     NoDemand,
     /// 43: unknown order.
     NoOrder,
+    /// 44: no note: a day that there isn't, a text that is too long, or one with a control character.
+    BadNote,
     /// 50: unknown part.
     NoPart,
     /// 51: the part isn't standing.
@@ -54,6 +56,10 @@ pub enum Refusal {
     JobOver,
     /// 72: the plan hasn't such a cut.
     BadCut,
+    /// 73: the job is neither done nor broken, or it isn't kept how it was broken.
+    NotOver,
+    /// 74: a part that the job made isn't as the job left it.
+    PartsMoved,
     /// 80: an import's text is refused.
     BadText,
     /// 90: nothing that is wanted fits the unit.
@@ -100,6 +106,7 @@ impl Refusal {
             Refusal::BadLine => 41,
             Refusal::NoDemand => 42,
             Refusal::NoOrder => 43,
+            Refusal::BadNote => 44,
             Refusal::NoPart => 50,
             Refusal::NotStanding => 51,
             Refusal::NotWhole => 52,
@@ -110,6 +117,8 @@ impl Refusal {
             Refusal::NoJob => 70,
             Refusal::JobOver => 71,
             Refusal::BadCut => 72,
+            Refusal::NotOver => 73,
+            Refusal::PartsMoved => 74,
             Refusal::BadText => 80,
             Refusal::NothingFits => 90,
             Refusal::TableTooLarge => 91,
@@ -138,6 +147,7 @@ impl Refusal {
             Refusal::BadLine => "BadLine",
             Refusal::NoDemand => "NoDemand",
             Refusal::NoOrder => "NoOrder",
+            Refusal::BadNote => "BadNote",
             Refusal::NoPart => "NoPart",
             Refusal::NotStanding => "NotStanding",
             Refusal::NotWhole => "NotWhole",
@@ -148,6 +158,8 @@ impl Refusal {
             Refusal::NoJob => "NoJob",
             Refusal::JobOver => "JobOver",
             Refusal::BadCut => "BadCut",
+            Refusal::NotOver => "NotOver",
+            Refusal::PartsMoved => "PartsMoved",
             Refusal::BadText => "BadText",
             Refusal::NothingFits => "NothingFits",
             Refusal::TableTooLarge => "TableTooLarge",

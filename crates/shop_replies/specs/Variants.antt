@@ -6,10 +6,14 @@ use Rattle.shop_records.specs.declared.messages.Reply.TheVariants as answer
 use Rattle.shop_records.specs.declared.records.JobState.{JobState}
 use Rattle.shop_records.specs.declared.records.Part.{Part}
 use Rattle.shop_records.specs.declared.records.StateWord.{StateWord}
+use Rattle.shop_records.specs.declared.pieces.StepRow.{StepRow}
 
--- about an order that was added, and one that was imported
+-- about an order that was added, one that got further lines, and one that was imported
 abbrev pub TellsOrder : Reply → Type 0
 TellsOrder reply = (count first : ℕ) × (order : List ℕ) × (reply ≡ answer.AddOrder count first order)
+
+abbrev pub TellsExtend : Reply → Type 0
+TellsExtend reply = (count first : ℕ) × (order : List ℕ) × (reply ≡ answer.Extend count first order)
 
 abbrev pub TellsImport : Reply → Type 0
 TellsImport reply = (act count first : ℕ) × (order : List ℕ) × (reply ≡ answer.Import act count first order)
@@ -43,5 +47,11 @@ TellsParts reply = (material : List ℕ) × (more : Bool) × (parts : List Part)
 -- about a job
 abbrev pub TellsJob : Reply → Type 0
 TellsJob reply =
-    (cuts h job kerf : ℕ) × (material : List ℕ) × (part : Name) × (state : JobState) × (tree : List ℕ) × (w : ℕ)
-    × (reply ≡ answer.Job cuts h job kerf material part state tree w)
+    (begun cuts h job kerf : ℕ) × (material : List ℕ) × (part : Name) × (state : JobState) × (tree : List ℕ) × (w : ℕ)
+    × (reply ≡ answer.Job begun cuts h job kerf material part state tree w)
+
+-- about the nodes of a job's plan
+abbrev pub TellsSteps : Reply → Type 0
+TellsSteps reply =
+    (job kerf : ℕ) × (material : List ℕ) × (part : Name) × (state : JobState) × (steps : List StepRow)
+    × (reply ≡ answer.Steps job kerf material part state steps)

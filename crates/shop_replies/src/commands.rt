@@ -8,18 +8,19 @@ ghost use Rattle.shop_forms.specs.Forms as form;
 ghost use Rattle.shop_forms.specs.Forms.{made_data, reply_data, HasWideMade, HasWideNumbers};
 ghost use Rattle.shop_forms.specs.Tokens.{AddsValue};
 ghost use Rattle.shop_forms.specs.Fields.{row};
-ghost use Rattle.shop_replies.specs.Variants.{TellsOrder, TellsImport};
+ghost use Rattle.shop_replies.specs.Variants.{TellsOrder, TellsExtend, TellsImport};
 
 use crate::asking::{tell_bound, tell_demand, tell_plan, tell_rack, tell_totals, tell_trace};
 use crate::history::{tell_entries, tell_shop, write_null};
 use crate::listing::{
-    tell_after, tell_job, tell_lines, tell_materials, tell_orders, tell_parts, tell_terminal,
+    tell_after, tell_job, tell_lines, tell_materials, tell_orders, tell_parts, tell_pieces,
+    tell_steps, tell_terminal,
 };
 use cut_measure::{Code, PartName};
 use json::Writer;
 use serde_json::Value;
 use shop_forms::{
-    Member, code_at, has_keys, number_at, part_in, text_at, wide, wide_at, write_object,
+    Member, code_at, has_keys, name_at, number_at, part_in, text_at, wide, wide_at, write_object,
 };
 use shop_records::{Refusal, Reply, Text};
 use std::alloc::{AllocError, Global};
@@ -51,6 +52,14 @@ pub(crate) fn made(value: &Value) -> Option<Reply>
         import_made(value)
     } else if word == "amend" {
         amend_made(value)
+    } else if word == "undo" {
+        undo_made(value)
+    } else if word == "note" {
+        note_made(value)
+    } else if word == "extend" {
+        extend_made(value)
+    } else if word == "begin" {
+        begin_made(value)
     } else {
         None
     }
@@ -76,7 +85,11 @@ pub(crate) fn write_reply(
         | Reply::Scrap { .. }
         | Reply::GiveBack { .. }
         | Reply::Import { .. }
-        | Reply::Amend { .. } => write_made(alloc, writer, reply),
+        | Reply::Amend { .. }
+        | Reply::Undo { .. }
+        | Reply::Note { .. }
+        | Reply::Extend { .. }
+        | Reply::Begin { .. } => write_made(alloc, writer, reply),
         Reply::Totals { .. } => tell_totals(writer, reply),
         Reply::Rack { material, parts } => tell_rack(alloc, writer, material, parts.as_slice()),
         Reply::Trace { .. } => tell_trace(alloc, writer, reply),
@@ -104,6 +117,8 @@ pub(crate) fn write_reply(
         Reply::Story { entries, more } => {
             tell_entries(alloc, writer, "story", entries.as_slice(), *more)
         }
+        Reply::Pieces { more, pieces } => tell_pieces(alloc, writer, *more, pieces.as_slice()),
+        Reply::Steps { .. } => tell_steps(alloc, writer, reply),
         Reply::Refused(refusal) => tell_refusal(writer, *refusal),
     }
 }
@@ -141,6 +156,10 @@ pub(crate) fn write_made(
         Reply::GiveBack { part } => tell_turned(alloc, writer, "return", part),
         Reply::Import { .. } => tell_import(writer, reply),
         Reply::Amend { demand, wanted } => tell_amend(writer, *demand, *wanted),
+        Reply::Undo { job, part } => tell_undo(alloc, writer, *job, part),
+        Reply::Note { order } => tell_note(writer, order),
+        Reply::Extend { .. } => tell_extend(writer, reply),
+        Reply::Begin { before, job } => tell_begin(writer, *before, *job),
         _ => write_null(writer),
     }
 }
@@ -484,6 +503,134 @@ fn tell_amend(writer: &mut Writer, demand: u32, wanted: u32) -> Result<(), Alloc
             Member::Number("demand", wide(demand)),
             Member::Text("ok", "amend"),
             Member::Number("wanted", wide(wanted)),
+        ],
+    )
+}
+
+// The reply about a job that was undone.
+fn undo_made(value: &Value) -> Option<Reply>
+    ensures { result ≡ row 3 form.undo_made (view value.now) }
+{
+    if !has_keys(value, 3) {
+        return None;
+    }
+    let job = number_at(value, "job")?;
+    let part = name_at(value, "part")?;
+    Some(Reply::Undo { job, part })
+}
+
+// Writes the reply about a job that was undone.
+fn tell_undo(
+    alloc: Global,
+    writer: &mut Writer,
+    job: u32,
+    part: &PartName,
+) -> Result<(), AllocError>
+    ensures value { OnOk result
+        (AddsValue writer.old writer.new (reply_data (answer.Undo job part.now))) }
+    ensures wide { OnOk result (HasWideNumbers (answer.Undo job part.now)) }
+{
+    write_object(
+        writer,
+        &[
+            Member::Number("job", wide(job)),
+            Member::Text("ok", "undo"),
+            Member::Name("part", part, alloc),
+        ],
+    )
+}
+
+// The reply about an order of which something was said.
+fn note_made(value: &Value) -> Option<Reply>
+    ensures { result ≡ row 2 form.note_made (view value.now) }
+{
+    if !has_keys(value, 2) {
+        return None;
+    }
+    let order = code_at(value, "order")?;
+    Some(Reply::Note { order })
+}
+
+// Writes the reply about an order of which something was said.
+fn tell_note(writer: &mut Writer, order: &Code) -> Result<(), AllocError>
+    ensures { OnOk result (AddsValue writer.old writer.new
+        (reply_data (answer.Note order.now))) }
+{
+    write_object(
+        writer,
+        &[
+            Member::Text("ok", "note"),
+            Member::Text("order", order.as_str()),
+        ],
+    )
+}
+
+// The reply about lines that were added to an order.
+fn extend_made(value: &Value) -> Option<Reply>
+    ensures { result ≡ row 4 form.extend_made (view value.now) }
+{
+    if !has_keys(value, 4) {
+        return None;
+    }
+    let count = number_at(value, "count")?;
+    let first = number_at(value, "first")?;
+    let order = code_at(value, "order")?;
+    Some(Reply::Extend {
+        count,
+        first,
+        order,
+    })
+}
+
+// Writes the reply about lines that were added to an order.
+fn tell_extend(writer: &mut Writer, reply: &Reply) -> Result<(), AllocError>
+    requires { TellsExtend reply.now }
+    ensures value { OnOk result (AddsValue writer.old writer.new (reply_data reply.now)) }
+    ensures wide { OnOk result (HasWideNumbers reply.now) }
+{
+    let Reply::Extend {
+        count,
+        first,
+        order,
+    } = reply
+    else {
+        unreachable!()
+    };
+    write_object(
+        writer,
+        &[
+            Member::Number("count", wide(*count)),
+            Member::Number("first", wide(*first)),
+            Member::Text("ok", "extend"),
+            Member::Text("order", order.as_str()),
+        ],
+    )
+}
+
+// The reply about a job that was begun.
+fn begin_made(value: &Value) -> Option<Reply>
+    ensures { result ≡ row 3 form.begin_made (view value.now) }
+{
+    if !has_keys(value, 3) {
+        return None;
+    }
+    let before = number_at(value, "before")?;
+    let job = number_at(value, "job")?;
+    Some(Reply::Begin { before, job })
+}
+
+// Writes the reply about a job that was begun.
+fn tell_begin(writer: &mut Writer, before: u32, job: u32) -> Result<(), AllocError>
+    ensures value { OnOk result
+        (AddsValue writer.old writer.new (reply_data (answer.Begin before job))) }
+    ensures wide { OnOk result (HasWideNumbers (answer.Begin before job)) }
+{
+    write_object(
+        writer,
+        &[
+            Member::Number("before", wide(before)),
+            Member::Number("job", wide(job)),
+            Member::Text("ok", "begin"),
         ],
     )
 }

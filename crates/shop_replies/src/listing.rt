@@ -1,18 +1,19 @@
-//! JSON of the replies about lists, a job, a terminal and an order's lines.
+//! JSON of the replies about lists, a job and its plan, a terminal, an order's lines and pieces.
 
 ghost use Rattle.std.specs.Prelude.{OnOk, All};
 ghost use Rattle.shop_records.specs.declared.messages.Reply.TheVariants as answer;
 ghost use Rattle.shop_forms.specs.Forms as form;
 ghost use Rattle.shop_forms.specs.Forms.{reply_data, HasWideNumbers};
 ghost use Rattle.shop_forms.specs.Tokens.{AddsValue};
-ghost use Rattle.shop_replies.specs.Variants.{TellsParts, TellsJob};
+ghost use Rattle.shop_replies.specs.Variants.{TellsParts, TellsJob, TellsSteps};
 
 use cut_measure::Code;
 use json::Writer;
 use shop_forms::{
-    Listed, Member, job_state_word, wide, write_flag, write_object, write_rows, write_text,
+    Listed, Member, job_state_word, wide, write_flag, write_name, write_number, write_object,
+    write_rows, write_text,
 };
-use shop_records::{Demand, Material, OrderRow, Reply};
+use shop_records::{DemandRow, Material, OrderRow, PieceRow, Reply};
 use std::alloc::{AllocError, Global};
 
 // Writes the reply about all materials.
@@ -89,6 +90,7 @@ pub(crate) fn tell_job(alloc: Global, writer: &mut Writer, reply: &Reply) -> Res
     ensures wide { OnOk result (HasWideNumbers reply.now) }
 {
     let Reply::Job {
+        begun,
         cuts,
         h,
         job,
@@ -105,6 +107,7 @@ pub(crate) fn tell_job(alloc: Global, writer: &mut Writer, reply: &Reply) -> Res
     write_object(
         writer,
         &[
+            Member::Number("begun", wide(*begun)),
             Member::Number("cuts", wide(*cuts)),
             Member::Number("h", wide(*h)),
             Member::Number("job", wide(*job)),
@@ -159,7 +162,7 @@ pub(crate) fn tell_orders(
 pub(crate) fn tell_lines(
     alloc: Global,
     writer: &mut Writer,
-    lines: &[Demand],
+    lines: &[DemandRow],
     order: &Code,
 ) -> Result<(), AllocError>
     ensures value { OnOk result
@@ -171,6 +174,60 @@ pub(crate) fn tell_lines(
     write_rows(alloc, writer, lines)?;
     write_text(writer, "ok", "lines")?;
     write_text(writer, "order", order.as_str())?;
+    writer.end_object()?;
+    Ok(())
+}
+
+// Writes the reply about pieces after a name.
+pub(crate) fn tell_pieces(
+    alloc: Global,
+    writer: &mut Writer,
+    more: bool,
+    pieces: &[PieceRow],
+) -> Result<(), AllocError>
+    ensures value { OnOk result
+        (AddsValue writer.old writer.new (reply_data (answer.Pieces more pieces.now))) }
+    ensures wide { OnOk result (HasWideNumbers (answer.Pieces more pieces.now)) }
+{
+    writer.begin_object()?;
+    write_flag(writer, "more", more)?;
+    write_text(writer, "ok", "pieces")?;
+    writer.key("pieces")?;
+    write_rows(alloc, writer, pieces)?;
+    writer.end_object()?;
+    Ok(())
+}
+
+// Writes the reply about the nodes of a job's plan.
+pub(crate) fn tell_steps(
+    alloc: Global,
+    writer: &mut Writer,
+    reply: &Reply,
+) -> Result<(), AllocError>
+    requires { TellsSteps reply.now }
+    ensures value { OnOk result (AddsValue writer.old writer.new (reply_data reply.now)) }
+    ensures wide { OnOk result (HasWideNumbers reply.now) }
+{
+    let Reply::Steps {
+        job,
+        kerf,
+        material,
+        part,
+        state,
+        steps,
+    } = reply
+    else {
+        unreachable!()
+    };
+    writer.begin_object()?;
+    write_number(writer, "job", wide(*job))?;
+    write_number(writer, "kerf", wide(*kerf))?;
+    write_text(writer, "material", material.as_str())?;
+    write_text(writer, "ok", "steps")?;
+    write_name(alloc, writer, "part", part)?;
+    write_text(writer, "state", job_state_word(*state))?;
+    writer.key("steps")?;
+    write_rows(alloc, writer, steps.as_slice())?;
     writer.end_object()?;
     Ok(())
 }

@@ -8,7 +8,7 @@ use Rattle.matchit.specs.Router.{RouteOf, route_from}
 use Rattle.matchit.specs.Seek.{first}
 use Rattle.matchit.specs.declared.error.InsertError.{InsertError}
 use Rattle.shop_request.specs.declared.routes.Route.{Route}
-use Rattle.shop_request.specs.declared.routes.Route.TheVariants.{Message, Plan, Plans, Bound, Backup, Totals, Rack, Trace, Demand, Ticket, Yield, Materials, Parts, PartsAfter, Demands, DemandsOf, Orders, OrdersAfter, OrderLines, Jobs, Job, Terminal, Shop, History, OrderStory, JobStory, PartStory}
+use Rattle.shop_request.specs.declared.routes.Route.TheVariants.{Message, Plan, Plans, Bound, Backup, Totals, Rack, Trace, Demand, Ticket, Yield, Materials, Parts, PartsAfter, Demands, DemandsOf, Orders, OrdersAfter, OrderLines, Jobs, Job, Terminal, Shop, History, OrderStory, JobStory, PartStory, OrderPieces, OrderPiecesAfter, BatchPieces, BatchPiecesAfter, UnitPieces, UnitPiecesAfter, Steps}
 
 -- the text of each route
 abbrev pub route_text : Route → List ℕ
@@ -39,6 +39,13 @@ route_text History = codes "/history/{after}"
 route_text OrderStory = codes "/story/order/{order}/{after}"
 route_text JobStory = codes "/story/job/{job}/{after}"
 route_text PartStory = codes "/story/part/{act}/{node}/{after}"
+route_text OrderPieces = codes "/pieces/order/{order}"
+route_text OrderPiecesAfter = codes "/pieces/order/{order}/{act}/{node}"
+route_text BatchPieces = codes "/pieces/batch/{batch}"
+route_text BatchPiecesAfter = codes "/pieces/batch/{batch}/{act}/{node}"
+route_text UnitPieces = codes "/pieces/unit/{act}/{node}"
+route_text UnitPiecesAfter = codes "/pieces/unit/{act}/{node}/{after_act}/{after_node}"
+route_text Steps = codes "/steps/{job}"
 
 -- the bytes in front of its first parameter
 abbrev pub route_start : Route → List ℕ
@@ -69,6 +76,13 @@ route_start History = codes "/history/"
 route_start OrderStory = codes "/story/order/"
 route_start JobStory = codes "/story/job/"
 route_start PartStory = codes "/story/part/"
+route_start OrderPieces = codes "/pieces/order/"
+route_start OrderPiecesAfter = codes "/pieces/order/"
+route_start BatchPieces = codes "/pieces/batch/"
+route_start BatchPiecesAfter = codes "/pieces/batch/"
+route_start UnitPieces = codes "/pieces/unit/"
+route_start UnitPiecesAfter = codes "/pieces/unit/"
+route_start Steps = codes "/steps/"
 
 -- whether it takes a body
 abbrev pub takes_body : Route → Bool
@@ -99,6 +113,13 @@ takes_body History = false
 takes_body OrderStory = false
 takes_body JobStory = false
 takes_body PartStory = false
+takes_body OrderPieces = false
+takes_body OrderPiecesAfter = false
+takes_body BatchPieces = false
+takes_body BatchPiecesAfter = false
+takes_body UnitPieces = false
+takes_body UnitPiecesAfter = false
+takes_body Steps = false
 
 abbrev pub RouteRows : Type 0
 RouteRows = RowsOf (RouteOf Route)
@@ -120,7 +141,8 @@ with_routes (route ∷ more) rows = with_routes more (with_route route rows)
 unfoldable pub all_routes : RouteRows
 all_routes =
     with_routes (Message ∷ Plan ∷ Plans ∷ Bound ∷ Backup ∷ Totals ∷ Rack ∷ Trace ∷ Demand ∷ Ticket ∷ Yield ∷ Materials ∷ Parts ∷ PartsAfter ∷ Demands
-    ∷ DemandsOf ∷ Orders ∷ OrdersAfter ∷ OrderLines ∷ Jobs ∷ Job ∷ Terminal ∷ Shop ∷ History ∷ OrderStory ∷ JobStory ∷ PartStory ∷ []) []
+    ∷ DemandsOf ∷ Orders ∷ OrdersAfter ∷ OrderLines ∷ Jobs ∷ Job ∷ Terminal ∷ Shop ∷ History ∷ OrderStory ∷ JobStory ∷ PartStory
+    ∷ OrderPieces ∷ OrderPiecesAfter ∷ BatchPieces ∷ BatchPiecesAfter ∷ UnitPieces ∷ UnitPiecesAfter ∷ Steps ∷ []) []
 
 -- the target up to its first `?`
 abbrev pub path_of : List ℕ → List ℕ

@@ -63,6 +63,20 @@ pub enum Route {
     JobStory,
     /// GET `/story/part/{act}/{node}/{after}`.
     PartStory,
+    /// GET `/pieces/order/{order}`.
+    OrderPieces,
+    /// GET `/pieces/order/{order}/{act}/{node}`: after that name.
+    OrderPiecesAfter,
+    /// GET `/pieces/batch/{batch}`.
+    BatchPieces,
+    /// GET `/pieces/batch/{batch}/{act}/{node}`: after that name.
+    BatchPiecesAfter,
+    /// GET `/pieces/unit/{act}/{node}`.
+    UnitPieces,
+    /// GET `/pieces/unit/{act}/{node}/{after_act}/{after_node}`: after that second name.
+    UnitPiecesAfter,
+    /// GET `/steps/{job}`.
+    Steps,
 }
 
 impl Route {
@@ -98,6 +112,13 @@ impl Route {
             Route::OrderStory => "/story/order/{order}/{after}",
             Route::JobStory => "/story/job/{job}/{after}",
             Route::PartStory => "/story/part/{act}/{node}/{after}",
+            Route::OrderPieces => "/pieces/order/{order}",
+            Route::OrderPiecesAfter => "/pieces/order/{order}/{act}/{node}",
+            Route::BatchPieces => "/pieces/batch/{batch}",
+            Route::BatchPiecesAfter => "/pieces/batch/{batch}/{act}/{node}",
+            Route::UnitPieces => "/pieces/unit/{act}/{node}",
+            Route::UnitPiecesAfter => "/pieces/unit/{act}/{node}/{after_act}/{after_node}",
+            Route::Steps => "/steps/{job}",
         }
     }
 
@@ -133,6 +154,13 @@ impl Route {
             Route::OrderStory => 13,
             Route::JobStory => 11,
             Route::PartStory => 12,
+            Route::OrderPieces => 14,
+            Route::OrderPiecesAfter => 14,
+            Route::BatchPieces => 14,
+            Route::BatchPiecesAfter => 14,
+            Route::UnitPieces => 13,
+            Route::UnitPiecesAfter => 13,
+            Route::Steps => 7,
         }
     }
 
@@ -172,7 +200,7 @@ fn add_all(router: &mut Router<Route>, routes: &[Route]) -> Result<(), InsertErr
     add_all(router, more)
 }
 
-const ROUTES: [Route; 27] = [
+const ROUTES: [Route; 34] = [
     Route::Message,
     Route::Plan,
     Route::Plans,
@@ -200,6 +228,13 @@ const ROUTES: [Route; 27] = [
     Route::OrderStory,
     Route::JobStory,
     Route::PartStory,
+    Route::OrderPieces,
+    Route::OrderPiecesAfter,
+    Route::BatchPieces,
+    Route::BatchPiecesAfter,
+    Route::UnitPieces,
+    Route::UnitPiecesAfter,
+    Route::Steps,
 ];
 
 #[tactic(auto, unfolding(crate::specs::Routes::all_routes))]

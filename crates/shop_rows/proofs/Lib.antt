@@ -11,5 +11,6 @@ pub mod Counting
 -- rows made of others
 pub mod Mapped
 pub mod Packed
+pub mod ByAct
 -- lines of an order
 pub mod ByLine

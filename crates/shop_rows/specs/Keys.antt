@@ -10,6 +10,9 @@ use Rattle.cut_measure.specs.Names.{Name, name_cmp}
 use Rattle.shop_records.specs.declared.records.Material.{Material}
 use Rattle.shop_records.specs.declared.records.Part.{Part}
 use Rattle.shop_records.specs.declared.records.Job.{Job}
+use Rattle.shop_records.specs.declared.records.JobHalt.{JobHalt}
+use Rattle.shop_records.specs.declared.records.JobBegin.{JobBegin}
+use Rattle.shop_records.specs.declared.notes.OrderNote.{OrderNote}
 use Rattle.shop_records.specs.declared.records.Demand.{Demand}
 use Rattle.shop_records.specs.declared.imports.ImportRow.{ImportRow}
 use Rattle.shop_records.specs.declared.journal.Entry.{Entry}
@@ -22,6 +25,15 @@ part_key p = p.name
 
 abbrev pub job_key : Job → ℕ
 job_key j = j.act
+
+abbrev pub halt_key : JobHalt → ℕ
+halt_key row = row.job
+
+abbrev pub begin_key : JobBegin → ℕ
+begin_key row = row.job
+
+abbrev pub note_key : OrderNote → List ℕ
+note_key row = row.order
 
 abbrev pub demand_key : Demand → ℕ
 demand_key d = d.number

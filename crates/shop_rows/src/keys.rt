@@ -2,7 +2,7 @@
 
 use crate::rows::{KeyedRow, RowKey};
 use cut_measure::{Code, PartName};
-use shop_records::{Demand, Entry, ImportRow, Job, Material, Part};
+use shop_records::{Demand, Entry, ImportRow, Job, JobBegin, JobHalt, Material, OrderNote, Part};
 use std::cmp::Ordering;
 
 /// Codes in the order of their bytes.
@@ -102,6 +102,42 @@ impl KeyedRow for Job {
 
     fn key(&self) -> u32 {
         self.act
+    }
+}
+
+impl KeyedRow for JobHalt {
+    ghost use Rattle.shop_rows.specs.Keys.{halt_key};
+
+    type Key = u32;
+
+    ghost key_of = { halt_key };
+
+    fn key(&self) -> u32 {
+        self.job
+    }
+}
+
+impl KeyedRow for JobBegin {
+    ghost use Rattle.shop_rows.specs.Keys.{begin_key};
+
+    type Key = u32;
+
+    ghost key_of = { begin_key };
+
+    fn key(&self) -> u32 {
+        self.job
+    }
+}
+
+impl KeyedRow for OrderNote {
+    ghost use Rattle.shop_rows.specs.Keys.{note_key};
+
+    type Key = Code;
+
+    ghost key_of = { note_key };
+
+    fn key(&self) -> Code {
+        self.order
     }
 }
 

@@ -149,11 +149,12 @@ fn reserve_some(
     Ok(())
 }
 
-/// Makes room for the names of a part that moves, if there is one, and of parts that are put after it. The names stay, also
-/// where memory is wanting.
+/// Makes room for the names of a part that moves, if there is one, of parts that are undone after it, and of parts that are put
+/// after those. The names stay, also where memory is wanting.
 pub fn reserve_names(
     lists: &mut Vec<NameList>,
     moved: &Option<Part>,
+    undone: &[Part],
     parts: &[Part],
 ) -> Result<(), AllocError>
     requires order { AreInOrder lists.old.items }
@@ -161,11 +162,16 @@ pub fn reserve_names(
         → names_of code lists.new.items ≡ names_of code lists.old.items }
     ensures order { AreInOrder lists.new.items }
     ensures moved { OnOk result
-        (HaveRoom (length parts.now + 1) (option_to_list moved.now) lists.new.items) }
-    ensures parts { OnOk result (HaveRoom (length parts.now + 1) parts.now lists.new.items) }
+        (HaveRoom (length undone.now + length parts.now + 1) (option_to_list moved.now)
+        lists.new.items) }
+    ensures undone { OnOk result
+        (HaveRoom (length undone.now + length parts.now + 1) undone.now lists.new.items) }
+    ensures parts { OnOk result
+        (HaveRoom (length undone.now + length parts.now + 1) parts.now lists.new.items) }
 {
-    let count = parts.len() + 1;
+    let count = undone.len() + parts.len() + 1;
     reserve_some(lists, moved, count)?;
+    reserve_each(lists, undone, count)?;
     reserve_each(lists, parts, count)
 }
 

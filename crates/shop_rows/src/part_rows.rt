@@ -1,15 +1,17 @@
 //! Parts as rows that give the number of what each was received as: 44 bytes for each part.
 
-ghost use Rattle.std.specs.Prelude.{◌≡◌, ◌<◌, IsTrue, List, length};
+ghost use Rattle.std.specs.Prelude.{◌≡◌, ◌<◌, ◌==◌, IsTrue, List, filter, length, nat_le};
 ghost use Rattle.std.specs.Option.{ForSome, option_map};
 ghost use Rattle.shop_rows.specs.declared.part_rows.Origin.{Origin as OriginOf};
+ghost use Rattle.cut_measure.specs.Names.{name_cmp};
 ghost use Rattle.shop_rows.specs.Keys.{part_key};
 ghost use Rattle.shop_rows.specs.PartRows.{part_of, row_key, IsNumbered};
+ghost use Rattle.shop_rows.specs.Rows.{rise};
 
 use crate::room::reserve_rows;
 use crate::rows::{KeyedRow, ends, find, gap, move_back, put};
 use cut_measure::{Code, PartName, Size};
-use shop_records::{Part, State};
+use shop_records::{Part, PartList, State};
 use std::alloc::{AllocError, Global};
 
 // The most origins, whose numbers 32 bits hold.
@@ -113,6 +115,33 @@ fn unpack_found(origins: &[Origin], row: Option<PartRow>) -> Option<Part>
     }
 }
 
+// The rows that are named after this act or a later one.
+fn from_act(rows: &[PartRow], act: u32) -> &[PartRow]
+    requires { IsTrue (rise row_key name_cmp rows.now) }
+    ensures rows { result.now ≡ filter (λ row. nat_le act row.name.act) rows.now }
+    ensures rising { IsTrue (rise row_key name_cmp result.now) }
+{
+    let from = rows.partition_point(|row| row.name.act() < act);
+    &rows[from..]
+}
+
+// The rows that are named after this act or an earlier one.
+fn upto_act(rows: &[PartRow], act: u32) -> &[PartRow]
+    requires { IsTrue (rise row_key name_cmp rows.now) }
+    ensures { result.now ≡ filter (λ row. nat_le row.name.act act) rows.now }
+{
+    let to = rows.partition_point(|row| row.name.act() <= act);
+    &rows[..to]
+}
+
+// The rows that are named after this act.
+fn of_act(rows: &[PartRow], act: u32) -> &[PartRow]
+    requires { IsTrue (rise row_key name_cmp rows.now) }
+    ensures { result.now ≡ filter (λ row. row.name.act == act) rows.now }
+{
+    upto_act(from_act(rows, act), act)
+}
+
 impl PartRows {
     ghost use Rattle.std.specs.Prelude.{◌≡◌, []};
     ghost use Rattle.shop_rows.specs.PartRows.{parts_in, AreKnown};
@@ -131,7 +160,7 @@ impl PartRows {
 }
 
 impl PartRows {
-    ghost use Rattle.std.specs.Prelude.{◌≡◌, ◌<◌, IfOk, IsTrue, get_or, length};
+    ghost use Rattle.std.specs.Prelude.{◌≡◌, ◌<◌, ◌==◌, IfOk, IsTrue, filter, get_or, length};
     ghost use Rattle.std.specs.Bool.{Decides};
     ghost use Rattle.cut_measure.specs.Names.{name_cmp};
     ghost use Rattle.shop_rows.specs.Keys.{part_key};
@@ -161,6 +190,21 @@ impl PartRows {
     {
         let row = find(&self.rows, name);
         unpack_found(&self.origins, row)
+    }
+
+    /// The parts that are named after an act, by rising node.
+    pub fn named(&self, alloc: Global, act: u32) -> Result<PartList, AllocError>
+        requires rising { IsTrue (rise part_key name_cmp (parts_in self.now)) }
+        requires known { AreKnown self.now }
+        ensures { IfOk result (λ parts. parts
+            ≡ filter (λ part. part.name.act == act) (parts_in self.now)) }
+    {
+        let mut parts = PartList::new(alloc);
+        let rows = of_act(&self.rows, act);
+        for row in rows {
+            parts.push(unpack(&self.origins, row))?;
+        }
+        Ok(parts)
     }
 
     // The part at a place.

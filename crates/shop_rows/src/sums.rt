@@ -219,7 +219,7 @@ fn column_of(part: &Part) -> Option<Column>
     match part.state {
         State::Standing => Some(Column::Rack),
         State::Reserved(_) => Some(Column::Rack),
-        State::Cut(_) => None,
+        State::Cut(_) | State::Undone(_) => None,
         State::Piece(_) => Some(Column::Pieces),
         State::Kerf => Some(Column::Kerf),
         State::Scrap => Some(Column::Scrap),

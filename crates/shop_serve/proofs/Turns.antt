@@ -7,7 +7,7 @@ use Rattle.std.specs.declared.time.Instant.{Instant}
 use Rattle.shop_records.specs.declared.refusals.Refusal.{Refusal}
 use Rattle.shop_request.specs.Requests.{ParseResult, silent, faulty, asking, ParsesTo}
 use Rattle.shop_request.specs.declared.routes.Route.{Route}
-use Rattle.shop_request.specs.declared.routes.Route.TheVariants.{Message, Plan, Plans, Bound, Backup, Totals, Rack, Trace, Demand, Ticket, Yield, Materials, Parts, PartsAfter, Demands, DemandsOf, Orders, OrdersAfter, OrderLines, Jobs, Job, Terminal, Shop, History, OrderStory, JobStory, PartStory}
+use Rattle.shop_request.specs.declared.routes.Route.TheVariants.{Message, Plan, Plans, Bound, Backup, Totals, Rack, Trace, Demand, Ticket, Yield, Materials, Parts, PartsAfter, Demands, DemandsOf, Orders, OrdersAfter, OrderLines, Jobs, Job, Terminal, Shop, History, OrderStory, JobStory, PartStory, OrderPieces, OrderPiecesAfter, BatchPieces, BatchPiecesAfter, UnitPieces, UnitPiecesAfter, Steps}
 use Rattle.shop_serve.specs.Times.{Times}
 use Rattle.shop_desk.specs.Handled.{HasAccount}
 use Rattle.shop_desk.specs.Faults.{CountsUp}
@@ -72,6 +72,13 @@ is_for_backup History e = absurd (cc e)
 is_for_backup OrderStory e = absurd (cc e)
 is_for_backup JobStory e = absurd (cc e)
 is_for_backup PartStory e = absurd (cc e)
+is_for_backup OrderPieces e = absurd (cc e)
+is_for_backup OrderPiecesAfter e = absurd (cc e)
+is_for_backup BatchPieces e = absurd (cc e)
+is_for_backup BatchPiecesAfter e = absurd (cc e)
+is_for_backup UnitPieces e = absurd (cc e)
+is_for_backup UnitPiecesAfter e = absurd (cc e)
+is_for_backup Steps e = absurd (cc e)
 
 pub backup_asked : (received : List ℕ) (parsed : ParseResult) → asks_backup parsed ≡ true → ParsesTo received parsed → (body : List ℕ) × ParsesTo received (asking Backup body)
 backup_asked received silent e has = absurd (cc e)

@@ -5,7 +5,7 @@ use Rattle.sqlite_value.specs.Order.{Row}
 use Rattle.sqlite.specs.Table.{Table}
 use Rattle.sqlite.specs.Schema.{Schema}
 use Rattle.sqlite.specs.Term.{Term}
-use Rattle.sqlite.specs.Command.TheVariants.{Insert, Update}
+use Rattle.sqlite.specs.Command.TheVariants.{Delete, Insert, Update}
 use Rattle.sqlite.specs.Source.TheVariants.{Values}
 use Rattle.sqlite.specs.Edit.{Edit}
 use Rattle.sqlite.specs.Effect.{Database}
@@ -20,7 +20,7 @@ use Rattle.shop_statements.proofs.Steps.{on_ok_then}
 use Rattle.shop_statements.proofs.Terms.{Writes}
 use Rattle.shop_statements.proofs.Texts.{shop, shop_is}
 use Rattle.shop_statements.proofs.Works.{no_works}
-use Rattle.shop_statements.proofs.Writes.{bare, inserted, updated, IsEdited}
+use Rattle.shop_statements.proofs.Writes.{bare, deleted, inserted, updated, IsEdited}
 
 all_of : {X : Type 0} {P : X → Type 0} → ((x : X) → P x) → (xs : List X) → AllByRecursion P xs
 all_of h [] = tt
@@ -88,4 +88,11 @@ module _ {E : Type 0} (sql : List ℕ) (params : Row) (old new : State) (r : Res
       let run = ran clean inside in
       let w = runs_as sql params old new (shop old.now.schema h) (shop_is old.now.schema h) _ (is h).command (is h).plain run.0 run.1 in
       let u = updated old.step_limit (mode_of old) params old.now new.now w.tally at (loosened (loose h) t) (there h) (statement_of sql (understood (shop old.now.schema h) sql)) q (no_works old.now.schema h t.tree) w.changed in
+      beside old.now new.now _ u.2)
+
+  pub clears_beside : (q : Program) → ((h : HasShopTables old.now.schema) → Writes (shop old.now.schema h) sql (Delete at q)) → OnOk r (HasExecuted sql params old new) → OnOk r (Spares (t.tree ∷ []) old new)
+  clears_beside q is = on_ok_then r (λ ran clean inside h.
+      let run = ran clean inside in
+      let w = runs_as sql params old new (shop old.now.schema h) (shop_is old.now.schema h) _ (is h).command (is h).plain run.0 run.1 in
+      let u = deleted old.step_limit (mode_of old) params old.now new.now w.tally at (loosened (loose h) t) (there h) (statement_of sql (understood (shop old.now.schema h) sql)) q (no_works old.now.schema h t.tree) w.changed in
       beside old.now new.now _ u.2)

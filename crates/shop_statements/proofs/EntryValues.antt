@@ -1,8 +1,6 @@
 -- No columns stand for two entries.
-use Rattle.std.proofs.Common.{◌≡◌, ◌≤◌, arith, ℕ, pos, Bool, true, false, List, [], ◌∷◌, Option, Some, None, option_map, IfSome, IsTrue, refl, sym, ap, ◌∙◌}
+use Rattle.std.proofs.Common.{◌≡◌, ◌≤◌, arith, ℕ, List, [], ◌∷◌, Option, Some, None, IfSome, IsTrue, refl, sym, ap, ◌∙◌}
 use Rattle.std.specs.Prelude.{cond, get_or, nat_eq}
-use Rattle.sqlite_value.specs.declared.value.Value.{Value}
-use Rattle.sqlite_value.specs.declared.value.Value.TheVariants.{Int, Text}
 use Rattle.sqlite_value.specs.Order.{Row}
 use Rattle.cut_measure.specs.Codes.{is_code}
 use Rattle.cut_measure.specs.Names.{Name, IsName}
@@ -22,13 +20,16 @@ word_back text =
     cond (nat_eq first 109) word.Material
     (cond (nat_eq first 111) word.Order
     (cond (nat_eq first 100) word.Done
-    (cond (nat_eq first 98) word.Break
+    (cond (nat_eq first 98) (cond (nat_eq (get_or text 1 0) 101) word.Begin word.Break)
+    (cond (nat_eq first 117) word.Undo
+    (cond (nat_eq first 110) word.Note
+    (cond (nat_eq first 101) word.Extend
     (cond (nat_eq first 105) word.Import
     (cond (nat_eq first 97) word.Amend
     (cond (nat_eq (get_or text 1 0) 99) word.Scrap
     (cond (nat_eq third 99) word.Receive
     (cond (nat_eq third 115) word.Reserve
-    (cond (nat_eq third 108) word.Release word.Return)))))))))
+    (cond (nat_eq third 108) word.Release word.Return))))))))))))
 
 back_again : (w : Word) → word_back (word_name w) ≡ w
 unfolding word_back
@@ -43,6 +44,10 @@ back_again word.Scrap = refl
 back_again word.Return = refl
 back_again word.Import = refl
 back_again word.Amend = refl
+back_again word.Undo = refl
+back_again word.Note = refl
+back_again word.Extend = refl
+back_again word.Begin = refl
 
 one_word : (v w : Word) → word_name v ≡ word_name w → v ≡ w
 one_word v w e = sym (back_again v) ∙ ap word_back e ∙ back_again w

@@ -18,12 +18,12 @@ use Rattle.cut_measure.specs.Names.{Name, name_cmp}
 use Rattle.shop_records.specs.Content.{pair_cmp}
 use Rattle.shop_records.specs.declared.texts.Pair.{Pair}
 use Rattle.shop_statements.specs.declared.uses.JobOrder.{JobOrder}
-use Rattle.shop_statements.specs.Rows.{AreRows, meta_row, meta_entries, kept_columns, kept_row, import_columns, import_row, entry_columns, journal_row, use_cmp}
+use Rattle.shop_statements.specs.Rows.{AreRows, meta_row, meta_entries, note_columns, note_row, halt_columns, halt_row, kept_columns, kept_row, import_columns, import_row, entry_columns, journal_row, use_cmp}
 use Rattle.shop_statements.specs.Shown.{Books, Shows}
 use Rattle.shop_statements.proofs.Selects.{selects, selected}
 use Rattle.shop_statements.proofs.Terms.{Reads, from_table}
 use Rattle.shop_statements.proofs.Keys.{equal, equal-Int, equal-Text, and_true, shown_as}
-use Rattle.shop_statements.proofs.Texts.{shop, shop_is, by_one, get_meta_text, get_meta_terms, get_meta_is, get_kept_text, get_kept_terms, get_kept_is, get_import_text, get_import_terms, get_import_is, get_entry_text, get_entry_terms, get_entry_is, by_one, by_two, by_number}
+use Rattle.shop_statements.proofs.Texts.{shop, shop_is, by_one, get_meta_text, get_meta_terms, get_meta_is, get_kept_text, get_kept_terms, get_kept_is, get_import_text, get_import_terms, get_import_is, get_entry_text, get_entry_terms, get_entry_is, get_note_text, get_note_terms, get_note_is, get_halt_text, get_halt_terms, get_halt_is, by_two, by_number}
 use Rattle.shop_statements.proofs.Reading.{asked, finds}
 
 pub code_total : IsTotalOrder code_cmp
@@ -123,6 +123,27 @@ module _ (old new : State) (rows : List Row) (b : Books) (has : Shows old b) whe
   finds_entry n shown =
       finds nat_cmp_total nat_cmp-IsAntisymmetric 0 journal_row (λ e. entry_columns e.1) b.content.entries n _ (is_number n) (λ r. refl) (λ e. number_tests e.0 n (Null ∷ entry_columns e.1)) _ entry_shown (λ r. refl) (λ e. refl) _ rows has.stands.journal
       (asked old new has.schema get_entry_text (Int (pos n) ∷ []) 19 by_number get_entry_terms _ (get_entry_is old.now.schema has.schema) refl rows shown)
+
+abbrev note_shown : Row → Row
+note_shown d = column d 1 ∷ column d 2 ∷ []
+
+note_shown_later : (r : Row) → column r 2 ∷ column r 3 ∷ [] ≡ note_shown (drop 1 r)
+note_shown_later [] = refl
+note_shown_later (x ∷ d) = refl
+
+abbrev halt_shown : Row → Row
+halt_shown d = column d 2 ∷ []
+
+module _ (old new : State) (rows : List Row) (b : Books) (has : Shows old b) where
+  pub finds_note : (code : List ℕ) → Shown get_note_text (Text code ∷ []) old new rows → rows ≡ option_to_list (option_map note_columns (get b.content.notes code))
+  finds_note code shown =
+      finds code_total code_same 1 note_row (λ e. note_columns e.1) b.content.notes code _ (is_word code) (word_later code) (λ e. word_tests e.0 code (note_columns e.1)) _ note_shown note_shown_later (λ e. refl) _ rows has.stands.notes
+      (asked old new has.schema get_note_text (Text code ∷ []) 22 by_one get_note_terms _ (get_note_is old.now.schema has.schema) refl rows shown)
+
+  pub finds_halt : (n : ℕ) → Shown get_halt_text (Int (pos n) ∷ []) old new rows → rows ≡ option_to_list (option_map halt_columns (get b.content.halts n))
+  finds_halt n shown =
+      finds nat_cmp_total nat_cmp-IsAntisymmetric 0 halt_row (λ e. halt_columns e.1) b.content.halts n _ (is_number n) (λ r. refl) (λ e. number_tests e.0 n (Null ∷ halt_columns e.1)) _ halt_shown (λ r. refl) (λ e. refl) _ rows has.stands.halts
+      (asked old new has.schema get_halt_text (Int (pos n) ∷ []) 25 by_number get_halt_terms _ (get_halt_is old.now.schema has.schema) refl rows shown)
 
 abbrev pub meta_shown : Row → Row
 meta_shown d = column d 1 ∷ []

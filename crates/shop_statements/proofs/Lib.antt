@@ -16,6 +16,8 @@ pub mod Standing
 pub mod KeyedRows
 pub mod Putting
 pub mod Setting
+pub mod Noting
+pub mod OneHalt
 pub mod Steps
 pub mod Beside
 pub mod Versions

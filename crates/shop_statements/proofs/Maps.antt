@@ -9,8 +9,8 @@ use Rattle.sqlite_trees.specs.Tree.{IsAscending}
 use Rattle.sqlite_trees.proofs.ListLemmas.{all-permutation, IsPermutation-filter}
 use Rattle.sqlite.proofs.Callers.{one_permutation}
 use Rattle.std.proofs.Common.{length, arith}
-use Rattle.std.specs.FinMap.{FinMap, IsAntisymmetric, entries, entries_sorted, get, get-entries, insert, entries-insert, find, is_sorted}
-use Rattle.std.specs.FinMap.Entries.{put, below_all, by_order}
+use Rattle.std.specs.FinMap.{FinMap, IsAntisymmetric, entries, entries_sorted, get, get-entries, insert, entries-insert, get-insert, remove, get-remove, from_sorted, entries-from_sorted, get-from_sorted, same_map, find, is_sorted}
+use Rattle.std.specs.FinMap.Entries.{put, below_all, by_order, find-where_key}
 use Rattle.std.proofs.lemmas.List.Sorted.{IsPermutation-refl, IsPermutation-trans, IsPermutation-cons, IsPermutation-sym, IsPermutation-middle, length_permutation}
 
 -- the entry at a key, as a list
@@ -157,7 +157,7 @@ module _ {K : Type 0} (X : Type 0) {R : K → K → Ordering} (o : IsTotalOrder 
   level Equal p q = refl
   level Greater p q = absurd (true≢false q)
 
-  left_out : (k : K) (es : List (K × X)) → at k es ≡ [] → others k es ≡ es
+  pub left_out : (k : K) (es : List (K × X)) → at k es ≡ [] → others k es ≡ es
   left_out k [] none = refl
   left_out k (e ∷ es) none =
       elim (eq_by_cmp R e.0 k) as (λ b. cond b (e ∷ at k es) (at k es) ≡ [] → cond (not b) (e ∷ others k es) (others k es) ≡ e ∷ es)
@@ -208,3 +208,31 @@ module _ {K : Type 0} (X : Type 0) {R : K → K → Ordering} (o : IsTotalOrder 
         | true ↦ joined (below_all R e.0 (filter p es)) _ (below_filter e.0 p es parts.0) (sorted_filter p es parts.1)
         | false ↦ sorted_filter p es parts.1
       ]
+
+  -- ---- without a key
+
+  turned : (b : Bool) (x y : Option X) → cond (not b) x y ≡ cond b y x
+  turned true x y = refl
+  turned false x y = refl
+
+  -- the others are what is left without the key
+  pub removed : (m : FinMap R X) (k : K) → entries (remove m k) ≡ others k (entries m)
+  removed m k =
+      let sorted : T (is_sorted R (others k (entries m))) = sorted_filter (λ e. not (eq_by_cmp R e.0 k)) (entries m) (entries_sorted m) in
+      let whole : remove m k ≡ from_sorted {R = R} (others k (entries m)) = same_map o same (remove m k) (from_sorted (others k (entries m))) (λ q.
+      get-remove o m k q ∙ ap (cond (eq_by_cmp R q k) None) (get-entries m q) ∙ sym (turned (eq_by_cmp R q k) (find R q (entries m)) None)
+      ∙ sym (find-where_key R (λ x. not (eq_by_cmp R x k)) q (λ x tie. ap (λ y. not (eq_by_cmp R y k)) (sym (same q x tie))) (entries m)) ∙ sym (get-from_sorted R (others k (entries m)) q sorted)) in
+      ap entries whole ∙ entries-from_sorted R (others k (entries m)) sorted
+
+  -- nothing is under it then
+  pub get_removed : (m : FinMap R X) (k : K) → get (remove m k) k ≡ None
+  get_removed m k = get-remove o m k k ∙ ap (λ r. cond (is_eq r) None (get m k)) (tied_itself o k)
+
+  -- and what is put there then is put over what was there
+  pub insert_removed : (m : FinMap R X) (k : K) (v : X) → insert (remove m k) k v ≡ insert m k v
+  insert_removed m k v = same_map o same (insert (remove m k) k v) (insert m k v) (λ q.
+      get-insert o (remove m k) k v q ∙ ap (cond (eq_by_cmp R q k) (Some v)) (get-remove o m k q) ∙ shadowed (eq_by_cmp R q k) (get m q) ∙ sym (get-insert o m k v q))
+    where
+      shadowed : (b : Bool) (x : Option X) → cond b (Some v) (cond b None x) ≡ cond b (Some v) x
+      shadowed true x = refl
+      shadowed false x = refl

@@ -72,3 +72,10 @@ within_then a b c one two = record {
   kept = λ clean. let s = two.survives.clean in let early : HasCleanDisk b = omega (arith, s) in keeps_then a b c (one.kept early) (two.kept clean);
   survives = survives_then a b c (λ _. ⊥) (λ _. ⊥) (λ _. ⊥) (λ _ db none. none) (λ _ db none. none) one.survives two.survives;
 }
+
+-- the second of two statements may fail
+pub ran_over : {X E : Type 0} (r : Result X E) (a b c : State) → Ran a b → OnOk r (Ran b c) → OnOk r (Ran a c)
+ran_over r a b c one = on_ok_then r (λ two. ran_then a b c one (went_as b c two))
+
+pub makes_over : {X E : Type 0} (r : Result X E) (a b c : State) (x y z : Books) → Ran a b → OnOk r (Ran b c) → Makes a b x y → OnOk r (Makes b c y z) → OnOk r (Makes a c x z)
+makes_over r a b c x y z one more first two = on_ok_both r more two (λ ran makes. makes_then a b c x y z (went_as a b one) (went_as b c ran) first makes)

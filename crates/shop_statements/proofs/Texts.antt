@@ -2,7 +2,7 @@
 use Rattle.std.proofs.Common.{◌≡◌, ℕ, List, [], ◌∷◌, codes, true, refl}
 use Rattle.sqlite_tied.specs.Compute.{everything}
 use Rattle.sqlite.specs.Listing.{understood}
-use Rattle.sqlite.specs.Command.TheVariants.{Insert, Update}
+use Rattle.sqlite.specs.Command.TheVariants.{Delete, Insert, Update}
 use Rattle.sqlite.specs.Source.TheVariants.{Values}
 use Rattle.sqlite.specs.Term.{Term, lit, col}
 use Rattle.sqlite_value.specs.declared.value.Value.TheVariants.{Null}
@@ -151,7 +151,75 @@ put_use_text = codes "INSERT INTO uses (job, ord) VALUES (?1, ?2)"
 abbrev pub put_use_terms : List Term
 put_use_terms = lit Null ∷ col 0 0 ∷ col 0 1 ∷ []
 
+-- the rowid alone, by which a row is taken out
+abbrev pub clear_terms : List Term
+clear_terms = col 1 0 ∷ []
+
+abbrev pub get_note_text : List ℕ
+get_note_text = codes "SELECT due, body FROM notes WHERE ord = ?1"
+
+abbrev pub get_note_terms : List Term
+get_note_terms = col 1 2 ∷ col 1 3 ∷ []
+
+abbrev pub clear_note_text : List ℕ
+clear_note_text = codes "DELETE FROM notes WHERE ord = ?1"
+
+abbrev pub put_note_text : List ℕ
+put_note_text = codes "INSERT INTO notes (ord, due, body) VALUES (?1, ?2, ?3)"
+
+abbrev pub put_note_terms : List Term
+put_note_terms = lit Null ∷ col 0 0 ∷ col 0 1 ∷ col 0 2 ∷ []
+
+abbrev pub clear_begun_text : List ℕ
+clear_begun_text = codes "DELETE FROM begun WHERE job = ?1"
+
+abbrev pub put_begun_text : List ℕ
+put_begun_text = codes "INSERT INTO begun (job, terminal) VALUES (?1, ?2)"
+
+abbrev pub put_begun_terms : List Term
+put_begun_terms = col 0 0 ∷ lit Null ∷ col 0 1 ∷ []
+
+abbrev pub get_halt_text : List ℕ
+get_halt_text = codes "SELECT body FROM halts WHERE job = ?1"
+
+abbrev pub get_halt_terms : List Term
+get_halt_terms = col 1 2 ∷ []
+
+abbrev pub put_halt_text : List ℕ
+put_halt_text = codes "INSERT INTO halts (job, body) VALUES (?1, ?2)"
+
+abbrev pub put_halt_terms : List Term
+put_halt_terms = col 0 0 ∷ lit Null ∷ col 0 1 ∷ []
+
 module _ (schema : Schema) (h : HasShopTables schema) where
+  pub get_note_is : Reads (shop schema h) get_note_text (from_table 22 by_one get_note_terms []) (codes "due" ∷ codes "body" ∷ [])
+  unfolding understood everything
+  get_note_is = record { command = refl; listing = refl; plain = (refl, refl) }
+
+  pub clear_note_is : Writes (shop schema h) clear_note_text (Delete 12 (record { lets = []; body = from_table 22 by_one clear_terms [] }))
+  unfolding understood everything
+  clear_note_is = record { command = refl; plain = (refl, refl) }
+
+  pub put_note_is : Writes (shop schema h) put_note_text (Insert 12 (Values put_note_terms 4))
+  unfolding understood everything
+  put_note_is = record { command = refl; plain = (refl, refl) }
+
+  pub clear_begun_is : Writes (shop schema h) clear_begun_text (Delete 13 (record { lets = []; body = from_table 24 by_number clear_terms [] }))
+  unfolding understood everything
+  clear_begun_is = record { command = refl; plain = (refl, refl) }
+
+  pub put_begun_is : Writes (shop schema h) put_begun_text (Insert 13 (Values put_begun_terms 3))
+  unfolding understood everything
+  put_begun_is = record { command = refl; plain = (refl, refl) }
+
+  pub get_halt_is : Reads (shop schema h) get_halt_text (from_table 25 by_number get_halt_terms []) (codes "body" ∷ [])
+  unfolding understood everything
+  get_halt_is = record { command = refl; listing = refl; plain = (refl, refl) }
+
+  pub put_halt_is : Writes (shop schema h) put_halt_text (Insert 14 (Values put_halt_terms 3))
+  unfolding understood everything
+  put_halt_is = record { command = refl; plain = (refl, refl) }
+
   pub get_entry_is : Reads (shop schema h) get_entry_text (from_table 19 by_number get_entry_terms []) (codes "at" ∷ codes "terminal" ∷ codes "number" ∷ codes "word" ∷ codes "act" ∷ codes "job" ∷ codes "ord" ∷ codes "part_act" ∷ codes "part_node" ∷ [])
   unfolding understood everything
   get_entry_is = record { command = refl; listing = refl; plain = (refl, refl) }
@@ -241,6 +309,14 @@ get_kept_selects = refl
 pub get_import_selects : is_select get_import_text ≡ true
 unfolding everything
 get_import_selects = refl
+
+pub get_note_selects : is_select get_note_text ≡ true
+unfolding everything
+get_note_selects = refl
+
+pub get_halt_selects : is_select get_halt_text ≡ true
+unfolding everything
+get_halt_selects = refl
 
 pub get_entry_selects : is_select get_entry_text ≡ true
 unfolding everything

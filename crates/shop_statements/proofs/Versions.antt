@@ -1,5 +1,5 @@
 -- The rows of the table of numbers, as they stand.
-use Rattle.std.proofs.Common.{◌≡◌, ℕ, Bool, true, ◌&&◌, List, [], ◌∷◌, map, filter, Contains, All, ◌⊎◌, Option, Some, None, IfSome, codes, inl, inr, refl, sym, ap, ◌∙◌, arith, IsPermutation}
+use Rattle.std.proofs.Common.{◌≡◌, ℕ, Bool, true, ◌&&◌, List, [], ◌∷◌, map, filter, Contains, All, Option, Some, None, IfSome, codes, inl, inr, refl, sym, ap, ◌∙◌, arith, IsPermutation}
 use Rattle.std.proofs.lemmas.Bool.{cases_Bool}
 use Rattle.std.proofs.lemmas.List.Elements.{All-cons, All-map, All-contains, Contains-append_left, Contains-append_right, Contains-push}
 use Rattle.std.proofs.lemmas.List.Sorted.{Contains-permutation, IsPermutation-sym}
@@ -19,7 +19,6 @@ use Rattle.sqlite.specs.State.{State, Shown}
 use Rattle.sqlite.proofs.Callers.{reads_as}
 use Rattle.shop_statements.specs.Found.{IsNumberRow}
 use Rattle.shop_statements.specs.Earlier.{earlier_schema, second_schema, HasSomeTables}
-use Rattle.shop_statements.specs.Layout.{HasShopTables}
 use Rattle.shop_statements.specs.Shown.{GivesRow}
 use Rattle.shop_statements.proofs.Finding.{code_same}
 use Rattle.shop_statements.proofs.Keys.{and_true, equal, told}

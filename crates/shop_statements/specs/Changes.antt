@@ -1,10 +1,13 @@
 -- What each writing makes of the books.
 use Rattle.std.specs.Prelude.{ℕ, List}
-use Rattle.std.specs.FinMap.{insert}
+use Rattle.std.specs.FinMap.{insert, remove}
 use Rattle.std.specs.FinSet as set
 use Rattle.shop_records.specs.declared.records.Material.{Material}
 use Rattle.shop_records.specs.declared.records.Part.{Part}
 use Rattle.shop_records.specs.declared.records.Job.{Job}
+use Rattle.shop_records.specs.declared.records.JobHalt.{JobHalt}
+use Rattle.shop_records.specs.declared.records.JobBegin.{JobBegin}
+use Rattle.shop_records.specs.declared.notes.OrderNote.{OrderNote}
 use Rattle.shop_records.specs.declared.records.Demand.{Demand}
 use Rattle.shop_records.specs.declared.records.Totals.{Totals}
 use Rattle.shop_records.specs.declared.imports.ImportRow.{ImportRow}
@@ -24,8 +27,26 @@ with_part part b = record b { content = record b.content { parts = insert b.cont
 abbrev pub with_job : Job → Books → Books
 with_job job b = record b { content = record b.content { jobs = insert b.content.jobs job.act job } }
 
+-- where the work on a job halted
+abbrev pub with_halt : JobHalt → Books → Books
+with_halt row b = record b { content = record b.content { halts = insert b.content.halts row.job row } }
+
+-- the terminal that has begun a job, the first or another one
+abbrev pub with_begun : JobBegin → Books → Books
+with_begun row b = record b { content = record b.content { begun = insert b.content.begun row.job row } }
+
+abbrev pub without_begun : ℕ → Books → Books
+without_begun job b = record b { content = record b.content { begun = remove b.content.begun job } }
+
 abbrev pub with_order : List ℕ → Books → Books
 with_order code b = record b { content = record b.content { orders = set.insert b.content.orders code } }
+
+-- what is said of an order, the first or something else
+abbrev pub with_note : OrderNote → Books → Books
+with_note row b = record b { content = record b.content { notes = insert b.content.notes row.order row } }
+
+abbrev pub without_note : List ℕ → Books → Books
+without_note order b = record b { content = record b.content { notes = remove b.content.notes order } }
 
 -- a new demand, or one with other counts
 abbrev pub with_demand : Demand → Books → Books

@@ -1,5 +1,5 @@
--- The tables of versions 1 and 2, and what they stand for: a content without entries.
-use Rattle.std.specs.Prelude.{◌≡◌, ◌⊎◌, ℕ, pos, List, [], ◌∷◌, map, codes, IsTrue}
+-- The tables of versions 1 and 2, and what they stand for: a content without what came with version 3.
+use Rattle.std.specs.Prelude.{◌≡◌, ◌≢◌, ◌⊎◌, ℕ, pos, List, [], ◌∷◌, map, codes, IsTrue, Some}
 use Rattle.std.specs.List.{AllByRecursion}
 use Rattle.std.specs.FinMap.{FinMap, empty, entries}
 use Rattle.sqlite_value.specs.declared.value.Value.TheVariants.{Int, Text}
@@ -10,11 +10,23 @@ use Rattle.sqlite_catalog.specs.Listing.{IsSound}
 use Rattle.sqlite.specs.Effect.{IsDatabase}
 use Rattle.sqlite.specs.State.{State, HasCleanDisk}
 use Rattle.cut_measure.specs.Codes.{code_cmp}
-use Rattle.shop_records.specs.Content.{Content}
+use Rattle.cut_measure.specs.Names.{Name}
+use Rattle.shop_records.specs.Content.{Content, job_at, part_at}
+use Rattle.shop_records.specs.declared.records.Job.{Job}
+use Rattle.shop_records.specs.declared.records.Part.{Part}
 use Rattle.shop_records.specs.declared.records.Totals.{Totals}
 use Rattle.shop_statements.specs.Layout.{HasShopTables, laid}
-use Rattle.shop_statements.specs.Rows.{AreRows, AreOrders, IsKeyed, meta_row, material_row, part_row, job_row, demand_row, kept_row, import_row, totals_row}
+use Rattle.shop_statements.specs.Rows.{AreRows, AreOrders, IsKeyed, state_number, job_state_number, meta_row, material_row, part_row, job_row, demand_row, kept_row, import_row, totals_row}
 use Rattle.shop_statements.specs.Shown.{Books, Holds}
+
+-- Nothing is said of an order, no job is begun, none's halt is kept, and no part and no job is undone: their states' numbers
+-- came with version 3.
+pub record HasNoneLater (m : Content) : Type 0 where
+  pub notes : m.notes ≡ empty
+  pub begun : m.begun ≡ empty
+  pub halts : m.halts ≡ empty
+  pub parts : (name : Name) (part : Part) → part_at m name ≡ Some part → state_number part.state ≢ 7
+  pub jobs : (number : ℕ) (job : Job) → job_at m number ≡ Some job → job_state_number job.state ≢ 4
 
 -- Version 1 has these nine tables and nothing else.
 abbrev pub earlier_schema : Schema
@@ -32,7 +44,8 @@ earlier_row e =
 abbrev pub HasNoneReturned : List ℕ × Totals → Type 0
 HasNoneReturned e = e.1.returned ≡ 0
 
--- The trees have the rows that stand for the content and the totals in version 1, in which nothing was returned.
+-- The trees have the rows that stand for the content and the totals in version 1, in which nothing was returned, and there is
+-- nothing that came later.
 pub record StandsEarlier (db : Trees) (m : Content) (sums : FinMap code_cmp Totals) : Type 0 where
   pub meta : AreRows 1 (map meta_row (earlier_entries m)) (db 0)
   pub materials : AreRows 1 (map material_row (entries m.materials)) (db 2)
@@ -45,6 +58,7 @@ pub record StandsEarlier (db : Trees) (m : Content) (sums : FinMap code_cmp Tota
   pub totals : AreRows 1 (map earlier_row (entries sums)) (db 15)
   pub returned : AllByRecursion HasNoneReturned (entries sums)
   pub none : m.entries ≡ empty
+  pub later : HasNoneLater m
 
 -- the rows that the connection sees stand for the books in version 1
 pub record ShowsEarlier (s : State) (b : Books) : Type 0 where
@@ -80,7 +94,8 @@ second_schema = laid 10
 abbrev pub second_entries : Content → List (List ℕ × ℕ)
 second_entries m = (codes "version", 2) ∷ (codes "act", m.last_act) ∷ (codes "demand", m.last_demand) ∷ []
 
--- The trees have the rows that stand for the content and the totals in version 2, in which there is no entry.
+-- The trees have the rows that stand for the content and the totals in version 2, in which there is no entry, and nothing else
+-- that came later.
 pub record StandsSecond (db : Trees) (m : Content) (sums : FinMap code_cmp Totals) : Type 0 where
   pub meta : AreRows 1 (map meta_row (second_entries m)) (db 0)
   pub materials : AreRows 1 (map material_row (entries m.materials)) (db 2)
@@ -93,6 +108,7 @@ pub record StandsSecond (db : Trees) (m : Content) (sums : FinMap code_cmp Total
   pub totals : db 15 ≡ []
   pub totals2 : AreRows 1 (map totals_row (entries sums)) (db 17)
   pub none : m.entries ≡ empty
+  pub later : HasNoneLater m
 
 -- the rows that the connection sees stand for the books in version 2
 pub record ShowsSecond (s : State) (b : Books) : Type 0 where

@@ -1,5 +1,6 @@
 pub mod Layout
 pub mod Values
+pub mod Halts
 pub mod Rows
 pub mod Found
 pub mod Selecting

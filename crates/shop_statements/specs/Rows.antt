@@ -16,7 +16,7 @@ use Rattle.cut_measure.specs.declared.sizes.Kind.TheVariants as kind
 use Rattle.cut_tree.specs.Patterns.{IsPlan}
 use Rattle.cut_tree.specs.Spelling.{text_of}
 use Rattle.shop_records.specs.Columns.{state_of}
-use Rattle.shop_records.specs.Content.{Content, material_at, part_at, job_at, demand_at, import_at, entry_at}
+use Rattle.shop_records.specs.Content.{Content, material_at, part_at, job_at, halt_at, begun_at, note_at, demand_at, import_at, entry_at}
 use Rattle.shop_records.specs.Soundness.{IsOnPart}
 use Rattle.shop_records.specs.declared.records.Material.{Material}
 use Rattle.shop_records.specs.declared.records.Part.{Part}
@@ -25,6 +25,9 @@ use Rattle.shop_records.specs.declared.records.State.TheVariants as state
 use Rattle.shop_records.specs.declared.records.Job.{Job}
 use Rattle.shop_records.specs.declared.records.JobState.{JobState}
 use Rattle.shop_records.specs.declared.records.JobState.TheVariants as job
+use Rattle.shop_records.specs.declared.records.JobHalt.{JobHalt}
+use Rattle.shop_records.specs.declared.records.JobBegin.{JobBegin}
+use Rattle.shop_records.specs.declared.notes.OrderNote.{OrderNote}
 use Rattle.shop_records.specs.declared.records.Demand.{Demand}
 use Rattle.shop_records.specs.declared.records.Totals.{Totals}
 use Rattle.shop_records.specs.declared.imports.Form.{Form}
@@ -35,6 +38,7 @@ use Rattle.shop_records.specs.declared.texts.Kept.{Kept}
 use Rattle.shop_records.specs.declared.journal.Entry.{Entry}
 use Rattle.shop_records.specs.Journal.{word_name}
 use Rattle.shop_statements.specs.declared.uses.JobOrder.{JobOrder}
+use Rattle.shop_statements.specs.Halts.{IsHaltValue, halt_text}
 use Rattle.shop_statements.specs.Values.{IsEntryValue, IsPartValue}
 
 -- ---- numbers of words
@@ -52,12 +56,14 @@ state_number (state.Piece number) = 3
 state_number state.Kerf = 4
 state_number state.Scrap = 5
 state_number state.Returned = 6
+state_number (state.Undone number) = 7
 
 abbrev pub job_state_number : JobState → ℕ
 job_state_number job.Waiting = 0
 job_state_number job.Done = 1
 job_state_number job.Broken = 2
 job_state_number job.Released = 3
+job_state_number job.Undone = 4
 
 abbrev pub turn_number : Bool → ℕ
 turn_number false = 0
@@ -102,6 +108,15 @@ abbrev pub job_columns : Job → Row
 job_columns j =
     Int (pos j.part.act) ∷ Int (pos j.part.node) ∷ Text (text_of j.plan.tree) ∷ Int (pos (job_state_number j.state)) ∷ []
 
+abbrev pub note_columns : OrderNote → Row
+note_columns r = Int (pos r.due) ∷ Text r.text ∷ []
+
+abbrev pub begun_columns : JobBegin → Row
+begun_columns r = Int (pos r.terminal) ∷ []
+
+abbrev pub halt_columns : JobHalt → Row
+halt_columns r = Text (halt_text r) ∷ []
+
 abbrev pub demand_columns : Demand → Row
 demand_columns d =
     Text d.order ∷ Int (pos d.line) ∷ Text d.material ∷ Int (pos d.size.w) ∷ Int (pos d.size.h) ∷ Int (pos (turn_number d.may_turn))
@@ -137,6 +152,9 @@ part_row e = Int (pos e.0.act) ∷ Int (pos e.0.node) ∷ part_columns e.1
 abbrev pub order_row : List ℕ × Unit {0} → Row
 order_row e = Text e.0 ∷ []
 
+abbrev pub note_row : List ℕ × OrderNote → Row
+note_row e = Text e.0 ∷ note_columns e.1
+
 abbrev pub kept_row : Pair × Kept → Row
 kept_row e = Int (pos e.0.terminal) ∷ Int (pos e.0.number) ∷ kept_columns e.1
 
@@ -157,6 +175,12 @@ use_row e = Int (pos e.0.job) ∷ Text e.0.order ∷ []
 
 abbrev pub job_row : ℕ × Job → Row
 job_row e = Int (pos e.0) ∷ Null ∷ job_columns e.1
+
+abbrev pub begun_row : ℕ × JobBegin → Row
+begun_row e = Int (pos e.0) ∷ Null ∷ begun_columns e.1
+
+abbrev pub halt_row : ℕ × JobHalt → Row
+halt_row e = Int (pos e.0) ∷ Null ∷ halt_columns e.1
 
 abbrev pub demand_row : ℕ × Demand → Row
 demand_row e = Int (pos e.0) ∷ Null ∷ demand_columns e.1
@@ -183,7 +207,7 @@ pub record AreOrders (orders : set.FinSet code_cmp) (stored : List Row) : Type 0
   pub there : (code : List ℕ) → set.contains orders code ≡ is_some (get codes code)
   pub rows : AreRows 1 (map order_row (entries codes)) stored
 
--- The trees have the rows that stand for the content, the totals, and the orders of jobs. Nothing is noted, begun or halted.
+-- The trees have the rows that stand for the content, the totals, and the orders of jobs.
 pub record Stands (db : Trees) (m : Content) (sums : FinMap code_cmp Totals) (used : FinMap use_cmp (Unit {0})) : Type 0 where
   pub meta : AreRows 1 (map meta_row (meta_entries m)) (db 0)
   pub materials : AreRows 1 (map material_row (entries m.materials)) (db 2)
@@ -197,9 +221,9 @@ pub record Stands (db : Trees) (m : Content) (sums : FinMap code_cmp Totals) (us
   pub totals2 : AreRows 1 (map totals_row (entries sums)) (db 17)
   pub journal : AreRows 0 (map journal_row (entries m.entries)) (db 19)
   pub uses : AreRows 1 (map use_row (entries used)) (db 20)
-  pub notes : db 22 ≡ []
-  pub begun : db 24 ≡ []
-  pub halts : db 25 ≡ []
+  pub notes : AreRows 1 (map note_row (entries m.notes)) (db 22)
+  pub begun : AreRows 0 (map begun_row (entries m.begun)) (db 24)
+  pub halts : AreRows 0 (map halt_row (entries m.halts)) (db 25)
 
 -- a job stands under its own number, and has a plan of its part, with its kerf
 pub record IsOwnJob (m : Content) (number : ℕ) (job : Job) : Type 0 where
@@ -208,15 +232,19 @@ pub record IsOwnJob (m : Content) (number : ℕ) (job : Job) : Type 0 where
   pub plan : IsPlan job.plan
   pub on : IsOnPart m job
 
--- What the rows leave out: each row stands under its own key, and the codes of materials, the parts and the
--- entries are values.
+-- What the rows leave out: each row stands under its own key, and the codes of materials, the parts, the entries and the
+-- halts are values.
 pub record IsKeyed (m : Content) : Type 0 where
   pub materials : (code : List ℕ) (material : Material) → material_at m code ≡ Some material → material.code ≡ code
   pub parts : (name : Name) (part : Part) → part_at m name ≡ Some part → part.name ≡ name
   pub jobs : (number : ℕ) (job : Job) → job_at m number ≡ Some job → IsOwnJob m number job
+  pub halts : (number : ℕ) (row : JobHalt) → halt_at m number ≡ Some row → row.job ≡ number
+  pub begun : (number : ℕ) (row : JobBegin) → begun_at m number ≡ Some row → row.job ≡ number
+  pub notes : (order : List ℕ) (row : OrderNote) → note_at m order ≡ Some row → row.order ≡ order
   pub demands : (number : ℕ) (demand : Demand) → demand_at m number ≡ Some demand → demand.number ≡ number
   pub imports : (order : List ℕ) (row : ImportRow) → import_at m order ≡ Some row → row.order ≡ order
   pub entries : (number : ℕ) (entry : Entry) → entry_at m number ≡ Some entry → entry.number ≡ number
   pub codes : (code : List ℕ) (material : Material) → material_at m code ≡ Some material → IsTrue (is_code code)
   pub values : (name : Name) (part : Part) → part_at m name ≡ Some part → IsPartValue part
   pub noted : (number : ℕ) (entry : Entry) → entry_at m number ≡ Some entry → IsEntryValue entry
+  pub halted : (number : ℕ) (row : JobHalt) → halt_at m number ≡ Some row → IsHaltValue row

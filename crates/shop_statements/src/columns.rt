@@ -103,6 +103,7 @@ fn state_of_numbers(word: u32, detail: u32) -> Option<State>
         (4, 0) => Some(State::Kerf),
         (5, 0) => Some(State::Scrap),
         (6, 0) => Some(State::Returned),
+        (7, job) => Some(State::Undone(job)),
         _ => None,
     }
 }
@@ -193,8 +194,24 @@ fn later_word_of_text(text: &str) -> Option<CommandWord>
         Some(CommandWord::Return)
     } else if text == "import" {
         Some(CommandWord::Import)
-    } else if text == "amend" {
+    } else {
+        last_word_of_text(text)
+    }
+}
+
+fn last_word_of_text(text: &str) -> Option<CommandWord>
+    ensures { IfSome result (λ word. word_name word ≡ text.now) }
+{
+    if text == "amend" {
         Some(CommandWord::Amend)
+    } else if text == "undo" {
+        Some(CommandWord::Undo)
+    } else if text == "note" {
+        Some(CommandWord::Note)
+    } else if text == "extend" {
+        Some(CommandWord::Extend)
+    } else if text == "begin" {
+        Some(CommandWord::Begin)
     } else {
         None
     }
@@ -292,6 +309,7 @@ pub(crate) fn number_of_state(state: State) -> u32
         State::Kerf => 4,
         State::Scrap => 5,
         State::Returned => 6,
+        State::Undone(_) => 7,
     }
 }
 
@@ -303,6 +321,7 @@ pub(crate) fn number_of_job_state(state: JobState) -> u32
         JobState::Done => 1,
         JobState::Broken => 2,
         JobState::Released => 3,
+        JobState::Undone => 4,
     }
 }
 

@@ -1,16 +1,15 @@
 -- What is known of tables of version 2 or 1 is known of a content in them, which has no entry.
-use Rattle.std.proofs.Common.{◌≡◌, inl, inr, ℕ, Option, Some, None, sym, ap, subst, ◌∙◌, true≢false}
+use Rattle.std.proofs.Common.{◌≡◌, inl, inr, Option, None, sym, ap, ◌∙◌, true≢false}
 use Rattle.std.specs.Prelude.{IsSome, is_some}
 use Rattle.std.specs.FinMap.{FinMap, empty, get, get-empty, len, len-empty}
 use Rattle.std.specs.Ordering.{nat_cmp}
 use Rattle.sqlite.specs.State.{State, Survives}
 use Rattle.sqlite.proofs.StateLemmas.{survives_then, survives_weaker}
 use Rattle.cut_measure.specs.Codes.{code_cmp}
-use Rattle.shop_records.specs.Content.{Content, entry_at, entry_count, fresh, last_time, of_found}
+use Rattle.shop_records.specs.Content.{Content, entry_at, entry_count, of_found}
 use Rattle.shop_records.specs.declared.journal.Entry.{Entry}
 use Rattle.shop_records.specs.declared.records.Totals.{Totals}
 use Rattle.shop_statements.specs.Rows.{use_cmp}
-use Rattle.shop_statements.specs.declared.uses.JobOrder.{JobOrder}
 use Rattle.shop_tables.specs.Changing.{HasTrail}
 use Rattle.shop_tables.specs.Held.{books, HoldsContent, StandsFor}
 use Rattle.shop_statements.specs.Shown.{Books, Holds, Leaves, StandsIn}

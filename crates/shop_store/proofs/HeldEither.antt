@@ -1,5 +1,5 @@
 -- What is known of books that are held in version 3, in version 2 or in version 1.
-use Rattle.std.proofs.Common.{◌⊎◌, inl, inr, IsTrue}
+use Rattle.std.proofs.Common.{◌⊎◌, inl, inr, IfOk, IsTrue, Ok, Err, Result}
 use Rattle.sqlite.specs.State.{State, HasCleanDisk}
 use Rattle.shop_statements.specs.Earlier.{HoldsEither}
 use Rattle.shop_statements.specs.Rows.{IsKeyed}
@@ -20,3 +20,13 @@ pub keyed_either : (s : State) (b : Books) → HasCleanDisk s → IsTrue s.is_op
 keyed_either s b clean up (inl was) = (was clean up).shows.keyed
 keyed_either s b clean up (inr (inl was)) = (was clean up).shows.keyed
 keyed_either s b clean up (inr (inr was)) = (was clean up).shows.keyed
+
+-- ---- answers
+
+pub ok_so : {X E A : Type 0} (r : Result X E) → A → IfOk r (λ _. A)
+ok_so (Ok x) h = h
+ok_so (Err e) h = tt
+
+pub ok_both : {X E : Type 0} {P Q R : X → Type 0} (r : Result X E) → IfOk r P → IfOk r Q → ((x : X) → P x → Q x → R x) → IfOk r R
+ok_both (Ok x) p q f = f x p q
+ok_both (Err e) p q f = tt

@@ -12,16 +12,19 @@ use Rattle.shop_records.specs.Content.{Content, fresh, with_demands, with_parts}
 use Rattle.shop_records.specs.Lists.{order_codes}
 use Rattle.shop_records.specs.declared.records.Demand.{Demand}
 use Rattle.shop_records.specs.declared.records.Job.{Job}
+use Rattle.shop_records.specs.declared.records.JobBegin.{JobBegin}
+use Rattle.shop_records.specs.declared.notes.OrderNote.{OrderNote}
 use Rattle.shop_records.specs.declared.records.Material.{Material}
 use Rattle.shop_records.specs.declared.records.Part.{Part}
+use Rattle.shop_statements.specs.Earlier.{HasNoneLater}
 use Rattle.shop_statements.specs.Rows.{IsKeyed, IsOwnJob}
 use Rattle.shop_tables.proofs.Firsts.{each_entry}
-use Rattle.shop_rows.specs.Keys.{codes_exact, job_key, material_key}
+use Rattle.shop_rows.specs.Keys.{begin_key, codes_exact, job_key, material_key, note_key}
 use Rattle.shop_rows.specs.Rows.{with_rows}
 use Rattle.shop_book.specs.Ledgers.{bare}
 use Rattle.shop_book.specs.Memory.{orders_in}
 use Rattle.shop_book.proofs.Loaded.{HasOwnKeys, loaded_content, parts_loaded, with_values}
-use Rattle.shop_store.specs.Loading.{AnyFits, FitInTurn, JobFits, put_demand, put_job, put_material, put_order, put_part, with_each, with_work}
+use Rattle.shop_store.specs.Loading.{AnyFits, FitInTurn, JobFits, put_begun, put_demand, put_job, put_material, put_note, put_order, put_part, unsaid, with_each, with_said, with_work}
 
 -- ---- one table
 
@@ -36,6 +39,14 @@ each_part (x ∷ xs) m = each_part xs (put_part x m)
 each_job : (xs : List Job) (m : Content) → with_each put_job xs m ≡ record m { jobs = with_rows job_key nat_cmp xs m.jobs }
 each_job [] m = refl
 each_job (x ∷ xs) m = each_job xs (put_job x m)
+
+each_begun : (xs : List JobBegin) (m : Content) → with_each put_begun xs m ≡ record m { begun = with_rows begin_key nat_cmp xs m.begun }
+each_begun [] m = refl
+each_begun (x ∷ xs) m = each_begun xs (put_begun x m)
+
+each_note : (xs : List OrderNote) (m : Content) → with_each put_note xs m ≡ record m { notes = with_rows note_key code_cmp xs m.notes }
+each_note [] m = refl
+each_note (x ∷ xs) m = each_note xs (put_note x m)
 
 each_demand : (xs : List Demand) (m : Content) → with_each put_demand xs m ≡ record m { demands = with_demands xs m.demands }
 each_demand [] m = refl
@@ -83,7 +94,7 @@ all_fit put (x ∷ xs) m = (tt, all_fit put xs (put x m))
 
 module _ (of : Content) (keyed : IsKeyed of) where
   pub own_keys : HasOwnKeys of
-  own_keys = record { materials = keyed.materials; parts = keyed.parts; jobs = λ number job found. (keyed.jobs number job found).numbered; demands = keyed.demands }
+  own_keys = record { materials = keyed.materials; parts = keyed.parts; jobs = λ number job found. (keyed.jobs number job found).numbered; begun = keyed.begun; notes = keyed.notes; demands = keyed.demands }
 
   moved : (m : Content) → m.materials ≡ of.materials → m.parts ≡ of.parts → (job : Job) → IsOwnJob of job.act job → IsOwnJob m job.act job
   moved m materials parts job own = record {
@@ -134,14 +145,27 @@ module _ (of : Content) (keyed : IsKeyed of) where
       ap (λ (c : Content). record c { last_act = of.last_act; last_demand = of.last_demand })
       (ap (λ (c : Content). with_each put_demand (values of.demands) (with_each put_order (order_codes of) c)) (each_job (values of.jobs) m) ∙ ap (with_each put_demand (values of.demands)) (each_order (order_codes of) jobs) ∙ each_demand (values of.demands) orders)
 
-  pub all_loaded : with_work of stock_loaded ≡ bare of
+  -- the begun jobs and what is said of orders, put into a content that has none
+  pub said_loaded : (m : Content) → m.begun ≡ empty → m.notes ≡ empty → with_each put_note (values of.notes) (with_each put_begun (values of.begun) m) ≡ with_said of m
+  said_loaded m no_begun no_notes =
+      let begun : with_rows begin_key nat_cmp (values of.begun) m.begun ≡ of.begun =
+      ap (with_rows begin_key nat_cmp (values of.begun)) no_begun ∙ with_values nat_cmp nat_cmp_total nat_cmp-IsAntisymmetric begin_key of.begun keyed.begun in
+      let notes : with_rows note_key code_cmp (values of.notes) m.notes ≡ of.notes =
+      ap (with_rows note_key code_cmp (values of.notes)) no_notes ∙ with_values code_cmp nat_list_cmp_total codes_exact note_key of.notes keyed.notes in
+      ap (with_each put_note (values of.notes)) (each_begun (values of.begun) m) ∙ each_note (values of.notes) (record m { begun = with_rows begin_key nat_cmp (values of.begun) m.begun })
+      ∙ (λ i. record m { begun = begun i; notes = notes i })
+
+  pub all_loaded : with_work of stock_loaded ≡ unsaid (bare of)
   all_loaded =
       ap (with_work of) stock_is ∙ work_is (record fresh { materials = with_rows material_key code_cmp (values of.materials) empty; parts = with_parts (values of.parts) empty })
       ∙ ap (λ orders. record {
         materials = with_rows material_key code_cmp (values of.materials) empty;
         parts = with_parts (values of.parts) empty;
         jobs = with_rows job_key nat_cmp (values of.jobs) empty;
+        halts = empty;
+        begun = empty;
         orders = orders;
+        notes = empty;
         demands = with_demands (values of.demands) empty;
         kept = empty;
         imports = empty;
@@ -149,4 +173,8 @@ module _ (of : Content) (keyed : IsKeyed of) where
         last_act = of.last_act;
         last_demand = of.last_demand;
       }) (all_orders (order_codes of))
-      ∙ loaded_content of own_keys
+      ∙ ap unsaid (loaded_content of own_keys)
+
+-- where nothing is said, nothing is left out
+pub said_none : (m : Content) → HasNoneLater m → unsaid (bare m) ≡ bare m
+said_none m later = λ i. record (bare m) { begun = sym later.begun i; notes = sym later.notes i }

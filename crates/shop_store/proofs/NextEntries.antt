@@ -1,11 +1,11 @@
 -- The entries behind the last of some that were read.
-use Rattle.std.proofs.Common.{◌≡◌, ℕ, true, List, [], ◌∷◌, ◌++◌, length, take, drop, Option, Some, None, Ok, Err, Result, IfOk, IfSome, IsTrue, refl, ◌+◌, sym, ap, ◌∙◌}
+use Rattle.std.proofs.Common.{◌≡◌, ℕ, List, [], ◌∷◌, ◌++◌, length, take, drop, Option, Some, None, Ok, Err, Result, IfOk, IfSome, IsTrue, refl, ◌+◌, sym, ap, ◌∙◌}
 use Rattle.std.specs.Prelude.{cond, is_some, option_map, unwrap_or}
 use Rattle.std.specs.Cmp.{nat_cmp_total}
-use Rattle.std.specs.FinMap.{FinMap, get, get-insert, insert, len, len-insert, nat_cmp-IsAntisymmetric, values}
+use Rattle.std.specs.FinMap.{get, get-insert, insert, len, len-insert, nat_cmp-IsAntisymmetric}
 use Rattle.std.specs.Ordering.{nat_cmp}
 use Rattle.sqlite.specs.State.{State, HasCleanDisk}
-use Rattle.shop_records.specs.Content.{Content, entry_at, entry_count, last_time, of_found}
+use Rattle.shop_records.specs.Content.{Content, entry_count, of_found}
 use Rattle.shop_records.specs.Lists.{entries_behind}
 use Rattle.shop_records.specs.declared.journal.Entry.{Entry}
 use Rattle.shop_records.specs.declared.changes.Change.{Change}
@@ -13,7 +13,6 @@ use Rattle.shop_records.specs.Content.{changed, with_entry}
 use Rattle.shop_records.specs.Soundness.{Fits, IsNewEntry}
 use Rattle.shop_records.proofs.Basics.{tied}
 use Rattle.shop_rows.specs.Keys.{entry_key}
-use Rattle.shop_rows.specs.Rows.{rise}
 use Rattle.shop_book.proofs.Behind.{behind_first}
 use Rattle.shop_book.proofs.Loaded.{values_rise}
 use Rattle.shop_statements.specs.declared.faults.TableFault.{TableFault}

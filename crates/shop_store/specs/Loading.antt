@@ -1,11 +1,13 @@
 -- What loading makes of a ledger: the values of the tables, put one after another.
 use Rattle.std.specs.Prelude.{◌≡◌, ℕ, suc, ⊤, List, [], ◌∷◌, ◌++◌, Bool, true, false}
-use Rattle.std.specs.FinMap.{insert, values}
+use Rattle.std.specs.FinMap.{empty, insert, values}
 use Rattle.std.specs.FinSet as set
 use Rattle.shop_records.specs.Content.{Content, with_parts}
 use Rattle.shop_records.specs.Lists.{order_codes}
 use Rattle.shop_records.specs.declared.records.Demand.{Demand}
 use Rattle.shop_records.specs.declared.records.Job.{Job}
+use Rattle.shop_records.specs.declared.records.JobBegin.{JobBegin}
+use Rattle.shop_records.specs.declared.notes.OrderNote.{OrderNote}
 use Rattle.shop_records.specs.declared.records.Material.{Material}
 use Rattle.shop_records.specs.declared.records.Part.{Part}
 use Rattle.shop_statements.specs.Rows.{IsOwnJob}
@@ -37,6 +39,12 @@ put_part part m = record m { parts = insert m.parts part.name part }
 
 abbrev pub put_job : Job → Content → Content
 put_job job m = record m { jobs = insert m.jobs job.act job }
+
+abbrev pub put_begun : JobBegin → Content → Content
+put_begun row m = record m { begun = insert m.begun row.job row }
+
+abbrev pub put_note : OrderNote → Content → Content
+put_note row m = record m { notes = insert m.notes row.order row }
 
 abbrev pub put_order : List ℕ → Content → Content
 put_order code m = record m { orders = set.insert m.orders code }
@@ -84,3 +92,11 @@ with_work of m =
       last_act = of.last_act;
       last_demand = of.last_demand;
     }
+
+-- a content with the begun jobs of another, and with what is said of its orders
+abbrev pub with_said : Content → Content → Content
+with_said of m = record m { begun = of.begun; notes = of.notes }
+
+-- a content without them
+abbrev pub unsaid : Content → Content
+unsaid m = record m { begun = empty; notes = empty }

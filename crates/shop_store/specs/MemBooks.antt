@@ -5,13 +5,19 @@ use Rattle.std.specs.Cmp.{IsPartialEquivalence, decided}
 use Rattle.shop_records.specs.Content.{Content}
 use Rattle.shop_book.specs.Equal.{same_content, content_decides}
 use Rattle.shop_book.specs.Ledgers.{content_in}
-use Rattle.shop_book.specs.MemStorages.{entries_in, imports_in, kept_in}
+use Rattle.shop_book.specs.MemStorages.{entries_in, halts_in, imports_in, kept_in}
 use Rattle.shop_book.specs.declared.mem_storage.MemStorage.{MemStorage}
 use Rattle.shop_store.specs.declared.posted.LedgerBook.{LedgerBook}
 
--- the ledger's rows, and the storage's long texts and entries
+-- the ledger's rows, and the storage's long texts and entries, and where the work on jobs halted
 abbrev pub content_of : LedgerBook MemStorage → Content
-content_of book = record (content_in book.ledger) { kept = kept_in book.storage; imports = imports_in book.storage; entries = entries_in book.storage }
+content_of book =
+    record (content_in book.ledger) {
+      kept = kept_in book.storage;
+      imports = imports_in book.storage;
+      halts = halts_in book.storage;
+      entries = entries_in book.storage;
+    }
 
 -- the same contents, whatever failed
 abbrev pub same_books : LedgerBook MemStorage → LedgerBook MemStorage → Bool

@@ -1,8 +1,8 @@
 //! A book of both: a ledger answers for rows, and a storage behind it writes what lasts.
 
 ghost use Rattle.std.specs.Prelude.{◌≡◌, ◌⊎◌, ◌+◌, ◌<◌, ◌≤◌, ◌-◌, ◌^◌, IfErr, IfOk, IfSome, IsOk, Ok, OnErr, OnOk, false, map, option_map, take};
-ghost use Rattle.shop_records.specs.Content.{Content, changed, demand_at, entry_at, entry_count, has_order, import_at, job_at, kept_at, last_time, material_at, part_at, parts_of as listed_parts, totals_of};
-ghost use Rattle.shop_records.specs.Lists.{AreLines, IsLastNumber, entries_about, entries_behind, materials_of, open_demands, orders_after, parts_after, waiting_jobs};
+ghost use Rattle.shop_records.specs.Content.{Content, begun_at, changed, demand_at, entry_at, entry_count, halt_at, has_order, import_at, job_at, kept_at, last_time, material_at, note_at, part_at, parts_named, parts_of as listed_parts, totals_of};
+ghost use Rattle.shop_records.specs.Lists.{AreLines, IsLastNumber, due_of, entries_about, entries_behind, materials_of, open_demands, orders_after, parts_after, waiting_jobs};
 ghost use Rattle.shop_records.specs.Soundness.{AreDifferent, Fits, IsInRange};
 ghost use Rattle.std.specs.FinMap.{len};
 ghost use Rattle.shop_records.specs.Visits.{IsVisit};
@@ -16,8 +16,9 @@ use crate::stories::scan;
 use cut_measure::{Code, PartName};
 use shop_book::{Book, BookFault, FoundJob, JobHead, Ledger, Storage, StorageFault};
 use shop_records::{
-    Change, CodeList, Demand, DemandList, Entry, EntryRows, ImportRow, Job, Kept, Material,
-    MaterialList, NumberList, Part, PartList, PartVisitor, Subject, Totals,
+    Change, CodeList, Demand, DemandList, Entry, EntryRows, ImportRow, Job, JobBegin, JobHalt,
+    Kept, Material, MaterialList, NumberList, OrderNote, Part, PartList, PartVisitor, Subject,
+    Totals,
 };
 use std::alloc::Global;
 
@@ -146,15 +147,74 @@ impl<S: Storage> Book for LedgerBook<S> {
         Ok(found)
     }
 
-    fn job_head(&mut self, number: u32) -> Result<Option<JobHead>, BookFault>
-        ensures exact { result
-            ≡ Ok (option_map head_of (job_at (content_in self.old.ledger) number)) }
+    fn job_head(&mut self, alloc: Global, number: u32) -> Result<Option<JobHead>, BookFault>
+        ensures exact { IfOk result (λ head. head
+            ≡ option_map (head_of (content_in self.old.ledger))
+            (job_at (content_in self.old.ledger) number)) }
+        ensures memory { IfErr result (λ fault. fault ≡ NoMemory) }
         ensures same { self.new ≡ self.old }
         ensures row { OnBoth S.Storage self.old self.new
-            (λ m. IfOk result (λ head. head ≡ option_map head_of (job_at m number))) }
+            (λ m. IfOk result (λ head. head ≡ option_map (head_of m) (job_at m number))) }
         ensures keeps { KeepsBoth S.Storage (CountsFailure result) self.old self.new }
     {
-        Ok(self.ledger.job_head(number))
+        let head = self.ledger.job_head(alloc, number)?;
+        Ok(head)
+    }
+
+    fn halt(&mut self, alloc: Global, number: u32) -> Result<Option<JobHalt>, BookFault>
+        ensures ledger { self.new.ledger ≡ self.old.ledger }
+        ensures memory { S.MAY_FAIL ≡ false → IfErr result (λ fault. fault ≡ NoMemory) }
+        ensures row { OnBoth S.Storage self.old self.new
+            (λ m. IfOk result (λ row. row ≡ halt_at m number)) }
+        ensures keeps { KeepsBoth S.Storage (CountsFailure result) self.old self.new }
+    {
+        let answer = self.storage.halt(alloc, number);
+        self.count(answer)
+    }
+
+    fn begun(&mut self, number: u32) -> Result<Option<JobBegin>, BookFault>
+        ensures exact { result ≡ Ok (begun_at (content_in self.old.ledger) number) }
+        ensures same { self.new ≡ self.old }
+        ensures row { OnBoth S.Storage self.old self.new
+            (λ m. IfOk result (λ row. row ≡ begun_at m number)) }
+        ensures keeps { KeepsBoth S.Storage (CountsFailure result) self.old self.new }
+    {
+        Ok(self.ledger.begun(number))
+    }
+
+    fn parts_named(&mut self, alloc: Global, act: u32) -> Result<PartList, BookFault>
+        ensures exact { IfOk result
+            (λ rows. rows ≡ parts_named (content_in self.old.ledger) act) }
+        ensures memory { IfErr result (λ fault. fault ≡ NoMemory) }
+        ensures same { self.new ≡ self.old }
+        ensures rows { OnBoth S.Storage self.old self.new
+            (λ m. IfOk result (λ rows. rows ≡ parts_named m act)) }
+        ensures keeps { KeepsBoth S.Storage (CountsFailure result) self.old self.new }
+    {
+        let rows = self.ledger.parts_named(alloc, act)?;
+        Ok(rows)
+    }
+
+    fn note(&mut self, alloc: Global, code: Code) -> Result<Option<OrderNote>, BookFault>
+        ensures exact { IfOk result (λ row. row ≡ note_at (content_in self.old.ledger) code) }
+        ensures memory { IfErr result (λ fault. fault ≡ NoMemory) }
+        ensures same { self.new ≡ self.old }
+        ensures row { OnBoth S.Storage self.old self.new
+            (λ m. IfOk result (λ row. row ≡ note_at m code)) }
+        ensures keeps { KeepsBoth S.Storage (CountsFailure result) self.old self.new }
+    {
+        let row = self.ledger.note(alloc, code)?;
+        Ok(row)
+    }
+
+    fn due(&mut self, code: Code) -> Result<u32, BookFault>
+        ensures exact { result ≡ Ok (due_of (content_in self.old.ledger) code) }
+        ensures same { self.new ≡ self.old }
+        ensures day { OnBoth S.Storage self.old self.new
+            (λ m. IfOk result (λ day. day ≡ due_of m code)) }
+        ensures keeps { KeepsBoth S.Storage (CountsFailure result) self.old self.new }
+    {
+        Ok(self.ledger.due(code))
     }
 
     fn order(&mut self, code: Code) -> Result<bool, BookFault>

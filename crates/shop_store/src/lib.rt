@@ -20,7 +20,7 @@ mod sql_storing;
 mod stories;
 
 pub use loaded::Loaded;
-pub use loading::{load_earlier_ledger, load_ledger};
+pub use loading::{load_earlier_ledger, load_ledger, load_second_ledger};
 pub use mem_book::MemBook;
 pub use posted::LedgerBook;
 pub use reopening::{left_commits_are_found, left_renewals_are_found, reopen_book};

@@ -8,11 +8,11 @@ ghost use Rattle.shop_store.specs.Loading.{FitInTurn, with_each};
 
 use cut_measure::Code;
 use shop_book::{Ledger, ReadRows};
-use shop_records::{Demand, DemandList, Job, Material, PartList};
+use shop_records::{Demand, DemandList, Job, JobBegin, Material, OrderNote, PartList};
 use shop_statements::code_in;
 use shop_tables::{
-    NoRow, TableFault, demand_key_of, demand_of_row, job_key_of, job_of_row, material_key_of,
-    material_of_row, plan_of_row,
+    NoRow, TableFault, begun_key_of, begun_of_row, demand_key_of, demand_of_row, job_key_of,
+    job_of_row, material_key_of, material_of_row, note_key_of, note_of_row, plan_of_row,
 };
 use sqlite::Row;
 use std::alloc::{AllocError, Global};
@@ -62,13 +62,18 @@ impl Loadable for Material {
     }
 
     fn load(self, alloc: Global, ledger: &mut Ledger) -> Result<(), AllocError> {
-        ledger.load_rows(ReadRows {
-            material: Some(self),
-            parts: PartList::new(alloc),
-            job: None,
-            order: None,
-            demands: DemandList::new(alloc),
-        })
+        ledger.load_rows(
+            alloc,
+            ReadRows {
+                material: Some(self),
+                parts: PartList::new(alloc),
+                job: None,
+                begun: None,
+                order: None,
+                note: None,
+                demands: DemandList::new(alloc),
+            },
+        )
     }
 }
 
@@ -110,13 +115,86 @@ impl Loadable for Job {
     }
 
     fn load(self, alloc: Global, ledger: &mut Ledger) -> Result<(), AllocError> {
-        ledger.load_rows(ReadRows {
-            material: None,
-            parts: PartList::new(alloc),
-            job: Some(self),
-            order: None,
-            demands: DemandList::new(alloc),
-        })
+        ledger.load_rows(
+            alloc,
+            ReadRows {
+                material: None,
+                parts: PartList::new(alloc),
+                job: Some(self),
+                begun: None,
+                order: None,
+                note: None,
+                demands: DemandList::new(alloc),
+            },
+        )
+    }
+}
+
+impl Loadable for JobBegin {
+    ghost use Rattle.shop_tables.specs.ListedRows.{listed_begun};
+    ghost use Rattle.shop_store.specs.Loading.{AnyFits, put_begun};
+
+    ghost row_of = { listed_begun };
+
+    ghost fits = { AnyFits };
+
+    ghost put = { put_begun };
+
+    fn read(_alloc: Global, _ledger: &Ledger, row: &Row) -> Result<Option<JobBegin>, TableFault> {
+        begun_of_row(row)
+    }
+
+    fn key(row: &Row) -> NoRow {
+        begun_key_of(row)
+    }
+
+    fn load(self, alloc: Global, ledger: &mut Ledger) -> Result<(), AllocError> {
+        ledger.load_rows(
+            alloc,
+            ReadRows {
+                material: None,
+                parts: PartList::new(alloc),
+                job: None,
+                begun: Some(self),
+                order: None,
+                note: None,
+                demands: DemandList::new(alloc),
+            },
+        )
+    }
+}
+
+impl Loadable for OrderNote {
+    ghost use Rattle.shop_tables.specs.ListedRows.{listed_note};
+    ghost use Rattle.shop_store.specs.Loading.{AnyFits, put_note};
+
+    ghost row_of = { listed_note };
+
+    ghost fits = { AnyFits };
+
+    ghost put = { put_note };
+
+    fn read(_alloc: Global, _ledger: &Ledger, row: &Row) -> Result<Option<OrderNote>, TableFault> {
+        note_of_row(row)
+    }
+
+    fn key(row: &Row) -> NoRow {
+        note_key_of(row)
+    }
+
+    fn load(self, alloc: Global, ledger: &mut Ledger) -> Result<(), AllocError> {
+        ledger.load_rows(
+            alloc,
+            ReadRows {
+                material: None,
+                parts: PartList::new(alloc),
+                job: None,
+                begun: None,
+                order: None,
+                note: Some(self),
+                demands: DemandList::new(alloc),
+            },
+        )
     }
 }
 
@@ -140,13 +218,18 @@ impl Loadable for Code {
     }
 
     fn load(self, alloc: Global, ledger: &mut Ledger) -> Result<(), AllocError> {
-        ledger.load_rows(ReadRows {
-            material: None,
-            parts: PartList::new(alloc),
-            job: None,
-            order: Some(self),
-            demands: DemandList::new(alloc),
-        })
+        ledger.load_rows(
+            alloc,
+            ReadRows {
+                material: None,
+                parts: PartList::new(alloc),
+                job: None,
+                begun: None,
+                order: Some(self),
+                note: None,
+                demands: DemandList::new(alloc),
+            },
+        )
     }
 }
 
@@ -171,13 +254,18 @@ impl Loadable for Demand {
     fn load(self, alloc: Global, ledger: &mut Ledger) -> Result<(), AllocError> {
         let mut demands = DemandList::new(alloc);
         demands.push(self)?;
-        ledger.load_rows(ReadRows {
-            material: None,
-            parts: PartList::new(alloc),
-            job: None,
-            order: None,
-            demands,
-        })
+        ledger.load_rows(
+            alloc,
+            ReadRows {
+                material: None,
+                parts: PartList::new(alloc),
+                job: None,
+                begun: None,
+                order: None,
+                note: None,
+                demands,
+            },
+        )
     }
 }
 

@@ -4,13 +4,14 @@ ghost use Rattle.std.specs.Prelude.{◌≡◌, false, None, IfOk, OnOk};
 ghost use Rattle.sqlite.specs.Held.{state};
 ghost use Rattle.shop_records.specs.Content.{Content, changed};
 ghost use Rattle.shop_records.specs.Lists.{materials_of, order_codes};
-ghost use Rattle.shop_statements.specs.Earlier.{OnBooksEarlier, OnBooksEither, OnBooksSecond};
+ghost use Rattle.std.specs.FinMap.{empty, values};
+ghost use Rattle.shop_statements.specs.Earlier.{HasNoneLater, OnBooksEarlier, OnBooksEither, OnBooksSecond};
 ghost use Rattle.shop_statements.specs.Rows.{IsKeyed};
 ghost use Rattle.shop_statements.specs.Shown.{Leaves, OnBooks};
 ghost use Rattle.shop_tables.specs.Changing.{HasSums};
 ghost use Rattle.shop_book.specs.Ledgers.{bare, content_in};
 ghost use Rattle.shop_store.specs.Checking.{IsListOf};
-ghost use Rattle.shop_store.specs.Loading.{IsLoaded, put_material, put_order, with_each, with_work};
+ghost use Rattle.shop_store.specs.Loading.{IsLoaded, put_material, put_note, put_order, unsaid, with_each, with_said, with_work};
 
 use crate::loadable::load_each;
 use crate::loaded::Loaded;
@@ -18,10 +19,12 @@ use crate::loading_parts::load_parts;
 use crate::numbered::load_numbered;
 use cut_measure::Code;
 use shop_book::Ledger;
-use shop_records::{Change, Demand, DemandList, Job, Material, MaterialTotals, PartList, Reply};
+use shop_records::{
+    Change, Demand, DemandList, Job, JobBegin, Material, MaterialTotals, OrderNote, PartList, Reply,
+};
 use shop_tables::{
     NoRow, TableFault, find_last_act, find_last_demand, list_earlier_totals, list_totals,
-    material_rows, order_rows,
+    material_rows, note_rows, order_rows,
 };
 use sqlite::{Alter, Connection};
 use std::alloc::Global;
@@ -39,6 +42,10 @@ fn load_materials<S: Alter>(
         × (content_in ledger.new
         ≡ with_each put_material (materials_of books.content) (content_in ledger.old))
         × IsKeyed books.content)) }
+    ensures second { OnBooksSecond (state S.Store conn.old) (state S.Store conn.new)
+        (λ books. IfOk result (λ _. HasNoneLater books.content)) }
+    ensures earlier { OnBooksEarlier (state S.Store conn.old) (state S.Store conn.new)
+        (λ books. IfOk result (λ _. HasNoneLater books.content)) }
     ensures leaves { Leaves (state S.Store conn.old) (state S.Store conn.new) }
     ensures mode { conn.old.in_transaction ≡ false → conn.new.in_transaction ≡ false }
 {
@@ -74,8 +81,13 @@ fn numbers_alone(alloc: Global, act: u32, demand: u32) -> Change
         material: None,
         parts: PartList::new(alloc),
         moved: None,
+        undone: PartList::new(alloc),
         job: None,
+        halt: None,
+        begun: None,
         order: None,
+        extended: None,
+        note: None,
         demands: DemandList::new(alloc),
         totals: None,
         act: Some(act),
@@ -133,7 +145,46 @@ fn load_work<S: Alter>(
     Ok(Loaded::Ledger(ledger))
 }
 
-// All tables but the totals, which were read already.
+// What is said of orders, into a ledger.
+fn load_notes<S: Alter>(
+    alloc: Global,
+    conn: &mut Connection<S>,
+    ledger: &mut Ledger,
+) -> Result<Option<NoRow>, TableFault>
+    ensures loaded { OnBooks (state S.Store conn.old) (state S.Store conn.new)
+        (λ books. IfOk result (λ none. (none ≡ None)
+        × (content_in ledger.new
+        ≡ with_each put_note (values books.content.notes) (content_in ledger.old))
+        × IsKeyed books.content)) }
+    ensures leaves { Leaves (state S.Store conn.old) (state S.Store conn.new) }
+    ensures mode { conn.old.in_transaction ≡ false → conn.new.in_transaction ≡ false }
+{
+    let rows = note_rows(conn)?;
+    load_each::<OrderNote>(alloc, ledger, &rows)
+}
+
+// Begun jobs and what is said of orders, into a ledger that has all else and none of them.
+fn load_said<S: Alter>(
+    alloc: Global,
+    conn: &mut Connection<S>,
+    mut ledger: Ledger,
+) -> Result<Loaded, TableFault>
+    ensures loaded { OnBooks (state S.Store conn.old) (state S.Store conn.new)
+        (λ books. (content_in ledger).begun ≡ empty → (content_in ledger).notes ≡ empty
+        → IfOk result (IsLoaded (Unit {0}) (with_said books.content (content_in ledger)))) }
+    ensures leaves { Leaves (state S.Store conn.old) (state S.Store conn.new) }
+    ensures mode { conn.old.in_transaction ≡ false → conn.new.in_transaction ≡ false }
+{
+    if let Some(row) = load_numbered::<S, JobBegin>(alloc, conn, &mut ledger)? {
+        return Ok(Loaded::NoRow(row));
+    }
+    if let Some(row) = load_notes(alloc, conn, &mut ledger)? {
+        return Ok(Loaded::NoRow(row));
+    }
+    Ok(Loaded::Ledger(ledger))
+}
+
+// All tables of any version but the totals, which were read already.
 fn load_behind<S: Alter>(
     alloc: Global,
     conn: &mut Connection<S>,
@@ -141,7 +192,11 @@ fn load_behind<S: Alter>(
 ) -> Result<Loaded, TableFault>
     ensures loaded { OnBooksEither (state S.Store conn.old) (state S.Store conn.new)
         (λ books. IsListOf books totals.now
-        → IfOk result (IsLoaded (HasSums books) (bare books.content))) }
+        → IfOk result (IsLoaded (HasSums books) (unsaid (bare books.content)))) }
+    ensures second { OnBooksSecond (state S.Store conn.old) (state S.Store conn.new)
+        (λ books. IfOk result (λ _. HasNoneLater books.content)) }
+    ensures earlier { OnBooksEarlier (state S.Store conn.old) (state S.Store conn.new)
+        (λ books. IfOk result (λ _. HasNoneLater books.content)) }
     ensures leaves { Leaves (state S.Store conn.old) (state S.Store conn.new) }
     ensures mode { conn.old.in_transaction ≡ false → conn.new.in_transaction ≡ false }
 {
@@ -156,13 +211,32 @@ fn load_behind<S: Alter>(
     }
 }
 
-/// Reads each table once, in the order of its keys, into a ledger. Tables of version 3 or 2 that stand for books give the
-/// ledger of all their rows except long texts and entries if their totals are the sums of their parts, and else `OtherSums`; only other tables give `NoRow`. A
-/// number or a code that is out of the range of its type is a `TableFault::Store`, but for those of parts.
+/// Reads each table of version 3 once, in the order of its keys, into a ledger. Tables that stand for books give the ledger of
+/// all their rows except long texts, entries and where the work on jobs halted if their totals are the sums of their parts, and
+/// else `OtherSums`; only other tables give `NoRow`. A number or a code that is out of the range of its type is a
+/// `TableFault::Store`, but for those of parts.
 pub fn load_ledger<S: Alter>(alloc: Global, conn: &mut Connection<S>) -> Result<Loaded, TableFault>
     ensures loaded { OnBooks (state S.Store conn.old) (state S.Store conn.new)
         (λ books. IfOk result (IsLoaded (HasSums books) (bare books.content))) }
-    ensures second { OnBooksSecond (state S.Store conn.old) (state S.Store conn.new)
+    ensures leaves { Leaves (state S.Store conn.old) (state S.Store conn.new) }
+    ensures mode { conn.old.in_transaction ≡ false → conn.new.in_transaction ≡ false }
+{
+    let Some(totals) = list_totals(alloc, conn)? else {
+        return Ok(Loaded::OtherSums);
+    };
+    match load_behind(alloc, conn, &totals)? {
+        Loaded::Ledger(ledger) => load_said(alloc, conn, ledger),
+        Loaded::OtherSums => Ok(Loaded::OtherSums),
+        Loaded::NoRow(row) => Ok(Loaded::NoRow(row)),
+    }
+}
+
+/// The same of tables of version 2.
+pub fn load_second_ledger<S: Alter>(
+    alloc: Global,
+    conn: &mut Connection<S>,
+) -> Result<Loaded, TableFault>
+    ensures loaded { OnBooksSecond (state S.Store conn.old) (state S.Store conn.new)
         (λ books. IfOk result (IsLoaded (HasSums books) (bare books.content))) }
     ensures leaves { Leaves (state S.Store conn.old) (state S.Store conn.new) }
     ensures mode { conn.old.in_transaction ≡ false → conn.new.in_transaction ≡ false }

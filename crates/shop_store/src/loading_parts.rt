@@ -36,13 +36,18 @@ impl PartLoader {
         ensures adder { self.new.adder ≡ self.old.adder }
     {
         let parts = std::mem::replace(&mut self.waiting, PartList::new(self.alloc));
-        self.ledger.load_rows(ReadRows {
-            material: None,
-            parts,
-            job: None,
-            order: None,
-            demands: DemandList::new(self.alloc),
-        })
+        self.ledger.load_rows(
+            self.alloc,
+            ReadRows {
+                material: None,
+                parts,
+                job: None,
+                begun: None,
+                order: None,
+                note: None,
+                demands: DemandList::new(self.alloc),
+            },
+        )
     }
 
     // Puts the parts that wait, if they are many.

@@ -13,9 +13,9 @@ ghost use Rattle.shop_store.specs.Loading.{FitInTurn, IsChunk, with_each};
 
 use crate::loadable::{Loadable, load_each};
 use shop_book::Ledger;
-use shop_records::{Demand, Job};
+use shop_records::{Demand, Job, JobBegin};
 use shop_statements::number_in;
-use shop_tables::{NoRow, TableFault, demand_rows_from, job_rows_from};
+use shop_tables::{NoRow, TableFault, begun_rows_from, demand_rows_from, job_rows_from};
 use sqlite::{Alter, Connection, Row};
 use std::alloc::Global;
 
@@ -81,6 +81,26 @@ impl Numbered for Job {
 
     fn number_of(row: &Row) -> Result<u32, TableFault> {
         number_in(row, 4)
+    }
+}
+
+impl Numbered for JobBegin {
+    ghost use Rattle.shop_rows.specs.Keys.{begin_key};
+
+    ghost all = { λ m. values m.begun };
+
+    ghost number = { begin_key };
+
+    fn rows_from<S: Alter>(
+        conn: &mut Connection<S>,
+        from: usize,
+        most: usize,
+    ) -> Result<Vec<Row>, TableFault> {
+        begun_rows_from(conn, from, most)
+    }
+
+    fn number_of(row: &Row) -> Result<u32, TableFault> {
+        number_in(row, 1)
     }
 }
 

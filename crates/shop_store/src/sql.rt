@@ -22,7 +22,7 @@ ghost use Rattle.shop_book.specs.declared.books.BookFault.TheVariants.{WrongVers
 
 use crate::entries::{LastEntry, find_last, no_entries};
 use crate::loaded::Loaded;
-use crate::loading::{load_earlier_ledger, load_ledger};
+use crate::loading::{load_earlier_ledger, load_ledger, load_second_ledger};
 use crate::posted::LedgerBook;
 use crate::sql_storage::SqlStorage;
 use shop_book::{BookFault, Ledger};
@@ -142,7 +142,7 @@ fn extend<S: Alter>(alloc: Global, conn: &mut Connection<S>) -> Result<Ledger, B
         (StandsExtended (state S.Store conn.old)) }
 {
     let _outside = conn.is_autocommit();
-    let ledger = match load_ledger(alloc, conn) {
+    let ledger = match load_second_ledger(alloc, conn) {
         Ok(Loaded::Ledger(ledger)) => ledger,
         Ok(Loaded::OtherSums) => return Err(BookFault::WrongVersion),
         Ok(Loaded::NoRow(_)) => return Err(BookFault::WrongVersion),
@@ -172,7 +172,8 @@ impl<S: Alter> SqlBook<S> {
     /// view has one of their names, in one transaction, goes on with tables of version 3, and brings those of versions 2 and 1
     /// to version 3, in one transaction, with no entry. It hands the connection back beside its fault, which is `WrongVersion`
     /// where a name is taken and the tables aren't there, or are of another version, or their totals aren't the sums of their
-    /// parts, or their entries have a gap, or versions 3 or 2 have rows in the totals of version 1; nothing is written then.
+    /// parts, or their entries have a gap, or versions 3 or 2 have rows in the totals of version 1, or versions 2 or 1 have an
+    /// undone job or part; nothing is written then.
     pub fn adopt(
         alloc: Global,
         mut conn: Connection<S>,

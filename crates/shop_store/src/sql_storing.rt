@@ -6,10 +6,10 @@ ghost use Rattle.shop_store.specs.Storing.{read_by_tables};
 use crate::sql_storage::SqlStorage;
 use cut_measure::Code;
 use shop_book::{Storage, StorageFault};
-use shop_records::{Change, Entry, EntryRows, ImportRow, Kept, Pair};
+use shop_records::{Change, Entry, EntryRows, ImportRow, JobHalt, Kept, Pair};
 use shop_tables::{
-    TableFault, commit_change, count_kept, count_texts, entries_after, find_entry, find_import,
-    find_kept, find_last_number,
+    TableFault, commit_change, count_kept, count_texts, entries_after, find_entry, find_halt,
+    find_import, find_kept, find_last_number,
 };
 use sqlite::Alter;
 use std::alloc::Global;
@@ -78,6 +78,10 @@ impl<S: Alter> Storage for SqlStorage<S> {
 
     fn import(&mut self, _alloc: Global, order: Code) -> Result<Option<ImportRow>, StorageFault> {
         from_tables(find_import(&mut self.conn, order))
+    }
+
+    fn halt(&mut self, alloc: Global, number: u32) -> Result<Option<JobHalt>, StorageFault> {
+        from_tables(find_halt(alloc, &mut self.conn, number))
     }
 
     fn last_number(&mut self, terminal: u32) -> Result<u32, StorageFault> {

@@ -2,15 +2,19 @@
 use Rattle.std.proofs.Common.{◌≡◌, ◌==◌, ℕ, false, List, [], ◌∷◌, drop, Result, OnOk, IsTrue, refl, sym, ap, subst, ◌∙◌}
 use Rattle.std.specs.FinMap.{entries}
 use Rattle.std.specs.Ordering.{nat_cmp}
+use Rattle.cut_measure.specs.Codes.{code_cmp}
 use Rattle.sqlite_trees.specs.declared.store.Store.{Ghosts}
 use Rattle.sqlite.specs.Edit.{IsNoIndex}
 use Rattle.sqlite.specs.State.{HasCleanDisk}
 use Rattle.sqlite.specs.Held.{Held, state}
 use Rattle.sqlite.specs.declared.error.Error.{Error}
+use Rattle.shop_records.specs.declared.records.JobHalt.{JobHalt}
+use Rattle.shop_records.specs.declared.records.JobBegin.{JobBegin}
+use Rattle.shop_records.specs.declared.notes.OrderNote.{OrderNote}
 use Rattle.shop_records.specs.declared.journal.Entry.{Entry}
 use Rattle.shop_statements.specs.Earlier.{second_schema, ShowsSecond}
 use Rattle.shop_statements.specs.Layout.{HasShopTables, laid, our_tables, shop_schema}
-use Rattle.shop_statements.specs.Rows.{AreOrders, AreRows, journal_row, use_cmp, use_row}
+use Rattle.shop_statements.specs.Rows.{AreOrders, AreRows, begun_row, halt_row, journal_row, note_row, use_cmp, use_row}
 use Rattle.shop_statements.specs.Shown.{Books, Shows}
 use Rattle.shop_tables.specs.Adopting.{MakesTables}
 use Rattle.shop_tables.specs.Laying.{AreRun, Does, SetsLastVersion}
@@ -69,9 +73,9 @@ module _ {S : Type 0} (g : Ghosts S) where
           totals2 = subst (AreRows 1 _) (sym (along 17 refl bare.1.1.1.1.1.1.1.1.1.0 (m5.others.1.1.1.1.1.1.1.1.1.0 ∙ m4.others.1.1.1.1.1.1.1.1.1.0 ∙ m3.others.1.1.1.1.1.1.1.1.1.0 ∙ m2.others.1.1.1.1.1.1.1.1.1.0 ∙ m1.others.1.1.1.1.1.1.1.1.1.0))) has.stands.totals2;
           journal = none 0 journal_row (entries b.content.entries) (s6.now.trees 19) (ap entries has.stands.none ∙ no_entries nat_cmp Entry) (six.0.others 19 refl bare.1.1.1.1.1.1.1.1.1.1.0 ∙ m5.others.1.1.1.1.1.1.1.1.1.1.0 ∙ m4.others.1.1.1.1.1.1.1.1.1.1.0 ∙ m3.others.1.1.1.1.1.1.1.1.1.1.0 ∙ m2.others.1.1.1.1.1.1.1.1.1.1.0 ∙ m1.empty);
           uses = none 1 use_row (entries b.uses) (s6.now.trees 20) (ap entries has.uses ∙ no_entries use_cmp (Unit {0})) (six.0.others 20 refl bare.1.1.1.1.1.1.1.1.1.1.1.0 ∙ m5.others.1.1.1.1.1.1.1.1.1.1.1.0 ∙ m4.others.1.1.1.1.1.1.1.1.1.1.1.0 ∙ m3.others.1.1.1.1.1.1.1.1.1.1.1.0 ∙ m2.empty);
-          notes = six.0.others 22 refl bare.1.1.1.1.1.1.1.1.1.1.1.1.0 ∙ m5.others.1.1.1.1.1.1.1.1.1.1.1.1.0 ∙ m4.others.1.1.1.1.1.1.1.1.1.1.1.1.0 ∙ m3.empty;
-          begun = six.0.others 24 refl bare.1.1.1.1.1.1.1.1.1.1.1.1.1.0 ∙ m5.others.1.1.1.1.1.1.1.1.1.1.1.1.1.0 ∙ m4.empty;
-          halts = six.0.others 25 refl bare.1.1.1.1.1.1.1.1.1.1.1.1.1.1.0 ∙ m5.empty;
+          notes = none 1 note_row (entries b.content.notes) (s6.now.trees 22) (ap entries has.stands.later.notes ∙ no_entries code_cmp OrderNote) (six.0.others 22 refl bare.1.1.1.1.1.1.1.1.1.1.1.1.0 ∙ m5.others.1.1.1.1.1.1.1.1.1.1.1.1.0 ∙ m4.others.1.1.1.1.1.1.1.1.1.1.1.1.0 ∙ m3.empty);
+          begun = none 0 begun_row (entries b.content.begun) (s6.now.trees 24) (ap entries has.stands.later.begun ∙ no_entries nat_cmp JobBegin) (six.0.others 24 refl bare.1.1.1.1.1.1.1.1.1.1.1.1.1.0 ∙ m5.others.1.1.1.1.1.1.1.1.1.1.1.1.1.0 ∙ m4.empty);
+          halts = none 0 halt_row (entries b.content.halts) (s6.now.trees 25) (ap entries has.stands.later.halts ∙ no_entries nat_cmp JobHalt) (six.0.others 25 refl bare.1.1.1.1.1.1.1.1.1.1.1.1.1.1.0 ∙ m5.empty);
         };
         keyed = has.keyed;
       } in

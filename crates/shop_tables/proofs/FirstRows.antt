@@ -22,15 +22,16 @@ use Rattle.shop_records.specs.Content.{Content}
 use Rattle.shop_records.specs.Lists.{materials_of}
 use Rattle.shop_records.specs.declared.records.Demand.{Demand}
 use Rattle.shop_records.specs.declared.records.Material.{Material}
+use Rattle.shop_records.specs.declared.notes.OrderNote.{OrderNote}
 use Rattle.shop_tables.specs.Listing.{code_row}
-use Rattle.shop_tables.specs.ListedRows.{listed_demand, listed_material, number_row}
-use Rattle.shop_statements.specs.Rows.{AreRows, IsKeyed, demand_columns, demand_row, material_columns, material_row}
+use Rattle.shop_tables.specs.ListedRows.{listed_demand, listed_material, listed_note, number_row}
+use Rattle.shop_statements.specs.Rows.{AreRows, IsKeyed, demand_columns, demand_row, material_columns, material_row, note_columns, note_row}
 use Rattle.shop_statements.specs.Selecting.{is_select}
 use Rattle.shop_statements.specs.Shown.{Books, Holds, Leaves, Shows}
 use Rattle.shop_statements.proofs.Finding.{code_same, code_total}
 use Rattle.shop_tables.proofs.Firsts.{first_answer, of_values}
 use Rattle.shop_tables.proofs.Listed.{ranked}
-use Rattle.shop_tables.proofs.ListTexts.{all_materials_text, all_materials_terms, all_materials_is, by_rowid, first_of, open_demands_terms, by_code}
+use Rattle.shop_tables.proofs.ListTexts.{all_materials_text, all_materials_terms, all_materials_is, all_notes_text, all_notes_terms, all_notes_is, by_rowid, first_of, open_demands_terms, by_code}
 use Rattle.shop_tables.proofs.Ordered.{by_first, filter_true, in_order, rows_seen}
 use Rattle.shop_statements.proofs.Terms.{Reads, from_table}
 use Rattle.shop_statements.proofs.Texts.{shop, shop_is}
@@ -86,3 +87,16 @@ module _ (old new : State) (b : Books) (has : Shows old b) where
 
   pub lists_materials : (rows : List Row) → Shown all_materials_text [] old new rows → rows ≡ map listed_material (materials_of b.content)
   lists_materials = lists_materials_of old new over (shop_is old.now.schema has.schema) _ (all_materials_is old.now.schema has.schema) b.content has.keyed has.stands.materials
+
+  pub lists_notes : (rows : List Row) → Shown all_notes_text [] old new rows → rows ≡ map listed_note (values b.content.notes)
+  lists_notes rows shown =
+      let is = all_notes_is old.now.schema has.schema in
+      let a = (reads_as all_notes_text [] old new over (shop_is old.now.schema has.schema) _ is.command is.plain is.listing rows shown).answer in
+      in_order code_total code_same 22 [] all_notes_terms by_code (λ e. (Text e.0 ∷ [], note_columns e.1 ++ code_row e.0)) (λ e f. by_first e.0 f.0) 1 old.now.trees [] refl note_row (λ _. true) (λ _. true) (λ r. refl) (λ e. refl)
+      (λ d. (column d 0 ∷ [], column d 1 ∷ column d 2 ∷ column d 0 ∷ [])) three_later (λ e. refl) rows b.content.notes has.stands.notes a
+      ∙ of_values code_total code_same b.content.notes (λ (row : OrderNote). row.order) has.keyed.notes _ (λ _. true) (λ _. true) (λ x. refl)
+      ∙ ap (map listed_note) (filter_true (values b.content.notes))
+    where
+      three_later : (r : Row) → ◌≡◌ {A = Output} (column r 1 ∷ [], column r 2 ∷ column r 3 ∷ column r 1 ∷ []) (column (drop 1 r) 0 ∷ [], column (drop 1 r) 1 ∷ column (drop 1 r) 2 ∷ column (drop 1 r) 0 ∷ [])
+      three_later [] = refl
+      three_later (x ∷ d) = refl

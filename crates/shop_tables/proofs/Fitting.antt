@@ -20,7 +20,7 @@ use Rattle.shop_records.specs.declared.records.Job.{Job}
 use Rattle.shop_records.specs.declared.records.Material.{Material}
 use Rattle.shop_records.specs.declared.records.Part.{Part}
 use Rattle.shop_records.specs.declared.records.Demand.{Demand}
-use Rattle.shop_records.proofs.Basics.{names_total, names_same, codes_total, codes_same, none_some, key_cases, tied, untied, get_other, all_in}
+use Rattle.shop_records.proofs.Basics.{names_total, names_same, codes_total, codes_same, none_some, same_some, key_cases, tied, untied, get_other, all_in}
 use Rattle.shop_records.proofs.Puts.{Pairwise, pairs_in, pairs_more}
 use Rattle.shop_records.specs.declared.journal.Entry.{Entry}
 use Rattle.shop_statements.specs.declared.uses.JobOrder.{JobOrder}
@@ -47,12 +47,42 @@ moved_new None m fits name new = new
 moved_new (Some part) m fits name new =
     get_other names_total names_same m.parts part.name part name (λ e. none_some _ (sym new ∙ ap (get m.parts) e ∙ fits.found)) ∙ new
 
+-- and where parts are undone
+undone_new : (m : Content) (undone : List Part) → ((x : Part) → IsIn x undone → IsMovedPart m x) → (name : Name) → part_at m name ≡ None → (rows : FinMap name_cmp Part) → get rows name ≡ None → get (content.with_parts undone rows) name ≡ None
+undone_new m [] each name new rows none = none
+undone_new m (part ∷ more) each name new rows none =
+    let was = each part (inl refl) in
+    undone_new m more (λ x i. each x (inr i)) name new (insert rows part.name part)
+    (get_other names_total names_same rows part.name part name (λ e. none_some _ (sym new ∙ ap (get m.parts) e ∙ was.found)) ∙ none)
+
+-- a part that is there is there in another state where it is the one that moved
+over_moved : (moved : Option Part) (m : Content) → IfSome moved (IsMovedPart m) → (rows : FinMap name_cmp Part) (x : Part) → rows ≡ content.with_moved moved m.parts → IsMovedPart m x → IsOver rows x.name (in_state x.state) x
+over_moved None m fits rows x same was = record { before = was.before; found = ap (λ r. get r x.name) same ∙ was.found; is = was.is }
+over_moved (Some part) m fits rows x same was = elim (key_cases names_total names_same x.name part.name) [
+  | inl is ↦
+      let found : get (insert m.parts part.name part) x.name ≡ Some part = get-insert names_total m.parts part.name part x.name ∙ ap (λ c. cond c (Some part) (get m.parts x.name)) is.1 in
+      let one : was.before ≡ fits.before = same_some was.before fits.before (sym was.found ∙ ap (get m.parts) is.0 ∙ fits.found) in
+      record { before = part; found = ap (λ r. get r x.name) same ∙ found; is = was.is ∙ ap (in_state x.state) one ∙ ap (in_state x.state) (sym fits.is) }
+  | inr other ↦ record { before = was.before; found = ap (λ r. get r x.name) same ∙ get_other names_total names_same m.parts part.name part x.name other.0 ∙ was.found; is = was.is }
+]
+
 module _ (m : Content) (change : Change) (fits : Fits m change) where
-  pub parts_new : (b : Books) → b.content.parts ≡ content.with_moved change.moved m.parts → AreInTurn (λ part n. part_at n.content part.name ≡ None) with_part change.parts b
+  -- a part that is undone is there, whether it is the one that moved or not
+  pub undone_fits : (b : Books) → b.content.parts ≡ content.with_moved change.moved m.parts → AreInTurn (λ part n. IsOver n.content.parts part.name (in_state part.state) part) with_part change.undone b
+  undone_fits b same =
+      in_turn (λ part n. IsOver n.content.parts part.name (in_state part.state) part) with_part (λ x y. x.name ≢ y.name)
+      (λ x y n apart was. record { before = was.before; found = get_other names_total names_same n.content.parts x.name x y.name (λ e. apart (sym e)) ∙ was.found; is = was.is }) change.undone b
+      (λ part i. over_moved change.moved m fits.moved b.content.parts part same (all_in (IsMovedPart m) change.undone fits.undone part i))
+      (pairs_more _ _ (λ x y. less_apart x.name y.name) change.undone (pairs_in _ change.undone fits.apart))
+
+  pub parts_new : (b : Books) → b.content.parts ≡ content.with_parts change.undone (content.with_moved change.moved m.parts) → AreInTurn (λ part n. part_at n.content part.name ≡ None) with_part change.parts b
   parts_new b same =
       in_turn (λ part n. part_at n.content part.name ≡ None) with_part (λ x y. x.name ≢ y.name)
       (λ x y n apart new. get_other names_total names_same n.content.parts x.name x y.name (λ e. apart (sym e)) ∙ new) change.parts b
-      (λ part i. ap (λ rows. get rows part.name) same ∙ moved_new change.moved m fits.moved part.name (all_in (IsNewPart m) change.parts fits.parts part i).new)
+      (λ part i.
+      let new = (all_in (IsNewPart m) change.parts fits.parts part i).new in
+      ap (λ rows. get rows part.name) same
+      ∙ undone_new m change.undone (λ x j. all_in (IsMovedPart m) change.undone fits.undone x j) part.name new (content.with_moved change.moved m.parts) (moved_new change.moved m fits.moved part.name new))
       (pairs_more _ _ (λ x y. less_apart x.name y.name) change.parts (pairs_in _ change.parts fits.rising))
 
   pub moved_fits : (b : Books) → b.content.parts ≡ m.parts → IfSome change.moved (λ part. IsOver b.content.parts part.name (in_state part.state) part)
@@ -62,8 +92,8 @@ module _ (m : Content) (change : Change) (fits : Fits m change) where
       by None h = tt
       by (Some part) h = record { before = h.before; found = ap (λ rows. get rows part.name) same ∙ h.found; is = h.is }
 
-  pub demands_fit : (b : Books) → b.content.demands ≡ m.demands → AreDemandsFit change.order change.demands b
-  demands_fit b same = by change.order fits.demands
+  pub demands_fit : (b : Books) → b.content.demands ≡ m.demands → AreDemandsFit (content.lines_for change) change.demands b
+  demands_fit b same = by (content.lines_for change) fits.demands
     where
       apart : Pairwise (λ x y. x.number ≢ y.number) change.demands
       apart = pairs_in _ change.demands fits.once

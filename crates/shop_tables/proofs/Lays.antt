@@ -38,13 +38,16 @@ use Rattle.shop_records.specs.Content.{fresh, pair_cmp}
 use Rattle.shop_records.specs.declared.records.Material.{Material}
 use Rattle.shop_records.specs.declared.records.Part.{Part}
 use Rattle.shop_records.specs.declared.records.Job.{Job}
+use Rattle.shop_records.specs.declared.records.JobHalt.{JobHalt}
+use Rattle.shop_records.specs.declared.records.JobBegin.{JobBegin}
+use Rattle.shop_records.specs.declared.notes.OrderNote.{OrderNote}
 use Rattle.shop_records.specs.declared.records.Demand.{Demand}
 use Rattle.shop_records.specs.declared.records.Totals.{Totals}
 use Rattle.shop_records.specs.declared.imports.ImportRow.{ImportRow}
 use Rattle.shop_records.specs.declared.texts.Kept.{Kept}
 use Rattle.shop_records.specs.declared.journal.Entry.{Entry}
 use Rattle.shop_statements.specs.Layout.{Loose, created_all, no_schema, shop_schema, HasShopTables, meta_table, materials_table, parts_table, jobs_table, orders_table, demands_table, kept_table, imports_table, totals_table, totals2_table, journal_table, uses_table, notes_table, begun_table, halts_table}
-use Rattle.shop_statements.specs.Rows.{AreRows, IsKeyed, meta_row, meta_entries, material_row, part_row, job_row, order_row, demand_row, kept_row, import_row, totals_row, journal_row, use_row, use_cmp}
+use Rattle.shop_statements.specs.Rows.{AreRows, IsKeyed, meta_row, meta_entries, material_row, part_row, job_row, order_row, demand_row, kept_row, import_row, totals_row, journal_row, use_row, use_cmp, note_row, begun_row, halt_row}
 use Rattle.shop_tables.specs.Adopting.{IsMadeBeside, MakesTables, with_ours}
 use Rattle.shop_tables.specs.Laying.{Adds, AreRun, Does, IsRun, PutsFirstNumbers}
 use Rattle.shop_tables.specs.declared.laying.TheConstants.{META, MATERIALS, PARTS, JOBS, ORDERS, DEMANDS, KEPT, IMPORTS, TOTALS, TOTALS2, JOURNAL, USES, NOTES, BEGUN, HALTS, FIRST_NUMBERS}
@@ -221,12 +224,16 @@ fresh_keyed = record {
   materials = λ code x h. no_key code_cmp code x _ h;
   parts = λ name x h. no_key name_cmp name x _ h;
   jobs = λ number x h. no_key nat_cmp number x _ h;
+  halts = λ number x h. no_key nat_cmp number x _ h;
+  begun = λ number x h. no_key nat_cmp number x _ h;
+  notes = λ order x h. no_key code_cmp order x _ h;
   demands = λ number x h. no_key nat_cmp number x _ h;
   imports = λ order x h. no_key code_cmp order x _ h;
   entries = λ number x h. no_key nat_cmp number x _ h;
   codes = λ code x h. no_key code_cmp code x _ h;
   values = λ name x h. no_key name_cmp name x _ h;
   noted = λ number x h. no_key nat_cmp number x _ h;
+  halted = λ number x h. no_key nat_cmp number x _ h;
 }
 
 -- what the first numbers make of a table like meta's that has no row
@@ -289,9 +296,9 @@ shows_fresh old new has made =
         totals2 = none 1 totals_row (entries empty) (new.now.trees 17) (no_entries code_cmp Totals) no.1.1.1.1.1.1.1.1.0;
         journal = none 0 journal_row (entries empty) (new.now.trees 19) (no_entries nat_cmp Entry) no.1.1.1.1.1.1.1.1.1.0;
         uses = none 1 use_row (entries empty) (new.now.trees 20) (no_entries use_cmp (Unit {0})) no.1.1.1.1.1.1.1.1.1.1.0;
-        notes = no.1.1.1.1.1.1.1.1.1.1.1.0;
-        begun = no.1.1.1.1.1.1.1.1.1.1.1.1.0;
-        halts = no.1.1.1.1.1.1.1.1.1.1.1.1.1.0;
+        notes = none 1 note_row (entries empty) (new.now.trees 22) (no_entries code_cmp OrderNote) no.1.1.1.1.1.1.1.1.1.1.1.0;
+        begun = none 0 begun_row (entries empty) (new.now.trees 24) (no_entries nat_cmp JobBegin) no.1.1.1.1.1.1.1.1.1.1.1.1.0;
+        halts = none 0 halt_row (entries empty) (new.now.trees 25) (no_entries nat_cmp JobHalt) no.1.1.1.1.1.1.1.1.1.1.1.1.1.0;
       };
       keyed = fresh_keyed;
     }

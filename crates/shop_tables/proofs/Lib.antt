@@ -30,6 +30,8 @@ pub mod FirstRows
 pub mod FromNumber
 pub mod LastNumbers
 pub mod RowsAsShown
+pub mod NoUndone
+pub mod NoTable
 pub mod OrderRows
 pub mod Extended
 pub mod ExtendedBeside

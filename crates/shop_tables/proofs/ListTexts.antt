@@ -72,6 +72,18 @@ jobs_from_text = codes "SELECT part_act, part_node, tree, state, job FROM jobs W
 abbrev pub jobs_from_terms : List Term
 jobs_from_terms = col 1 2 ∷ col 1 3 ∷ col 1 4 ∷ col 1 5 ∷ col 1 0 ∷ []
 
+abbrev pub all_notes_text : List ℕ
+all_notes_text = codes "SELECT due, body, ord FROM notes ORDER BY ord"
+
+abbrev pub all_notes_terms : List Term
+all_notes_terms = col 1 2 ∷ col 1 3 ∷ col 1 1 ∷ []
+
+abbrev pub begun_from_text : List ℕ
+begun_from_text = codes "SELECT terminal, job FROM begun WHERE job >= ?1 ORDER BY job LIMIT ?2"
+
+abbrev pub begun_from_terms : List Term
+begun_from_terms = col 1 2 ∷ col 1 0 ∷ []
+
 abbrev pub entries_from_text : List ℕ
 entries_from_text = codes "SELECT at, terminal, number, word, act, job, ord, part_act, part_node, entry FROM journal WHERE entry >= ?1 ORDER BY entry LIMIT ?2"
 
@@ -129,6 +141,14 @@ module _ (schema : Schema) (h : HasShopTables schema) where
   unfolding understood everything
   jobs_from_is = record { command = refl; listing = refl; plain = (refl, refl) }
 
+  pub all_notes_is : Reads (shop schema h) all_notes_text (from_table 22 [] all_notes_terms by_code) (codes "due" ∷ codes "body" ∷ codes "ord" ∷ [])
+  unfolding understood everything
+  all_notes_is = record { command = refl; listing = refl; plain = (refl, refl) }
+
+  pub begun_from_is : Reads (shop schema h) begun_from_text (first_of (col 0 1) (from_table 24 from_tests begun_from_terms by_rowid)) (codes "terminal" ∷ codes "job" ∷ [])
+  unfolding understood everything
+  begun_from_is = record { command = refl; listing = refl; plain = (refl, refl) }
+
   pub entries_from_is : Reads (shop schema h) entries_from_text (first_of (col 0 1) (from_table 19 from_tests entries_from_terms by_rowid)) (codes "at" ∷ codes "terminal" ∷ codes "number" ∷ codes "word" ∷ codes "act" ∷ codes "job" ∷ codes "ord" ∷ codes "part_act" ∷ codes "part_node" ∷ codes "entry" ∷ [])
   unfolding understood everything
   entries_from_is = record { command = refl; listing = refl; plain = (refl, refl) }
@@ -172,6 +192,14 @@ last_number_selects = refl
 pub demands_from_selects : is_select demands_from_text ≡ true
 unfolding everything
 demands_from_selects = refl
+
+pub all_notes_selects : is_select all_notes_text ≡ true
+unfolding everything
+all_notes_selects = refl
+
+pub begun_from_selects : is_select begun_from_text ≡ true
+unfolding everything
+begun_from_selects = refl
 
 pub entries_from_selects : is_select entries_from_text ≡ true
 unfolding everything

@@ -315,6 +315,7 @@ module _ {S : Type 0} (g : Ghosts S) where
           totals = four.0.others 15 refl bare.1.1.1.1.1.1.1.1.0 ∙ three.1;
           totals2 = subst (AreRows 1 _) (sym (four.0.others 17 refl bare.1.1.1.1.1.1.1.1.1.0 ∙ three.0.others 17 refl bare.1.1.1.1.1.1.1.1.1.0)) two.1;
           none = has.stands.none;
+          later = has.stands.later;
         };
         keyed = has.keyed;
         uses = has.uses;

@@ -38,10 +38,10 @@ use Rattle.sqlite.specs.Listing.{understood}
 use Rattle.shop_statements.specs.Earlier.{second_schema}
 use Rattle.shop_statements.proofs.Texts.{shop, shop_is}
 use Rattle.shop_tables.specs.ListedRows.{listed_demand, listed_material, number_row}
-use Rattle.shop_tables.specs.RowsShown.{AreLastRows, AreMaterialRows, AreOrderRows, AreShown, GivesRows, by_columns}
+use Rattle.shop_tables.specs.RowsShown.{AreLastRows, AreMaterialRows, AreNoteRows, AreOrderRows, AreShown, GivesRows, by_columns}
 use Rattle.shop_tables.proofs.Firsts.{first_answer}
 use Rattle.shop_tables.proofs.FirstRows.{held_given}
-use Rattle.shop_tables.proofs.ListTexts.{all_codes_terms, all_materials_is, all_materials_terms, all_materials_text, by_code, falling, first_of, first_orders_is, first_orders_text, last_number_is, last_number_terms, last_number_tests, last_number_text, old_totals_is, old_totals_terms, old_totals_text}
+use Rattle.shop_tables.proofs.ListTexts.{all_codes_terms, all_materials_is, all_materials_terms, all_materials_text, all_notes_is, all_notes_terms, all_notes_text, by_code, falling, first_of, first_orders_is, first_orders_text, last_number_is, last_number_terms, last_number_tests, last_number_text, old_totals_is, old_totals_terms, old_totals_text}
 
 -- ---- a query on one table
 
@@ -111,6 +111,12 @@ module _ (old new : State) (h : HasShopTables old.now.schema) where
       let is = all_materials_is old.now.schema h in
       shown_whole 2 [] all_materials_terms by_code old.now.trees [] refl _ (by_columns (1 ∷ [])) (λ _. true) (λ r. refl) (λ a b. refl) (λ r. refl) rows
       (reads_as all_materials_text [] old new over (shop_is old.now.schema h) _ is.command is.plain is.listing rows shown).answer
+
+  pub notes_shown : (rows : List Row) → Shown all_notes_text [] old new rows → AreNoteRows (old.now.trees 22) rows
+  notes_shown rows shown =
+      let is = all_notes_is old.now.schema h in
+      shown_whole 22 [] all_notes_terms by_code old.now.trees [] refl _ (by_columns (1 ∷ [])) (λ _. true) (λ r. refl) (λ a b. refl) (λ r. refl) rows
+      (reads_as all_notes_text [] old new over (shop_is old.now.schema h) _ is.command is.plain is.listing rows shown).answer
 
   pub first_orders_shown : (most : ℕ) (rows : List Row) → Shown first_orders_text (Int (pos most) ∷ []) old new rows → AreOrderRows most (old.now.trees 7) rows
   first_orders_shown most rows shown =

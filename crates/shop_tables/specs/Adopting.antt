@@ -1,7 +1,8 @@
 -- What a connection is taken over from.
-use Rattle.std.specs.Prelude.{◌≡◌, ◌&&◌, ◌+◌, not, is_some, Bool, ℕ, pos, List, [], ◌∷◌, length, drop, map, codes, IsTrue}
+use Rattle.std.specs.Prelude.{◌≡◌, ◌⊎◌, ◌&&◌, ◌+◌, not, is_some, Bool, ℕ, pos, List, [], ◌∷◌, length, drop, filter, map, codes, IsTrue}
 use Rattle.std.specs.List.{AllByRecursion}
 use Rattle.sqlite_value.specs.declared.value.Value.TheVariants.{Int}
+use Rattle.sqlite_value.specs.Order.{Row, column}
 use Rattle.sqlite_trees.specs.Objects.{catalog_tree}
 use Rattle.sqlite_trees.specs.Tree.{Trees}
 use Rattle.sqlite.specs.Change.{next_tree, KeepsRows}
@@ -12,8 +13,8 @@ use Rattle.sqlite_catalog.specs.Change.{is_used}
 use Rattle.sqlite_schema.specs.Names.{table_named}
 use Rattle.sqlite_schema.specs.declared.schema.Schema.{Schema}
 use Rattle.shop_records.specs.Content.{fresh}
-use Rattle.shop_statements.specs.Earlier.{ShowsSecond}
-use Rattle.shop_statements.specs.Found.{IsNumberRow}
+use Rattle.shop_statements.specs.Earlier.{ShowsSecond, earlier_schema, second_schema}
+use Rattle.shop_statements.specs.Found.{IsNumberRow, are_equal}
 use Rattle.shop_statements.specs.Layout.{no_schema, shop_schema, created_all, our_tables}
 use Rattle.shop_statements.specs.Rows.{AreRows, meta_entries, meta_row}
 use Rattle.shop_statements.specs.Shown.{Books, Shows, StandsIn}
@@ -60,6 +61,22 @@ IsVacant s = HasCleanDisk s → IsTrue s.is_open → (s.now.schema ≡ no_schema
 -- a row of `meta` says that the tables are of this version
 abbrev pub HasVersion : State → ℕ → Type 0
 HasVersion s version = IsNumberRow s (codes "version") (Int (pos version) ∷ [])
+
+-- the tables are those of version 2 or 1, and there is nothing else
+abbrev pub HasEarlyTables : Schema → Type 0
+HasEarlyTables schema = (schema ≡ second_schema) ⊎ (schema ≡ earlier_schema)
+
+-- the row of a part has the state of an undone one
+abbrev pub is_undone_part : Row → Bool
+is_undone_part row = are_equal (column row 11) (Int (pos 7))
+
+-- and that of a job
+abbrev pub is_undone_job : Row → Bool
+is_undone_job row = are_equal (column row 5) (Int (pos 4))
+
+-- no row of a part or of a job has such a state
+abbrev pub HasNoUndone : Trees → Type 0
+HasNoUndone db = (filter is_undone_part (db 4) ≡ []) × (filter is_undone_job (db 6) ≡ [])
 
 -- an open after a crash finds the books
 abbrev pub LeavesBooks : State → Books → Type 0

@@ -14,6 +14,9 @@ use Rattle.shop_records.specs.declared.imports.ImportRow.{ImportRow}
 use Rattle.shop_records.specs.declared.texts.KeptMessage.{KeptMessage}
 use Rattle.shop_records.specs.declared.records.Demand.{Demand}
 use Rattle.shop_records.specs.declared.records.Job.{Job}
+use Rattle.shop_records.specs.declared.records.JobBegin.{JobBegin}
+use Rattle.shop_records.specs.declared.records.JobHalt.{JobHalt}
+use Rattle.shop_records.specs.declared.notes.OrderNote.{OrderNote}
 use Rattle.shop_records.specs.declared.records.Material.{Material}
 use Rattle.shop_records.specs.declared.records.Part.{Part}
 use Rattle.shop_records.specs.declared.records.Totals.{Totals}
@@ -130,6 +133,15 @@ with_parts parts b = record b { content = record b.content { parts = content.wit
 abbrev pub with_jobs : Option Job → Books → Books
 with_jobs job b = record b { content = record b.content { jobs = content.with_job job b.content.jobs } }
 
+abbrev pub with_halts : Option JobHalt → Books → Books
+with_halts row b = record b { content = record b.content { halts = content.with_halt row b.content.halts } }
+
+abbrev pub with_begins : Option JobBegin → Books → Books
+with_begins row b = record b { content = record b.content { begun = content.with_begun row b.content.begun } }
+
+abbrev pub with_notes : Option OrderNote → Books → Books
+with_notes row b = record b { content = record b.content { notes = content.with_note row b.content.notes } }
+
 abbrev pub with_orders : Option (List ℕ) → Books → Books
 with_orders order b = record b { content = record b.content { orders = content.with_order order b.content.orders } }
 
@@ -157,13 +169,18 @@ with_act act b = record b { content = record b.content { last_act = content.with
 abbrev pub with_number : Option ℕ → Books → Books
 with_number demand b = record b { content = record b.content { last_demand = content.with_number demand b.content.last_demand } }
 
--- with the rows of stock: the material, the part that moves, the new parts and the totals
+-- with the rows of stock: the material, the part that moves, those that are undone, the new parts and the totals
 abbrev pub with_stock : Change → Books → Books
-with_stock change b = with_sums change.totals (with_parts change.parts (with_moved change.moved (with_materials change.material b)))
+with_stock change b =
+    with_sums change.totals (with_parts change.parts (with_parts change.undone (with_moved change.moved (with_materials change.material b))))
 
 -- with what is ordered, and the import that it came by
 abbrev pub with_work : Change → Books → Books
 with_work change b = with_demands change.demands (with_imports change.import (with_orders change.order b))
+
+-- with what is said beside: where a job halted, which terminal has begun one, and what is said of an order
+abbrev pub with_said : Change → Books → Books
+with_said change b = with_notes change.note (with_begins change.begun (with_halts change.halt b))
 
 -- with the numbers that were given
 abbrev pub with_numbers : Change → Books → Books

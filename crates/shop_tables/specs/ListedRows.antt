@@ -4,13 +4,15 @@ use Rattle.sqlite_value.specs.declared.value.Value.TheVariants.{Int}
 use Rattle.sqlite_value.specs.Order.{Row}
 use Rattle.shop_records.specs.declared.records.Demand.{Demand}
 use Rattle.shop_records.specs.declared.records.Job.{Job}
+use Rattle.shop_records.specs.declared.records.JobBegin.{JobBegin}
+use Rattle.shop_records.specs.declared.notes.OrderNote.{OrderNote}
 use Rattle.shop_records.specs.declared.records.Material.{Material}
 use Rattle.shop_records.specs.declared.records.Part.{Part}
 use Rattle.shop_records.specs.declared.journal.Entry.{Entry}
 use Rattle.shop_records.specs.Content.{Content}
 use Rattle.shop_records.specs.Lists.{IsLastNumber}
 use Rattle.shop_tables.specs.Listing.{code_row}
-use Rattle.shop_statements.specs.Rows.{demand_columns, entry_columns, job_columns, material_columns, part_row}
+use Rattle.shop_statements.specs.Rows.{begun_columns, demand_columns, entry_columns, job_columns, material_columns, note_columns, part_row}
 
 abbrev pub number_row : ℕ → Row
 number_row number = Int (pos number) ∷ []
@@ -30,6 +32,14 @@ listed_demand demand = demand_columns demand ++ number_row demand.number
 -- a job's row, its number after it
 abbrev pub listed_job : Job → Row
 listed_job job = job_columns job ++ number_row job.act
+
+-- the row of what is said of an order, its code after it
+abbrev pub listed_note : OrderNote → Row
+listed_note note = note_columns note ++ code_row note.order
+
+-- the row of a terminal that has begun a job, its number after it
+abbrev pub listed_begun : JobBegin → Row
+listed_begun begun = begun_columns begun ++ number_row begun.job
 
 -- an entry's row, its number after it
 abbrev pub listed_entry : Entry → Row

@@ -1,10 +1,11 @@
--- Demands, jobs and entries from a number on, and what a job's row tells without its plan.
+-- Demands, jobs, begun jobs and entries from a number on, and what a job's row tells without its plan.
 use Rattle.std.specs.Prelude.{◌≡◌, ℕ, List, [], filter, IsSome, nat_le}
 use Rattle.std.specs.FinMap.{values}
 use Rattle.sqlite_value.specs.Order.{Row}
 use Rattle.shop_records.specs.Content.{Content, entry_at}
 use Rattle.shop_records.specs.declared.records.Demand.{Demand}
 use Rattle.shop_records.specs.declared.records.Job.{Job}
+use Rattle.shop_records.specs.declared.records.JobBegin.{JobBegin}
 use Rattle.shop_records.specs.declared.journal.Entry.{Entry}
 use Rattle.shop_tables.specs.declared.valid_rows.StoredJob.{StoredJob}
 
@@ -15,6 +16,10 @@ demands_from m from = filter (λ (demand : Demand). nat_le from demand.number) (
 -- the jobs from a number on, rising
 abbrev pub jobs_from : Content → ℕ → List Job
 jobs_from m from = filter (λ (job : Job). nat_le from job.act) (values m.jobs)
+
+-- the begun jobs from a number on, rising
+abbrev pub begun_from : Content → ℕ → List JobBegin
+begun_from m from = filter (λ (row : JobBegin). nat_le from row.job) (values m.begun)
 
 -- the entries from a number on, rising
 abbrev pub entries_from : Content → ℕ → List Entry

@@ -44,6 +44,11 @@ SeesCommit s = IsTrue s.is_open → s.now ≡ s.committed
 abbrev pub AreMaterialRows : List Row → List Row → Type 0
 AreMaterialRows = AreShown (λ row. columns_of 4 2 row ++ columns_of 1 1 row) (by_columns (1 ∷ [])) None (λ _. true)
 
+-- ---- what is said of orders: every row of the table, by its order's code
+
+abbrev pub AreNoteRows : List Row → List Row → Type 0
+AreNoteRows = AreShown (λ row. columns_of 2 2 row ++ columns_of 1 1 row) (by_columns (1 ∷ [])) None (λ _. true)
+
 -- ---- orders, by their codes
 
 abbrev pub AreOrderRows : ℕ → List Row → List Row → Type 0

@@ -5,7 +5,7 @@ ghost use Rattle.sqlite.specs.State.{HasCleanDisk, Survives};
 ghost use Rattle.sqlite.specs.Held.{state};
 ghost use Rattle.sqlite.specs.Does.{lacks_sequence};
 ghost use Rattle.sqlite_catalog.specs.Change.{is_used};
-ghost use Rattle.shop_tables.specs.Adopting.{HasVersion, HoldsBeside, IsAsBefore, IsVacant, LeavesBooks, StandsBeside, first_are_tables, second_are_tables, last_are_tables, last_are_free, is_table, names_are_free, names_are_tables, names_are_earlier, names_are_second};
+ghost use Rattle.shop_tables.specs.Adopting.{HasEarlyTables, HasNoUndone, HasVersion, HoldsBeside, IsAsBefore, IsVacant, LeavesBooks, StandsBeside, first_are_tables, second_are_tables, last_are_tables, last_are_free, is_table, names_are_free, names_are_tables, names_are_earlier, names_are_second};
 ghost use Rattle.shop_statements.specs.Earlier.{HasSomeTables, HoldsEarlier, HoldsSecond, IsSettledEarlier, IsSettledSecond, earlier_schema, second_schema};
 ghost use Rattle.shop_statements.specs.Layout.{no_schema, HasShopTables};
 ghost use Rattle.shop_statements.specs.Shown.{Books, HasShopSchema, Holds, IsSettled, Leaves, StandsIn, fresh_books};
@@ -16,6 +16,7 @@ ghost use Rattle.shop_tables.specs.declared.adopting.AdoptFault.TheVariants.{Wro
 use crate::invalid::has_number;
 use crate::laying::lay_tables;
 use crate::old_totals::has_no_old_totals;
+use crate::undone_rows::has_none_undone;
 use shop_statements::{TableFault, number_row};
 use sqlite::{Alter, Connection, Error};
 use sqlite_schema::schema::Schema;
@@ -238,7 +239,7 @@ fn adopt_found<S: Alter>(conn: &mut Connection<S>) -> Result<Adopted, AdoptFault
 }
 
 // Over tables with the names of version 2, in which version 1's totals have no row.
-fn adopt_second<S: Alter>(conn: &mut Connection<S>) -> Result<Adopted, AdoptFault>
+fn adopt_totals<S: Alter>(conn: &mut Connection<S>) -> Result<Adopted, AdoptFault>
     ensures mode { conn.old.in_transaction ≡ false → conn.new.in_transaction ≡ false }
     ensures only { IfOk result (λ told. told ≡ Second) }
     ensures leaves { Leaves (state S.Store conn.old) (state S.Store conn.new) }
@@ -256,6 +257,65 @@ fn adopt_second<S: Alter>(conn: &mut Connection<S>) -> Result<Adopted, AdoptFaul
     } else {
         Err(AdoptFault::WrongVersion)
     }
+}
+
+// Over tables with the names of version 2 or 1, in which nothing is undone.
+fn adopt_early<S: Alter>(conn: &mut Connection<S>, how: Adopted) -> Result<Adopted, AdoptFault>
+    ensures mode { conn.old.in_transaction ≡ false → conn.new.in_transaction ≡ false }
+    ensures only { IfOk result (λ told. told ≡ how) }
+    ensures was_open { HasCleanDisk (state S.Store conn.new)
+        → OnOk result (IsTrue (state S.Store conn.old).is_open) }
+    ensures leaves { Leaves (state S.Store conn.old) (state S.Store conn.new) }
+    ensures two { result ≡ Err WrongVersion → HasCleanDisk (state S.Store conn.new)
+        → (b : Books) → HoldsSecond (state S.Store conn.old) b → ⊥ }
+    ensures one { result ≡ Err WrongVersion → HasCleanDisk (state S.Store conn.new)
+        → (b : Books) → HoldsEarlier (state S.Store conn.old) b → ⊥ }
+    ensures none { HasEarlyTables conn.old.schema → HasCleanDisk (state S.Store conn.new)
+        → SeesCommit (state S.Store conn.old)
+        → OnOk result (HasNoUndone (state S.Store conn.old).now.trees) }
+{
+    if has_none_undone(conn)? {
+        Ok(how)
+    } else {
+        Err(AdoptFault::WrongVersion)
+    }
+}
+
+// Over tables with the names of version 1, in which nothing is undone.
+fn adopt_first<S: Alter>(conn: &mut Connection<S>) -> Result<Adopted, AdoptFault>
+    ensures mode { conn.old.in_transaction ≡ false → conn.new.in_transaction ≡ false }
+    ensures only { IfOk result (λ told. told ≡ Earlier) }
+    ensures leaves { Leaves (state S.Store conn.old) (state S.Store conn.new) }
+    ensures neither { result ≡ Err WrongVersion → HasCleanDisk (state S.Store conn.new)
+        → (b : Books) → HoldsEarlier (state S.Store conn.old) b → ⊥ }
+    ensures named { conn.old.schema ≡ earlier_schema → HasCleanDisk (state S.Store conn.new)
+        → OnOk result (HasVersion (state S.Store conn.old) 1) }
+    ensures no_undone { conn.old.schema ≡ earlier_schema → HasCleanDisk (state S.Store conn.new)
+        → SeesCommit (state S.Store conn.old)
+        → OnOk result (HasNoUndone (state S.Store conn.old).now.trees) }
+{
+    let how = adopt_version(conn, 1, Adopted::Earlier)?;
+    adopt_early(conn, how)
+}
+
+// Over tables with the names of version 2, in which version 1's totals have no row and nothing is undone.
+fn adopt_second<S: Alter>(conn: &mut Connection<S>) -> Result<Adopted, AdoptFault>
+    ensures mode { conn.old.in_transaction ≡ false → conn.new.in_transaction ≡ false }
+    ensures only { IfOk result (λ told. told ≡ Second) }
+    ensures leaves { Leaves (state S.Store conn.old) (state S.Store conn.new) }
+    ensures neither { result ≡ Err WrongVersion → HasCleanDisk (state S.Store conn.new)
+        → (b : Books) → HoldsSecond (state S.Store conn.old) b → ⊥ }
+    ensures named { conn.old.schema ≡ second_schema → HasCleanDisk (state S.Store conn.new)
+        → OnOk result (HasVersion (state S.Store conn.old) 2) }
+    ensures no_old_totals { conn.old.schema ≡ second_schema → HasCleanDisk (state S.Store conn.new)
+        → SeesCommit (state S.Store conn.old)
+        → OnOk result ((state S.Store conn.old).now.trees 15 ≡ []) }
+    ensures no_undone { conn.old.schema ≡ second_schema → HasCleanDisk (state S.Store conn.new)
+        → SeesCommit (state S.Store conn.old)
+        → OnOk result (HasNoUndone (state S.Store conn.old).now.trees) }
+{
+    let how = adopt_totals(conn)?;
+    adopt_early(conn, how)
 }
 
 // Over a database in which a name of ours is taken.
@@ -286,13 +346,19 @@ fn adopt_taken<S: Alter>(conn: &mut Connection<S>) -> Result<Adopted, AdoptFault
         → OnOk result ((state S.Store conn.old).now.trees 15 ≡ []) }
     ensures one_named { conn.old.schema ≡ earlier_schema → HasCleanDisk (state S.Store conn.new)
         → OnOk result (HasVersion (state S.Store conn.old) 1) }
+    ensures one_undone { conn.old.schema ≡ earlier_schema → HasCleanDisk (state S.Store conn.new)
+        → SeesCommit (state S.Store conn.old)
+        → OnOk result (HasNoUndone (state S.Store conn.old).now.trees) }
+    ensures two_undone { conn.old.schema ≡ second_schema → HasCleanDisk (state S.Store conn.new)
+        → SeesCommit (state S.Store conn.old)
+        → OnOk result (HasNoUndone (state S.Store conn.old).now.trees) }
     ensures second_names { names_are_second conn.old.schema ≡ true
         → IfOk result (λ how. how ≡ Second) }
     ensures earlier_names { names_are_earlier conn.old.schema ≡ true
         → IfOk result (λ how. how ≡ Earlier) }
 {
     if are_earlier(conn.schema()) {
-        return adopt_version(conn, 1, Adopted::Earlier);
+        return adopt_first(conn);
     }
     if are_second(conn.schema()) {
         return adopt_second(conn);
@@ -305,7 +371,8 @@ fn adopt_taken<S: Alter>(conn: &mut Connection<S>) -> Result<Adopted, AdoptFault
 
 /// Makes the tables where none of their names is taken, in one transaction, goes on with tables of version 3, and tells where
 /// there are tables of version 2 or 1. It answers `WrongVersion` where a name is taken and they aren't there, or are of another
-/// version, or the totals of version 1 have a row, and writes nothing then.
+/// version, or the totals of version 1 have a row, or tables of version 2 or 1 have an undone part or job, and writes nothing
+/// then.
 pub fn adopt_tables<S: Alter>(conn: &mut Connection<S>) -> Result<Adopted, AdoptFault>
     requires outside { conn.old.in_transaction ≡ false }
     ensures mode { conn.new.in_transaction ≡ false }
@@ -358,6 +425,10 @@ pub fn adopt_tables<S: Alter>(conn: &mut Connection<S>) -> Result<Adopted, Adopt
         → OnOk result ((state S.Store conn.old).now.trees 15 ≡ []) }
     ensures one_named { conn.old.schema ≡ earlier_schema → HasCleanDisk (state S.Store conn.new)
         → OnOk result (HasVersion (state S.Store conn.old) 1) }
+    ensures one_undone { conn.old.schema ≡ earlier_schema → HasCleanDisk (state S.Store conn.new)
+        → OnOk result (HasNoUndone (state S.Store conn.old).now.trees) }
+    ensures two_undone { conn.old.schema ≡ second_schema → HasCleanDisk (state S.Store conn.new)
+        → OnOk result (HasNoUndone (state S.Store conn.old).now.trees) }
     ensures beside { names_are_free conn.old.schema ≡ true → lacks_sequence conn.old.schema ≡ false
         → OnOk result (HoldsBeside (state S.Store conn.old) (state S.Store conn.new)) }
     ensures undone { OnErr result (IsAsBefore (state S.Store conn.old) (state S.Store conn.new)) }

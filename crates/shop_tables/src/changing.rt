@@ -3,20 +3,24 @@
 
 ghost use Rattle.std.specs.Prelude.{◌≡◌, ⊤, IfOk, None, is_some, not, IfSome, MatchOption, OnOk};
 ghost use Rattle.std.specs.FinMap.{get};
+ghost use Rattle.std.specs.Option.{option_or};
 ghost use Rattle.sqlite.specs.Held.{state};
-ghost use Rattle.shop_records.specs.Content.{kept_at};
+ghost use Rattle.shop_records.specs.Content.{halt_at, kept_at};
 ghost use Rattle.shop_records.specs.Soundness.{Fits, IsMovedJob, IsNewJob};
 ghost use Rattle.shop_statements.specs.Beside.{Spares};
 ghost use Rattle.shop_statements.specs.Layout.{our_trees};
 ghost use Rattle.shop_statements.specs.Shown.{Books, Makes, Ran, Within};
-ghost use Rattle.shop_tables.specs.Changing.{HasSums, HasTrail, AreDemandsFit, AreNewUses, is_ordered, uses_of, uses_of_job, with_uses, HasStockOf, HasWorkOf, Writes, with_change, with_jobs, with_demands, with_messages, with_sums, with_stock, with_work, with_numbers};
+ghost use Rattle.shop_tables.specs.Changing.{HasSums, HasTrail, AreDemandsFit, AreNewUses, is_ordered, uses_of, uses_of_job, with_uses, HasStockOf, HasWorkOf, Writes, with_change, with_jobs, with_demands, with_messages, with_sums, with_stock, with_work, with_halts, with_said, with_numbers};
 
-use crate::writing::{Known, LastAct, LastDemand, New, write_all, write_some};
+use crate::writing::{Known, LastAct, LastDemand, New, Placed, write_all, write_some};
 use cut_measure::Code;
 use shop_records::{
-    Change, Demand, Entry, ImportRow, Job, KeptMessage, Material, MaterialTotals, Part,
+    Change, Demand, Entry, ImportRow, Job, JobBegin, JobHalt, KeptMessage, Material,
+    MaterialTotals, OrderNote, Part,
 };
-use shop_statements::{JobOrder, TableFault, move_job, put_job, put_kept, put_totals, set_totals};
+use shop_statements::{
+    JobOrder, TableFault, move_job, put_halt, put_job, put_kept, put_totals, set_totals,
+};
 use sqlite::{Alter, Transaction};
 use std::alloc::{AllocError, Global};
 
@@ -105,7 +109,7 @@ fn write_demands<S: Alter>(
     }
 }
 
-// The material, the part that moves, the new parts and the totals.
+// The material, the part that moves, those that are undone, the new parts and the totals.
 #[tactic(auto, using(crate::proofs::InTurn::stops, shop_statements::proofs::Steps::within_then))]
 fn write_stock<S: Alter>(tx: &mut Transaction<'_, S>, change: &Change) -> Result<(), TableFault>
     ensures same_reference { tx.new.conn.ghost_name ≡ tx.old.conn.ghost_name }
@@ -114,8 +118,19 @@ fn write_stock<S: Alter>(tx: &mut Transaction<'_, S>, change: &Change) -> Result
 {
     write_some::<New, Material, S>(tx, &change.material)?;
     write_some::<Known, Part, S>(tx, &change.moved)?;
+    write_all::<Known, Part, S>(tx, change.undone.as_slice())?;
     write_all::<New, Part, S>(tx, change.parts.as_slice())?;
     write_totals(tx, &change.totals, change.material.is_some())
+}
+
+// The order whose new lines the demands are: one that is new, or one that gets further lines.
+fn lines_for(order: Option<Code>, extended: Option<Code>) -> Option<Code>
+    ensures { result ≡ option_or order extended }
+{
+    match order {
+        Some(code) => Some(code),
+        None => extended,
+    }
 }
 
 // The order, the import that it came by, and its demands or others.
@@ -127,7 +142,11 @@ fn write_work<S: Alter>(tx: &mut Transaction<'_, S>, change: &Change) -> Result<
 {
     write_some::<New, Code, S>(tx, &change.order)?;
     write_some::<New, ImportRow, S>(tx, &change.import)?;
-    write_demands(tx, change.order, change.demands.as_slice())
+    write_demands(
+        tx,
+        lines_for(change.order, change.extended),
+        change.demands.as_slice(),
+    )
 }
 
 // The orders of the demands under a job, each once.
@@ -196,6 +215,39 @@ fn write_uses<S: Alter>(
     }
 }
 
+// Puts where the work on a job halted, of which that isn't kept yet.
+fn write_halt<S: Alter>(
+    alloc: Global,
+    tx: &mut Transaction<'_, S>,
+    row: &Option<JobHalt>,
+) -> Result<(), TableFault>
+    ensures same_reference { tx.new.conn.ghost_name ≡ tx.old.conn.ghost_name }
+    ensures writes { Writes (state S.Store tx.old.conn.now) (state S.Store tx.new.conn.now) result
+        (λ b. IfSome row.now (λ row. halt_at b.content row.job ≡ None)) (with_halts row.now) }
+{
+    match row {
+        Some(row) => put_halt(alloc, tx, row),
+        None => Ok(()),
+    }
+}
+
+// What is said beside: where a job halted, which terminal has begun one, and what is said of an order.
+#[tactic(auto, using(crate::proofs::InTurn::stops, shop_statements::proofs::Steps::within_then))]
+fn write_said<S: Alter>(
+    alloc: Global,
+    tx: &mut Transaction<'_, S>,
+    change: &Change,
+) -> Result<(), TableFault>
+    ensures same_reference { tx.new.conn.ghost_name ≡ tx.old.conn.ghost_name }
+    ensures writes { Writes (state S.Store tx.old.conn.now) (state S.Store tx.new.conn.now) result
+        (λ b. IfSome change.now.halt (λ row. halt_at b.content row.job ≡ None))
+        (with_said change.now) }
+{
+    write_halt(alloc, tx, &change.halt)?;
+    write_some::<Placed, JobBegin, S>(tx, &change.begun)?;
+    write_some::<Placed, OrderNote, S>(tx, &change.note)
+}
+
 // The numbers that were given.
 #[tactic(auto, using(crate::proofs::InTurn::stops, shop_statements::proofs::Steps::within_then))]
 fn write_numbers<S: Alter>(tx: &mut Transaction<'_, S>, change: &Change) -> Result<(), TableFault>
@@ -233,5 +285,6 @@ pub(crate) fn write_change<S: Alter>(
         change.act,
         change.demands.as_slice(),
     )?;
+    write_said(alloc, tx, change)?;
     write_numbers(tx, change)
 }

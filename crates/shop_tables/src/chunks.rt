@@ -5,8 +5,8 @@ ghost use Rattle.std.specs.FinMap.{values};
 ghost use Rattle.std.specs.List.{AllByRecursion};
 ghost use Rattle.sqlite.specs.Held.{state};
 ghost use Rattle.sqlite.specs.State.{HasCleanDisk};
-ghost use Rattle.shop_tables.specs.ListedRows.{listed_demand, listed_entry, listed_job};
-ghost use Rattle.shop_tables.specs.RowsFrom.{demands_from, entries_from, jobs_from};
+ghost use Rattle.shop_tables.specs.ListedRows.{listed_begun, listed_demand, listed_entry, listed_job};
+ghost use Rattle.shop_tables.specs.RowsFrom.{begun_from, demands_from, entries_from, jobs_from};
 ghost use Rattle.shop_statements.specs.Earlier.{OnBooksEarlier, OnBooksSecond};
 ghost use Rattle.shop_statements.specs.Shown.{Leaves, OnBooks};
 ghost use Rattle.shop_statements.specs.Values.{IsEntryValue};
@@ -72,6 +72,35 @@ pub fn job_rows_from<S: Alter>(
     let rows = all_rows(
         conn,
         "SELECT part_act, part_node, tree, state, job FROM jobs WHERE job >= ?1 ORDER BY job LIMIT ?2",
+        params![&first.rows, &limit.rows],
+    )?;
+    Ok(rows)
+}
+
+/// The rows of the first begun jobs from a number on, by rising number: at most so many. Versions 1 and 2 have
+/// no such table.
+pub fn begun_rows_from<S: Alter>(
+    conn: &mut Connection<S>,
+    from: usize,
+    most: usize,
+) -> Result<Vec<Row>, TableFault>
+    ensures rows { OnBooks (state S.Store conn.old) (state S.Store conn.new)
+        (λ books. IfOk result (λ rows. rows.items
+        ≡ map listed_begun (take most (begun_from books.content from)))) }
+    ensures earlier { OnBooksEarlier (state S.Store conn.old) (state S.Store conn.new)
+        (λ books. IfOk result (λ _. ⊥)) }
+    ensures second { OnBooksSecond (state S.Store conn.old) (state S.Store conn.new)
+        (λ books. IfOk result (λ _. ⊥)) }
+    ensures was_open { HasCleanDisk (state S.Store conn.new)
+        → IfOk result (λ _. IsTrue (state S.Store conn.old).is_open) }
+    ensures leaves { Leaves (state S.Store conn.old) (state S.Store conn.new) }
+    ensures mode { conn.old.in_transaction ≡ false → conn.new.in_transaction ≡ false }
+{
+    let first = at_most(from)?;
+    let limit = at_most(most)?;
+    let rows = all_rows(
+        conn,
+        "SELECT terminal, job FROM begun WHERE job >= ?1 ORDER BY job LIMIT ?2",
         params![&first.rows, &limit.rows],
     )?;
     Ok(rows)

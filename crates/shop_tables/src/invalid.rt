@@ -1,4 +1,4 @@
-//! Rows that stand for no part, no totals, no material, no job and no demand.
+//! Rows that stand for no part, no totals, no material, no job, no demand, no note and no begun job.
 
 ghost use Rattle.std.specs.Prelude.{◌≡◌, ◌<◌, ◌≤◌, ◌+◌, ◌^◌, ℕ, ℤ, Bool, List, pos, Some, IfSome, IsTrue, ◌↔◌};
 ghost use Rattle.sqlite_value.specs.declared.value.Value.TheVariants.{Int, Text as Word};
@@ -10,13 +10,15 @@ ghost use Rattle.cut_measure.specs.declared.sizes.Kind.TheVariants.{Sheet};
 ghost use Rattle.shop_records.specs.Columns.{state_of};
 ghost use Rattle.shop_records.specs.declared.records.Demand.{Demand as DemandRecord};
 ghost use Rattle.shop_records.specs.declared.records.Job.{Job as JobRecord};
+ghost use Rattle.shop_records.specs.declared.records.JobBegin.{JobBegin as BeginRecord};
 ghost use Rattle.shop_records.specs.declared.records.JobState.{JobState as JobStateOf};
+ghost use Rattle.shop_records.specs.declared.notes.OrderNote.{OrderNote as NoteRecord};
 ghost use Rattle.shop_records.specs.declared.records.Material.{Material as MaterialRecord};
 ghost use Rattle.shop_records.specs.declared.records.Part.{Part as PartRecord};
 ghost use Rattle.shop_records.specs.declared.records.State.{State as PartState};
 ghost use Rattle.shop_records.specs.declared.records.Totals.{Totals as TotalsRecord};
 ghost use Rattle.shop_tables.specs.Listing.{listed_row};
-ghost use Rattle.shop_tables.specs.ListedRows.{listed_demand, listed_job, listed_material};
+ghost use Rattle.shop_tables.specs.ListedRows.{listed_begun, listed_demand, listed_job, listed_material, listed_note};
 ghost use Rattle.shop_statements.specs.Rows.{job_state_number, kind_number, part_row, state_number, turn_number};
 ghost use Rattle.shop_tables.specs.Invalid.{HasCounts, HasValue};
 ghost use Rattle.shop_statements.specs.Values.{IsPartValue};
@@ -132,7 +134,7 @@ fn are_of_state(word: i64, detail: i64) -> bool
     ensures { (state : PartState) → state_of state < 2 ^ 32 → word ≡ pos (state_number state)
         → detail ≡ pos (state_of state) → IsTrue result }
 {
-    if 1 <= word && word <= 3 {
+    if (1 <= word && word <= 3) || word == 7 {
         0 <= detail && detail <= i64::from(u32::MAX)
     } else {
         0 <= word && word <= 6 && detail == 0
@@ -192,7 +194,7 @@ fn has_job_state(row: &Row, at: usize) -> bool
     ensures { (state : JobStateOf) → HasValue row.now at (Int (pos (job_state_number state)))
         → IsTrue result }
 {
-    has_number(row, at, 0, 3)
+    has_number(row, at, 0, 4)
 }
 
 /// Whether a row may be a material's, its code after it. The ranges of its limits aren't tested.
@@ -207,6 +209,20 @@ pub(crate) fn may_be_job(row: &Row) -> bool
     ensures { (job : JobRecord) → row.now ≡ listed_job job → IsTrue result }
 {
     has_count(row, 0) && (has_count(row, 1) && (has_job_state(row, 3) && has_count(row, 4)))
+}
+
+/// Whether a row may be what is said of an order, its code after it. The ranges of its numbers aren't tested.
+pub(crate) fn may_be_note(row: &Row) -> bool
+    ensures { (note : NoteRecord) → row.now ≡ listed_note note → IsTrue result }
+{
+    has_count(row, 0)
+}
+
+/// Whether a row may be that of a terminal that has begun a job, its number after it. The ranges of its numbers aren't tested.
+pub(crate) fn may_be_begun(row: &Row) -> bool
+    ensures { (begun : BeginRecord) → row.now ≡ listed_begun begun → IsTrue result }
+{
+    has_count(row, 0) && has_count(row, 1)
 }
 
 /// Whether a row may be a demand's, its number after it. The ranges of its numbers aren't tested.

@@ -15,15 +15,17 @@ mod lending;
 mod listed_rows;
 mod listing;
 mod material_lists;
+mod note_lists;
 mod old_totals;
 mod order_lists;
 mod renewing;
 mod reopening;
+mod undone_rows;
 mod valid_rows;
 mod writing;
 
 pub use adopting::{AdoptFault, Adopted, adopt_tables};
-pub use chunks::{demand_rows_from, entry_rows_from, job_rows_from, part_key_at};
+pub use chunks::{begun_rows_from, demand_rows_from, entry_rows_from, job_rows_from, part_key_at};
 pub use committing::commit_change;
 pub use entries::{count_entries, entries_after, find_last_entry, stray_entry};
 pub use kept_counts::{count_kept, count_texts};
@@ -33,14 +35,15 @@ pub use laying::statements_make_tables;
 pub use lending::{Lent, lend_all_parts};
 pub use listing::list_totals;
 pub use material_lists::material_rows;
+pub use note_lists::note_rows;
 pub use order_lists::order_rows;
 pub use renewing::{extend_shop, list_earlier_totals, renew_shop, steps_renew_tables};
 pub use reopening::left_contents_are_found;
 pub use shop_statements::{
-    TableFault, find_entry, find_import, find_kept, find_last_act, find_last_demand, read_entry,
-    read_listed_entry,
+    TableFault, find_entry, find_halt, find_import, find_kept, find_last_act, find_last_demand,
+    find_note, read_entry, read_listed_entry,
 };
 pub use valid_rows::{
-    NoRow, StoredJob, demand_key_of, demand_of_row, job_key_of, job_of_row, material_key_of,
-    material_of_row, plan_of_row,
+    NoRow, StoredJob, begun_key_of, begun_of_row, demand_key_of, demand_of_row, job_key_of,
+    job_of_row, material_key_of, material_of_row, note_key_of, note_of_row, plan_of_row,
 };

@@ -9,19 +9,23 @@ ghost use Rattle.cut_tree.specs.Patterns.{IsPlan, Pattern};
 ghost use Rattle.cut_tree.specs.Spelling.{text_of};
 ghost use Rattle.shop_records.specs.declared.records.Demand.{Demand as DemandRecord};
 ghost use Rattle.shop_records.specs.declared.records.Job.{Job as JobRecord};
+ghost use Rattle.shop_records.specs.declared.records.JobBegin.{JobBegin as BeginRecord};
 ghost use Rattle.shop_records.specs.declared.records.JobState.{JobState as JobStateOf};
+ghost use Rattle.shop_records.specs.declared.notes.OrderNote.{OrderNote as NoteRecord};
 ghost use Rattle.shop_records.specs.declared.records.Material.{Material as MaterialRecord};
 ghost use Rattle.shop_statements.specs.Rows.{job_state_number};
 ghost use Rattle.shop_tables.specs.Invalid.{HasValue};
-ghost use Rattle.shop_tables.specs.ListedRows.{listed_demand, listed_job, listed_material};
+ghost use Rattle.shop_tables.specs.ListedRows.{listed_begun, listed_demand, listed_job, listed_material, listed_note};
 ghost use Rattle.shop_tables.specs.RowsFrom.{stored_job};
 
-use crate::invalid::{int_in, may_be_demand, may_be_job, may_be_material};
+use crate::invalid::{
+    int_in, may_be_begun, may_be_demand, may_be_job, may_be_material, may_be_note,
+};
 use crate::listed_rows::Listed;
 use cut_measure::{Code, MOST_KERF, PartName, Size};
 use cut_tree::{Cause, Plan};
-use shop_records::{Demand, JobState, Material};
-use shop_statements::{TableFault, code_in, name_in, number_in};
+use shop_records::{Demand, JobBegin, JobState, Material, OrderNote};
+use shop_statements::{TableFault, code_in, name_in, number_in, read_begun, read_note};
 use sqlite::Row;
 use sqlite::types::ValueRef;
 use std::alloc::Global;
@@ -41,6 +45,10 @@ pub enum NoRow {
     Demand(Option<i64>),
     /// An entry, by its number.
     Entry(Option<i64>),
+    /// What is said of an order, by its code.
+    Note(Option<Code>),
+    /// The terminal that has begun a job, by its number.
+    Begun(Option<i64>),
 }
 
 /// The material of a row, its code after it; None if the row is no material's.
@@ -67,6 +75,48 @@ pub fn demand_of_row(row: &Row) -> Result<Option<Demand>, TableFault>
     Ok(Some(demand))
 }
 
+// What is said of an order, its code after its columns.
+fn read_listed_note(row: &Row) -> Result<OrderNote, TableFault>
+    ensures { (note : NoteRecord) → row.now ≡ listed_note note
+        → IfOk result (λ read. read ≡ note) }
+{
+    let order = code_in(row, 2)?;
+    read_note(order, row)
+}
+
+/// What is said of an order, out of its row, its code after it; None if the row is none of those.
+pub fn note_of_row(row: &Row) -> Result<Option<OrderNote>, TableFault>
+    ensures { (note : NoteRecord) → row.now ≡ listed_note note
+        → IfOk result (λ read. read ≡ Some note) }
+{
+    if !may_be_note(row) {
+        return Ok(None);
+    }
+    let note = read_listed_note(row)?;
+    Ok(Some(note))
+}
+
+// The terminal that has begun a job, the job's number after its columns.
+fn read_listed_begun(row: &Row) -> Result<JobBegin, TableFault>
+    ensures { (begun : BeginRecord) → row.now ≡ listed_begun begun
+        → IfOk result (λ read. read ≡ begun) }
+{
+    let job = number_in(row, 1)?;
+    read_begun(job, row)
+}
+
+/// The terminal that has begun a job, out of its row, its number after it; None if the row is none of those.
+pub fn begun_of_row(row: &Row) -> Result<Option<JobBegin>, TableFault>
+    ensures { (begun : BeginRecord) → row.now ≡ listed_begun begun
+        → IfOk result (λ read. read ≡ Some begun) }
+{
+    if !may_be_begun(row) {
+        return Ok(None);
+    }
+    let begun = read_listed_begun(row)?;
+    Ok(Some(begun))
+}
+
 /// A job as its row tells it, without its plan.
 #[derive(Clone, Copy, Debug, PartialEq, Eq)]
 pub struct StoredJob {
@@ -83,6 +133,7 @@ fn job_state_of(number: u32) -> Option<JobState>
         1 => Some(JobState::Done),
         2 => Some(JobState::Broken),
         3 => Some(JobState::Released),
+        4 => Some(JobState::Undone),
         _ => None,
     }
 }
@@ -171,6 +222,16 @@ pub fn material_key_of(row: &Row) -> NoRow {
 /// The key of a job's row.
 pub fn job_key_of(row: &Row) -> NoRow {
     NoRow::Job(int_in(row, 4))
+}
+
+/// The key of the row of what is said of an order.
+pub fn note_key_of(row: &Row) -> NoRow {
+    NoRow::Note(code_in(row, 2).ok())
+}
+
+/// The key of the row of a terminal that has begun a job.
+pub fn begun_key_of(row: &Row) -> NoRow {
+    NoRow::Begun(int_in(row, 1))
 }
 
 /// The key of a demand's row.

@@ -6,15 +6,15 @@ ghost use Rattle.sqlite.specs.Held.{state};
 ghost use Rattle.shop_records.specs.Content.{material_at, part_at, has_order, demand_at, entry_at, import_at, in_state};
 ghost use Rattle.shop_statements.specs.Beside.{Spares};
 ghost use Rattle.shop_statements.specs.Layout.{our_trees};
-ghost use Rattle.shop_statements.specs.Changes.{with_material, with_part, with_order, with_demand, with_import, with_entry, with_use, with_last_act, with_last_demand};
+ghost use Rattle.shop_statements.specs.Changes.{with_material, with_part, with_order, with_demand, with_import, with_entry, with_use, with_begun, with_note, with_last_act, with_last_demand};
 ghost use Rattle.shop_statements.specs.Shown.{Books, Makes, Ran, Within};
 ghost use Rattle.shop_tables.specs.Changing.{AreInTurn, IsOver, Writes, recounted, with_all, with_some};
 
 use cut_measure::Code;
-use shop_records::{Demand, Entry, ImportRow, Material, Part};
+use shop_records::{Demand, Entry, ImportRow, JobBegin, Material, OrderNote, Part};
 use shop_statements::{
-    JobOrder, TableFault, count_demand, move_part, put_demand, put_entry, put_import, put_material,
-    put_order, put_part, put_use, set_last_act, set_last_demand,
+    JobOrder, TableFault, count_demand, move_part, put_begun, put_demand, put_entry, put_import,
+    put_material, put_note, put_order, put_part, put_use, set_last_act, set_last_demand,
 };
 use sqlite::{Alter, Transaction};
 
@@ -44,6 +44,9 @@ pub(crate) struct New;
 
 /// The row is there, in another state or with other counts.
 pub(crate) struct Known;
+
+/// The row is a new one, or takes the place of the one under its key.
+pub(crate) struct Placed;
 
 /// The number is that of the last act.
 pub(crate) struct LastAct;
@@ -138,6 +141,26 @@ impl Writing<JobOrder> for New {
 
     fn write<S: Alter>(tx: &mut Transaction<'_, S>, row: &JobOrder) -> Result<(), TableFault> {
         put_use(tx, row)
+    }
+}
+
+impl Writing<JobBegin> for Placed {
+    ghost needs = { λ row b. ⊤ };
+
+    ghost makes = { with_begun };
+
+    fn write<S: Alter>(tx: &mut Transaction<'_, S>, row: &JobBegin) -> Result<(), TableFault> {
+        put_begun(tx, row)
+    }
+}
+
+impl Writing<OrderNote> for Placed {
+    ghost needs = { λ row b. ⊤ };
+
+    ghost makes = { with_note };
+
+    fn write<S: Alter>(tx: &mut Transaction<'_, S>, row: &OrderNote) -> Result<(), TableFault> {
+        put_note(tx, row)
     }
 }
 

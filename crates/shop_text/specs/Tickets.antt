@@ -1,5 +1,5 @@
 -- The ticket of a job.
-use Rattle.std.specs.Prelude.{◌≡◌, ℕ, zero, suc, List, [], ◌∷◌, ◌++◌, length, codes, Bool, true, false, All, map, Option, Some, None, Result, Ok, Err, option_map, MatchOption, ◌⊎◌, string_bytes}
+use Rattle.std.specs.Prelude.{◌≡◌, ℕ, zero, suc, List, [], ◌∷◌, ◌++◌, length, codes, Bool, true, false, All, map, count_by, Option, Some, None, Result, Ok, Err, option_map, MatchOption, ◌⊎◌, string_bytes}
 use Rattle.std.specs.declared.string.String.{String}
 use Rattle.std.specs.Fmt.{decimal}
 use Rattle.cut_measure.specs.Lengths.{mm_text}
@@ -17,11 +17,12 @@ use Rattle.shop_records.specs.declared.records.Material.{Material}
 use Rattle.shop_records.specs.declared.records.Part.{Part}
 use Rattle.shop_records.specs.declared.records.Job.{Job}
 use Rattle.shop_records.specs.declared.records.JobState.{JobState}
-use Rattle.shop_records.specs.declared.records.JobState.TheVariants.{Waiting, Done, Broken, Released}
+use Rattle.shop_records.specs.declared.records.JobState.TheVariants.{Waiting, Done, Broken, Released, Undone}
 use Rattle.shop_records.specs.declared.records.Demand.{Demand}
 use Rattle.shop_records.specs.declared.refusals.Refusal.{Refusal}
 use Rattle.shop_records.specs.declared.refusals.Refusal.TheVariants.{NoJob, NoMemory, StoreFault}
-use Rattle.shop_records.specs.Content.{Content, job_at, part_at, material_of, demand_at}
+use Rattle.shop_records.specs.Columns.{is_piece}
+use Rattle.shop_records.specs.Content.{Content, job_at, part_at, material_of, demand_at, parts_named}
 use Rattle.shop_text.specs.declared.tickets.FoundNode.{FoundNode}
 use Rattle.shop_text.specs.Printing.{to_the_right, size_text, place_text, part_start}
 
@@ -30,6 +31,7 @@ job_state_text Waiting = codes "waiting"
 job_state_text Done = codes "done"
 job_state_text Broken = codes "broken"
 job_state_text Released = codes "released"
+job_state_text Undone = codes "undone"
 
 -- where a node's rectangle lies in the part that is cut, and its sides
 abbrev pub spot_text : Kind → Step → List ℕ
@@ -100,13 +102,35 @@ abbrev pub unit_line : Job → Part → Material → List ℕ
 unit_line job part material =
     part_start part.name ++ part.material ++ codes " " ++ size_text material.kind part.size.w part.size.h ++ codes " kerf " ++ mm_text job.kerf ++ codes "\n"
 
+-- how many of these parts are pieces
+abbrev pub piece_count : List Part → ℕ
+piece_count parts = count_by (λ (part : Part). is_piece part.state) parts
+
+-- a count, where the job's plan was not cut to its end, or what was cut was taken back
+abbrev pub where_ended : JobState → ℕ → Option ℕ
+where_ended Waiting n = None
+where_ended Done n = None
+where_ended Broken n = Some n
+where_ended Released n = None
+where_ended Undone n = Some n
+
+-- how many pieces were made of a job that was broken or undone
+abbrev pub made_of : Content → Job → Option ℕ
+made_of m job = where_ended job.state (piece_count (parts_named m job.act))
+
+-- the line that tells it
+abbrev pub made_line : Option ℕ → List ℕ
+made_line None = []
+made_line (Some n) = codes "made " ++ decimal n ++ codes " pieces\n"
+
 -- the last line
 abbrev pub ticket_end : Pattern → List ℕ
 ticket_end plan = codes "cuts " ++ decimal (cut_count plan.tree) ++ codes " pieces " ++ decimal (length (leaves_of plan.tree plan.w plan.h plan.kerf)) ++ codes "\n"
 
--- the ticket of a job on a part of a material, where the rows of its pieces' demands are there
-abbrev pub ticket_with : Job → Part → Material → (ℕ → Option Demand) → Option (List ℕ)
-ticket_with job part material at = option_map (λ lines. job_line job ++ unit_line job part material ++ lines ++ ticket_end job.plan) (node_lines material.kind at job.plan)
+-- the ticket of a job on a part of a material, of which so many pieces were made, where the rows of its pieces' demands are there
+abbrev pub ticket_with : Job → Part → Material → Option ℕ → (ℕ → Option Demand) → Option (List ℕ)
+ticket_with job part material made at =
+    option_map (λ lines. job_line job ++ unit_line job part material ++ lines ++ made_line made ++ ticket_end job.plan) (node_lines material.kind at job.plan)
 
 -- a text, or rows contradict each other
 abbrev pub or_contradiction : Option (List ℕ) → Result (List ℕ) Refusal
@@ -116,7 +140,7 @@ or_contradiction (Some text) = Ok text
 abbrev pub ticket_on_part : Content → Job → Option Part → Option Material → Option (List ℕ)
 ticket_on_part m job None material = None
 ticket_on_part m job (Some part) None = None
-ticket_on_part m job (Some part) (Some material) = ticket_with job part material (demand_at m)
+ticket_on_part m job (Some part) (Some material) = ticket_with job part material (made_of m job) (demand_at m)
 
 abbrev pub ticket_found : Content → Option Job → Result (List ℕ) Refusal
 ticket_found m None = Err NoJob

@@ -4,19 +4,20 @@ ghost use Rattle.std.specs.Prelude.{◌≡◌, ◌++◌, ◌∷◌, [], ℕ, Opt
 ghost use Rattle.cut_tree.specs.Stepping.{AreSteps};
 ghost use Rattle.shop_records.specs.declared.records.Demand.{Demand as DemandOf};
 ghost use Rattle.shop_records.specs.declared.refusals.Refusal.{Refusal as RefusalOf};
+ghost use Rattle.shop_records.specs.Columns.{is_piece as has_become_piece};
 ghost use Rattle.shop_records.specs.Content.{demand_at};
 ghost use Rattle.shop_text.specs.declared.printing.PrintFault.TheVariants.{Refused, Write};
 ghost use Rattle.shop_book.specs.Kept.{Unchanged, OnContent};
 ghost use Rattle.shop_book.specs.Failures.{CountsFailure};
 ghost use Rattle.shop_text.specs.Printing.{IsTextMade, IsPrinted, CountsRefusal, CountsPrint};
 ghost use Rattle.shop_streams.specs.Streams.{HasFailed};
-ghost use Rattle.shop_text.specs.Tickets.{AddsLine, AreNodesFound, IsTicketMade, cut_text, demand_for, demand_text, job_line, job_state_text, node_line, node_lines, node_text, piece_text, rest_text, spot_text, steps_in, ticket_end, ticket_of, ticket_with, unit_line};
+ghost use Rattle.shop_text.specs.Tickets.{AddsLine, AreNodesFound, IsTicketMade, cut_text, demand_for, demand_text, job_line, job_state_text, made_line, made_of, node_line, node_lines, node_text, piece_count, piece_text, rest_text, spot_text, steps_in, ticket_end, ticket_of, ticket_with, unit_line};
 
 use crate::printing::{PrintFault, print, push_number, push_part_start, push_place, push_size};
 use cut_measure::{Axis, Kind, write_mm};
 use cut_tree::{Plan, Step, Token};
 use shop_book::{Book, BookFault};
-use shop_records::{Demand, Job, JobState, Material, Part, Refusal};
+use shop_records::{Demand, Job, JobState, Material, Part, Refusal, State};
 use shop_streams::Sink;
 use std::alloc::{AllocError, Global};
 
@@ -71,6 +72,44 @@ fn found_nodes<B: Book>(
         push_node(&mut nodes, *step, demand)?;
     }
     Ok(nodes)
+}
+
+// Whether a part is a piece.
+fn is_piece(state: State) -> bool
+    ensures { result ≡ has_become_piece state }
+{
+    match state {
+        State::Piece(_) => true,
+        State::Standing
+        | State::Reserved(_)
+        | State::Cut(_)
+        | State::Kerf
+        | State::Scrap
+        | State::Returned
+        | State::Undone(_) => false,
+    }
+}
+
+// How many of these parts are pieces.
+fn pieces_in(parts: &[Part]) -> usize
+    ensures { result ≡ piece_count parts.now }
+{
+    parts.iter().filter(|part| is_piece(part.state)).count()
+}
+
+// How many pieces were made of a job that was broken or undone.
+fn made_pieces<B: Book>(alloc: Global, book: &mut B, job: &Job) -> Result<Option<usize>, BookFault>
+    ensures made { OnContent B.Book book.old book.new
+        (λ m. IfOk result (λ made. made ≡ made_of m job.now)) }
+    ensures keeps { Unchanged B.Book (CountsFailure result) book.old book.new }
+{
+    match job.state {
+        JobState::Waiting | JobState::Done | JobState::Released => Ok(None),
+        JobState::Broken | JobState::Undone => {
+            let parts = book.parts_named(alloc, job.act)?;
+            Ok(Some(pieces_in(parts.as_slice())))
+        }
+    }
 }
 
 fn push_spot(kind: Kind, step: Step, text: &mut String) -> Result<(), AllocError>
@@ -166,6 +205,7 @@ fn job_state_word(state: JobState) -> &'static str
         JobState::Done => "done",
         JobState::Broken => "broken",
         JobState::Released => "released",
+        JobState::Undone => "undone",
     }
 }
 
@@ -194,6 +234,16 @@ fn push_unit(
     text.push_str(" kerf ")?;
     write_mm(job.kerf, text)?;
     text.push_str("\n")
+}
+
+// How many pieces were made of a job that was broken or undone.
+fn push_made(made: Option<usize>, text: &mut String) -> Result<(), AllocError>
+    ensures { OnOk result (string_bytes text.new ≡ string_bytes text.old ++ made_line made) }
+{
+    match made {
+        None => Ok(()),
+        Some(n) => writeln!(text, "made {n} pieces"),
+    }
 }
 
 // The last line.
@@ -228,17 +278,19 @@ fn ticket_lines(
     job: &Job,
     part: &Part,
     material: &Material,
+    made: Option<usize>,
     nodes: &[FoundNode],
 ) -> Result<String, Refusal>
     requires { AreSteps job.now.plan.tree job.now.plan.w job.now.plan.h job.now.plan.kerf
         (steps_in nodes.now) }
     ensures { (at : ℕ → Option DemandOf) → AreNodesFound at nodes.now
-        → IsTicketMade result (ticket_with job.now part.now material.now at) }
+        → IsTicketMade result (ticket_with job.now part.now material.now made at) }
 {
     let mut text = String::new(alloc);
     push_job(job, &mut text)?;
     push_unit(job, part, material, &mut text)?;
     push_lines(material.kind, &job.plan, nodes, &mut text)?;
+    push_made(made, &mut text)?;
     push_end(alloc, &job.plan, &mut text)?;
     Ok(text)
 }
@@ -260,7 +312,8 @@ pub fn ticket_text<B: Book>(alloc: Global, book: &mut B, number: u32) -> Result<
         return Err(Refusal::StoreFault);
     };
     let nodes = found_nodes(alloc, book, &job.plan)?;
-    ticket_lines(alloc, &job, &part, &material, &nodes)
+    let made = made_pieces(alloc, book, &job)?;
+    ticket_lines(alloc, &job, &part, &material, made, &nodes)
 }
 
 /// Prints the ticket of a job: what is cut in which order, where, and for whom. An unknown job is refused 70. The text is

@@ -88,7 +88,12 @@ fn push_standing(state: State, text: &mut String) -> Result<(), AllocError>
     match state {
         State::Standing => text.push_str("standing"),
         State::Reserved(job) => write!(text, "reserved {job}"),
-        State::Cut(_) | State::Piece(_) | State::Kerf | State::Scrap | State::Returned => Ok(()),
+        State::Cut(_)
+        | State::Piece(_)
+        | State::Kerf
+        | State::Scrap
+        | State::Returned
+        | State::Undone(_) => Ok(()),
     }
 }
 

@@ -26,7 +26,7 @@ use Rattle.shop_text.specs.Tickets.{ticket_of}
 use Rattle.shop_text.specs.Yields.{yield_of}
 use Rattle.shop_text.proofs.ToldTickets.{ticket_told, report_told}
 use Rattle.shop_request.specs.declared.routes.Route.{Route}
-use Rattle.shop_request.specs.declared.routes.Route.TheVariants.{Message, Plan, Plans, Bound, Backup, Totals, Rack, Trace, Demand, Ticket, Yield, Materials, Parts, PartsAfter, Demands, DemandsOf, Orders, OrdersAfter, OrderLines, Jobs, Job, Terminal, Shop, History, OrderStory, JobStory, PartStory}
+use Rattle.shop_request.specs.declared.routes.Route.TheVariants.{Message, Plan, Plans, Bound, Backup, Totals, Rack, Trace, Demand, Ticket, Yield, Materials, Parts, PartsAfter, Demands, DemandsOf, Orders, OrdersAfter, OrderLines, Jobs, Job, Terminal, Shop, History, OrderStory, JobStory, PartStory, OrderPieces, OrderPiecesAfter, BatchPieces, BatchPiecesAfter, UnitPieces, UnitPiecesAfter, Steps}
 use Rattle.shop_request.specs.Requests.{asking}
 use Rattle.shop_wire.specs.AnswerBytes.{Telling, replied, printed}
 use Rattle.shop_wire.specs.Replays.{ExchangesLead, IsNoMessage, PlansStep, line_message, with_reply}
@@ -205,6 +205,13 @@ module _ {B : Type 0} (book : Ghosts B) (before after : B) (m : Content) where
     else_timed OrderStory text other = tt
     else_timed JobStory text other = tt
     else_timed PartStory text other = tt
+    else_timed OrderPieces text other = tt
+    else_timed OrderPiecesAfter text other = tt
+    else_timed BatchPieces text other = tt
+    else_timed BatchPiecesAfter text other = tt
+    else_timed UnitPieces text other = tt
+    else_timed UnitPiecesAfter text other = tt
+    else_timed Steps text other = tt
 
   -- ---- what changes nothing
 
@@ -238,6 +245,13 @@ module _ {B : Type 0} (book : Ghosts B) (before after : B) (m : Content) where
     asked_served OrderStory text reply a b c d step blame = record { next = m; step = step; held = held; sound = sound; crash = (refl, keeps); blame = λ e. blame (told_reply reply (Refused StoreFault) e); account = account_same json_texts m m refl }
     asked_served JobStory text reply a b c d step blame = record { next = m; step = step; held = held; sound = sound; crash = (refl, keeps); blame = λ e. blame (told_reply reply (Refused StoreFault) e); account = account_same json_texts m m refl }
     asked_served PartStory text reply a b c d step blame = record { next = m; step = step; held = held; sound = sound; crash = (refl, keeps); blame = λ e. blame (told_reply reply (Refused StoreFault) e); account = account_same json_texts m m refl }
+    asked_served OrderPieces text reply a b c d step blame = record { next = m; step = step; held = held; sound = sound; crash = (refl, keeps); blame = λ e. blame (told_reply reply (Refused StoreFault) e); account = account_same json_texts m m refl }
+    asked_served OrderPiecesAfter text reply a b c d step blame = record { next = m; step = step; held = held; sound = sound; crash = (refl, keeps); blame = λ e. blame (told_reply reply (Refused StoreFault) e); account = account_same json_texts m m refl }
+    asked_served BatchPieces text reply a b c d step blame = record { next = m; step = step; held = held; sound = sound; crash = (refl, keeps); blame = λ e. blame (told_reply reply (Refused StoreFault) e); account = account_same json_texts m m refl }
+    asked_served BatchPiecesAfter text reply a b c d step blame = record { next = m; step = step; held = held; sound = sound; crash = (refl, keeps); blame = λ e. blame (told_reply reply (Refused StoreFault) e); account = account_same json_texts m m refl }
+    asked_served UnitPieces text reply a b c d step blame = record { next = m; step = step; held = held; sound = sound; crash = (refl, keeps); blame = λ e. blame (told_reply reply (Refused StoreFault) e); account = account_same json_texts m m refl }
+    asked_served UnitPiecesAfter text reply a b c d step blame = record { next = m; step = step; held = held; sound = sound; crash = (refl, keeps); blame = λ e. blame (told_reply reply (Refused StoreFault) e); account = account_same json_texts m m refl }
+    asked_served Steps text reply a b c d step blame = record { next = m; step = step; held = held; sound = sound; crash = (refl, keeps); blame = λ e. blame (told_reply reply (Refused StoreFault) e); account = account_same json_texts m m refl }
 
     pub plans_served : (body : List ℕ) (telling : Telling) → PlansStep m (body_plans body) telling m → (telling ≡ replied (Refused StoreFault) → StoreFailed (book.failed before) (book.failed after))
         → HasServedInput book before after m (asking Plans body) telling

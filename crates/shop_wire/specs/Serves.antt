@@ -9,6 +9,7 @@ use Rattle.cut_measure.specs.declared.ranges.TheConstants.{MOST_NUMBERS}
 use Rattle.cut_measure.specs.Codes.{code_of}
 use Rattle.cut_measure.specs.Names.{Name, spelled_name}
 use Rattle.shop_records.specs.declared.journal.Subject.TheVariants as subject
+use Rattle.shop_records.specs.declared.pieces.PieceSource.TheVariants as source
 use Rattle.shop_records.specs.declared.refusals.Refusal.{Refusal}
 use Rattle.shop_records.specs.declared.refusals.Refusal.TheVariants.{NoMemory, StoreFault}
 use Rattle.shop_records.specs.declared.messages.Message.{Message as MessageOf}
@@ -32,7 +33,7 @@ use Rattle.shop_desk.specs.Handled.{HasAccount}
 use Rattle.shop_text.specs.Tickets.{ticket_of}
 use Rattle.shop_text.specs.Yields.{yield_of}
 use Rattle.shop_request.specs.declared.routes.Route.{Route}
-use Rattle.shop_request.specs.declared.routes.Route.TheVariants.{Message, Plan, Plans, Bound, Backup, Totals, Rack, Trace, Demand, Ticket, Yield, Materials, Parts, PartsAfter, Demands, DemandsOf, Orders, OrdersAfter, OrderLines, Jobs, Job, Terminal, Shop, History, OrderStory, JobStory, PartStory}
+use Rattle.shop_request.specs.declared.routes.Route.TheVariants.{Message, Plan, Plans, Bound, Backup, Totals, Rack, Trace, Demand, Ticket, Yield, Materials, Parts, PartsAfter, Demands, DemandsOf, Orders, OrdersAfter, OrderLines, Jobs, Job, Terminal, Shop, History, OrderStory, JobStory, PartStory, OrderPieces, OrderPiecesAfter, BatchPieces, BatchPiecesAfter, UnitPieces, UnitPiecesAfter, Steps}
 use Rattle.shop_request.specs.Routes.{takes_body}
 use Rattle.shop_request.specs.Requests.{ParseResult, silent, faulty, asking, ParsesTo}
 use Rattle.shop_wire.specs.Replays.{ExchangesLead, data_of, line_message, IsNoMessage, IsReplied, PlansStep, with_reply}
@@ -102,6 +103,22 @@ part_story_asked text =
     option_and_then (λ act. option_and_then (λ node. option_map (λ after. query.Story (subject.Part (record { act = act; node = node })) after) (number_before (after_slash (after_slash text))))
     (node_of (before_slash (after_slash text)))) (numbered (before_slash text))
 
+-- the pieces of an order after a name: the bytes are both, with a slash between
+abbrev pub order_pieces_asked : List ℕ → Option Query
+order_pieces_asked text =
+    option_and_then (λ code. option_map (λ name. query.Pieces (source.Order code) (Some name)) (spelled_name (after_slash text))) (code_of (before_slash text))
+
+-- those of a batch
+abbrev pub batch_pieces_asked : List ℕ → Option Query
+batch_pieces_asked text =
+    option_and_then (λ code. option_map (λ name. query.Pieces (source.Batch code) (Some name)) (spelled_name (after_slash text))) (code_of (before_slash text))
+
+-- those of a unit, by its act, its node and the name
+abbrev pub unit_pieces_asked : List ℕ → Option Query
+unit_pieces_asked text =
+    option_and_then (λ act. option_and_then (λ node. option_map (λ name. query.Pieces (source.Unit (record { act = act; node = node })) (Some name)) (spelled_name (after_slash (after_slash text))))
+    (node_of (before_slash (after_slash text)))) (numbered (before_slash text))
+
 abbrev pub is_plan : Route → Bool
 is_plan Plan = true
 is_plan _ = false
@@ -146,6 +163,13 @@ path_query History part = option_map (λ after. query.History after) (number_bef
 path_query OrderStory part = if is_utf8 part then order_story_asked part else None
 path_query JobStory part = if is_utf8 part then job_story_asked part else None
 path_query PartStory part = if is_utf8 part then part_story_asked part else None
+path_query OrderPieces part = option_map (λ code. query.Pieces (source.Order code) None) (code_at part)
+path_query OrderPiecesAfter part = if is_utf8 part then order_pieces_asked part else None
+path_query BatchPieces part = option_map (λ code. query.Pieces (source.Batch code) None) (code_at part)
+path_query BatchPiecesAfter part = if is_utf8 part then batch_pieces_asked part else None
+path_query UnitPieces part = option_map (λ name. query.Pieces (source.Unit name) None) (name_at part)
+path_query UnitPiecesAfter part = if is_utf8 part then unit_pieces_asked part else None
+path_query Steps part = option_map (λ number. query.Steps number) (numbered part)
 path_query _ part = None
 
 -- the query that is asked

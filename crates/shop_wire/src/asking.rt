@@ -16,15 +16,17 @@ ghost use Rattle.shop_wire.specs.Tellings.{HasPrintedText, IsRead, PrintsCounted
 
 use crate::answers::value_in;
 use crate::paths::{
-    demands_at, job_story_at, number_before, number_in, order_story_at, part_story_at, parts_at,
-    terminal_in,
+    batch_pieces_at, demands_at, job_story_at, number_before, number_in, order_pieces_at,
+    order_story_at, part_story_at, parts_at, terminal_in, unit_pieces_at,
 };
 use crate::plans::body_told;
 use crate::told::{Told, refused, told_of};
 use shop_book::Book;
 use shop_desk::{ask, handle_with_text_at};
 use shop_request::Route;
-use shop_rules::{Code, Message, PartName, Query, Refusal, Reply, Text, read_message, read_query};
+use shop_rules::{
+    Code, Message, PartName, PieceSource, Query, Refusal, Reply, Text, read_message, read_query,
+};
 use shop_text::{report_text, ticket_text};
 use std::alloc::Global;
 use std::str;
@@ -152,6 +154,22 @@ fn query_at(route: Route, part: &[u8]) -> Option<Query>
         Route::OrderStory => order_story_at(part),
         Route::JobStory => job_story_at(part),
         Route::PartStory => part_story_at(part),
+        Route::OrderPieces => code_in(part).map(|order| Query::Pieces {
+            of: PieceSource::Order(order),
+            after: None,
+        }),
+        Route::OrderPiecesAfter => order_pieces_at(part),
+        Route::BatchPieces => code_in(part).map(|batch| Query::Pieces {
+            of: PieceSource::Batch(batch),
+            after: None,
+        }),
+        Route::BatchPiecesAfter => batch_pieces_at(part),
+        Route::UnitPieces => name_in(part).map(|unit| Query::Pieces {
+            of: PieceSource::Unit(unit),
+            after: None,
+        }),
+        Route::UnitPiecesAfter => unit_pieces_at(part),
+        Route::Steps => number_in(part).map(|job| Query::Steps { job }),
         _ => None,
     }
 }

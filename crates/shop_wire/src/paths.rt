@@ -4,10 +4,10 @@ ghost use Rattle.std.specs.Prelude.{◌≡◌, ◌≤◌, IfSome};
 ghost use Rattle.shop_wire.specs.Serves as serves;
 ghost use Rattle.shop_wire.specs.Serves.{after_slash, before_slash, path_query, ranged};
 ghost use Rattle.cut_measure.specs.declared.ranges.TheConstants.{MOST_NUMBERS};
-ghost use Rattle.shop_request.specs.declared.routes.Route.TheVariants.{DemandsOf, JobStory, OrderStory, PartStory, PartsAfter};
+ghost use Rattle.shop_request.specs.declared.routes.Route.TheVariants.{BatchPiecesAfter, DemandsOf, JobStory, OrderPiecesAfter, OrderStory, PartStory, PartsAfter, UnitPiecesAfter};
 
 use cut_measure::{MOST_NUMBERS, read_number};
-use shop_rules::{Code, PartName, Query, Subject};
+use shop_rules::{Code, PartName, PieceSource, Query, Subject};
 use std::str;
 
 /// The number of a range that a path says.
@@ -179,6 +179,74 @@ pub(crate) fn part_story_at(part: &[u8]) -> Option<Query>
 {
     match str::from_utf8(part) {
         Ok(text) => part_story_asked(text),
+        Err(_) => None,
+    }
+}
+
+// The query for an order's pieces after a name, in a text that says both.
+fn order_pieces_asked(text: &str) -> Option<Query>
+    ensures { result ≡ serves.order_pieces_asked text.now }
+{
+    let order = Code::read(before_slash(text))?;
+    let name = PartName::read(after_slash(text))?;
+    Some(Query::Pieces {
+        of: PieceSource::Order(order),
+        after: Some(name),
+    })
+}
+
+/// The query for an order's pieces after a name, that a path says.
+pub(crate) fn order_pieces_at(part: &[u8]) -> Option<Query>
+    ensures { result ≡ path_query OrderPiecesAfter part.now }
+{
+    match str::from_utf8(part) {
+        Ok(text) => order_pieces_asked(text),
+        Err(_) => None,
+    }
+}
+
+// The query for a batch's pieces after a name, in a text that says both.
+fn batch_pieces_asked(text: &str) -> Option<Query>
+    ensures { result ≡ serves.batch_pieces_asked text.now }
+{
+    let batch = Code::read(before_slash(text))?;
+    let name = PartName::read(after_slash(text))?;
+    Some(Query::Pieces {
+        of: PieceSource::Batch(batch),
+        after: Some(name),
+    })
+}
+
+/// The query for a batch's pieces after a name, that a path says.
+pub(crate) fn batch_pieces_at(part: &[u8]) -> Option<Query>
+    ensures { result ≡ path_query BatchPiecesAfter part.now }
+{
+    match str::from_utf8(part) {
+        Ok(text) => batch_pieces_asked(text),
+        Err(_) => None,
+    }
+}
+
+// The query for a unit's pieces after a name, in a text that says the unit's act, its node and the name.
+fn unit_pieces_asked(text: &str) -> Option<Query>
+    ensures { result ≡ serves.unit_pieces_asked text.now }
+{
+    let act = number_in(before_slash(text).as_bytes())?;
+    let rest = after_slash(text);
+    let node = node_in(before_slash(rest).as_bytes())?;
+    let name = PartName::read(after_slash(rest))?;
+    Some(Query::Pieces {
+        of: PieceSource::Unit(PartName::new(act, node)),
+        after: Some(name),
+    })
+}
+
+/// The query for a unit's pieces after a name, that a path says.
+pub(crate) fn unit_pieces_at(part: &[u8]) -> Option<Query>
+    ensures { result ≡ path_query UnitPiecesAfter part.now }
+{
+    match str::from_utf8(part) {
+        Ok(text) => unit_pieces_asked(text),
         Err(_) => None,
     }
 }

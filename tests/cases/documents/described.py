@@ -258,7 +258,7 @@ def found_wrong(trial):
 
 
 def telling(values):
-    """Values of which each has a key, or a type of a key's value, that those before it haven't, at any depth."""
+    """Values of which each has keys with types of their values, at any depth, that stand together in none before it."""
     chosen, seen = [], set()
     for value in values:
         had = len(seen)
@@ -269,7 +269,7 @@ def telling(values):
 
 
 def shapes(value, place):
-    yield place, type(value)
+    yield place, frozenset((key, type(it)) for key, it in value.items()) if isinstance(value, dict) else type(value)
     for key, it in value.items() if isinstance(value, dict) else (("", it) for it in value) if isinstance(value, list) else ():
         yield from shapes(it, (*place, key))
 

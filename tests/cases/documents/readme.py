@@ -77,7 +77,10 @@ def commands(trial):
         routes = set(re.findall(r"GET `(/[^`]+)`", file.read().partition("\n## Queries\n")[2].partition("\n### `plans`\n")[0]))
     known = {path.replace("{part}", "{act}/{node}") for _, path in PATHS}
     shown = {"/parts/{material}", "/parts/{material}/{act}/{node}", "/orders", "/orders/{order}"}
-    trial.equal(routes - shown, known - {"/parts/{material}/{after}", "/orders/{after}"}, "the routes of queries")
+    of = {"/pieces/order/{order}": "/{act}/{node}", "/pieces/batch/{batch}": "/{act}/{node}", "/pieces/unit/{act}/{node}": "/{after_act}/{after_node}"}
+    shown |= {*of, *(path + behind for path, behind in of.items())}
+    asked = {"/parts/{material}/{after}", "/orders/{after}", *(f"/pieces/{it}/{{{it}}}/{{after}}" for it in ("order", "batch", "unit"))}
+    trial.equal(routes - shown, known - asked, "the routes of queries")
 
 
 @case(

@@ -186,7 +186,7 @@ def wide(trial):
     trial.equal(shop.reply(compact(sheet | {"w": 200000})), b'{"act":1,"count":1,"ok":"receive"}')
     reserve = compact({"do": "reserve", "number": 21, "part": "1/0", "terminal": 1, "tree": tree})
     ticket = "\n".join(["job 2 waiting", "part 1/0 GLASS 20000.0 x 6000.0 kerf 0.0", *lines, "cuts 239 pieces 240", ""])
-    job = {"cuts": 239, "h": 60000, "job": 2, "kerf": 0, "material": "GLASS", "ok": "job", "part": "1/0", "state": "waiting"}
+    job = {"begun": 0, "cuts": 239, "h": 60000, "job": 2, "kerf": 0, "material": "GLASS", "ok": "job", "part": "1/0", "state": "waiting"}
     for _ in range(2):
         trial.equal(shop.reply(reserve), b'{"cuts":239,"job":2,"ok":"reserve"}')
         trial.equal(shop.reply('{"ask":"job","job":2}').decode(), compact(job | {"tree": tree, "w": 200000}))

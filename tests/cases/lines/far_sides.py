@@ -38,7 +38,7 @@ def gone(trial):
         contradicts(trial, shop, line, "without its demand")
     contradicts(trial, shop, '{"cuts":1,"do":"break","job":2,"lost":false,"number":7,"terminal":1}', "without its demand")
     trial.equal(shop.get("/ticket/2"), answer(503, FAULT), "the ticket")
-    job = {"cuts": 2, "h": 8, "job": 2, "kerf": 1, "material": "GLASS", "ok": "job", "part": "1/0", "state": "waiting", "w": 10}
+    job = {"begun": 0, "cuts": 2, "h": 8, "job": 2, "kerf": 1, "material": "GLASS", "ok": "job", "part": "1/0", "state": "waiting", "w": 10}
     trial.equal(shop.get("/job/2"), answer(200, compact(job | {"tree": "x4 y3 p1 p2 r"})))
     trial.equal(shop.get("/demand/1"), answer(404, '{"name":"NoDemand","refused":42}'))
     trial.equal(json.loads(shop.reply('{"ask":"demand","demand":2}'))["reserved"], 1)
@@ -83,7 +83,7 @@ def longest_ticket():
 def longest_job(trial):
     line = {"count": 256, "h": 1, "line": 1, "material": "B", "turn": False, "w": 1, "worth": 1}
     received = {"batch": "B-1", "count": 1, "do": "receive", "h": 1, "material": "B", "number": 2, "terminal": 1, "w": 256}
-    row = {"cuts": 255, "h": 1, "job": 2, "material": "B", "part": "1/0", "w": 256}
+    row = {"begun": 0, "cuts": 255, "h": 1, "job": 2, "material": "B", "part": "1/0", "w": 256}
     steps = [
         (material("B", 1, "bar", 0, 1, 1), added("B")),
         (compact(received), compact({"act": 1, "count": 1, "ok": "receive"})),
@@ -95,7 +95,7 @@ def longest_job(trial):
             compact({"do": "reserve", "number": 4, "part": "1/0", "terminal": 1, "tree": LONGEST}),
             compact({"cuts": 255, "job": 2, "ok": "reserve"}),
         ),
-        ('{"after":0,"ask":"jobs"}', compact({"jobs": [row], "more": False, "ok": "jobs"})),
+        ('{"after":0,"ask":"jobs"}', compact({"jobs": [row | {"due": 0}], "more": False, "ok": "jobs"})),
         ('{"ask":"job","job":2}', compact(row | {"kerf": 0, "ok": "job", "state": "waiting", "tree": LONGEST})),
     ]
     over_both(trial, steps)

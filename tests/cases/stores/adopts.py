@@ -94,7 +94,7 @@ def unread(trial):
 
 # What makes a part or a total no value of its type, and what makes it one again.
 STRANGE = [
-    ("parts", "state", ("7", "-1"), "0"),
+    ("parts", "state", ("8", "-1"), "0"),
     ("parts", "detail", ("4", "-1"), "0"),
     ("parts", "x", ("-1", "4294967296"), "0"),
     ("parts", "y", ("-1", "5000000000"), "0"),

@@ -274,7 +274,7 @@ SPOILS = [
     ("UPDATE jobs SET tree = 'x4 y3'", "jobs 2"),
     ("UPDATE demands SET turn = 5 WHERE number = 2", "demands 2"),
     ("UPDATE materials SET kind = 3", "materials GLASS"),
-    ("UPDATE parts SET state = 7 WHERE node = 1", "parts 1/1"),
+    ("UPDATE parts SET state = 8 WHERE node = 1", "parts 1/1"),
     ("UPDATE parts SET batch = 'b-1' WHERE node = 0", "parts 1/0"),
 ]
 # Numbers that are out of their ranges, together or alone.
@@ -288,7 +288,7 @@ DAMAGED = "it or its disk is damaged; put a copy of it and its log in its place"
 
 @case(
     "rows of no book",
-    "A job of state 9 or of a plan that is none, a turn of 5, a kind of 3, a part of state 7 or of a batch that is no code is "
+    "A job of state 9 or of a plan that is none, a turn of 5, a kind of 3, a part of state 8 or of a batch that is no code is "
     "`fault version` at each start, and the second line names the row; a bar with the limits of a sheet, a width of 0 and a line over "
     "32 bits are `fault store`; the file stays as it was.",
 )

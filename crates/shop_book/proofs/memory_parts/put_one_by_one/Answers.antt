@@ -30,6 +30,9 @@ loop-part-preserved c =
       known = c.put_part.ensures.known;
       tally = c.put_part.ensures.tally;
       rooms = c.put_part.ensures.rooms (length rows - (at + 1)) rows (subst (λ n. HaveRooms n rows c.loop-part.parts c.loop-part.totals c.loop-part.lists.items) left c.loop-part.invariant.rooms);
+      further = λ count more rooms.
+          c.put_part.ensures.rooms (length rows - (at + 1) + count) more
+          (subst (λ n. HaveRooms n more c.loop-part.parts c.loop-part.totals c.loop-part.lists.items) (let e : length rows - at + count ≡ length rows - (at + 1) + count + 1 = omega (arith, within) in e) (c.loop-part.invariant.further count more rooms));
       rest = ap (with_parts (drop (at + 1) rows))
           (put_is_insert name_cmp names_total part.name part (entries_of part_key name_cmp (parts_in c.loop-part.parts)) (entries_of part_key name_cmp (parts_in c.put_part.new.parts)) c.loop-part.invariant.tally.rising c.put_part.ensures.put)
           ∙ ap (λ (ps : List Part). with_parts ps (map_of part_key name_cmp (parts_in c.loop-part.parts))) (sym next) ∙ c.loop-part.invariant.rest;
@@ -44,4 +47,6 @@ returns c =
       put = sym (ap (λ (ps : List Part). with_parts ps (map_of part_key name_cmp (parts_in c.loop-part.parts))) none) ∙ c.loop-part.invariant.rest;
       known = c.loop-part.invariant.known;
       tally = c.loop-part.invariant.tally;
+      rooms = λ count more rooms.
+          subst (λ n. HaveRooms n more c.loop-part.parts c.loop-part.totals c.loop-part.lists.items) (let e : length rows - c.loop-part.part-index + count ≡ count = omega (arith, end) in e) (c.loop-part.invariant.further count more rooms);
     }

@@ -1,5 +1,6 @@
-use Rattle.std.proofs.Common.{◌≡◌, ◌-◌, length, drop}
+use Rattle.std.proofs.Common.{◌≡◌, ◌+◌, ◌-◌, ℕ, List, length, drop}
 use Rattle.cut_measure.specs.Names.{name_cmp}
+use Rattle.shop_records.specs.declared.records.Part.{Part}
 use Rattle.shop_records.specs.Content.{with_parts}
 use Rattle.shop_rows.specs.Keys.{part_key}
 use Rattle.shop_rows.specs.PartRows.{parts_in, AreKnown}
@@ -13,5 +14,7 @@ invariant-loop-part l =
       known : AreKnown l.parts;
       tally : Tallies (parts_in l.parts) l.totals.items l.lists.items;
       rooms : HaveRooms (length l.rows - l.part-index) l.rows l.parts l.totals l.lists.items;
+      further : (count : ℕ) (more : List Part) → HaveRooms (length l.rows + count) more l.fn.parts l.fn.totals l.fn.lists.items
+          → HaveRooms (length l.rows - l.part-index + count) more l.parts l.totals l.lists.items;
       rest : with_parts (drop l.part-index l.rows) (map_of part_key name_cmp (parts_in l.parts)) ≡ with_parts l.rows (map_of part_key name_cmp (parts_in l.fn.parts));
     }

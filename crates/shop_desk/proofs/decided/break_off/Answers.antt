@@ -1,5 +1,5 @@
 use Rattle.std.proofs.Common.{refl}
-use Rattle.cut_tree.specs.declared.halts.Stop.TheVariants.{After}
+use Rattle.cut_tree.specs.Stops.{halted}
 use Rattle.shop_records.specs.declared.messages.Command.TheVariants.{Break}
 use Rattle.shop_records.specs.Content.{demand_at}
 use Rattle.shop_machine.specs.Recounts.{AreDemandsFound}
@@ -14,6 +14,6 @@ returns-clause-decision g c =
     let is = c.in_ok-job.field-0 in
     let rows = c.in_ok-job.ensures.rows clean_disk m held in
     let found : AreDemandsFound (demand_at m) c.deref.result.now = rw c.deref.ensures.value rows.demands in
-    end_decided m c.args.number is.job is.part is.material is.totals is.leaves.items rows (After c.args.halt.now) json_texts (Break c.args.number c.args.halt.now) refl refl
-    (λ change totals j part material. IsBroken c.args.halt.now j part material.limits totals (demand_at m) change) (λ change it. it) (g.B.Book.failed c.args.book.now) (g.B.Book.failed c.job_rows.new.book) c.decide_break.result
+    end_decided m c.args.number is.job is.part is.material is.totals is.leaves.items rows (halted c.args.halt.now c.args.rest) json_texts (Break c.args.number c.args.halt.now c.args.rest) refl refl
+    (λ change totals j part material. IsBroken c.args.halt.now c.args.rest j part material.limits totals (demand_at m) change) (λ change it. it) (g.B.Book.failed c.args.book.now) (g.B.Book.failed c.job_rows.new.book) c.decide_break.result
     (c.decide_break.ensures.decision (demand_at m) found)

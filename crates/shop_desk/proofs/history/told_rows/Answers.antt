@@ -1,5 +1,4 @@
 use Rattle.std.proofs.Common.{◌≡◌, length, take, refl, sym, ap, subst, ◌∙◌, arith}
-use Rattle.std.specs.Prelude.{true, false}
 use Rattle.std.proofs.Math.Seq.{take-length}
 use Rattle.shop_records.specs.Lists.{told_entries}
 use Rattle.shop_desk.specs.ToldEntries.{ShowsMore, ShowsOrHides, Hides}

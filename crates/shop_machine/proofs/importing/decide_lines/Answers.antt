@@ -1,4 +1,4 @@
-use Rattle.std.proofs.Common.{◌≡◌, sym, ◌∙◌}
+use Rattle.std.proofs.Common.{sym, ◌∙◌}
 use Rattle.std.proofs.lemmas.List.{length-map}
 use Rattle.shop_records.specs.declared.imports.Form.TheVariants.{Csv}
 use Rattle.shop_machine.specs.declared.ordering.FoundLine.{FoundLine}

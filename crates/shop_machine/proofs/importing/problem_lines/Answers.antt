@@ -1,4 +1,4 @@
-use Rattle.std.proofs.Common.{◌+◌, ◌++◌, ◌∷◌, [], ap, ◌∙◌, arith}
+use Rattle.std.proofs.Common.{◌++◌, ◌∷◌, [], ap, ◌∙◌, arith}
 use Rattle.shop_machine.proofs.ImportingDecision.{line_pushed}
 use Rattle.shop_machine.proofs.importing.problem_lines.Goals as goal
 

@@ -1,5 +1,4 @@
-use Rattle.std.proofs.Common.{◌≡◌, ◌∷◌, pos, sym, ap, ◌∙◌}
-use Rattle.sqlite_value.specs.declared.value.Value.TheVariants.{Int}
+use Rattle.std.proofs.Common.{◌≡◌, sym, ap, ◌∙◌}
 use Rattle.sqlite_value.specs.Order.{column}
 use Rattle.shop_statements.specs.Found.{columns_of}
 use Rattle.shop_statements.proofs.EntryValues.{one_entry}

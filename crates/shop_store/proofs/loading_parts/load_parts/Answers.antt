@@ -1,14 +1,17 @@
-use Rattle.std.proofs.Common.{Ok, true≢false, ap, sym, ◌∙◌, subst}
+use Rattle.std.proofs.Common.{◌≢◌, IfOk, Ok, true≢false, refl, ap, sym, ◌∙◌, subst, arith}
 use Rattle.std.specs.FinMap.{values}
 use Rattle.std.proofs.lemmas.Result.{IfOk-weaker}
 use Rattle.sqlite.specs.Held.{state}
+use Rattle.sqlite.specs.State.{HasCleanDisk}
 use Rattle.shop_tables.specs.Changing.{HasSums}
 use Rattle.shop_tables.specs.Lending.{gone_through}
+use Rattle.shop_tables.specs.declared.lending.Lent.TheVariants.{Invalid}
 use Rattle.shop_book.specs.Ledgers.{content_in}
 use Rattle.shop_store.specs.Checking.{AreSumsIn}
 use Rattle.shop_store.specs.Loading.{IsLoaded, loading_in, put_part, with_each}
 use Rattle.shop_store.proofs.Checked.{leaves_itself}
 use Rattle.shop_store.proofs.Counting.{stopped_at}
+use Rattle.shop_store.proofs.HeldEither.{either}
 use Rattle.shop_store.proofs.LoadedParts.{IsVisitOf, adder_visit, all_put, held_visit, loaded_as, sums_are, sums_are_not}
 use Rattle.shop_store.proofs.loading_parts.load_parts.Goals as goal
 
@@ -47,3 +50,10 @@ returns-in-Stopped-clause-loaded g c clean b was list =
     subst (IsLoaded (HasSums b) (with_each put_part parts (content_in c.args.ledger))) (sym it.0)
     (λ has. absurd (true≢false (sym ((stopped_at b c.args.totals.now old.adder new.adder visited list c.in_ok-loader.ensures.narrow none there went (adder_visit parts old new visited visit (λ _. it.1))).1 has)))))
     c.stopped.ensures
+
+pub returns-in_ok-part_key_at-in-Invalid-clause-loaded : goal.returns-in_ok-part_key_at-in-Invalid-clause-loaded
+returns-in_ok-part_key_at-in-Invalid-clause-loaded g c clean b was list =
+    let lent = c.lend_all_parts.ensures in
+    let before : HasCleanDisk (state g.S.Store c.lend_all_parts.new.conn) = let l = c.part_key_at.ensures.leaves.survives.clean in omega (arith, l, clean) in
+    let never : IfOk c.lend_all_parts.result (λ how. how ≢ Invalid) = either was (lent.invalid before b) (lent.second_invalid before b) (lent.earlier_invalid before b) in
+    absurd (subst (λ r. IfOk r (λ how. how ≢ Invalid)) (c.in_ok-lend_all_parts.was ∙ ap Ok c.in-Invalid.is) never refl)

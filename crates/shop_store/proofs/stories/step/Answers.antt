@@ -1,4 +1,4 @@
-use Rattle.std.proofs.Common.{◌≡◌, ◌-◌, List, ◌++◌, Some, filter, length, take, sym, ap, ◌∙◌, arith}
+use Rattle.std.proofs.Common.{◌≡◌, ◌-◌, List, ◌++◌, Some, filter, length, take, sym, ap, ◌∙◌}
 use Rattle.std.specs.List.{slice_get}
 use Rattle.shop_records.specs.Lists.{is_about}
 use Rattle.shop_records.specs.declared.journal.Entry.{Entry}

@@ -66,3 +66,15 @@ returns-then-are_free-clause-two_old_totals g c is = absurd (true≢false (sym c
 
 pub returns-else-are_free-clause-two_old_totals : goal.returns-else-are_free-clause-two_old_totals
 returns-else-are_free-clause-two_old_totals g c is clean = c.adopt_taken.ensures.two_old_totals is clean (c.is_autocommit-outside.ensures.settled (c.is_autocommit-outside.ensures.value ∙ ap not c.requires.outside))
+
+pub returns-then-are_free-clause-one_undone : goal.returns-then-are_free-clause-one_undone
+returns-then-are_free-clause-one_undone g c is = absurd (true≢false (sym c.if-are_free.true ∙ c.are_free.ensures ∙ ap names_are_free c.schema.ensures.value ∙ earlier_taken c.args.conn.now.schema is))
+
+pub returns-then-are_free-clause-two_undone : goal.returns-then-are_free-clause-two_undone
+returns-then-are_free-clause-two_undone g c is = absurd (true≢false (sym c.if-are_free.true ∙ c.are_free.ensures ∙ ap names_are_free c.schema.ensures.value ∙ second_taken c.args.conn.now.schema is))
+
+pub returns-else-are_free-clause-two_undone : goal.returns-else-are_free-clause-two_undone
+returns-else-are_free-clause-two_undone g c is clean = c.adopt_taken.ensures.two_undone is clean (c.is_autocommit-outside.ensures.settled (c.is_autocommit-outside.ensures.value ∙ ap not c.requires.outside))
+
+pub returns-else-are_free-clause-one_undone : goal.returns-else-are_free-clause-one_undone
+returns-else-are_free-clause-one_undone g c is clean = c.adopt_taken.ensures.one_undone is clean (c.is_autocommit-outside.ensures.settled (c.is_autocommit-outside.ensures.value ∙ ap not c.requires.outside))

@@ -96,3 +96,18 @@ returns-then-are_second-clause-two_neither g c is clean b was = c.adopt_second.e
 
 pub returns-then-are_earlier-clause-second_names : goal.returns-then-are_earlier-clause-second_names
 returns-then-are_earlier-clause-second_names g c second = absurd (true≢false (sym second ∙ earlier_names_alone c.args.conn.now.schema (sym (c.are_earlier.ensures ∙ ap names_are_earlier c.schema.ensures.value) ∙ c.if-are_earlier.true)))
+
+pub returns-then-are_earlier-clause-two_undone : goal.returns-then-are_earlier-clause-two_undone
+returns-then-are_earlier-clause-two_undone g c is = absurd (true≢false (sym c.if-are_earlier.true ∙ c.are_earlier.ensures ∙ ap names_are_earlier c.schema.ensures.value ∙ second_not_earlier c.args.conn.now.schema is))
+
+pub returns-then-are_second-clause-one_undone : goal.returns-then-are_second-clause-one_undone
+returns-then-are_second-clause-one_undone g c is = absurd (true≢false (sym (c.are_earlier.ensures ∙ ap names_are_earlier c.schema.ensures.value ∙ earlier_stand c.args.conn.now.schema is) ∙ c.if-are_earlier.false))
+
+pub returns-clause-one_undone : goal.returns-clause-one_undone
+returns-clause-one_undone g c is = absurd (true≢false (sym (c.are_earlier.ensures ∙ ap names_are_earlier c.schema.ensures.value ∙ earlier_stand c.args.conn.now.schema is) ∙ c.if-are_earlier.false))
+
+pub returns-clause-two_undone : goal.returns-clause-two_undone
+returns-clause-two_undone g c is = absurd (true≢false (sym (c.are_second.ensures ∙ ap names_are_second c.schema-2.ensures.value ∙ second_stand c.args.conn.now.schema is) ∙ c.if-are_second.false))
+
+pub returns-then-are_earlier-clause-one_neither : goal.returns-then-are_earlier-clause-one_neither
+returns-then-are_earlier-clause-one_neither g c is clean b was = c.adopt_first.ensures.neither is clean b (λ clean up. was)

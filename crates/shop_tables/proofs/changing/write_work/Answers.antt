@@ -19,4 +19,4 @@ returns-clause-writes g c =
       demands_fit has.decided change has.fits (with_imports change.import (with_orders change.order b)) has.demands,
     )) (λ b. refl)
     (writes_then (writes_then (of_some with_orders (λ b. refl) (λ x b. refl) change.order c.in_ok-write_some.ensures.writes) (of_some with_imports (λ b. refl) (λ x b. refl) change.import c.in_ok-write_some-2.ensures.writes))
-    (rw c.as_slice.ensures at c.write_demands.ensures.writes))
+    (rw (c.as_slice.ensures, c.lines_for.ensures) at c.write_demands.ensures.writes))

@@ -1,10 +1,11 @@
-use Rattle.std.proofs.Common.{rules, ◌≡◌, ℕ, List, sym, subst}
+use Rattle.std.proofs.Common.{rules, ◌≡◌, ℕ, List, sym, subst, ◌∙◌}
 use Rattle.std.specs.Ordering.{nat_cmp}
 use Rattle.shop_records.specs.Lists.{is_open}
 use Rattle.shop_records.specs.declared.records.Part.{Part}
 use Rattle.shop_records.specs.declared.records.Job.{Job}
 use Rattle.shop_records.specs.declared.records.Demand.{Demand}
-use Rattle.shop_rows.specs.Keys.{job_key, demand_key}
+use Rattle.shop_records.specs.declared.notes.OrderNote.{OrderNote}
+use Rattle.shop_rows.specs.Keys.{job_key, note_key, demand_key}
 use Rattle.shop_rows.specs.Open.{waits, ListsNumbers}
 use Rattle.shop_rows.specs.PartRows.{parts_in}
 use Rattle.shop_rows.specs.declared.sums.Sums.{Sums}
@@ -29,6 +30,7 @@ invariant_of-result c =
     let totals : c.in_ok-totals.totals.items ≡ old.totals.items = search rules in
     let jobs : c.in_ok-jobs.jobs.items ≡ old.jobs.items = c.in_ok-jobs.ensures in
     let orders : c.in_ok-orders.orders.items ≡ old.orders.items = search rules in
+    let notes : c.in_ok-notes.notes.items ≡ old.notes.items = c.in_ok-notes.ensures ∙ c.deref-5.ensures.value in
     let demands : c.in_ok-demands.demands.items ≡ old.demands.items = search rules in
     record {
       kept_up = record {
@@ -39,6 +41,8 @@ invariant_of-result c =
             (subst (λ (rows : List Part). Tallies rows c.in_ok-totals.totals.items old.lists.parts.items) (sym parts)
             (subst (λ (totals : List Sums). Tallies (parts_in old.parts) totals old.lists.parts.items) (sym totals) was.tally));
         jobs_rise = subst (λ (js : List Job). IsTrue (rise job_key nat_cmp js)) (sym jobs) was.jobs_rise;
+        begun_rise = search rules;
+        notes_rise = subst (λ (rows : List OrderNote). IsTrue (rise note_key code_cmp rows)) (sym notes) was.notes_rise;
         orders_rise = subst (λ (orders : List KnownOrder). IsTrue (rise known_key code_cmp orders)) (sym orders) was.orders_rise;
         demands_rise = search rules;
         placed = λ none.
@@ -63,4 +67,6 @@ returns c =
     let jobs : c.in_ok-jobs.jobs.items ≡ old.jobs.items = c.in_ok-jobs.ensures in
     let orders : c.in_ok-orders.orders.items ≡ old.orders.items = search rules in
     let demands : c.in_ok-demands.demands.items ≡ old.demands.items = search rules in
-    λ i. content_of_rows (materials i) (parts i) (jobs i) (codes_in (orders i)) (demands i) old.last_act old.last_demand
+    let begun : c.in_ok-begun.begun.items ≡ old.begun.items = search rules in
+    let notes : c.in_ok-notes.notes.items ≡ old.notes.items = c.in_ok-notes.ensures ∙ c.deref-5.ensures.value in
+    λ i. content_of_rows (materials i) (parts i) (jobs i) (begun i) (codes_in (orders i)) (notes i) (demands i) old.last_act old.last_demand

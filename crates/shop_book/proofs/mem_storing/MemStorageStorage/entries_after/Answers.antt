@@ -1,9 +1,8 @@
-use Rattle.std.proofs.Common.{◌≡◌, List, length, take, drop, sym, ap, ◌∙◌}
-use Rattle.std.specs.FinMap.{FinMap, values}
+use Rattle.std.proofs.Common.{List, take, sym, ap, ◌∙◌}
+use Rattle.std.specs.FinMap.{values}
 use Rattle.std.specs.Ordering.{nat_cmp}
 use Rattle.std.specs.Prelude.{filter, nat_lt}
 use Rattle.shop_records.specs.declared.journal.Entry.{Entry}
-use Rattle.shop_records.specs.Lists.{entries_behind}
 use Rattle.shop_rows.specs.Keys.{entry_key}
 use Rattle.shop_rows.specs.Rows.{rise}
 use Rattle.shop_book.proofs.Held.{values-rows}

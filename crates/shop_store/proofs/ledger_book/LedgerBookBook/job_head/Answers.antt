@@ -6,7 +6,7 @@ use Rattle.shop_store.proofs.LedgerBooks.{counted}
 use Rattle.shop_store.proofs.ledger_book.LedgerBookBook.job_head.Goals as goal
 
 pub returns-clause-row : goal.returns-clause-row
-returns-clause-row g c clean m was = c.job_head.ensures ∙ ap (λ x. option_map head_of (job_at x c.args.number)) (was.1 clean)
+returns-clause-row g c clean m was = c.in_ok-head.ensures ∙ ap (λ x. option_map (head_of x) (job_at x c.args.number)) (was.1 clean)
 
 pub returns-clause-keeps : goal.returns-clause-keeps
 returns-clause-keeps g c = counted g.S.Storage _ _ _ refl refl refl

@@ -1,0 +1,13 @@
+use Rattle.std.proofs.Common.{◌≡◌, take}
+use Rattle.std.specs.Prelude.{map}
+use Rattle.shop_records.specs.Content.{Content}
+use Rattle.shop_records.specs.Lists.{step_row}
+use Rattle.shop_book.specs.Kept.{Unchanged}
+use Rattle.shop_desk.proofs.nodes.step_rows.Given as goal
+
+abbrev pub invariant-loop-step : goal.invariant-loop-step
+invariant-loop-step g l =
+    record {
+      keeps : Unchanged g.B.Book (λ before after. after ≡ before) l.fn.book l.book;
+      rows : g.B.Book.has_clean_disk l.book → (m : Content) → g.B.Book.holds l.fn.book m → l.rows ≡ map (step_row m l.job) (take l.step-index l.steps);
+    }

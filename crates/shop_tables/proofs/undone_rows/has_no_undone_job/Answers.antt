@@ -1,0 +1,21 @@
+use Rattle.std.proofs.Common.{◌∙◌, ◌==◌, [], filter, ap}
+use Rattle.sqlite.specs.Held.{state}
+use Rattle.shop_statements.proofs.Kept.{shown_open}
+use Rattle.shop_tables.specs.Adopting.{is_undone_job}
+use Rattle.shop_tables.proofs.NoUndone.{decides_none, undone_jobs_selects, undone_jobs_shown, undone_jobs_text}
+use Rattle.shop_tables.proofs.undone_rows.has_no_undone_job.Goals as goal
+
+pub returns-in_err-rows-clause-leaves : goal.returns-in_err-rows-clause-leaves
+returns-in_err-rows-clause-leaves g c = c.all_rows.ensures.leaves undone_jobs_selects
+
+pub returns-clause-leaves : goal.returns-clause-leaves
+returns-clause-leaves g c = c.all_rows.ensures.leaves undone_jobs_selects
+
+pub returns-clause-was_open : goal.returns-clause-was_open
+returns-clause-was_open g c clean = shown_open undone_jobs_text [] (state g.S.Store c.args.conn.now) (state g.S.Store c.all_rows.new.conn) c.in_ok-rows.rows.items (c.in_ok-rows.ensures.rows clean)
+
+pub returns-clause-stands : goal.returns-clause-stands
+returns-clause-stands g c clean h =
+    let old = state g.S.Store c.args.conn.now in
+    let none = undone_jobs_shown old (state g.S.Store c.all_rows.new.conn) h c.in_ok-rows.rows.items (c.in_ok-rows.ensures.rows clean) in
+    decides_none c.is_empty.result c.in_ok-rows.rows.items (filter is_undone_job (old.now.trees 6)) (c.is_empty.ensures ∙ ap (λ n. n == 0) c.in_ok-rows.rows.ok.0) none
