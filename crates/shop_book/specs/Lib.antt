@@ -11,6 +11,8 @@ pub mod Tallies
 -- rows in a ledger, and what lasts beside it
 pub mod KeptUp
 pub mod Ledgers
+pub mod EndRows
+pub mod Ends
 pub mod Storages
 pub mod MemStorages
 pub mod Loading
