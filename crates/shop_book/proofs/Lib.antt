@@ -15,6 +15,8 @@ pub mod LinesTold
 -- rows in a ledger, and what lasts beside it
 pub mod KnownRows
 pub mod Loaded
+-- when jobs were done or broken
+pub mod Ends
 -- which entries a story tells
 pub mod AboutOrders
 -- the day on which a job is due

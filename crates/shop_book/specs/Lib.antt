@@ -12,6 +12,8 @@ pub mod Pieces
 -- rows in a ledger, and what lasts beside it
 pub mod KeptUp
 pub mod Ledgers
+pub mod EndRows
+pub mod Ends
 pub mod Storages
 pub mod MemStorages
 pub mod Loading

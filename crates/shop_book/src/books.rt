@@ -1,9 +1,10 @@
 //! What is promised of a book, which keeps the shop's content: what its calls answer, and what a crash may leave.
 
 ghost use Rattle.std.specs.Prelude.{◌≡◌, ◌+◌, ◌≤◌, ◌⊎◌, ℕ, IfOk, IfSome, OnOk, OnErr, map, option_map, take};
-ghost use Rattle.shop_records.specs.Content.{Content, material_at, part_at, job_at, has_order, demand_at, kept_at, import_at, halt_at, begun_at, note_at, entry_at, entry_count, last_time, totals_of, parts_of as listed_parts, parts_named, changed};
-ghost use Rattle.shop_records.specs.Lists.{AreLines, IsLastNumber, due_of, entries_about, entries_behind, materials_of, orders_after, parts_after, open_demands, waiting_jobs};
+ghost use Rattle.shop_records.specs.Content.{Content, material_at, part_at, job_at, has_order, demand_at, kept_at, import_at, halt_at, begun_at, note_at, entry_at, entry_count, last_time, of_found, totals_of, parts_of as listed_parts, parts_named, changed};
+ghost use Rattle.shop_records.specs.Lists.{AreLines, IsLastNumber, due_of, end_entry, entries_about, entries_behind, materials_of, orders_after, parts_after, open_demands, waiting_jobs};
 ghost use Rattle.shop_records.specs.Soundness.{Fits};
+ghost use Rattle.shop_records.specs.declared.journal.Entry.{Entry as EntryOf};
 ghost use Rattle.shop_records.specs.declared.records.Job.{Job as JobOf};
 ghost use Rattle.shop_book.specs.Failures.{CountsFailure};
 ghost use Rattle.shop_book.specs.Books.{Keeps};
@@ -379,15 +380,21 @@ pub trait Book {
         ensures keeps { Keeps has_clean_disk holds may_leave failed
             (CountsFailure result) self.old self.new };
 
+    /// When the job of a number was done or broken, by its entry; 0 where that has none.
+    fn ended(&self, job: u32) -> u64
+        ensures time { has_clean_disk self.now → (m : Content) → holds self.now m
+            → result ≡ of_found (λ (entry : EntryOf). entry.at) (end_entry m job) };
+
     /// How many messages are kept. It is told in a log, and no clause says it.
     fn kept_count(&mut self) -> Result<u32, BookFault>
         ensures keeps { Keeps has_clean_disk holds may_leave failed
             (CountsFailure result) self.old self.new };
 
-    /// How many messages and how many imports are kept.
-    fn text_counts(&mut self) -> Result<(u64, u64), BookFault>
+    /// How many messages, how many imports and how many halts are kept.
+    fn text_counts(&mut self) -> Result<(u64, u64, u64), BookFault>
         ensures counts { has_clean_disk self.new → (m : Content) → holds self.old m
-            → IfOk result (λ counts. (counts.0 ≡ len m.kept) × (counts.1 ≡ len m.imports)) }
+            → IfOk result (λ counts. (counts.0 ≡ len m.kept) × (counts.1 ≡ len m.imports)
+            × (counts.2 ≡ len m.halts)) }
         ensures keeps { Keeps has_clean_disk holds may_leave failed
             (CountsFailure result) self.old self.new };
 

@@ -3,6 +3,8 @@
 
 mod books;
 mod due_jobs;
+mod end_rows;
+mod job_ends;
 mod keeping;
 mod known_orders;
 mod ledger;
@@ -24,7 +26,9 @@ mod storage;
 mod stories;
 
 pub use books::{Book, BookFault, FoundJob, JobHead, MOST_FAILURES};
+pub use end_rows::JobEnds;
 pub use ledger::Ledger;
 pub use mem_storage::MemStorage;
 pub use read_rows::ReadRows;
+pub use same_halts::is_same_halt;
 pub use storage::{Storage, StorageFault};

@@ -8,6 +8,7 @@ ghost use Rattle.shop_book.specs.Memory.{put_kept};
 ghost use Rattle.shop_records.specs.Content.{of_found};
 ghost use Rattle.shop_records.specs.declared.journal.Entry.{Entry as EntryOf};
 
+use crate::job_ends::time_of_end;
 use crate::keeping::{KeptText, copy_kept, count_kept, find_kept, last_kept};
 use crate::mem_storage::MemStorage;
 use crate::memory_lists::{copy_halts, copy_imports, find_halt, find_import};
@@ -138,8 +139,15 @@ fn keep_text(
     Ok(())
 }
 
-// How many rows there are.
-fn count_rows(rows: &[ImportRow]) -> u64
+// How many imports there are.
+fn count_imports(rows: &[ImportRow]) -> u64
+    ensures { result ≡ length rows.now }
+{
+    rows.len() as u64
+}
+
+// How many halts there are.
+fn count_halts(rows: &[JobHalt]) -> u64
     ensures { result ≡ length rows.now }
 {
     rows.len() as u64
@@ -232,8 +240,16 @@ impl Storage for MemStorage {
         Ok(list)
     }
 
-    fn text_counts(&mut self) -> Result<(u64, u64), StorageFault> {
-        Ok((count_kept(&self.kept), count_rows(&self.imports)))
+    fn ended(&self, job: u32) -> u64 {
+        time_of_end(job, entries_after(&self.entries, 0))
+    }
+
+    fn text_counts(&mut self) -> Result<(u64, u64, u64), StorageFault> {
+        Ok((
+            count_kept(&self.kept),
+            count_imports(&self.imports),
+            count_halts(&self.halts),
+        ))
     }
 
     fn commit(&mut self, change: &Change) -> Result<(), StorageFault> {

@@ -29,8 +29,8 @@ fn same_cuts(a: &Halt, b: &Halt) -> bool
     }
 }
 
-// Whether two halts are the same.
-fn is_same_halt(a: &JobHalt, b: &JobHalt) -> bool
+/// Whether two halts are the same.
+pub fn is_same_halt(a: &JobHalt, b: &JobHalt) -> bool
     ensures { result ≡ same_halt a.now b.now }
 {
     a.job == b.job && same_cuts(&a.halt, &b.halt) && a.rest == b.rest

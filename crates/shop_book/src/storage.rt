@@ -1,8 +1,8 @@
 //! What lasts of a shop: its long texts, and each change, as a whole or not at all.
 
 ghost use Rattle.std.specs.Prelude.{◌≡◌, ◌++◌, ◌∷◌, [], ◌⊎◌, Bool, IfErr, IfOk, IsOk, List, OnOk, OnErr, drop, false, length, take};
-ghost use Rattle.shop_records.specs.Content.{Content, kept_at, import_at, halt_at, entry_at, entry_count, last_time, changed};
-ghost use Rattle.shop_records.specs.Lists.{IsLastNumber, entries_behind};
+ghost use Rattle.shop_records.specs.Content.{Content, kept_at, import_at, halt_at, entry_at, entry_count, last_time, changed, of_found};
+ghost use Rattle.shop_records.specs.Lists.{IsLastNumber, end_entry, entries_behind};
 ghost use Rattle.shop_records.specs.Soundness.{Fits};
 ghost use Rattle.shop_records.specs.declared.journal.Entry.{Entry as EntryOf};
 ghost use Rattle.shop_book.specs.Storages.{IsRead};
@@ -120,15 +120,21 @@ pub trait Storage {
         ensures memory { MAY_FAIL ≡ false → IfErr result (λ fault. fault ≡ NoMemory) }
         ensures leaves { IsRead has_clean_disk holds may_leave self.old self.new };
 
+    /// When the job of a number was done or broken, by its entry; 0 where that has none.
+    fn ended(&self, job: u32) -> u64
+        ensures time { has_clean_disk self.now → (m : Content) → holds self.now m
+            → result ≡ of_found (λ (entry : EntryOf). entry.at) (end_entry m job) };
+
     /// The number of kept messages, for the log alone: no clause says which number it is.
     fn kept_count(&mut self) -> Result<u32, StorageFault>
         ensures sure { MAY_FAIL ≡ false → IsOk result }
         ensures leaves { IsRead has_clean_disk holds may_leave self.old self.new };
 
-    /// How many messages and how many imports are kept.
-    fn text_counts(&mut self) -> Result<(u64, u64), StorageFault>
+    /// How many messages, how many imports and how many halts are kept.
+    fn text_counts(&mut self) -> Result<(u64, u64, u64), StorageFault>
         ensures counts { has_clean_disk self.new → (m : Content) → holds self.old m
-            → IfOk result (λ counts. (counts.0 ≡ len m.kept) × (counts.1 ≡ len m.imports)) }
+            → IfOk result (λ counts. (counts.0 ≡ len m.kept) × (counts.1 ≡ len m.imports)
+            × (counts.2 ≡ len m.halts)) }
         ensures sure { MAY_FAIL ≡ false → IsOk result }
         ensures leaves { IsRead has_clean_disk holds may_leave self.old self.new };
 

@@ -87,8 +87,8 @@ fn makes_units(word: Word) -> bool
     }
 }
 
-// Whether messages of a word make the parts of a job.
-fn ends_job(word: Word) -> bool
+/// Whether messages of a word make the parts of a job.
+pub(crate) fn ends_job(word: Word) -> bool
     ensures { result ≡ ends_job word }
 {
     match word {
