@@ -25,8 +25,7 @@ use shop_rules::{
 };
 use std::alloc::{AllocError, Global};
 
-// The first pieces of an order, of units of a batch or of a unit whose names come after a name: at most so many. A book has no
-// such reading yet, so it is refused as if memory ran out.
+// The first pieces of an order, of units of a batch or of a unit whose names come after a name: at most so many.
 fn first_pieces<B: Book>(
     alloc: Global,
     book: &mut B,
@@ -38,7 +37,8 @@ fn first_pieces<B: Book>(
         (λ m. IfOk result (λ rows. rows ≡ take most (pieces_after m of after))) }
     ensures keeps { Unchanged B.Book (CountsFailure result) book.old book.new }
 {
-    Err(BookFault::NoMemory)
+    let rows = book.rows().first_pieces(alloc, of, after, most)?;
+    Ok(rows)
 }
 
 // When the job of a number was done or broken, 0 where that has no entry. A book has no such reading yet, so it is refused as if
