@@ -21,7 +21,7 @@ use Rattle.sqlite.specs.Program.{IsProgramAnswer, overlay}
 use Rattle.sqlite.proofs.Callers.{one_permutation, reads_as}
 use Rattle.shop_records.specs.Content.{entry_count}
 use Rattle.shop_statements.specs.Layout.{HasShopTables}
-use Rattle.shop_statements.specs.Rows.{import_row, journal_row, kept_row}
+use Rattle.shop_statements.specs.Rows.{halt_row, import_row, journal_row, kept_row}
 use Rattle.shop_statements.specs.Selecting.{is_select}
 use Rattle.shop_statements.specs.Shown.{Books, Shows}
 use Rattle.shop_statements.proofs.Lists.{flat_map-cond}
@@ -82,6 +82,17 @@ pub count_imports_selects : is_select count_imports_text ≡ true
 unfolding everything
 count_imports_selects = refl
 
+abbrev pub count_halts_text : List ℕ
+count_halts_text = codes "SELECT count(*) FROM halts"
+
+pub count_halts_is : (schema : Schema) (h : HasShopTables schema) → Reads (shop schema h) count_halts_text (counting 25) (codes "count(*)" ∷ [])
+unfolding understood everything
+count_halts_is schema h = record { command = refl; listing = refl; plain = (refl, refl) }
+
+pub count_halts_selects : is_select count_halts_text ≡ true
+unfolding everything
+count_halts_selects = refl
+
 -- ---- its answer
 
 some_one : {X : Type 0} (x y : X) → Some x ≡ Some y → x ≡ y
@@ -124,7 +135,7 @@ counts_entries old new b has rows shown =
     sym (length-map (old.now.trees 19) (drop 0)) ∙ length_permutation _ _ has.stands.journal.same ∙ length-map (entries b.content.entries) journal_row ∙ sym (len-entries b.content.entries) in
     counts_rows 19 old.now.trees [] refl rows a ∙ ap (λ n. (count n ∷ []) ∷ []) same
 
--- ---- of the messages and the imports
+-- ---- of the messages, the imports and the halts
 
 pub counts_kept : (old new : State) (b : Books) → Shows old b → (rows : List Row) → Shown count_kept_text [] old new rows → rows ≡ (count (len b.content.kept) ∷ []) ∷ []
 counts_kept old new b has rows shown =
@@ -141,6 +152,14 @@ counts_imports old new b has rows shown =
     let same : length (old.now.trees 13) ≡ len b.content.imports =
     sym (length-map (old.now.trees 13) (drop 1)) ∙ length_permutation _ _ has.stands.imports.same ∙ length-map (entries b.content.imports) import_row ∙ sym (len-entries b.content.imports) in
     counts_rows 13 old.now.trees [] refl rows a ∙ ap (λ n. (count n ∷ []) ∷ []) same
+
+pub counts_halts : (old new : State) (b : Books) → Shows old b → (rows : List Row) → Shown count_halts_text [] old new rows → rows ≡ (count (len b.content.halts) ∷ []) ∷ []
+counts_halts old new b has rows shown =
+    let is = count_halts_is old.now.schema has.schema in
+    let a = (reads_as count_halts_text [] old new (shop old.now.schema has.schema) (shop_is old.now.schema has.schema) _ is.command is.plain is.listing rows shown).answer in
+    let same : length (old.now.trees 25) ≡ len b.content.halts =
+    sym (length-map (old.now.trees 25) (drop 0)) ∙ length_permutation _ _ has.stands.halts.same ∙ length-map (entries b.content.halts) halt_row ∙ sym (len-entries b.content.halts) in
+    counts_rows 25 old.now.trees [] refl rows a ∙ ap (λ n. (count n ∷ []) ∷ []) same
 
 -- a count that isn't the greatest is what was counted
 pub counted_is : (n read : ℕ) (row : Row) → row ≡ count n ∷ [] → column row 0 ≡ Int (pos read) → read < 9223372036854775807 → read ≡ n

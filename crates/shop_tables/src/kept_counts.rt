@@ -1,4 +1,4 @@
-//! How many messages and imports are kept.
+//! How many messages, imports and halts are kept.
 
 ghost use Rattle.std.specs.Prelude.{◌≡◌, ◌∷◌, [], false, IfOk};
 ghost use Rattle.std.specs.FinMap.{len};
@@ -42,6 +42,16 @@ fn import_rows<S: Alter>(conn: &mut Connection<S>) -> Result<Vec<Row>, Error>
     all_rows(conn, "SELECT count(*) FROM imports", &[])
 }
 
+fn halt_rows<S: Alter>(conn: &mut Connection<S>) -> Result<Vec<Row>, Error>
+    ensures rows { OnBooks (state S.Store conn.old) (state S.Store conn.new)
+        (λ books. IfOk result (λ rows. rows.items
+        ≡ (count (len books.content.halts) ∷ []) ∷ [])) }
+    ensures leaves { Leaves (state S.Store conn.old) (state S.Store conn.new) }
+    ensures mode { conn.old.in_transaction ≡ false → conn.new.in_transaction ≡ false }
+{
+    all_rows(conn, "SELECT count(*) FROM halts", &[])
+}
+
 // How many imports are kept.
 fn count_imports<S: Alter>(conn: &mut Connection<S>) -> Result<u64, TableFault>
     ensures count { OnBooks (state S.Store conn.old) (state S.Store conn.new)
@@ -64,15 +74,28 @@ fn count_messages<S: Alter>(conn: &mut Connection<S>) -> Result<u64, TableFault>
     counted(&rows)
 }
 
-/// How many messages and how many imports are kept.
-pub fn count_texts<S: Alter>(conn: &mut Connection<S>) -> Result<(u64, u64), TableFault>
+// Of how many jobs it is kept where the work on them halted.
+fn count_halts<S: Alter>(conn: &mut Connection<S>) -> Result<u64, TableFault>
+    ensures count { OnBooks (state S.Store conn.old) (state S.Store conn.new)
+        (λ books. IfOk result (λ number. number ≡ len books.content.halts)) }
+    ensures leaves { Leaves (state S.Store conn.old) (state S.Store conn.new) }
+    ensures mode { conn.old.in_transaction ≡ false → conn.new.in_transaction ≡ false }
+{
+    let rows = halt_rows(conn)?;
+    counted(&rows)
+}
+
+/// How many messages, how many imports and how many halts are kept.
+pub fn count_texts<S: Alter>(conn: &mut Connection<S>) -> Result<(u64, u64, u64), TableFault>
     ensures counts { OnBooks (state S.Store conn.old) (state S.Store conn.new)
         (λ books. IfOk result
-        (λ counts. (counts.0 ≡ len books.content.kept) × (counts.1 ≡ len books.content.imports))) }
+        (λ counts. (counts.0 ≡ len books.content.kept) × (counts.1 ≡ len books.content.imports)
+        × (counts.2 ≡ len books.content.halts))) }
     ensures leaves { Leaves (state S.Store conn.old) (state S.Store conn.new) }
     ensures mode { conn.old.in_transaction ≡ false → conn.new.in_transaction ≡ false }
 {
     let messages = count_messages(conn)?;
     let imports = count_imports(conn)?;
-    Ok((messages, imports))
+    let halts = count_halts(conn)?;
+    Ok((messages, imports, halts))
 }
