@@ -1,12 +1,13 @@
 -- What is known of tables of version 2 or 1 is known of a content in them, which has no entry.
-use Rattle.std.proofs.Common.{◌≡◌, inl, inr, Option, None, sym, ap, ◌∙◌, true≢false}
-use Rattle.std.specs.Prelude.{IsSome, is_some}
-use Rattle.std.specs.FinMap.{FinMap, empty, get, get-empty, len, len-empty}
+use Rattle.std.proofs.Common.{◌≡◌, ℕ, List, [], inl, inr, Option, None, sym, ap, subst, ◌∙◌, true≢false}
+use Rattle.std.specs.Prelude.{IsSome, filter, is_some, map, nat_lt}
+use Rattle.std.specs.FinMap.{FinMap, empty, entries, get, get-empty, len, len-empty}
 use Rattle.std.specs.Ordering.{nat_cmp}
 use Rattle.sqlite.specs.State.{State, Survives}
 use Rattle.sqlite.proofs.StateLemmas.{survives_then, survives_weaker}
 use Rattle.cut_measure.specs.Codes.{code_cmp}
 use Rattle.shop_records.specs.Content.{Content, entry_at, entry_count, of_found}
+use Rattle.shop_records.specs.Lists.{entries_behind}
 use Rattle.shop_records.specs.declared.journal.Entry.{Entry}
 use Rattle.shop_records.specs.declared.records.Totals.{Totals}
 use Rattle.shop_statements.specs.Rows.{use_cmp}
@@ -14,9 +15,12 @@ use Rattle.shop_tables.specs.Changing.{HasTrail}
 use Rattle.shop_tables.specs.Held.{books, HoldsContent, StandsFor}
 use Rattle.shop_statements.specs.Shown.{Books, Holds, Leaves, StandsIn}
 use Rattle.shop_statements.specs.Earlier.{earlier_schema, second_schema}
+use Rattle.shop_book.specs.Ends.{AreEnds}
+use Rattle.shop_tables.proofs.Lays.{no_entries}
 use Rattle.shop_tables.proofs.EarlierRows.{stays_earlier, stays_second}
 use Rattle.shop_store.specs.EarlierBooks.{HoldsEarlierContent, HoldsFirstContent, HoldsOlder, HoldsSecondContent, IsSettledEarlierAt, IsSettledFirstAt, IsSettledSecondAt}
-use Rattle.shop_store.specs.Storing.{IsLastEntry}
+use Rattle.shop_store.specs.Storing.{IsRemembered}
+use Rattle.shop_store.specs.declared.remembered.Remembered.{Remembered}
 
 gone : {X : Type 0} (found : Option X) → found ≡ None → IsSome found → ⊥
 gone found is there = true≢false (sym there ∙ ap is_some is)
@@ -28,12 +32,18 @@ no_trail m totals none = record {
   uses = λ x there. absurd (gone (get (empty {X = Unit {0}} {R = use_cmp}) x) (get-empty use_cmp x) there);
 }
 
--- there is no last entry
-pub no_last : (m : Content) → m.entries ≡ empty → IsLastEntry m 0 0
-no_last m none =
+-- there is nothing to remember
+pub none_remembered : (m : Content) → m.entries ≡ empty → (it : Remembered) → it.number ≡ 0 → it.at ≡ 0 → AreEnds [] it.ends → IsRemembered m it
+none_remembered m none it number at ends =
     let count : entry_count m ≡ 0 = ap (λ (es : FinMap nat_cmp Entry). len es) none ∙ len-empty nat_cmp Entry in
     let last : entry_at m (entry_count m) ≡ None = ap (λ (es : FinMap nat_cmp Entry). get es (entry_count m)) none ∙ get-empty nat_cmp (entry_count m) in
-    (sym count, sym (ap (of_found (λ (entry : Entry). entry.at)) last))
+    let behind : entries_behind m 0 ≡ [] =
+    ap (λ (es : List (ℕ × Entry)). filter (λ (entry : Entry). nat_lt 0 entry.number) (map (λ (e : ℕ × Entry). e.1) es)) (ap (λ (es : FinMap nat_cmp Entry). entries es) none ∙ no_entries nat_cmp Entry) in
+    record {
+      of_last = number ∙ sym count;
+      time = at ∙ sym (ap (of_found (λ (entry : Entry). entry.at)) last);
+      of_jobs = subst (λ es. AreEnds es it.ends) (sym behind) ends;
+    }
 
 module _ (H : State → Books → Type 0) (stays : (old new : State) (b : Books) → Leaves old new → H old b → H new b) where
   pub stays_older : (old new : State) (m : Content) → Leaves old new → HoldsOlder H old m → HoldsOlder H new m

@@ -37,13 +37,13 @@ module _ {X : Type 0} where
   take_few (suc n) [] = omega arith
   take_few (suc n) (x ∷ xs) = let e = take_few n xs in omega (arith, e)
 
-  take_first : (n : ℕ) (xs : List X) → take (length (take n xs)) xs ≡ take n xs
+  pub take_first : (n : ℕ) (xs : List X) → take (length (take n xs)) xs ≡ take n xs
   take_first zero [] = refl
   take_first zero (x ∷ xs) = refl
   take_first (suc n) [] = refl
   take_first (suc n) (x ∷ xs) = ap (λ l. x ∷ l) (take_first n xs)
 
-  none_of : (n : ℕ) (xs : List X) → 0 < n → take n xs ≡ [] → xs ≡ []
+  pub none_of : (n : ℕ) (xs : List X) → 0 < n → take n xs ≡ [] → xs ≡ []
   none_of n [] some is = refl
   none_of zero (x ∷ xs) some is = absurd (omega (arith, some))
   none_of (suc n) (x ∷ xs) some is = absurd (cc)

@@ -1,5 +1,5 @@
 -- What a storage makes of the tables' answers.
-use Rattle.std.proofs.Common.{◌≡◌, ◌∙◌, ℕ, Result, Ok, Err, OnOk, OnErr, IfOk, inl, inr, subst, sym, arith}
+use Rattle.std.proofs.Common.{◌≡◌, Result, Ok, Err, OnOk, OnErr, IfOk, inl, inr, subst, sym, arith}
 use Rattle.sqlite_trees.specs.Tree.{Trees}
 use Rattle.sqlite_trees.specs.declared.store.Store.{Ghosts}
 use Rattle.sqlite.specs.State.{HasCleanDisk}
@@ -10,7 +10,8 @@ use Rattle.shop_tables.specs.Held.{books, HoldsContent}
 use Rattle.shop_statements.specs.declared.faults.TableFault.{TableFault}
 use Rattle.shop_book.specs.Storages.{IsRead}
 use Rattle.shop_book.specs.declared.storage.StorageFault.{StorageFault}
-use Rattle.shop_store.specs.Storing.{HoldsTables, read_by_tables}
+use Rattle.shop_store.specs.Storing.{HoldsTables, IsRemembered, read_by_tables}
+use Rattle.shop_store.specs.declared.remembered.Remembered.{Remembered}
 
 if_lift : {T : Type 0} (P : T → Type 0) (r : Result T TableFault) → IfOk r P → IfOk (read_by_tables r) P
 if_lift P (Ok x) h = h
@@ -33,6 +34,11 @@ on_ok {B = B} r answer same f h = subst (λ a. OnOk a B) (sym same) (ok_lift r f
 pub on_err : {T : Type 0} (A : Type 0) (r : Result T TableFault) (answer : Result T StorageFault) → answer ≡ read_by_tables r → OnErr r A → OnErr answer A
 on_err A r answer same h = subst (λ a. OnErr a A) (sym same) (err_lift A r h)
 
+-- what holds anyway holds behind an error
+pub behind_err : {X E A : Type 0} (result : Result X E) → A → OnErr result A
+behind_err (Ok x) holds = tt
+behind_err (Err e) holds = holds
+
 module _ {S : Type 0} (g : Ghosts S) where
   -- what is said of the books is said of a held content
   pub says_of : (What : Books → Type 0) (old new : Held S) → OnBooks (state g old) (state g new) What → HasCleanDisk (state g new) → (m : Content) (was : HoldsContent (state g old) m) → What (books m was.totals was.uses)
@@ -43,13 +49,13 @@ module _ {S : Type 0} (g : Ghosts S) where
   leaves_content old new l m was = record { lines = was.lines; totals = was.totals; uses = was.uses; sums = was.sums; trail = was.trail; holds = l.stays (books m was.totals was.uses) was.holds }
 
   -- and the storage as it was, which remembers what it did
-  pub reads : {J : Type 0} (conn : J → Held S) (number at : J → ℕ) (old new : J) → number new ≡ number old → at new ≡ at old → Leaves (state g (conn old)) (state g (conn new))
-      → IsRead (λ j. HasCleanDisk (state g (conn j))) (λ j m. HoldsTables (state g (conn j)) (number j) (at j) m) (λ j (db : Trees). (state g (conn j)).may_leave db) old new
-  reads conn number at old new same_number same_at l = record {
+  pub reads : {J : Type 0} (conn : J → Held S) (it : J → Remembered) (old new : J) → it new ≡ it old → Leaves (state g (conn old)) (state g (conn new))
+      → IsRead (λ j. HasCleanDisk (state g (conn j))) (λ j m. HoldsTables (state g (conn j)) (it j) m) (λ j (db : Trees). (state g (conn j)).may_leave db) old new
+  reads conn it old new same l = record {
     clean_disk = λ clean. let s = l.survives.clean in omega (arith, s, clean);
     stays = λ clean m was. (
       leaves_content (conn old) (conn new) l m was.0,
-      λ clean. let last = was.1 (let s = l.survives.clean in omega (arith, s, clean)) in (same_number ∙ last.0, same_at ∙ last.1),
+      λ clean. subst (IsRemembered m) (sym same) (was.1 (let s = l.survives.clean in omega (arith, s, clean))),
     );
     crash = λ clean m was left may. elim (l.survives.crash clean left may) [ inl before ↦ before | inr none ↦ absurd none ];
   }

@@ -1,5 +1,5 @@
 -- What a book in SQL tables holds, and what it makes of the tables' answers.
-use Rattle.std.specs.Prelude.{◌≡◌, ℕ, Result, Ok, Err}
+use Rattle.std.specs.Prelude.{◌≡◌, Result, Ok, Err}
 use Rattle.shop_tables.specs.declared.adopting.AdoptFault.{AdoptFault}
 use Rattle.shop_tables.specs.declared.adopting.AdoptFault.TheVariants as adopt
 use Rattle.shop_statements.specs.declared.faults.TableFault.{TableFault}
@@ -11,11 +11,12 @@ use Rattle.shop_book.specs.declared.ledger.Ledger.{Ledger}
 use Rattle.sqlite.specs.State.{State, HasCleanDisk}
 use Rattle.shop_records.specs.Content.{Content}
 use Rattle.shop_store.specs.Storing.{HoldsTables}
+use Rattle.shop_store.specs.declared.remembered.Remembered.{Remembered}
 
--- The connection holds the content and, unless the disk failed, these are the number and the time of its last entry, and the
--- ledger holds all of it except the long texts and the entries.
-abbrev pub HoldsLedger : State → (number at : ℕ) → Ledger → Content → Type 0
-HoldsLedger s number at ledger m = HoldsTables s number at m × (HasCleanDisk s → content_in ledger ≡ bare m)
+-- The connection holds the content and, unless the disk failed, this is what is remembered of its entries, and the ledger holds
+-- all of it except the long texts and the entries.
+abbrev pub HoldsLedger : State → Remembered → Ledger → Content → Type 0
+HoldsLedger s it ledger m = HoldsTables s it m × (HasCleanDisk s → content_in ledger ≡ bare m)
 
 -- the tables' fault as the book's
 abbrev pub book_fault : TableFault → BookFault

@@ -1,20 +1,26 @@
--- The tables' answers as a storage's, and what it remembers of the last entry.
-use Rattle.std.specs.Prelude.{◌≡◌, ℕ, Result, Ok, Err}
+-- The tables' answers as a storage's, and what it remembers of the entries.
+use Rattle.std.specs.Prelude.{◌≡◌, Result, Ok, Err}
 use Rattle.sqlite.specs.State.{State, HasCleanDisk}
 use Rattle.shop_records.specs.Content.{Content, entry_count, last_time}
+use Rattle.shop_records.specs.Lists.{entries_behind}
 use Rattle.shop_tables.specs.Held.{HoldsContent}
+use Rattle.shop_book.specs.Ends.{AreEnds}
 use Rattle.shop_book.specs.declared.storage.StorageFault.{StorageFault}
 use Rattle.shop_book.specs.declared.storage.StorageFault.TheVariants as storage
 use Rattle.shop_statements.specs.declared.faults.TableFault.{TableFault}
 use Rattle.shop_statements.specs.declared.faults.TableFault.TheVariants as table
+use Rattle.shop_store.specs.declared.remembered.Remembered.{Remembered}
 
--- these are the number and the time of a content's last entry, 0 and 0 where there is none
-abbrev pub IsLastEntry : Content → (number at : ℕ) → Type 0
-IsLastEntry m number at = (number ≡ entry_count m) × (at ≡ last_time m)
+-- These are the number and the time of a content's last entry, 0 and 0 where there is none, and the times of the first entries
+-- of messages that ended jobs.
+pub record IsRemembered (m : Content) (it : Remembered) : Type 0 where
+  pub of_last : it.number ≡ entry_count m
+  pub time : it.at ≡ last_time m
+  pub of_jobs : AreEnds (entries_behind m 0) it.ends
 
--- the connection holds the content and, unless the disk failed, these are the number and the time of its last entry
-abbrev pub HoldsTables : State → (number at : ℕ) → Content → Type 0
-HoldsTables s number at m = HoldsContent s m × (HasCleanDisk s → IsLastEntry m number at)
+-- the connection holds the content and, unless the disk failed, this is what is remembered of its entries
+abbrev pub HoldsTables : State → Remembered → Content → Type 0
+HoldsTables s it m = HoldsContent s m × (HasCleanDisk s → IsRemembered m it)
 
 abbrev pub fault_by_tables : TableFault → StorageFault
 fault_by_tables table.NoMemory = storage.NoMemory

@@ -1,31 +1,76 @@
-//! The last entry of tables.
+//! What is remembered of the entries of tables.
 
 ghost use Rattle.std.specs.Prelude.{◌≡◌, false, IfOk};
+ghost use Rattle.std.specs.FinMap.{empty};
 ghost use Rattle.sqlite.specs.Held.{state};
+ghost use Rattle.shop_records.specs.Content.{Content};
+ghost use Rattle.shop_records.specs.Lists.{entries_behind};
 ghost use Rattle.shop_statements.specs.Shown.{Leaves, OnBooks};
 ghost use Rattle.shop_tables.specs.Changing.{HasTrail};
-ghost use Rattle.shop_store.specs.Entries.{IsLastOf};
+ghost use Rattle.shop_book.specs.Ends.{AreEnds};
+ghost use Rattle.shop_store.specs.Entries.{IsFoundOf, IsLastOf, IsNext};
+ghost use Rattle.shop_store.specs.Storing.{IsRemembered};
 
-use shop_tables::{TableFault, find_last_entry, stray_entry};
+use crate::remembered::Remembered;
+use crate::stories::{ENTRIES_AT_ONCE, MOST_STEPS};
+use shop_book::JobEnds;
+use shop_tables::{TableFault, entries_after, find_last_entry, stray_entry};
 use sqlite::{Alter, Connection};
+use std::alloc::Global;
 
-/// The number and the time of the last entry, 0 and 0 if there is none.
-#[derive(Clone, Copy, Debug)]
-pub(crate) struct LastEntry {
-    pub number: u64,
-    pub at: u64,
-}
-
-/// The last entry, if there is none.
-pub(crate) fn no_entries() -> LastEntry
-    ensures number { result.number ≡ 0 }
-    ensures at { result.at ≡ 0 }
+/// What is remembered where there is no entry.
+pub(crate) fn no_entries(alloc: Global) -> Remembered
+    ensures { (m : Content) → m.entries ≡ empty → IsRemembered m result }
 {
-    LastEntry { number: 0, at: 0 }
+    Remembered {
+        number: 0,
+        at: 0,
+        ends: JobEnds::new(alloc),
+    }
 }
 
-/// The last entry; None if the entries haven't the numbers from 1 to how many there are.
-pub(crate) fn find_last<S: Alter>(conn: &mut Connection<S>) -> Result<Option<LastEntry>, TableFault>
+// Puts the ends of which the next entries behind a number tell, and tells behind which number to go on, if there are others.
+fn step<S: Alter>(
+    alloc: Global,
+    conn: &mut Connection<S>,
+    at: u64,
+    ends: &mut JobEnds,
+) -> Result<Option<u64>, TableFault>
+    ensures ends { OnBooks (state S.Store conn.old) (state S.Store conn.new)
+        (λ books. IfOk result (λ next. IsNext books.content ends.old at next ends.new)) }
+    ensures leaves { Leaves (state S.Store conn.old) (state S.Store conn.new) }
+    ensures mode { conn.old.in_transaction ≡ false → conn.new.in_transaction ≡ false }
+{
+    let chunk = entries_after(alloc, conn, at, ENTRIES_AT_ONCE)?;
+    let entries = chunk.as_slice();
+    let Some(last) = entries.last() else {
+        return Ok(None);
+    };
+    ends.put_all(entries)?;
+    Ok(Some(last.number))
+}
+
+// When jobs were done or broken, by all entries, which are read once.
+fn find_ends<S: Alter>(alloc: Global, conn: &mut Connection<S>) -> Result<JobEnds, TableFault>
+    ensures ends { OnBooks (state S.Store conn.old) (state S.Store conn.new)
+        (λ books. IfOk result (AreEnds (entries_behind books.content 0))) }
+    ensures leaves { Leaves (state S.Store conn.old) (state S.Store conn.new) }
+    ensures mode { conn.old.in_transaction ≡ false → conn.new.in_transaction ≡ false }
+{
+    let mut ends = JobEnds::new(alloc);
+    let mut at = 0;
+    'steps: for _ in 0..MOST_STEPS {
+        match step(alloc, conn, at, &mut ends)? {
+            Some(next) => at = next,
+            None => return Ok(ends),
+        }
+    }
+    Err(TableFault::NoMemory)
+}
+
+// The number and the time of the last entry, 0 and 0 if there is none; None if the entries haven't the numbers from 1 to how
+// many there are.
+fn find_last<S: Alter>(conn: &mut Connection<S>) -> Result<Option<(u64, u64)>, TableFault>
     ensures last { OnBooks (state S.Store conn.old) (state S.Store conn.new)
         (λ books. HasTrail books → IfOk result (IsLastOf books.content)) }
     ensures leaves { Leaves (state S.Store conn.old) (state S.Store conn.new) }
@@ -34,6 +79,23 @@ pub(crate) fn find_last<S: Alter>(conn: &mut Connection<S>) -> Result<Option<Las
     let (number, at) = find_last_entry(conn)?;
     match stray_entry(conn, number)? {
         Some(_) => Ok(None),
-        None => Ok(Some(LastEntry { number, at })),
+        None => Ok(Some((number, at))),
     }
+}
+
+/// What is remembered of the entries; None if they haven't the numbers from 1 to how many there are.
+pub(crate) fn find_remembered<S: Alter>(
+    alloc: Global,
+    conn: &mut Connection<S>,
+) -> Result<Option<Remembered>, TableFault>
+    ensures found { OnBooks (state S.Store conn.old) (state S.Store conn.new)
+        (λ books. HasTrail books → IfOk result (IsFoundOf books.content)) }
+    ensures leaves { Leaves (state S.Store conn.old) (state S.Store conn.new) }
+    ensures mode { conn.old.in_transaction ≡ false → conn.new.in_transaction ≡ false }
+{
+    let Some((number, at)) = find_last(conn)? else {
+        return Ok(None);
+    };
+    let ends = find_ends(alloc, conn)?;
+    Ok(Some(Remembered { number, at, ends }))
 }

@@ -517,6 +517,10 @@ impl<S: Storage> Book for LedgerBook<S> {
         self.count(answer)
     }
 
+    fn ended(&self, job: u32) -> u64 {
+        self.storage.ended(job)
+    }
+
     fn kept_count(&mut self) -> Result<u32, BookFault>
         ensures ledger { self.new.ledger ≡ self.old.ledger }
         ensures sure { S.MAY_FAIL ≡ false → IsOk result }
@@ -526,11 +530,12 @@ impl<S: Storage> Book for LedgerBook<S> {
         self.count(answer)
     }
 
-    fn text_counts(&mut self) -> Result<(u64, u64), BookFault>
+    fn text_counts(&mut self) -> Result<(u64, u64, u64), BookFault>
         ensures ledger { self.new.ledger ≡ self.old.ledger }
         ensures sure { S.MAY_FAIL ≡ false → IsOk result }
         ensures counts { OnBoth S.Storage self.old self.new (λ m. IfOk result
-            (λ counts. (counts.0 ≡ len m.kept) × (counts.1 ≡ len m.imports))) }
+            (λ counts. (counts.0 ≡ len m.kept) × (counts.1 ≡ len m.imports)
+            × (counts.2 ≡ len m.halts))) }
         ensures keeps { KeepsBoth S.Storage (CountsFailure result) self.old self.new }
     {
         let answer = self.storage.text_counts();

@@ -13,6 +13,7 @@ mod mem_book;
 mod numbered;
 mod part_loader;
 mod posted;
+mod remembered;
 mod reopening;
 mod sql;
 mod sql_storage;

@@ -45,8 +45,8 @@ pub fn reopen_book<D: Disk + Drop>(
     options: Options,
 ) -> Option<SqlBook<FileStore<D>>>
     ensures { IfSome result (λ again. (m : Content) → HoldsContent (file_state book.storage.conn) m
-        → HoldsLedger (file_state again.storage.conn) again.storage.last_number
-        again.storage.last_at again.ledger m) }
+        → HoldsLedger (file_state again.storage.conn) again.storage.remembered
+        again.ledger m) }
 {
     let files = close(book.into_connection())?;
     let Ok(conn) = Connection::open_files(alloc, files, options) else {

@@ -17,13 +17,14 @@ ghost use Rattle.shop_statements.specs.Shown.{Books, HasShopSchema, Holds, IsSet
 ghost use Rattle.shop_book.specs.Ledgers.{bare, content_in};
 ghost use Rattle.shop_store.specs.EarlierBooks.{HoldsEarlierContent, HoldsFirstContent, HoldsSecondContent, IsSettledEarlierAt};
 ghost use Rattle.shop_store.specs.SqlBooks.{adopt_fault, book_fault, EitherWay};
-ghost use Rattle.shop_store.specs.Storing.{IsLastEntry};
+ghost use Rattle.shop_store.specs.Storing.{IsRemembered};
 ghost use Rattle.shop_book.specs.declared.books.BookFault.TheVariants.{WrongVersion};
 
-use crate::entries::{LastEntry, find_last, no_entries};
+use crate::entries::{find_remembered, no_entries};
 use crate::loaded::Loaded;
 use crate::loading::{load_earlier_ledger, load_ledger, load_second_ledger};
 use crate::posted::LedgerBook;
+use crate::remembered::Remembered;
 use crate::sql_storage::SqlStorage;
 use shop_book::{BookFault, Ledger};
 use shop_tables::{AdoptFault, Adopted, TableFault, adopt_tables, extend_shop, renew_shop};
@@ -210,11 +211,11 @@ impl<S: Alter> SqlBook<S> {
             → IfOk result (λ book. content_in book.ledger ≡ fresh) }
         ensures last { (m : Content) → IsSettledAt (state S.Store conn) m
             → IfOk result (λ book. HasCleanDisk (state S.Store book.storage.conn)
-            → IsLastEntry m book.storage.last_number book.storage.last_at) }
+            → IsRemembered m book.storage.remembered) }
         ensures renewed_last { (m : Content) → IsSettledEarlierAt (state S.Store conn) m
-            → IfOk result (λ book. IsLastEntry m book.storage.last_number book.storage.last_at) }
+            → IfOk result (λ book. IsRemembered m book.storage.remembered) }
         ensures fresh_last { names_are_free conn.schema ≡ true
-            → IfOk result (λ book. IsLastEntry fresh book.storage.last_number book.storage.last_at) }
+            → IfOk result (λ book. IsRemembered fresh book.storage.remembered) }
         ensures still { HasShopTables conn.schema
             → EitherWay (λ book. book.storage.conn)
             (λ after. Survives (state S.Store conn) (state S.Store after) (λ _. ⊥)) result }
@@ -306,7 +307,12 @@ impl<S: Alter> SqlBook<S> {
             (StandsRenewed (state S.Store conn))) result }
     {
         match adopt_tables(&mut conn) {
-            Ok(Adopted::Made) => Ok(SqlBook::over(alloc, conn, Ledger::new(alloc), no_entries())),
+            Ok(Adopted::Made) => Ok(SqlBook::over(
+                alloc,
+                conn,
+                Ledger::new(alloc),
+                no_entries(alloc),
+            )),
             Ok(Adopted::Found) => SqlBook::checked(alloc, conn),
             Ok(Adopted::Second) => SqlBook::extended(alloc, conn),
             Ok(Adopted::Earlier) => SqlBook::renewed(alloc, conn),
@@ -334,7 +340,7 @@ impl<S: Alter> SqlBook<S> {
         ensures last { IfOk result
             (λ book. HasCleanDisk (state S.Store book.storage.conn) → (b : Books)
             → Holds (state S.Store conn) b → HasTrail b
-            → IsLastEntry b.content book.storage.last_number book.storage.last_at) }
+            → IsRemembered b.content book.storage.remembered) }
         ensures neither { IfErr result
             (λ back. back.0 ≡ WrongVersion → HasCleanDisk (state S.Store back.1) → (b : Books)
             → Holds (state S.Store conn) b → HasSums b → HasTrail b → ⊥) }
@@ -362,13 +368,13 @@ impl<S: Alter> SqlBook<S> {
         ensures last { IfOk result
             (λ book. HasCleanDisk (state S.Store book.storage.conn) → (b : Books)
             → Holds (state S.Store conn) b → HasTrail b
-            → IsLastEntry b.content book.storage.last_number book.storage.last_at) }
+            → IsRemembered b.content book.storage.remembered) }
         ensures neither { IfErr result
             (λ back. back.0 ≡ WrongVersion → HasCleanDisk (state S.Store back.1) → (b : Books)
             → Holds (state S.Store conn) b → HasTrail b → ⊥) }
     {
-        match find_last(&mut conn) {
-            Ok(Some(last)) => Ok(SqlBook::over(alloc, conn, ledger, last)),
+        match find_remembered(alloc, &mut conn) {
+            Ok(Some(it)) => Ok(SqlBook::over(alloc, conn, ledger, it)),
             Ok(None) => Err((BookFault::WrongVersion, conn)),
             Err(lost) => Err((fault_of_tables(lost), conn)),
         }
@@ -406,7 +412,7 @@ impl<S: Alter> SqlBook<S> {
             → IfOk result (λ book. HasCleanDisk (state S.Store book.storage.conn)
             → content_in book.ledger ≡ bare m) }
         ensures last { (m : Content) → HoldsFirstContent (state S.Store conn) m
-            → IfOk result (λ book. IsLastEntry m book.storage.last_number book.storage.last_at) }
+            → IfOk result (λ book. IsRemembered m book.storage.remembered) }
         ensures beside { SeesEarlier (state S.Store conn)
             → IfOk result (λ book. HoldsRenewed (state S.Store conn) (state S.Store book.storage.conn)) }
         ensures undone { IfErr result
@@ -417,7 +423,7 @@ impl<S: Alter> SqlBook<S> {
             (StandsRenewed (state S.Store conn))) result }
     {
         match renew(alloc, &mut conn) {
-            Ok(ledger) => Ok(SqlBook::over(alloc, conn, ledger, no_entries())),
+            Ok(ledger) => Ok(SqlBook::over(alloc, conn, ledger, no_entries(alloc))),
             Err(fault) => Err((fault, conn)),
         }
     }
@@ -454,7 +460,7 @@ impl<S: Alter> SqlBook<S> {
             → IfOk result (λ book. HasCleanDisk (state S.Store book.storage.conn)
             → content_in book.ledger ≡ bare m) }
         ensures last { (m : Content) → HoldsSecondContent (state S.Store conn) m
-            → IfOk result (λ book. IsLastEntry m book.storage.last_number book.storage.last_at) }
+            → IfOk result (λ book. IsRemembered m book.storage.remembered) }
         ensures beside { SeesEarlier (state S.Store conn)
             → IfOk result (λ book. HoldsExtended (state S.Store conn) (state S.Store book.storage.conn)) }
         ensures undone { IfErr result
@@ -465,17 +471,21 @@ impl<S: Alter> SqlBook<S> {
             (StandsExtended (state S.Store conn))) result }
     {
         match extend(alloc, &mut conn) {
-            Ok(rows) => Ok(SqlBook::over(alloc, conn, rows, no_entries())),
+            Ok(rows) => Ok(SqlBook::over(alloc, conn, rows, no_entries(alloc))),
             Err(fault) => Err((fault, conn)),
         }
     }
 
     // Over a connection outside a transaction; no failure is counted yet.
-    fn over(alloc: Global, conn: Connection<S>, ledger: Ledger, last: LastEntry) -> SqlBook<S>
+    fn over(
+        alloc: Global,
+        conn: Connection<S>,
+        ledger: Ledger,
+        remembered: Remembered,
+    ) -> SqlBook<S>
         requires { conn.in_transaction ≡ false }
         ensures conn { result.storage.conn ≡ conn }
-        ensures number { result.storage.last_number ≡ last.number }
-        ensures at { result.storage.last_at ≡ last.at }
+        ensures remembered { result.storage.remembered ≡ remembered }
         ensures ledger { result.ledger ≡ ledger }
         ensures failures { result.failures ≡ 0 }
     {
@@ -484,8 +494,7 @@ impl<S: Alter> SqlBook<S> {
             storage: SqlStorage {
                 alloc,
                 conn,
-                last_number: last.number,
-                last_at: last.at,
+                remembered,
             },
             failures: 0,
         }
@@ -503,8 +512,7 @@ impl<S: Alter> SqlBook<S> {
         let SqlStorage {
             alloc: _,
             conn,
-            last_number: _,
-            last_at: _,
+            remembered: _,
         } = storage;
         conn
     }

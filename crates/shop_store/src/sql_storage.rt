@@ -2,6 +2,7 @@
 
 ghost use Rattle.std.specs.Prelude.{◌≡◌, false};
 
+use crate::remembered::Remembered;
 use sqlite::{Alter, Connection};
 use std::alloc::Global;
 
@@ -10,9 +11,6 @@ use std::alloc::Global;
 pub struct SqlStorage<S: Alter> {
     pub(crate) alloc: Global,
     pub(crate) conn: Connection<S>,
-    /// The number of the last entry, 0 if there is none.
-    pub(crate) last_number: u64,
-    /// Its time.
-    pub(crate) last_at: u64,
+    pub(crate) remembered: Remembered,
     ghost outside: { conn.in_transaction ≡ false },
 }

@@ -27,19 +27,27 @@ fn from_tables<T: Drop>(answer: Result<T, TableFault>) -> Result<T, StorageFault
 
 impl<S: Alter> SqlStorage<S> {
     ghost use Rattle.std.specs.Prelude.{◌≡◌, option_map, unwrap_or};
+    ghost use Rattle.std.specs.Option.{option_to_list};
     ghost use Rattle.shop_records.specs.declared.journal.Entry.{Entry as EntryOf};
+    ghost use Rattle.shop_book.specs.Ends.{AddEnds, HasRoom};
 
-    // Remembers a new entry, if there is one, as the last one.
+    // Remembers a new entry, if there is one, as the last one, and the end of which it tells.
     fn remember(&mut self, entry: &Option<Entry>)
+        requires { HasRoom self.old.remembered.ends }
         ensures conn { self.new.conn ≡ self.old.conn }
-        ensures number { self.new.last_number
-            ≡ unwrap_or (option_map (λ (entry : EntryOf). entry.number) entry.now) self.old.last_number }
-        ensures at { self.new.last_at
-            ≡ unwrap_or (option_map (λ (entry : EntryOf). entry.at) entry.now) self.old.last_at }
+        ensures number { self.new.remembered.number
+            ≡ unwrap_or (option_map (λ (entry : EntryOf). entry.number) entry.now)
+            self.old.remembered.number }
+        ensures at { self.new.remembered.at
+            ≡ unwrap_or (option_map (λ (entry : EntryOf). entry.at) entry.now)
+            self.old.remembered.at }
+        ensures ends { AddEnds (option_to_list entry.now)
+            self.old.remembered.ends self.new.remembered.ends }
     {
         if let Some(entry) = entry {
-            self.last_number = entry.number;
-            self.last_at = entry.at;
+            self.remembered.number = entry.number;
+            self.remembered.at = entry.at;
+            self.remembered.ends.put(entry);
         }
     }
 }
@@ -63,7 +71,7 @@ impl<S: Alter> Storage for SqlStorage<S> {
     ghost may_leave = { λ storage db. (state S.Store storage.conn).may_leave db };
 
     ghost holds = { λ storage m. HoldsTables (state S.Store storage.conn)
-        storage.last_number storage.last_at m };
+        storage.remembered m };
 
     ghost has_clean_disk = { λ storage. HasCleanDisk (state S.Store storage.conn) };
 
@@ -93,7 +101,7 @@ impl<S: Alter> Storage for SqlStorage<S> {
     }
 
     fn last_entry(&mut self) -> Result<(u64, u64), StorageFault> {
-        Ok((self.last_number, self.last_at))
+        Ok((self.remembered.number, self.remembered.at))
     }
 
     fn entry(&mut self, number: u64) -> Result<Option<Entry>, StorageFault> {
@@ -109,11 +117,16 @@ impl<S: Alter> Storage for SqlStorage<S> {
         from_tables(entries_after(alloc, &mut self.conn, after, most))
     }
 
-    fn text_counts(&mut self) -> Result<(u64, u64), StorageFault> {
+    fn ended(&self, job: u32) -> u64 {
+        self.remembered.ends.at(job)
+    }
+
+    fn text_counts(&mut self) -> Result<(u64, u64, u64), StorageFault> {
         from_tables(count_texts(&mut self.conn))
     }
 
     fn commit(&mut self, change: &Change) -> Result<(), StorageFault> {
+        self.remembered.ends.reserve()?;
         match from_tables(commit_change(self.alloc, &mut self.conn, change)) {
             Ok(()) => {
                 self.remember(&change.entry);

@@ -15,10 +15,10 @@ use shop_rows::push_copy;
 use std::alloc::{AllocError, Global};
 
 /// How many entries are read at a time.
-const ENTRIES_AT_ONCE: usize = 1000;
+pub(crate) const ENTRIES_AT_ONCE: usize = 1000;
 
 /// More times than there are entries.
-const MOST_STEPS: u64 = 18446744073709551615;
+pub(crate) const MOST_STEPS: u64 = 18446744073709551615;
 
 // Appends the entries about a subject, up to so many in all.
 fn push_about(

@@ -15,7 +15,8 @@ use Rattle.sqlite.specs.State.{HasCleanDisk}
 use Rattle.shop_statements.proofs.Reading.{leaves_then}
 use Rattle.shop_store.proofs.Adopting.{holds_fresh, survives_fresh, leaves_fresh, holds_settled, wrong_version}
 use Rattle.shop_store.proofs.Checked.{either_way, if_back, if_book}
-use Rattle.shop_store.proofs.EarlierContents.{held_first, held_older, held_second, leaves_older, leaves_survives, no_last, older}
+use Rattle.shop_store.proofs.EarlierContents.{held_first, held_older, held_second, leaves_older, leaves_survives, older}
+use Rattle.shop_store.specs.Storing.{IsRemembered}
 use Rattle.shop_store.proofs.RenewedBeside.{crash_then, left_survives, renewed_then, sees_still, undone_then}
 use Rattle.shop_store.proofs.sql.SqlBook+S.adopt.Goals as goal
 
@@ -412,7 +413,7 @@ pub returns-in-Ok-Made-clause-renewed_last : goal.returns-in-Ok-Made-clause-rene
 returns-in-Ok-Made-clause-renewed_last g c m was = absurd (older (state g.S.Store c.args.conn) m was (λ h. let e = c.in-Ok-Made.ensures.two_only h in let f = c.in-Ok-Made.field-0-is in cc) (λ h. let e = c.in-Ok-Made.ensures.one_only h in let f = c.in-Ok-Made.field-0-is in cc))
 
 pub returns-in-Ok-Made-clause-fresh_last : goal.returns-in-Ok-Made-clause-fresh_last
-returns-in-Ok-Made-clause-fresh_last g c free = let none = no_last fresh refl in (c.over.ensures.number ∙ c.no_entries.ensures.number ∙ none.0, c.over.ensures.at ∙ c.no_entries.ensures.at ∙ none.1)
+returns-in-Ok-Made-clause-fresh_last g c free = subst (IsRemembered fresh) (sym c.over.ensures.remembered) (c.no_entries.ensures fresh refl)
 
 pub returns-in-Ok-Found-clause-last : goal.returns-in-Ok-Found-clause-last
 returns-in-Ok-Found-clause-last g c m was =

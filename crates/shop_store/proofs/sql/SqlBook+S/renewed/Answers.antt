@@ -5,7 +5,7 @@ use Rattle.shop_book.specs.Ledgers.{content_in}
 use Rattle.shop_tables.specs.Held.{HoldsContent, LeavesOnly, StandsFor}
 use Rattle.shop_statements.specs.Shown.{HasShopSchema}
 use Rattle.shop_tables.specs.Renewing.{HoldsRenewed, StandsRenewed}
-use Rattle.shop_store.proofs.EarlierContents.{no_last}
+use Rattle.shop_store.specs.Storing.{IsRemembered}
 use Rattle.shop_store.proofs.sql.SqlBook+S.renewed.Goals as goal
 
 pub returns-in-Ok-clause-renewed : goal.returns-in-Ok-clause-renewed
@@ -35,8 +35,4 @@ pub returns-in-Ok-clause-beside_crash : goal.returns-in-Ok-clause-beside_crash
 returns-in-Ok-clause-beside_crash g c sees = subst (λ h. Survives (state g.S.Store c.args.conn) (state g.S.Store h) (StandsRenewed (state g.S.Store c.args.conn))) (sym c.over.ensures.conn) (c.in-Ok.ensures.beside_crash sees)
 
 pub returns-in-Ok-clause-last : goal.returns-in-Ok-clause-last
-returns-in-Ok-clause-last g c m was =
-    let none = no_last m was.none in (
-      c.over.ensures.number ∙ c.no_entries.ensures.number ∙ none.0,
-      c.over.ensures.at ∙ c.no_entries.ensures.at ∙ none.1,
-    )
+returns-in-Ok-clause-last g c m was = subst (IsRemembered m) (sym c.over.ensures.remembered) (c.no_entries.ensures m was.none)

@@ -1,10 +1,10 @@
-use Rattle.std.proofs.Common.{sym, subst, ◌∙◌}
+use Rattle.std.proofs.Common.{sym, subst}
 use Rattle.sqlite.specs.Held.{state}
 use Rattle.sqlite.specs.State.{HasCleanDisk}
 use Rattle.shop_records.specs.Content.{changed}
 use Rattle.shop_tables.specs.Held.{HoldsContent, LeavesOnly}
-use Rattle.shop_store.proofs.NextEntries.{last_after}
-use Rattle.shop_store.proofs.Stored.{on_ok, on_err}
+use Rattle.shop_store.proofs.NextEntries.{remembered_after, still_remembered}
+use Rattle.shop_store.proofs.Stored.{behind_err, on_ok, on_err}
 use Rattle.shop_store.proofs.sql_storing.SqlStorageStorage.commit.Goals as goal
 
 pub returns-in-Ok-clause-ok : goal.returns-in-Ok-clause-ok
@@ -14,9 +14,7 @@ returns-in-Ok-clause-ok g c clean m was fits =
       subst (λ h. HoldsContent (state g.S.Store h) next) (sym c.remember.ensures.conn) held,
       λ now.
           let before = c.commit_change.ensures.earlier (subst (λ h. HasCleanDisk (state g.S.Store h)) c.remember.ensures.conn now) in
-          let last = was.1 before in
-          let new = last_after m c.args.change.now fits c.args.self.now.last_number c.args.self.now.last_at last in
-          (c.remember.ensures.number ∙ new.0, c.remember.ensures.at ∙ new.1),
+          remembered_after m c.args.change.now fits was.0.trail.numbers c.args.self.now.remembered c.remember.new.self.remembered c.reserve.new.self (was.1 before) c.reserve.ensures.same c.remember.ensures.number c.remember.ensures.at c.remember.ensures.ends,
     )
 
 pub returns-in-Ok-clause-lasts : goal.returns-in-Ok-clause-lasts
@@ -28,4 +26,7 @@ returns-in-Ok-clause-lasts g c clean m was fits =
 pub returns-in-Err-clause-err : goal.returns-in-Err-clause-err
 returns-in-Err-clause-err g c clean m was =
     let held : HoldsContent (state g.S.Store c.commit_change.new.conn) m = rw c.in-Err.is at (on_err _ _ _ c.from_tables.ensures (c.commit_change.ensures.err m was.0)) in
-    (held, λ now. was.1 (c.commit_change.ensures.earlier now))
+    (held, λ now. still_remembered m c.args.self.now.remembered c.reserve.new.self (was.1 (c.commit_change.ensures.earlier now)) c.reserve.ensures.same)
+
+pub returns-in_err-reserve-clause-err : goal.returns-in_err-reserve-clause-err
+returns-in_err-reserve-clause-err g c clean m was = behind_err c.from_residual.result (was.0, λ now. still_remembered m c.args.self.now.remembered c.reserve.new.self (was.1 now) c.reserve.ensures.same)

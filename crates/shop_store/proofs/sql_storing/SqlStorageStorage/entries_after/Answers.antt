@@ -14,4 +14,4 @@ returns-clause-next g c clean m was =
     if_ok _ _ _ c.from_tables.ensures (next_entries (state g.S.Store c.args.self.now.conn) m c.args.after c.args.most c.entries_after.result before was.0 (c.entries_after.ensures.was_open clean) (says_of g.S.Store _ c.args.self.now.conn c.entries_after.new.conn c.entries_after.ensures.rows clean m was.0))
 
 pub returns-clause-leaves : goal.returns-clause-leaves
-returns-clause-leaves g c = reads g.S.Store (λ storage. storage.conn) (λ storage. storage.last_number) (λ storage. storage.last_at) _ _ refl refl c.entries_after.ensures.leaves
+returns-clause-leaves g c = reads g.S.Store (λ storage. storage.conn) (λ storage. storage.remembered) _ _ refl c.entries_after.ensures.leaves

@@ -6,4 +6,4 @@ pub returns-clause-row : goal.returns-clause-row
 returns-clause-row g c clean m was = if_ok _ _ _ c.from_tables.ensures (says_of g.S.Store _ c.args.self.now.conn c.find_kept.new.conn c.find_kept.ensures.row clean m was.0)
 
 pub returns-clause-leaves : goal.returns-clause-leaves
-returns-clause-leaves g c = reads g.S.Store (λ storage. storage.conn) (λ storage. storage.last_number) (λ storage. storage.last_at) _ _ refl refl c.find_kept.ensures.leaves
+returns-clause-leaves g c = reads g.S.Store (λ storage. storage.conn) (λ storage. storage.remembered) _ _ refl c.find_kept.ensures.leaves

@@ -3,4 +3,4 @@ use Rattle.shop_store.proofs.Stored.{reads}
 use Rattle.shop_store.proofs.sql_storing.SqlStorageStorage.kept_count.Goals as goal
 
 pub returns-clause-leaves : goal.returns-clause-leaves
-returns-clause-leaves g c = reads g.S.Store (λ storage. storage.conn) (λ storage. storage.last_number) (λ storage. storage.last_at) _ _ refl refl c.count_kept.ensures.leaves
+returns-clause-leaves g c = reads g.S.Store (λ storage. storage.conn) (λ storage. storage.remembered) _ _ refl c.count_kept.ensures.leaves
