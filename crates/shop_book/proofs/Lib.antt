@@ -7,6 +7,9 @@ pub mod Tallied
 pub mod Handed
 -- the last number of a terminal
 pub mod Lasts
+-- the pieces of an order, of a batch and of a unit
+pub mod Filed
+pub mod PiecesTold
 -- the lines of an order
 pub mod LinesTold
 -- rows in a ledger, and what lasts beside it

@@ -8,6 +8,7 @@ pub mod Orders
 pub mod Memory
 pub mod Equal
 pub mod Tallies
+pub mod Pieces
 -- rows in a ledger, and what lasts beside it
 pub mod KeptUp
 pub mod Ledgers

@@ -21,6 +21,7 @@ impl Ledger {
         let notes = copy_notes(alloc, &self.notes)?;
         let demands = Vec::from_slice(alloc, &self.demands)?;
         let lists = self.lists.copy(alloc)?;
+        let pieces = self.pieces.copy()?;
         Ok(Ledger {
             materials,
             parts,
@@ -34,6 +35,7 @@ impl Ledger {
             last_act: self.last_act,
             last_demand: self.last_demand,
             lists,
+            pieces,
         })
     }
 

@@ -7,6 +7,7 @@ use crate::known_orders::{put_order, reach_all};
 use crate::ledger::Ledger;
 use crate::memory_lists::{put_demands, put_job, reserve_both};
 use crate::memory_parts::{put_stock, reserve_parts};
+use crate::piece_index::PieceIndex;
 use shop_records::Change;
 use shop_rows::{OpenRows, PartRows, put_some, reserve_names, reserve_rows};
 use std::alloc::{AllocError, Global};
@@ -31,10 +32,11 @@ impl Ledger {
             last_act: 0,
             last_demand: 0,
             lists: OpenRows::new(alloc),
+            pieces: PieceIndex::new(alloc),
         }
     }
 
-    /// Reserves capacity for every row of a change. Changes no row, even if memory runs out.
+    /// Reserves capacity for every row of a change, and files the acts of its pieces. Changes no row, even if memory runs out.
     pub fn make_room(&mut self, change: &Change) -> Result<(), AllocError>
         ensures content { content_in self.new ≡ content_in self.old }
         ensures room { OnOk result (HasRoomFor change.now self.new) }
@@ -42,6 +44,9 @@ impl Ledger {
         let rows = change.parts.as_slice();
         let undone = change.undone.as_slice();
         let count = change.demands.as_slice().len();
+        self.pieces.file_moved(&change.moved)?;
+        self.pieces.file_all(undone)?;
+        self.pieces.file_all(rows)?;
         self.materials.reserve(1)?;
         let parts = undone.len() + rows.len() + 1;
         reserve_parts(&mut self.parts, &mut self.totals, parts)?;

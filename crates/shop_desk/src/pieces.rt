@@ -5,14 +5,12 @@ ghost use Rattle.std.specs.Option.{option_to_list};
 ghost use Rattle.shop_answers.specs.Queries.{Answers};
 ghost use Rattle.shop_answers.specs.declared.listing.TheConstants.{MOST_TOLD};
 ghost use Rattle.shop_answers.specs.Listing.{first_told, told_piece, told_pieces};
-ghost use Rattle.shop_records.specs.declared.journal.Entry.{Entry as EntryOf};
 ghost use Rattle.shop_records.specs.declared.messages.Query.TheVariants as query;
 ghost use Rattle.shop_records.specs.declared.messages.Reply.TheVariants.{Refused};
 ghost use Rattle.shop_records.specs.declared.pieces.PieceSource.TheVariants as source;
 ghost use Rattle.shop_records.specs.declared.records.Demand.{Demand as DemandOf};
 ghost use Rattle.shop_records.specs.declared.refusals.Refusal.TheVariants.{NoMemory, StoreFault};
-ghost use Rattle.shop_records.specs.Content.{of_found};
-ghost use Rattle.shop_records.specs.Lists.{demand_for, end_entry, piece_row, pieces_after};
+ghost use Rattle.shop_records.specs.Lists.{demand_for, piece_row, pieces_after};
 ghost use Rattle.shop_book.specs.Failures.{CountsFailure};
 ghost use Rattle.shop_book.specs.Kept.{Unchanged, OnContent};
 ghost use Rattle.shop_desk.specs.Faults.{CountsReply};
@@ -25,8 +23,7 @@ use shop_rules::{
 };
 use std::alloc::{AllocError, Global};
 
-// The first pieces of an order, of units of a batch or of a unit whose names come after a name: at most so many. A book has no
-// such reading yet, so it is refused as if memory ran out.
+// The first pieces of an order, of units of a batch or of a unit whose names come after a name: at most so many.
 fn first_pieces<B: Book>(
     alloc: Global,
     book: &mut B,
@@ -38,18 +35,8 @@ fn first_pieces<B: Book>(
         (λ m. IfOk result (λ rows. rows ≡ take most (pieces_after m of after))) }
     ensures keeps { Unchanged B.Book (CountsFailure result) book.old book.new }
 {
-    Err(BookFault::NoMemory)
-}
-
-// When the job of a number was done or broken, 0 where that has no entry. A book has no such reading yet, so it is refused as if
-// memory ran out.
-fn ended_at<B: Book>(book: &mut B, job: u32) -> Result<u64, BookFault>
-    ensures time { OnContent B.Book book.old book.new
-        (λ m. IfOk result
-        (λ at. at ≡ of_found (λ (entry : EntryOf). entry.at) (end_entry m job))) }
-    ensures keeps { Unchanged B.Book (CountsFailure result) book.old book.new }
-{
-    Err(BookFault::NoMemory)
+    let rows = book.rows().first_pieces(alloc, of, after, most)?;
+    Ok(rows)
 }
 
 // The demand whose piece a part is.
@@ -87,7 +74,7 @@ fn row_of_piece<B: Book>(book: &mut B, part: &Part) -> Result<Option<PieceRow>, 
     ensures keeps { Unchanged B.Book (CountsFailure result) book.old book.new }
 {
     let demand = demand_for(book, part)?;
-    let at = ended_at(book, part.name.act())?;
+    let at = book.ended(part.name.act());
     Ok(row_with(part, demand, at))
 }
 

@@ -17,8 +17,7 @@ fn check(alloc: Global, name: &str) -> Result<()> {
     match name {
         "copies" => books::compare_copies(alloc),
         "visits" => books::stop_visits(alloc),
-        "parts" => books::compare_parts(alloc),
-        "refused-changes" => books::refuse_changes(alloc),
+        "parts" => books::list_parts(alloc),
         _ => Err(Error::msg("no check has this name")),
     }
 }
@@ -26,7 +25,7 @@ fn check(alloc: Global, name: &str) -> Result<()> {
 // What comes of a check of values, or else of one of books, which holds.
 fn told(alloc: Global, name: &str, given: &str) -> Result<String> {
     match name {
-        "messages" => desk::run_over_both(alloc, given),
+        "messages" => desk::run_over_memory(alloc, given),
         "last-cells" => desk::last_cells(alloc),
         "message" => rules::message_told(alloc, given),
         "reply" => rules::reply_told(alloc, given),

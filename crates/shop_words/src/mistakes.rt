@@ -6,10 +6,10 @@ ghost use Rattle.shop_words.specs.CommandLine.{names_stock};
 ghost use Rattle.shop_words.specs.Mistakes as spec;
 ghost use Rattle.shop_words.specs.declared.words.Word.TheVariants as word;
 
-use crate::words::{
-    MOST_NAMES, MOST_SIZES, Word, bad_origin, has_option, is_whole, names_stock, times_given,
-    word_of,
-};
+use crate::planned::{is_whole, names_stock};
+use crate::served::bad_origin;
+use crate::values::{has_option, times_given};
+use crate::words::{MOST_NAMES, MOST_SIZES, Word, word_of};
 use clap::ArgMatches;
 use cut_measure::Code;
 use std::alloc::{AllocError, Global};

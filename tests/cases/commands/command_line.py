@@ -453,7 +453,11 @@ COMMANDS = {
 }
 
 
-@case("help", "Help names each command, says what it is for, and names each of its options on standard output, with status 0.")
+@case(
+    "help",
+    "Help names each command, says what it is for, and names each of its options on standard output, with status 0. It says of the "
+    "store of `serve`, `ticket` and `yield` that it is made, and of no other.",
+)
 def helped(trial):
     for asked in (["--help"], ["help"]):
         ran = trial.run(*asked)
@@ -464,6 +468,8 @@ def helped(trial):
         for asked in ([command, "--help"], ["help", command]):
             ran = trial.run(*asked)
             trial.equal((ran.status, ran.err, [it for it in [about, *named] if it not in ran.out.decode()]), (0, b"", []), asked)
+            made = b"it is made where it isn't there" in ran.out
+            trial.equal(made, command in ("serve", "ticket", "yield"), asked)
 
 
 @case(

@@ -313,6 +313,7 @@ MEANT = {
     "yield": {"--store": "keeps the shop's book", "MATERIAL": "material's code"},
     "history": {"--store": "keeps the shop's book", "--after": "greater numbers"},
     "audit": {"--store": "keeps the shop's book"},
+    "restore": {"--store": "keeps the shop's book", "--from": "folder of backups"},
 }
 
 

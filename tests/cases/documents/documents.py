@@ -91,7 +91,7 @@ def edits(trial):
     trial.equal(sorted(edit_names("must-fail") - cited), [])
     # A crate that has any is proved twice.
     proved_twice = {it.split("/")[-3] for it in glob.glob(f"{TOP}/crates/*/must-fail/*.edit")}
-    trial.holds(len(proved_twice) <= 12, f"{len(proved_twice)} crates have edits in must-fail/, each of which is proved twice for them")
+    trial.holds(len(proved_twice) <= 8, f"{len(proved_twice)} crates have edits in must-fail/, each of which is proved twice for them")
 
 
 def edited(path):

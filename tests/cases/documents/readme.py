@@ -40,7 +40,7 @@ def exchanged(shown):
     return sent, [line for _, behind in pairs for line in behind]
 
 
-@case("the tour as typed", "The lines of a day in docs/SHOP.md get the replies that stand behind them.")
+@case("the tour as typed", "The lines of a day and of the week behind it in docs/SHOP.md get the replies that stand behind them.")
 def tour(trial):
     sent, wanted = exchanged(blocks("docs/SHOP.md", "\n## A day in lines\n", "\n## A plan of a sheet\n"))
     ran = trial.replay(sent)

@@ -10,9 +10,8 @@ use Rattle.shop_desk.proofs.pieces.row_of_piece.Goals as goal
 pub returns-clause-row : goal.returns-clause-row
 returns-clause-row g c =
     λ clean_disk m held.
-    let before = c.in_ok-at.ensures.keeps.clean_disk clean_disk in
     c.row_with.ensures
-    ∙ ap (λ (o : Option Demand). option_map (λ (d : Demand). told_piece c.args.part.now d c.in_ok-at.at) o) (c.in_ok-demand.ensures.row before m held)
+    ∙ ap (λ (o : Option Demand). option_map (λ (d : Demand). told_piece c.args.part.now d c.ended-at.result) o) (c.in_ok-demand.ensures.row clean_disk m held)
     ∙ ap (λ (at : ℕ). option_map (λ (d : Demand). told_piece c.args.part.now d at) (demand_for m c.args.part.now))
-    (c.in_ok-at.ensures.time clean_disk m (c.in_ok-demand.ensures.keeps.stays before m held))
+    (c.ended-at.ensures.time clean_disk m (c.in_ok-demand.ensures.keeps.stays clean_disk m held))
     ∙ ap (λ (n : ℕ). option_map (λ (d : Demand). told_piece c.args.part.now d (of_found (λ (entry : Entry). entry.at) (end_entry m n))) (demand_for m c.args.part.now)) c.act.ensures.value
