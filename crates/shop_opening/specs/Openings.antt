@@ -26,6 +26,7 @@ use Rattle.shop_tables.specs.Held.{books, LeavesOnly, StandsFor}
 use Rattle.shop_book.specs.declared.ledger.Ledger.{Ledger}
 use Rattle.shop_store.specs.SqlBooks.{HoldsLedger}
 use Rattle.shop_store.specs.declared.posted.LedgerBook.{LedgerBook}
+use Rattle.shop_store.specs.declared.remembered.Remembered.{Remembered}
 use Rattle.shop_store.specs.declared.sql_storage.SqlStorage.{SqlStorage}
 use Rattle.shop_book.specs.declared.books.BookFault.{BookFault}
 use Rattle.shop_book.specs.declared.books.BookFault.TheVariants as book
@@ -58,11 +59,11 @@ ShowsContent image m = ((db : Trees) × HoldsDatabase image db × ShowsIn db m) 
 
 -- ---- what an opening gives
 
--- Files with this image were opened as a book over this connection, with this number and this time as those of the last entry,
--- and with this ledger. It holds each content that they showed, what a crash leaves of it stands for that alone, and no failure
--- is counted yet.
-pub record IsOpenedOn {D : Type 0} {g : DiskGhosts D} (image : Image) (conn : Held (FileStore D g)) (number at : ℕ) (ledger : Ledger) (failures : ℕ) : Type 0 where
-  pub holds : (m : Content) → ShowsContent image m → HoldsLedger (file_state conn) number at ledger m
+-- Files with this image were opened as a book over this connection, with this as what is remembered of its entries, and with this
+-- ledger. It holds each content that they showed, what a crash leaves of it stands for that alone, and no failure is counted
+-- yet.
+pub record IsOpenedOn {D : Type 0} {g : DiskGhosts D} (image : Image) (conn : Held (FileStore D g)) (it : Remembered) (ledger : Ledger) (failures : ℕ) : Type 0 where
+  pub holds : (m : Content) → ShowsContent image m → HoldsLedger (file_state conn) it ledger m
   pub leaves : (m : Content) → ShowsContent image m → LeavesOnly (file_state conn) m
   pub uncounted : failures ≡ 0
 
@@ -72,8 +73,8 @@ pair_image log store = record { log = log; db = store }
 
 -- Files in memory were opened as a book over this connection, as files with some bytes are. Of a real file no bytes are told, so
 -- that it is not said with which.
-abbrev pub IsBookApart : {D : Type 0} {g : DiskGhosts D} → Held (FileStore D g) → (number at : ℕ) → Ledger → ℕ → Type 0
-IsBookApart conn number at ledger failures = (log store : List ℕ) × IsOpenedOn (pair_image log store) conn number at ledger failures
+abbrev pub IsBookApart : {D : Type 0} {g : DiskGhosts D} → Held (FileStore D g) → Remembered → Ledger → ℕ → Type 0
+IsBookApart conn it ledger failures = (log store : List ℕ) × IsOpenedOn (pair_image log store) conn it ledger failures
 
 -- ---- why there is none
 
@@ -126,5 +127,5 @@ AreRefused {D = D} g image fault =
 
 -- What an opening of files with this image comes to: a book that is open on them, or the fault for which there is none.
 abbrev pub IsOpening : {D : Type 0} {g : DiskGhosts D} {s : StoreGhosts (FileStore D g)} → Image → Result (LedgerBook (SqlStorage (FileStore D g) s)) OpenFault → Type 0
-IsOpening image (Ok book) = IsOpenedOn image book.storage.conn book.storage.last_number book.storage.last_at book.ledger book.failures
+IsOpening image (Ok book) = IsOpenedOn image book.storage.conn book.storage.remembered book.ledger book.failures
 IsOpening {g = g} image (Err fault) = AreRefused g image fault

@@ -155,7 +155,7 @@ fn open_over<D: Disk + Drop>(
     requires log { IsTrue (D.Disk.is_usable files.log) }
     requires db { IsTrue (D.Disk.is_usable files.db) }
     ensures { IfOk result (λ book. IsOpenedOn (image_of D.Disk files) book.storage.conn
-        book.storage.last_number book.storage.last_at book.ledger book.failures) }
+        book.storage.remembered book.ledger book.failures) }
 {
     let conn = match Connection::open_files(alloc, files, Options::new(1)) {
         Ok(conn) => conn,
@@ -195,7 +195,7 @@ fn files_of(alloc: Global, pair: &Pair) -> Option<Files<Memory>>
 /// those of another version.
 pub fn open_pair(alloc: Global, pair: &Pair) -> Result<ApartBook, OpenFault>
     ensures { IfOk result (λ book. IsOpenedOn (pair_image pair.now.log.items pair.now.store.items)
-        book.storage.conn book.storage.last_number book.storage.last_at book.ledger book.failures) }
+        book.storage.conn book.storage.remembered book.ledger book.failures) }
 {
     let is_database = pair.store.starts_with(b"SQLite format 3\0");
     match files_of(alloc, pair) {
@@ -240,7 +240,7 @@ pub fn read_apart(
     path: &str,
     existing: bool,
 ) -> Result<ApartBook, OpenFault>
-    ensures { IfOk result (λ book. IsBookApart book.storage.conn book.storage.last_number book.storage.last_at book.ledger book.failures) }
+    ensures { IfOk result (λ book. IsBookApart book.storage.conn book.storage.remembered book.ledger book.failures) }
 {
     match read_shop(rt, alloc, path, existing) {
         Ok(pair) => open_pair(alloc, &pair),
@@ -266,7 +266,7 @@ impl<'a> Opens<ApartBook> for ApartOpener<'a> {
     ghost use Rattle.std.specs.Prelude.{IfOk};
     ghost use Rattle.shop_opening.specs.Openings.{IsBookApart};
 
-    ghost gives = { λ _ _ result. IfOk result (λ book. IsBookApart book.storage.conn book.storage.last_number book.storage.last_at book.ledger book.failures) };
+    ghost gives = { λ _ _ result. IfOk result (λ book. IsBookApart book.storage.conn book.storage.remembered book.ledger book.failures) };
 
     fn open(
         self,

@@ -14,6 +14,7 @@ ghost use Rattle.shop_desk.specs.Handled.{Leads};
 ghost use Rattle.shop_forms.specs.Forms.{json_texts};
 ghost use Rattle.shop_book.specs.declared.ledger.Ledger.{Ledger as LedgerOf};
 ghost use Rattle.shop_store.specs.SqlBooks.{HoldsLedger};
+ghost use Rattle.shop_store.specs.declared.remembered.Remembered.{Remembered as RememberedOf};
 ghost use Rattle.shop_opening.specs.Openings.{IsOpenedOn, LeavesShown, ShowsContent};
 ghost use Rattle.shop_opening.specs.Stops.{IsAfter, IsLeftOf, WasRefused};
 
@@ -48,7 +49,7 @@ pub fn stopped_stores_are_found<D: Disk>()
         → ∥ ((found : Content) × IsAfter (WasRefused messages answers) next found
         × ShowsContent image found) ∥₁ }
     ensures again { (image : Image) (m : Content) → ∥ ShowsContent image m ∥₁
-        → (next : Held (StoreOf D D.Disk)) (number at : ℕ) (ledger : LedgerOf) (failures : ℕ)
-        → IsOpenedOn image next number at ledger failures
-        → ∥ HoldsLedger (file_state next) number at ledger m ∥₁ }
+        → (next : Held (StoreOf D D.Disk)) (it : RememberedOf) (ledger : LedgerOf) (failures : ℕ)
+        → IsOpenedOn image next it ledger failures
+        → ∥ HoldsLedger (file_state next) it ledger m ∥₁ }
 {}

@@ -282,7 +282,7 @@ fn open_book<S: Start>(
     start: S,
 ) -> Result<StoreBook<S>, Unopened<S>>
     ensures opened { IfOk result
-        (λ book. IsOpenedOn (image_at S.Start) book.storage.conn book.storage.last_number book.storage.last_at book.ledger book.failures) }
+        (λ book. IsOpenedOn (image_at S.Start) book.storage.conn book.storage.remembered book.ledger book.failures) }
     ensures tables { IfErr result (λ why. IfOk why
         (λ back. AreTablesLeft (image_at S.Start) back.0 back.1)) }
     ensures port { IfErr result (λ why. IfErr why

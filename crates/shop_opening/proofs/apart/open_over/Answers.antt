@@ -3,7 +3,7 @@ use Rattle.sqlite.specs.Files.{file_state, image_of}
 use Rattle.sqlite.specs.Start.{FindsIn}
 use Rattle.sqlite.specs.State.{HasCleanDisk}
 use Rattle.shop_book.specs.Ledgers.{bare, content_in}
-use Rattle.shop_store.specs.Storing.{IsLastEntry}
+use Rattle.shop_store.specs.Storing.{IsRemembered}
 use Rattle.shop_tables.specs.Adopting.{names_are_free}
 use Rattle.shop_opening.proofs.Found.{holds_found, leaves_found, loaded_found}
 use Rattle.shop_opening.proofs.apart.open_over.Goals as goal
@@ -19,7 +19,7 @@ returns-in-Ok-adopt g c =
       holds = λ m shown. (
         (
           holds_found conn book.storage.conn image c.in-Ok.ensures.opened found made.earlier m shown made.held made.renewed made.fresh,
-          λ clean. loaded_found conn book.storage.conn image c.in-Ok.ensures.opened found made.earlier m shown (λ n. IsLastEntry n book.storage.last_number book.storage.last_at) (λ n was. made.last n was clean) (λ n was. made.renewed_last n was)
+          λ clean. loaded_found conn book.storage.conn image c.in-Ok.ensures.opened found made.earlier m shown (λ n. IsRemembered n book.storage.remembered) (λ n was. made.last n was clean) (λ n was. made.renewed_last n was)
               (λ none. made.fresh_last (subst (λ schema. names_are_free schema ≡ true) (sym none) refl)) clean,
         ),
         λ clean. loaded_found conn book.storage.conn image c.in-Ok.ensures.opened found made.earlier m shown (λ n. content_in book.ledger ≡ bare n)

@@ -6,5 +6,5 @@ use Rattle.shop_opening.proofs.apart.open_pair.Goals as goal
 
 pub returns-in-Some : goal.returns-in-Some
 returns-in-Some c =
-    subst (λ (image : Image). IfOk c.open_over.result (λ book. IsOpenedOn image book.storage.conn book.storage.last_number book.storage.last_at book.ledger book.failures))
+    subst (λ (image : Image). IfOk c.open_over.result (λ book. IsOpenedOn image book.storage.conn book.storage.remembered book.ledger book.failures))
     (ap₂ pair_image c.in-Some.ensures.logged c.in-Some.ensures.stored) c.open_over.ensures

@@ -3,7 +3,7 @@ use Rattle.sqlite_disk.specs.Events.{Event, replay}
 use Rattle.sqlite_wal.specs.Files.{image_at}
 use Rattle.sqlite_wal.specs.Recovery.{Image}
 use Rattle.shop_book.specs.Ledgers.{bare, content_in}
-use Rattle.shop_store.specs.Storing.{IsLastEntry}
+use Rattle.shop_store.specs.Storing.{IsRemembered}
 use Rattle.shop_tables.specs.Adopting.{names_are_free}
 use Rattle.shop_opening.proofs.Found.{holds_found, leaves_found, loaded_found, leaves_shown, never_found, some_then}
 use Rattle.shop_opening.proofs.stores.open_book.Goals as goal
@@ -18,7 +18,7 @@ returns-in-Ok-adopt-clause-opened g c =
       holds = λ m shown. (
         (
           holds_found conn book.storage.conn image c.in-Ok.ensures.opened c.in-Ok.ensures.found made.earlier m shown made.held made.renewed made.fresh,
-          λ clean. loaded_found conn book.storage.conn image c.in-Ok.ensures.opened c.in-Ok.ensures.found made.earlier m shown (λ n. IsLastEntry n book.storage.last_number book.storage.last_at) (λ n was. made.last n was clean) (λ n was. made.renewed_last n was)
+          λ clean. loaded_found conn book.storage.conn image c.in-Ok.ensures.opened c.in-Ok.ensures.found made.earlier m shown (λ n. IsRemembered n book.storage.remembered) (λ n was. made.last n was clean) (λ n was. made.renewed_last n was)
               (λ none. made.fresh_last (subst (λ schema. names_are_free schema ≡ true) (sym none) refl)) clean,
         ),
         λ clean. loaded_found conn book.storage.conn image c.in-Ok.ensures.opened c.in-Ok.ensures.found made.earlier m shown (λ n. content_in book.ledger ≡ bare n)
