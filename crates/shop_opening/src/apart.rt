@@ -7,7 +7,7 @@ ghost use Rattle.shop_opening.specs.Openings.{IsBookApart, IsOpenedOn, pair_imag
 
 use crate::before::{
     Head, LookFault, head_of, is_bound_in, is_hot, kind_fault, lock_alone, look_at_log,
-    look_before_apart, look_without_log, open_alone, refused,
+    look_before_apart, look_without_log, open_alone, refused, rows_in,
 };
 use crate::made::Made;
 use crate::stores::{OpenAs, OpenFault, Opens, adopt_fault, look_fault};
@@ -209,12 +209,13 @@ fn is_foreign(alloc: Global, pair: &Pair) -> bool {
     let Some(files) = files_of(alloc, pair) else {
         return false;
     };
-    let Ok(mut conn) = Connection::open_files(alloc, files, Options::new(1)) else {
-        return false;
-    };
-    match conn.query_all("SELECT name FROM sqlite_master WHERE name = 'meta'", &[]) {
-        Ok(rows) => rows.is_empty(),
-        Err(_) => false,
+    match rows_in(
+        alloc,
+        files,
+        "SELECT name FROM sqlite_master WHERE name = 'meta'",
+    ) {
+        Some(rows) => rows.is_empty(),
+        None => false,
     }
 }
 

@@ -1,9 +1,12 @@
 //! What is looked at before a store is opened. Its files are only read.
 
+ghost use Rattle.std.specs.Prelude.{IsTrue};
+ghost use Rattle.sqlite_disk.specs.Memory.{memory_is_usable};
+
 use crate::logs::{LogState, log_state};
 use os::RangeLock;
 use shop_advice::{StoreCause, kind_cause};
-use sqlite::{Connection, Files, Options};
+use sqlite::{Connection, Files, Options, Row};
 use sqlite_disk::{Disk, Memory};
 use sqlite_schema::names::same_name;
 use std::alloc::{AllocError, Global};
@@ -213,6 +216,16 @@ fn binds(kind: &str, table: &str, text: &str) -> bool {
         || (kind == "view" && names_table(text.as_bytes(), table))
 }
 
+/// The rows that a statement finds in the database of files in memory. None where the port can't open it, or can't run the
+/// statement.
+pub(crate) fn rows_in(alloc: Global, files: Files<Memory>, sql: &str) -> Option<Vec<Row>>
+    requires log { IsTrue (memory_is_usable files.log) }
+    requires db { IsTrue (memory_is_usable files.db) }
+{
+    let mut conn = Connection::open_files(alloc, files, Options::new(1)).ok()?;
+    conn.query_all(sql, &[]).ok()
+}
+
 // Whether the database of a log and a store has a trigger or a view on a shop's tables. It is opened in memory, where the port can
 // do that.
 fn is_bound_open(alloc: Global, log: &[u8], store: &[u8]) -> Option<bool> {
@@ -225,10 +238,11 @@ fn is_bound_open(alloc: Global, log: &[u8], store: &[u8]) -> Option<bool> {
     if !files.may_be_used() {
         return None;
     }
-    let mut conn = Connection::open_files(alloc, files, Options::new(1)).ok()?;
-    let rows = conn
-        .query_all("SELECT type, tbl_name, sql FROM sqlite_master", &[])
-        .ok()?;
+    let rows = rows_in(
+        alloc,
+        files,
+        "SELECT type, tbl_name, sql FROM sqlite_master",
+    )?;
     for row in &rows {
         let kind: String = row.get(0).ok()?;
         let table: String = row.get(1).ok()?;

@@ -13,7 +13,7 @@ use shop_store::{
     BookFault, Loaded, SqlBook, load_earlier_ledger, load_ledger, load_second_ledger,
 };
 use shop_tables::{NoRow, TableFault, find_last_entry, stray_entry};
-use sqlite::{Connection, Error, ErrorCode, FileFrom, FileStore, Leftover, Start, Unknown};
+use sqlite::{Alter, Connection, Error, ErrorCode, FileFrom, FileStore, Leftover, Start, Unknown};
 use sqlite_disk::Disk;
 use std::alloc::Global;
 
@@ -105,7 +105,7 @@ fn open_fault(rt: &HostRuntime, alloc: Global, path: &str, error: Error) -> Open
 }
 
 // The version that the tables of a database say, where they say one.
-fn version_of<D: Disk + Drop>(conn: &mut Connection<FileStore<D>>) -> Option<i64> {
+fn version_of<S: Alter>(conn: &mut Connection<S>) -> Option<i64> {
     match conn.query_row("SELECT value FROM meta WHERE name = 'version'", &[]) {
         Ok(row) => row.get(0).ok(),
         Err(_) => None,
@@ -179,16 +179,13 @@ fn contradiction(loaded: &Result<Loaded, TableFault>) -> VersionCause {
 }
 
 // What is wrong in tables of version 3, entries aside.
-fn contradiction_in<D: Disk + Drop>(
-    alloc: Global,
-    conn: &mut Connection<FileStore<D>>,
-) -> VersionCause {
+fn contradiction_in<S: Alter>(alloc: Global, conn: &mut Connection<S>) -> VersionCause {
     let loaded = load_ledger(alloc, conn);
     contradiction(&loaded)
 }
 
 // What is wrong in the entries of version 3.
-fn stray_in<D: Disk + Drop>(conn: &mut Connection<FileStore<D>>) -> VersionCause {
+fn stray_in<S: Alter>(conn: &mut Connection<S>) -> VersionCause {
     let Ok((count, _)) = find_last_entry(conn) else {
         return VersionCause::Contradicting;
     };
@@ -199,10 +196,7 @@ fn stray_in<D: Disk + Drop>(conn: &mut Connection<FileStore<D>>) -> VersionCause
 }
 
 // What is wrong in tables of version 3.
-fn last_contradiction_in<D: Disk + Drop>(
-    alloc: Global,
-    conn: &mut Connection<FileStore<D>>,
-) -> VersionCause {
+fn last_contradiction_in<S: Alter>(alloc: Global, conn: &mut Connection<S>) -> VersionCause {
     match contradiction_in(alloc, conn) {
         VersionCause::Contradicting => stray_in(conn),
         cause => cause,
@@ -210,28 +204,19 @@ fn last_contradiction_in<D: Disk + Drop>(
 }
 
 // What is wrong in tables of version 2.
-fn second_contradiction_in<D: Disk + Drop>(
-    alloc: Global,
-    conn: &mut Connection<FileStore<D>>,
-) -> VersionCause {
+fn second_contradiction_in<S: Alter>(alloc: Global, conn: &mut Connection<S>) -> VersionCause {
     let loaded = load_second_ledger(alloc, conn);
     contradiction(&loaded)
 }
 
 // What is wrong in tables of version 1.
-fn earlier_contradiction_in<D: Disk + Drop>(
-    alloc: Global,
-    conn: &mut Connection<FileStore<D>>,
-) -> VersionCause {
+fn earlier_contradiction_in<S: Alter>(alloc: Global, conn: &mut Connection<S>) -> VersionCause {
     let loaded = load_earlier_ledger(alloc, conn);
     contradiction(&loaded)
 }
 
 // Why a database isn't taken over.
-fn foreign_cause<D: Disk + Drop>(
-    alloc: Global,
-    conn: &mut Connection<FileStore<D>>,
-) -> VersionCause {
+fn foreign_cause<S: Alter>(alloc: Global, conn: &mut Connection<S>) -> VersionCause {
     match version_of(conn) {
         Some(version) if version > 3 => VersionCause::Newer,
         Some(3) => last_contradiction_in(alloc, conn),
@@ -241,11 +226,11 @@ fn foreign_cause<D: Disk + Drop>(
     }
 }
 
-// Why a database that was opened can't be read and written.
-fn failure_of<D: Disk + Drop>(conn: Connection<FileStore<D>>) -> StoreCause
+// Why the store of a database that was opened can't be read and written.
+fn failure_of<D: Disk + Drop>(store: FileStore<D>) -> StoreCause
     ensures { (result ≡ cause.Full) ⊎ (result ≡ cause.Damaged) }
 {
-    if conn.into_store().tally().refused > 0 {
+    if store.tally().refused > 0 {
         StoreCause::Full
     } else {
         StoreCause::Damaged
@@ -262,7 +247,7 @@ pub(crate) fn adopt_fault<D: Disk + Drop>(
 {
     match fault {
         BookFault::NoMemory => OpenFault::NoMemory,
-        BookFault::Store => OpenFault::Store(failure_of(conn)),
+        BookFault::Store => OpenFault::Store(failure_of(conn.into_store())),
         BookFault::WrongVersion => OpenFault::Version(foreign_cause(alloc, &mut conn)),
     }
 }
