@@ -227,6 +227,13 @@ RequestStep old History text telling new = IsReplied telling (λ reply. AskStep 
 RequestStep old OrderStory text telling new = IsReplied telling (λ reply. AskStep old (asked_at OrderStory text) reply new)
 RequestStep old JobStory text telling new = IsReplied telling (λ reply. AskStep old (asked_at JobStory text) reply new)
 RequestStep old PartStory text telling new = IsReplied telling (λ reply. AskStep old (asked_at PartStory text) reply new)
+RequestStep old OrderPieces text telling new = IsReplied telling (λ reply. AskStep old (asked_at OrderPieces text) reply new)
+RequestStep old OrderPiecesAfter text telling new = IsReplied telling (λ reply. AskStep old (asked_at OrderPiecesAfter text) reply new)
+RequestStep old BatchPieces text telling new = IsReplied telling (λ reply. AskStep old (asked_at BatchPieces text) reply new)
+RequestStep old BatchPiecesAfter text telling new = IsReplied telling (λ reply. AskStep old (asked_at BatchPiecesAfter text) reply new)
+RequestStep old UnitPieces text telling new = IsReplied telling (λ reply. AskStep old (asked_at UnitPieces text) reply new)
+RequestStep old UnitPiecesAfter text telling new = IsReplied telling (λ reply. AskStep old (asked_at UnitPiecesAfter text) reply new)
+RequestStep old Steps text telling new = IsReplied telling (λ reply. AskStep old (asked_at Steps text) reply new)
 RequestStep old Ticket text telling new = PrintStep old (text_at old Ticket text) telling new
 RequestStep old Yield text telling new = PrintStep old (text_at old Yield text) telling new
 
