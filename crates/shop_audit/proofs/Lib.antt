@@ -1,6 +1,7 @@
 pub mod Within
 pub mod Counts
 pub mod Steps
+pub mod Halts
 pub mod Same
 pub mod Given
 pub mod Judged

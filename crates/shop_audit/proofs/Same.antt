@@ -10,6 +10,7 @@ use Rattle.shop_book.specs.Ledgers.{bare}
 use Rattle.shop_audit.specs.Compared.{HaveSameTexts}
 use Rattle.shop_audit.specs.Whole.{IsGiven, IsWithin}
 use Rattle.shop_audit.proofs.Counts.{kept_many}
+use Rattle.shop_audit.proofs.Halts.{halts_same}
 use Rattle.shop_audit.proofs.Within.{Within, as_many_within}
 
 module _ (texts : Texts) (m c : Content) (count : ℕ) (same : HaveSameTexts m c count) (given : IsGiven texts c) (within : IsWithin c m) where
@@ -34,7 +35,10 @@ module _ (texts : Texts) (m c : Content) (count : ℕ) (same : HaveSameTexts m c
         materials = (e i).materials;
         parts = (e i).parts;
         jobs = (e i).jobs;
+        halts = halts_same texts m c given.sound same.many.halts same.halts i;
+        begun = (e i).begun;
         orders = (e i).orders;
+        notes = (e i).notes;
         demands = (e i).demands;
         kept = kept_same i;
         imports = imports_same i;

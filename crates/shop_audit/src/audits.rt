@@ -109,7 +109,7 @@ pub fn audit_book<B: Book, F: Book>(
     ensures keeps { IsLookedAt B.Book book.old book.new }
 {
     let (entries, _) = book.last_entry()?;
-    let (messages, _) = book.text_counts()?;
+    let (messages, _, _) = book.text_counts()?;
     if messages > entries {
         return Ok(Audit {
             entries,

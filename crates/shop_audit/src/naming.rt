@@ -2,13 +2,23 @@
 
 use crate::rows::Row;
 use cut_measure::{Code, MOST_NUMBERS, PartName};
-use shop_book::{Book, BookFault, Ledger};
-use shop_records::{Entry, Material, Pair};
+use shop_book::{Book, BookFault, Ledger, is_same_halt};
+use shop_records::{Entry, JobHalt, Material, Pair};
 use std::alloc::Global;
 use std::cmp::Ordering;
 
 /// More parts than bear the number of an act.
 const MOST_NODES: u32 = 1024;
+
+fn first_begun<B: Book, F: Book>(book: &mut B, anew: &mut F) -> Result<Option<Row>, BookFault> {
+    let behind = book.next_act()?.max(anew.next_act()?);
+    for number in 1..behind {
+        if book.begun(number)? != anew.begun(number)? {
+            return Ok(Some(Row::Begun(number)));
+        }
+    }
+    Ok(None)
+}
 
 fn first_demand<B: Book, F: Book>(book: &mut B, anew: &mut F) -> Result<Option<Row>, BookFault> {
     let behind = book.next_demand()?.max(anew.next_demand()?);
@@ -16,6 +26,31 @@ fn first_demand<B: Book, F: Book>(book: &mut B, anew: &mut F) -> Result<Option<R
         if book.demand(number)? != anew.demand(number)? {
             return Ok(Some(Row::Demand(number)));
         }
+    }
+    Ok(None)
+}
+
+fn same_halt(one: &Option<JobHalt>, other: &Option<JobHalt>) -> bool {
+    match (one, other) {
+        (None, None) => true,
+        (Some(a), Some(b)) => is_same_halt(a, b),
+        _ => false,
+    }
+}
+
+fn first_halt<B: Book, F: Book>(
+    alloc: Global,
+    book: &mut B,
+    anew: &mut F,
+) -> Result<Option<Row>, BookFault> {
+    let behind = book.next_act()?.max(anew.next_act()?);
+    for number in 1..behind {
+        if !same_halt(&book.halt(alloc, number)?, &anew.halt(alloc, number)?) {
+            return Ok(Some(Row::Halt(number)));
+        }
+    }
+    if book.text_counts()?.2 != anew.text_counts()?.2 {
+        return Ok(Some(Row::OtherHalt));
     }
     Ok(None)
 }
@@ -178,6 +213,36 @@ fn first_material<B: Book, F: Book>(
     Ok(None)
 }
 
+// The first of the orders of one book of which the books don't have the same note.
+fn first_note_of<B: Book, F: Book>(
+    alloc: Global,
+    book: &mut B,
+    anew: &mut F,
+    codes: &[Code],
+) -> Result<Option<Code>, BookFault> {
+    for code in codes {
+        if book.note(alloc, *code)? != anew.note(alloc, *code)? {
+            return Ok(Some(*code));
+        }
+    }
+    Ok(None)
+}
+
+fn first_note<B: Book, F: Book>(
+    alloc: Global,
+    book: &mut B,
+    anew: &mut F,
+) -> Result<Option<Row>, BookFault> {
+    let codes = book.first_orders(alloc, None, usize::MAX)?;
+    let one = first_note_of(alloc, book, anew, codes.as_slice())?;
+    let codes = anew.first_orders(alloc, None, usize::MAX)?;
+    let other = first_note_of(alloc, book, anew, codes.as_slice())?;
+    match lesser(one, other) {
+        Some(code) => Ok(Some(Row::Note(code))),
+        None => Ok(None),
+    }
+}
+
 fn first_order<B: Book, F: Book>(
     alloc: Global,
     book: &mut B,
@@ -224,14 +289,19 @@ fn first_part(one: &Ledger, other: &Ledger, behind: u32) -> Option<Row> {
     None
 }
 
-// The first row of the tables whose names stand before `meta`.
-fn first_before_meta<B: Book, F: Book>(
+// The first row of the tables whose names stand before `jobs`.
+fn first_before_jobs<B: Book, F: Book>(
     alloc: Global,
     book: &mut B,
     anew: &mut F,
-    entries: u64,
 ) -> Result<Option<Row>, BookFault> {
+    if let Some(row) = first_begun(book, anew)? {
+        return Ok(Some(row));
+    }
     if let Some(row) = first_demand(book, anew)? {
+        return Ok(Some(row));
+    }
+    if let Some(row) = first_halt(alloc, book, anew)? {
         return Ok(Some(row));
     }
     if let Some(row) = first_import(alloc, book, anew)? {
@@ -239,6 +309,19 @@ fn first_before_meta<B: Book, F: Book>(
     }
     if book.text_counts()?.1 != anew.text_counts()?.1 {
         return Ok(Some(Row::OtherImport));
+    }
+    Ok(None)
+}
+
+// The first row of the tables whose names stand before `meta`.
+fn first_before_meta<B: Book, F: Book>(
+    alloc: Global,
+    book: &mut B,
+    anew: &mut F,
+    entries: u64,
+) -> Result<Option<Row>, BookFault> {
+    if let Some(row) = first_before_jobs(alloc, book, anew)? {
+        return Ok(Some(row));
     }
     if let Some(row) = first_job(alloc, book, anew)? {
         return Ok(Some(row));
@@ -267,6 +350,9 @@ pub fn first_row<B: Book, F: Book>(
     }
     if book.next_demand()? != anew.next_demand()? {
         return Ok(Row::LastDemand);
+    }
+    if let Some(row) = first_note(alloc, book, anew)? {
+        return Ok(row);
     }
     if let Some(row) = first_order(alloc, book, anew)? {
         return Ok(row);

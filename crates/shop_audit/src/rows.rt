@@ -10,7 +10,13 @@ use std::alloc::AllocError;
 /// A row of a store's tables, by its key.
 #[derive(Clone, Copy, Debug, PartialEq)]
 pub enum Row {
+    /// Which terminal has begun the job of this number.
+    Begun(u32),
     Demand(u32),
+    /// Where the work on the job of this number halted.
+    Halt(u32),
+    /// A halt of no job.
+    OtherHalt,
     /// The import of this order.
     Import(Code),
     /// An import that no order has.
@@ -24,6 +30,8 @@ pub enum Row {
     LastAct,
     /// The last number of a demand.
     LastDemand,
+    /// What is said of this order.
+    Note(Code),
     Order(Code),
     Part(PartName),
 }
@@ -34,7 +42,10 @@ impl Row {
         ensures { result.now ≡ row_table self.now }
     {
         match self {
+            Row::Begun(_) => "begun",
             Row::Demand(_) => "demands",
+            Row::Halt(_) => "halts",
+            Row::OtherHalt => "halts",
             Row::Import(_) => "imports",
             Row::OtherImport => "imports",
             Row::Job(_) => "jobs",
@@ -43,6 +54,7 @@ impl Row {
             Row::Material(_) => "materials",
             Row::LastAct => "meta",
             Row::LastDemand => "meta",
+            Row::Note(_) => "notes",
             Row::Order(_) => "orders",
             Row::Part(_) => "parts",
         }
@@ -53,7 +65,10 @@ impl Row {
         ensures { OnOk result (string_bytes text.new ≡ string_bytes text.old ++ row_key self) }
     {
         match self {
+            Row::Begun(number) => write!(text, "{number}"),
             Row::Demand(number) => write!(text, "{number}"),
+            Row::Halt(number) => write!(text, "{number}"),
+            Row::OtherHalt => text.push_str("a job that isn't there"),
             Row::Import(code) => code.write(text),
             Row::OtherImport => text.push_str("an order that isn't there"),
             Row::Job(number) => write!(text, "{number}"),
@@ -62,6 +77,7 @@ impl Row {
             Row::Material(code) => code.write(text),
             Row::LastAct => text.push_str("act"),
             Row::LastDemand => text.push_str("demand"),
+            Row::Note(code) => code.write(text),
             Row::Order(code) => code.write(text),
             Row::Part(name) => write!(text, "{}/{}", name.act(), name.node()),
         }
