@@ -596,7 +596,7 @@ def both_languages(trial):
     with open(PAGE, encoding="utf-8") as file:
         text = file.read()
     body, script = text.split("<body>")[1].split("<script>")
-    table, code = script.split("const GERMAN = new Map(Object.entries(")[1].split("));", 1)
+    table, code = script.split("const GERMAN=new Map(Object.entries(")[1].split("));", 1)
     german = json.loads(re.sub(r",\s*}", "}", table))
     shown = {html.unescape(it.strip()) for pair in re.findall(r">([^<]+)<|aria-label=\"([^\"]+)\"", body) for it in pair}
     texts = templates_of(code) | {it for it in shown if re.search("[A-Za-z]{2}", it)}
