@@ -11,12 +11,18 @@ function shownCodes() { return isAllShown() ? shop.materials.map(({material}) =>
 // What is wanted of the materials that are looked at.
 function wantedNow() { return shownCodes().flatMap(code => demandsToCut(code)); }
 
+// Reads what is wanted, and of what is wanted the parts.
+async function readCut() {
+  if (isAllShown()) return readAllShown();
+  await readDemands();
+  await readParts();
+}
+
 async function readAllShown() {
-  if (!isAllShown()) return;
-  for (const code of shownCodes()) {
-    await readDemands(code);
-    await readParts(code);
-  }
+  const before = shop.changes, [rows, more] = await readPages("/demands/0", "demands", MOST_PAGES, row => `/demands/${row.demand}`);
+  if (before !== shop.changes) return;
+  for (const code of shownCodes()) takeDemands(code, rows.filter(row => row.material === code), more);
+  for (const code of shownCodes()) if (knownOf(code).demands.some(row => leftOf(row) > 0)) await readParts(code);
 }
 
 // The materials of which something can be planned.
@@ -39,8 +45,9 @@ async function planEach(only = "") {
 // Plans all that is open, of all materials, behind an order.
 async function planAllOrdered() {
   go("cut");
-  await readAllShown();
-  await (isAllShown() ? planEach() : planOrder());
+  await lookAtShop();
+  await readCut();
+  await planAll();
 }
 
 function allFound() { return shownCodes().map(code => plansOf(code).found).filter(Boolean); }

@@ -26,7 +26,7 @@ function saidFault(text) {
 
 // The day on which an order is due and a text of it, saved by one press.
 function noteForm(order, key) {
-  const said = shop.said.get(order) || {due: 0, text: ""}, now = oneOrder.notes.get(order) || {day: dayField(said.due), text: said.text};
+  const said = sentNote(order) || shop.said.get(order) || {due: 0, text: ""}, now = oneOrder.notes.get(order) || {day: dayField(said.due), text: said.text};
   const input = (name, given) => el("input", {
     "data-field": name,
     "data-key": `${key}${name}${order}`,
@@ -46,6 +46,11 @@ function noteForm(order, key) {
   return el("form", {class: "noted", novalidate: "", on: {submit}},
     el("label", {class: "field"}, tr`Due`, due), el("label", {class: "field"}, tr`Text`, text),
     el("button", {class: "small", text: tr`Save`, "data-key": `${key}save${order}`, "aria-label": tr`Save what is said of order ${order}`}), left);
+}
+
+// A note of an order that waits for its answer.
+function sentNote(order) {
+  return terminal.keptHere().map(({command}) => command).reverse().find(command => command.do === "note" && command.order === order);
 }
 
 function saveNote(order, dueField, textField) {
@@ -122,10 +127,10 @@ function orderActs(order, lines) {
 // Plans an order alone: of each of its materials, one behind another.
 async function cutNow(order, lines) {
   const [first, ...others] = [...new Set(lines.filter(row => leftOf(row) > 0).map(({material}) => material))];
-  go(`cut/${first}`);
-  chooseMaterial(first);
-  await planOnly(order);
-  for (const code of others) await planOrder({only: order, code});
+  go(others.length ? "cut" : `cut/${first}`);
+  if (!others.length) chooseMaterial(first);
+  await readCut();
+  await (others.length ? planEach(order) : planOnly(order));
 }
 
 // From then on the form of orders by hand adds lines to an order, until they are sent or it is left.

@@ -582,10 +582,11 @@ function restFault() {
 }
 
 function showBreakWords(made) {
-  const words = breakWords(made), fault = restFault(), field = $("breakRest");
+  const fault = restFault(), words = fault ? tr`Rest measured: ${fault}` : breakWords(made), field = $("breakRest");
   if ($("breakWords").textContent !== words) $("breakWords").textContent = words;
   $("restField").hidden = atSaw.lost === null;
-  if (Boolean(fault) !== field.classList.contains("badfield")) markField(field, fault);
+  field.classList.toggle("badfield", Boolean(fault));
+  field.setAttribute("aria-invalid", String(Boolean(fault)));
   $("sendBreak").disabled = !canBreak(made) || Boolean(fault);
 }
 

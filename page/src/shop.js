@@ -131,7 +131,10 @@ async function readDemands(code = shop.material) {
   const before = shop.changes;
   if (!code) return;
   const [rows, more] = await readPages(`/demands/0/${code}`, "demands", MOST_PAGES, row => `/demands/${row.demand}/${code}`);
-  if (before !== shop.changes) return;
+  if (before === shop.changes) takeDemands(code, rows, more);
+}
+
+function takeDemands(code, rows, more) {
   learnLines(rows);
   noteOpen(code, rows, more);
   Object.assign(knownOf(code), {demands: rows, moreDemands: more});
@@ -140,7 +143,7 @@ async function readDemands(code = shop.material) {
 // The open demands of one other material a pass, so that each material's button tells how much is open.
 async function readOthers() {
   const others = shop.materials.filter(row => row.material !== shop.material);
-  if (!others.length || shop.materials.length > MANY) return;
+  if (!others.length || shop.materials.length > MANY || isAllShown()) return;
   const code = (others.find(row => !shop.open.has(row.material)) || others[shop.turn++ % others.length]).material;
   const {demands, more} = await askCalmly(`/demands/0/${code}`);
   noteOpen(code, demands, more);

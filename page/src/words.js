@@ -694,6 +694,7 @@ const GERMAN = new Map(Object.entries({
   "Order {0}: {1}": "Auftrag {0}: {1}",
   "Pieces of orders": "Zuschnitte von Aufträgen",
   "Plan of all materials": "Plan aller Materialien",
+  "Rest measured: {0}": "Gemessener Rest: {0}",
   "Rest measured, mm": "Rest gemessen, mm",
   "Save": "Speichern",
   "Save what is said of order {0}": "Tag und Text von Auftrag {0} speichern",
