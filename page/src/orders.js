@@ -28,7 +28,7 @@ async function readOrders() {
   const listed = isFinishedToo() ? shop.allOrders.map(row => row.order) : [];
   const open = new Set(shop.orders.map(row => row.order)), shown = listed.filter(order => inOrders.folds.get(order));
   for (const order of new Set([inOrders.found, ...shown]))
-    if (order && !open.has(order) && !await readIfThere(order)) inOrders.found = "";
+    if (order && (order === inOrders.found || !open.has(order)) && !await readIfThere(order)) inOrders.found = "";
   await readFound();
 }
 
