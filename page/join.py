@@ -37,16 +37,21 @@ def template_end(text, place):
 
 
 def tight(code):
-    return re.sub(r" ?(=>|[!=]==|&&|\|\||[][(){},;:?<>*]) ?", r"\1", code)
+    return re.sub(r"\s*([][(){},;:?<>*=+|&])\s*", r"\1", code)
 
 
-def tight_script(text):
+def split_script(text):
+    """What changes of a script and what stays as it is, by turns."""
     parts, at = [], 0
     while found := FIXED.search(text, at):
         end = template_end(text, found.start()) if found[0] == "`" else found.end()
-        parts += [tight(text[at : found.start()]), text[found.start() : end]]
+        parts += [text[at : found.start()], text[found.start() : end]]
         at = end
-    return "".join([*parts, tight(text[at:])])
+    return [*parts, text[at:]]
+
+
+def tight_script(text):
+    return "".join(it if i % 2 else tight(it) for i, it in enumerate(split_script(text)))
 
 
 def part(name):
@@ -54,12 +59,45 @@ def part(name):
     if name.endswith(".js"):
         text = tight_script(re.sub(r"(?m)^ *//.*\n|  // .*$", "", text))
     if name.endswith(".css"):
-        text = re.sub(r" ?([{};:,]) ", r"\1", text)
+        text = re.sub(r"\s*([{};:,])\s+", r"\1", text).replace(";}", "}")
     return re.sub(r"(?m)^ +|^\n", "", text)
 
 
+# Names that cases call in a browser: these stay.
+CALLED = set(
+    """adaptLines addOrderLine areaText askCalmly atSaw chosenDemands chosenPlan clickCut codeOfName countOf cutsOf demandsToCut factOf
+    faultWords foldJobs foldNotices forgetRead forgetShop importsOf inOrders isFree isLost isStaleBy keyOf learnLines leftOf lineFaults
+    lookAtShop makeBackup metresText momentText openJob pauseOf piecesOf planAgain planAll planWords plansByMaterial plansQuestion printWaiting
+    problemFault readJobCells readOrderFile readReply readShown readTickets refreshNow refreshPass searchOn sendBreak sendCsv sendKept
+    sendMany setBreaking showJob showLink showView stopPlan terminalWords textOf toCut undoJob viewName waitForPass whenAccepted""".split()
+)
+NAME = re.compile(r"[A-Za-z_$][\w$]*")
+# What stands before and behind a word that is a property, a key or a text.
+BEFORE, BEHIND = set(".'\"#-`"), set(":\"'-`")
+
+
+def own_names(script):
+    """Names that a script declares, that are names wherever they stand, and that are long for how often they stand; the best first."""
+    declared = set(re.findall(r"(?:\bfunction |\bconst )(\w+)", script))
+    in_texts = {word for text in split_script(script)[1::2] if text[0] in "\"'" for word in NAME.findall(text)}
+    counts = {}
+    for found in NAME.finditer(script):
+        is_name = script[found.start() - 1] not in BEFORE and script[found.end()] not in BEHIND
+        counts[found[0]] = counts.get(found[0], 0) + 1 if is_name and counts.get(found[0], 0) >= 0 else -1
+    own = [it for it in declared - in_texts - CALLED if re.match("[a-z]+[A-Z]", it) and counts[it] > 0]
+    return sorted(own, key=lambda it: (-(len(it) - 3) * counts[it], it))
+
+
+def shortened(page):
+    """A page whose script has short names in place of its own long ones."""
+    head, script, end = re.split(r"(?s)(?<=<script>)(.*)(?=</script>)", page)
+    letters = "abcdefghijklmnopqrstuvwxyzABCDEFGHIJKLMNOPQRSTUVWXYZ"
+    short = {name: "_" + (letters[i] if i < 52 else letters[i // 52 - 1] + letters[i % 52]) for i, name in enumerate(own_names(script))}
+    return head + NAME.sub(lambda found: short.get(found[0], found[0]), script) + end
+
+
 def joined():
-    return re.sub(r"(?m)^\{\{(.+)\}\}\n", lambda line: part(line[1]), part("document.html"))
+    return shortened(re.sub(r"(?m)^\{\{(.+)\}\}\n", lambda line: part(line[1]), part("document.html")))
 
 
 if __name__ == "__main__":

@@ -40,7 +40,7 @@ function settle(text) {
 // Where a view's button and key lead: to what it showed last.
 function addressOfView(view) {
   switch (view) {
-    case "tocut": return shop.material ? `cut/${shop.material}` : "cut";
+    case "tocut": return toCut.isOne && shop.material ? `cut/${shop.material}` : "cut";
     case "saw": return atSaw.job ? `saw/${atSaw.job}` : "saw";
     case "orders": return viewName() !== "orders" && inOrders.found ? `order/${inOrders.found}` : "orders";
     case "stock": return shop.material ? `stock/${shop.material}` : "stock";
@@ -52,6 +52,7 @@ function addressOfView(view) {
 function followAddress() {
   const {word, of} = readAddress(), text = addressText({word, of});
   settle(text);
+  if (word === "cut") toCut.isOne = Boolean(of);
   if (word === "cut" || word === "stock") followMaterial(of);
   if (word === "stock") forgetTrace();
   if (word === "saw") followJob(Number(of));

@@ -13,7 +13,7 @@ const facts = {
 const MOST_FACTS = 3000;
 
 const OF_ORDERS = ["demands", "demand", "orders", "order"], OF_STOCK = ["parts", "trace", "totals"], OF_ALL = ["history", "story"];
-const OF_ENDS = [...OF_ORDERS, ...OF_STOCK, "jobs", "job"];
+const OF_ENDS = [...OF_ORDERS, ...OF_STOCK, "jobs", "job", "steps", "pieces"];
 
 // By what an entry did: the first words of the paths whose answers it may have changed.
 const STALE = {
@@ -21,13 +21,17 @@ const STALE = {
   receive: OF_STOCK,
   order: OF_ORDERS,
   import: [...OF_ORDERS, ...OF_STOCK],
+  extend: OF_ORDERS,
+  note: ["demands", "orders", "order", "jobs"],
   amend: OF_ORDERS,
-  reserve: [...OF_ORDERS, ...OF_STOCK, "jobs"],
+  reserve: [...OF_ORDERS, ...OF_STOCK, "jobs", "steps"],
+  begin: ["jobs", "job"],
   done: OF_ENDS,
   break: OF_ENDS,
   release: OF_ENDS,
-  scrap: OF_STOCK,
-  return: OF_STOCK
+  undo: OF_ENDS,
+  scrap: [...OF_STOCK, "steps"],
+  return: [...OF_STOCK, "steps"]
 };
 
 const KEPT_FACTS = new Set([...OF_ENDS, ...OF_ALL, "materials"]);
@@ -62,6 +66,7 @@ function noteFact(path, reply, asOf = facts.last) {
 function factOf(path) { return facts.by.get(path)?.reply; }
 
 function dropStale(message, entry = Infinity) {
+  if (message.do === "note") learnSaid([message]);
   const of = whatIsAbout(message);
   for (const [path, {asOf}] of facts.by)
     if (asOf < entry && isStaleBy(message, of, path)) facts.by.delete(path);
@@ -70,6 +75,11 @@ function dropStale(message, entry = Infinity) {
 function lastOf({entry, at, message: {terminal: sender, number}}) { return {entry, at, sender, number}; }
 
 function isSameEntry(row, last) { return JSON.stringify(lastOf(row)) === JSON.stringify(last); }
+
+function forgetFacts() {
+  facts.by = new Map();
+  shop.said.clear();
+}
 
 // Reads through `get` what happened since the last entry that is known; false where the shop isn't the one that is known: it has fewer
 // entries, or another one in that place. `isSure`: whether nothing but an entry can have changed since.
@@ -83,7 +93,7 @@ async function readNews(get, isSure) {
   const newest = more ? (await get(`/history/${entries - 1}`)).entries[0] : rows[rows.length - 1];
   if (shops !== facts.shops) return true;
   const fresh = known ? rows.filter(({entry}) => entry > known.entry) : [];
-  if (!known || more) facts.by = new Map();
+  if (!known || more) forgetFacts();
   else for (const {entry, message} of fresh) dropStale(message, entry);
   if (!facts.last || newest?.entry > facts.last.entry) facts.last = newest ? lastOf(newest) : {entry: 0, at: 0, sender: 0, number: 0};
   findStranger(fresh);

@@ -46,7 +46,7 @@ function planCard(plan, size, isBeside) {
   const kindTag = buy ? tr`to buy` : isRest ? tr`remnant` : "";
   const head = el("h3", {}, many > 1 ? el("span", {class: "same", text: `${many} × `}) : null,
     sizeText(material.kind, plan.w, plan.h), kindTag ? el("span", {class: "tag", text: kindTag}) : null,
-    parts.length ? el("span", {class: "quiet", text: `${namesOf(parts.map(part => ({part})))}${jobsWords(parts)}`}) : null);
+    parts.length ? el("span", {class: "quiet", text: `${namesOf(parts.map(part => ({part})))}${jobsWords(parts, material)}`}) : null);
   return el("section", {class: `planned${isBeside ? " beside" : ""}`}, head, holder,
     pieceList(material.kind, layPlan(root, material)));
 }
@@ -71,8 +71,8 @@ function lineWords(demand) {
 }
 
 // The jobs that parts were reserved as.
-function jobsWords(parts) {
-  const jobs = parts.map(part => toCut.found?.jobs.get(part)).filter(Boolean);
+function jobsWords(parts, {material}) {
+  const jobs = parts.map(part => plansOf(material).found?.jobs.get(part)).filter(Boolean);
   return jobs.length ? `: ${jobs.length > 1 ? tr`jobs ${jobs.join(", ")}` : tr`job ${jobs[0]}`}` : "";
 }
 
@@ -85,12 +85,14 @@ function planFigures(plans) {
     whole += many * plan.w * plan.h;
     cuts += many * plan.root.cuts;
   }
-  const pieces = countOf(plans), {part, found} = toCut;
+  const rests = plans.flatMap(plan => layPlan(plan.root, material)).filter(box => box.fate === "kept");
+  const largest = rests.reduce((a, b) => a && a.w * a.h >= b.w * b.h ? a : b, null), pieces = countOf(plans), {part, found} = toCut;
   return [
     part ? null : figure(usedWords({plans, material}), tr`are cut up`),
     figure(grouped(pieces), word(pieces === 1 ? "piece" : "pieces")),
     figure(grouped(cuts), word(cuts === 1 ? "cut" : "cuts")),
     figure(percent(cells.piece, whole), tr`in pieces`),
+    largest ? figure(sizeText(kind, largest.w, largest.h), tr`largest rest`) : null,
     figure(percent(cells.kept, whole), part ? tr`kept as rests` : tr`kept as rests, ${cellsText(kind, cells.kept)}`),
     figure(percent(cells.kerf + cells.scrap, whole), tr`kerf and scrap`),
     part || !found ? null : figure(String(plans.length), word(plans.length === 1 ? "different plan" : "different plans"))

@@ -72,7 +72,8 @@ function showHappened() {
   $("happenedTitle").textContent = isStory(of) ? storyWords(kind, name.join("/")) : tr`What happened`;
   showNarrow();
   const shown = isRead ? rows.filter(isNarrowed) : [];
-  fill($("happenedList"), [isRead, of, shown, note, happened.looked, chosenOf(), shop.lines.size, shop.materials],
+  const going = shown.map(({message}) => Boolean(message.job && endSent(message.job)));
+  fill($("happenedList"), [isRead, of, shown, note, happened.looked, chosenOf(), shop.lines.size, shop.materials, going],
     () => !isRead ? [quiet("…")] : note ? [el("p", {class: "fault", text: note})] : [andMore(rows.more), ...dayRows(shown)]);
   fill($("happenedPages"), [isRead, of, happened.entries, rows.length], () => isRead ? pageLinks(of) : []);
 }
@@ -103,11 +104,15 @@ const DONE_WORDS = {
   receive: tr`Received`,
   order: tr`Ordered`,
   import: tr`Ordered by a file`,
+  extend: tr`Lines added`,
+  note: tr`Noted`,
   amend: tr`Changed`,
   reserve: tr`Reserved`,
+  begin: tr`Begun`,
   done: tr`Done`,
   break: tr`Broken off`,
   release: tr`Given back`,
+  undo: tr`Taken back`,
   scrap: tr`Scrapped`,
   return: tr`Returned`,
   material: tr`Material`
@@ -145,28 +150,44 @@ function entryRow({at, entry, message, reply, isAgain}) {
     el("a", {class: "button small", href: `#happened/${entry}`, title: tr`entry ${entry}`, "aria-label": tr`entry ${entry}`}, el("time", {text: clockText(at)})),
     el("span", {class: "quiet", text: terminalWords(message.terminal)}),
     el("span", {text: `${entryWords(message, reply)}${isAgain ? tr`, which was there: nothing done` : ""}`}),
-    el("span", {class: "links"}, ...linksOf(message, reply)));
+    el("span", {class: "links"}, ...linksOf(message, reply), takeBackButton(message, entry)));
 }
 
 function entryWords(message, reply) {
-  const {do: done, material, batch, count: units, demand, part, tree, job, cuts, lost, wanted} = message;
+  const {do: done, material, batch, count: units, demand, part, tree, job, wanted} = message;
   const piecesOfOrder = demand && shop.lines.get(demand), kind = message.kind || kindOf(material);
   switch (done) {
     case "material": return tr`material ${material}, ${materialWords(message)}`;
     case "receive": return tr`${units} × ${material} ${sizeText(kind, message.w, message.h)} received, batch ${batch}`;
     case "order": return tr`order ${message.order}: ${count(reply.count, "line")}`;
+    case "extend": return tr`order ${message.order}: ${count(reply.count, "line")} added`;
+    case "note": return tr`order ${message.order}: ${noteWords(message)}`;
     case "import": return tr`file of order ${message.order}: ${count(reply.count, "line")}`;
     case "amend": return piecesOfOrder
       ? tr`${grouped(wanted)} wanted of order ${piecesOfOrder.order}, line ${piecesOfOrder.line}`
       : tr`${grouped(wanted)} wanted of pieces no. ${demand}`;
     case "reserve": return tr`${part} reserved as job ${reply.job}: ${count([...countPieces(tree).values()].reduce((a, b) => a + b, 0), "piece")}`;
+    case "begin": return tr`job ${job} begun`;
     case "done": return tr`job ${job} done`;
-    case "break": return tr`job ${job} broken off, ${count(cuts.length, "cut")} made${lost === false ? "" : tr`, cut ${lost + 1} went wrong`}`;
+    case "break": return breakSentence(job, haltOf(message));
+    case "undo": return tr`job ${job} taken back, ${reply.part} stands again`;
     case "release": return tr`job ${job} given back`;
     case "scrap": return tr`${part} scrapped`;
     case "return": return tr`${part} returned`;
     default: return done;
   }
+}
+
+function breakSentence(job, {made, lost, rest}) {
+  const wrong = lost === null ? "" : tr`, cut ${lost + 1} went wrong`;
+  return tr`job ${job} broken off, ${count(made.size, "cut")} made${wrong}${rest ? tr`, rest ${mm(rest)} mm` : ""}`;
+}
+
+// What a done or broken job's entry has, unless the job was taken back since or is being.
+function takeBackButton({do: done, job}, entry) {
+  const isBack = happened.rows.some(row => row.entry > entry && row.message.do === "undo" && row.message.job === job);
+  if (!["done", "break"].includes(done) || isBack || endSent(job)) return null;
+  return el("button", {class: "small", text: tr`Take back`, "data-key": `back${entry}`, "aria-label": tr`Take back job ${job}`, on: {click: () => undoJob(job)}});
 }
 
 // Links to what an entry is about.

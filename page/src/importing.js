@@ -9,27 +9,6 @@ async function readText(file, holder) {
   return null;
 }
 
-// last: the last demand's number when a file was picked, where it is known; before: the same of the orders that were sent.
-const imports = {
-  last: null,
-  before: new Map()
-};
-
-// Demands are numbered without gaps, so the last one is found by doubling steps from one that is known.
-async function readLastDemand() {
-  imports.last = null;
-  let known = [...shop.lines.keys()].reduce((a, b) => Math.max(a, b), 0), step = 1;
-  try {
-    if (known && !await readDemand(known)) known = 0;
-    for (; await readDemand(known + step); step *= 2) known += step;
-    for (; step > 1; step /= 2)
-      if (await readDemand(known + step / 2)) known += step / 2;
-    imports.last = known;
-  } catch (error) {
-    if (!(error instanceof NoAnswer || error instanceof Refused)) console.error(error);
-  }
-}
-
 // A demand, or null where there is none.
 function readDemand(number) {
   return ask(`/demand/${number}`, {patience: 3000}).catch(error => {
@@ -37,9 +16,6 @@ function readDemand(number) {
     return null;
   });
 }
-
-// Whether the reply's demands were there before the file was picked, so that the shop gave an earlier reply.
-function isOldImport({order}, {first}) { return imports.before.has(order) && first <= imports.before.get(order); }
 
 // The picked file as it was read, its text, and what was chosen for it; orders: how many it becomes; named: the code that its
 // name gave; drawn: how often it was drawn; asked: how often it was asked which orders are there, behind a pause of the timer.
@@ -60,7 +36,6 @@ const MEANT = "cutshop.materials", MAX_MEANT = 500;
 async function showCsv() {
   const picked = $("csvFile").files[0];
   if (!picked) return $("csvPreview").replaceChildren();
-  readLastDemand();
   const text = await readText(picked, $("csvPreview"));
   if (text === null) return;
   Object.assign(csv, {text, chosen: {materials: storage.read(MEANT, {})}});
@@ -125,21 +100,45 @@ function drawCsvFile(file) {
     el("div", {class: "scroll", tabindex: "0", role: "region", "aria-label": tr`Rows of the file`},
       el("table", {}, el("thead", {}, el("tr", {}, ...head.map(text => el("th", {text})))),
         el("tbody", {}, ...shown.flatMap(csvRows)))),
-    rows.length > shown.length ? quiet(tr`and ${rows.length - shown.length} more`) : "",
-    el("div", {class: "buttons"}, el("button", {
-      class: "act",
-      id: "sendCsv",
-      text: orders > 1 ? tr`Order ${lines} as ${orders} orders` : tr`Order ${lines}${""}`,
-      disabled: Boolean(file.fault) || file.bad.length > 0,
-      on: {click: sendCsv}
-    }))
+    rows.length > shown.length ? quiet(tr`and ${rows.length - shown.length} more`) : "", csvSaid(file),
+    el("div", {class: "buttons"}, csvButton("sendCsv", orders > 1 ? tr`Order ${lines} as ${orders} orders` : tr`Order ${lines}${""}`, () => sendCsv()),
+      csvButton("planCsv", tr`Order and plan`, () => sendCsv(planAllOrdered)))
   ];
+}
+
+function csvButton(id, text, click) {
+  const {file} = csv;
+  return el("button", {class: id === "sendCsv" ? "act" : "", id, text, disabled: Boolean(file.fault) || file.bad.length > 0, on: {click}});
+}
+
+// What is said of the file's orders, and the titles that can be taken as their text.
+function csvSaid({said: {due, text, offered}}) {
+  const {chosen} = csv, field = (name, words, given) => el("label", {class: "field"}, words, el("input", {
+    "data-field": name,
+    "data-key": `csv ${name}`,
+    id: `csv-${name}`,
+    autocomplete: "off",
+    on: {input: ({target: {value}}) => Object.assign(chosen, {[name]: value})},
+    ...given
+  }));
+  const take = title => el("button", {type: "button", class: "small", text: tr`Text: ${quoted(title)}`, on: {click: () => chooseForCsv({text: title})}});
+  return el("div", {class: "fields"}, field("due", tr`Due`, {type: "date", value: chosen.due ?? dayField(due)}),
+    field("text", tr`Text`, {value: chosen.text ?? text}), ...offered.filter(title => title !== (chosen.text ?? text)).slice(0, 3).map(take));
+}
+
+// What is said of the picked file's orders, or nothing; null where it is bad.
+function readSaid() {
+  const [due, text] = ["csv-due", "csv-text"].map($);
+  markField(due, due.validity.valid ? "" : noDayWords());
+  markField(text, saidFault(text.value.trim()));
+  return goToFault($("csvPreview")) ? null : {due: readDay(due.value), text: text.value.trim()};
 }
 
 // Which column each field is, to be changed, or what all lines have; and whether the first row is a line.
 function csvColumns({columns, heads, headless, wide, rows}) {
   const names = Array.from({length: wide}, (_, i) => columnWords(heads[i]?.text, i + 1));
-  const left = names.filter((_, i) => !FIELDS.some(name => columns[name] === i));
+  const isSaid = i => ["customer", "due"].includes(meaningOf(heads[i]?.name || ""));
+  const left = names.filter((_, i) => !isSaid(i) && !FIELDS.some(name => columns[name] === i));
   return el("details", {
     id: "csvColumns",
     open: csv.chosen.isOpen ?? !isAsWritten(heads),
@@ -322,9 +321,23 @@ async function showThere(codes, words) {
     if (csv.asked !== asked) return;
   }
   if (!there.length) return;
-  const told = tr`There already: ${there.join(", ")}. The same file does nothing again; another one is refused.`;
-  fill($("fileCodes"), [...words, told], () => [...words.map(quiet), el("p", {class: "fault", text: told})]);
+  const told = tr`There already: ${there.join(", ")}. The same file does nothing again; another one is refused.`, {file} = csv;
+  const isGood = file && codes.length === 1 && !file.fault && !file.bad.length;
+  const add = isGood ? el("button", {class: "small", id: "extendCsv", text: tr`Add these lines to ${there[0]}`, on: {click: () => extendByFile(there[0])}}) : "";
+  fill($("fileCodes"), [...words, told, isGood], () => [...words.map(quiet), el("p", {class: "fault", text: told}), add]);
 }
+
+// Adds the picked file's lines to an order that is there.
+async function extendByFile(order) {
+  const {file} = csv, typed = [$("fileCode").value, "csv", {...csv}, {...problem}], back = givenBack(isFileEmpty, () => fillFile(...typed));
+  const isSent = await extend(order, file.rows.map(({texts}) => lineOf(texts)), back).catch(async error => {
+    tell(`${tr`Add lines to order ${order}`}: ${await faultWords(error)}`, "refused");
+  });
+  if (isSent && csv.file === file) clearFile();
+}
+
+function isFileEmpty() { return !$("fileCode").value && !$("csvPreview").firstChild && !$("problemPreview").firstChild; }
+
 
 // What a file is ordered as, marked where it can't be.
 function readFileCode(orders) {
@@ -335,9 +348,9 @@ function readFileCode(orders) {
 }
 
 // Orders the picked file: one order, or several by one press.
-function sendCsv() {
-  const {file} = csv, code = file.fault || file.bad.length ? "" : readFileCode(file.texts.length);
-  if (code) sendImports(code, importsOf(file, code), "csv");
+function sendCsv(ordered = () => {}) {
+  const {file} = csv, code = file.fault || file.bad.length ? "" : readFileCode(file.texts.length), said = code && readSaid();
+  if (said) sendImports(code, importsOf(file, code), "csv", said, ordered);
 }
 
 function sendProblemFile() {
@@ -345,15 +358,22 @@ function sendProblemFile() {
   if (order) sendImports(order, [{do: "import", form: "cgcut", material, order, text}], "cgcut");
 }
 
-function sendImports(code, commands, form) {
+// Once an order of a file is there, what is said of it is noted, and behind the last one all is done that is to follow.
+function sendImports(code, commands, form, said = {due: 0, text: ""}, ordered = () => {}) {
   const what = tr`Order ${code} from a file`, typed = [$("fileCode").value, form, {...csv}, {...problem}];
-  const isEmpty = () => !$("fileCode").value && !$("csvPreview").firstChild && !$("problemPreview").firstChild;
-  const refused = givenBack(isEmpty, () => fillFile(...typed)), accepted = ({order}) => imports.before.delete(order);
-  for (const {order} of commands) if (!imports.before.has(order)) imports.before.set(order, imports.last ?? 0);
-  const over = told => takeBack(told, commands, typed, isEmpty);
+  const refused = givenBack(isFileEmpty, () => fillFile(...typed)), note = (order, isOld) =>
+    isOld || !(said.due || said.text) || send({do: "note", ...said, order}, tr`Order ${order}: ${noteWords(said)}`);
+  const accepted = ({order}, isOld) => {
+    note(order, isOld);
+    ordered();
+  };
+  const over = told => {
+    takeBack(told, commands, typed, isFileEmpty);
+    if (told.done) ordered();
+  };
   const isSent = commands.length === 1
     ? send(commands[0], what, accepted, refused)
-    : sendMany(what, commands.map(command => [command.order, command]), (_, reply) => accepted(reply), over);
+    : sendMany(what, commands.map(command => [command.order, command]), ({order}, reply, isOld) => note(order, isOld), over);
   if (isSent) clearFile();
 }
 

@@ -47,18 +47,22 @@ function cutsOf(root) { return nodesOf(root).filter(node => node.kind === "cut")
 
 function isKept(w, h, limits) { return Math.max(w, h) >= limits.min_long && Math.min(w, h) >= limits.min_short; }
 
-// The halt that a message tells; the cuts that were made are listed.
-function haltOf({cuts, lost}) { return {made: new Set(cuts), lost: lost === false ? null : lost}; }
+// The halt that a message tells: the cuts that were made, listed or how many of the first, the one that went wrong, and the rest that
+// was measured of what it was to divide.
+function haltOf({cuts, lost, rest = 0}) {
+  const isList = Array.isArray(cuts), wrong = isList ? lost : lost ? cuts : false;
+  return {made: new Set(isList ? cuts : Array.from({length: cuts}, (_, i) => i)), lost: wrong === false ? null : wrong, rest};
+}
 
-// The rectangles that come of the work: all cuts, or those of a halt { made: Set, lost: number or null }. One that was read
-// from traces has beside it the cuts whose rectangle is scrap; which of them went wrong isn't known.
+// The rectangles that come of the work: all cuts, or those of a halt { made: Set, lost: number or null, rest: length }. One that was
+// read from a job's steps has beside it the cuts whose rectangle is scrap; which of them went wrong isn't known.
 function layPlan(root, limits, halt) {
   const boxes = [];
   function lay(node) {
     const rest = isKept(node.w, node.h, limits) ? "kept" : "scrap";
     if (node.kind === "piece") boxes.push({...node, fate: "piece"});
     else if (node.kind === "rest") boxes.push({...node, fate: rest});
-    else if (halt && halt.lost === node.cut) boxes.push({...node, fate: "lost"});
+    else if (halt && halt.lost === node.cut) boxes.push(...lostBoxes(node, halt.rest || 0, limits));
     else if (halt?.scrapped?.has(node.cut)) boxes.push({...node, fate: "scrap"});
     else if (halt && !halt.made.has(node.cut)) boxes.push({...node, fate: rest, uncut: true});
     else layCut(node);
@@ -70,6 +74,14 @@ function layPlan(root, limits, halt) {
   }
   lay(root);
   return boxes;
+}
+
+// What becomes of the rectangle of a cut that went wrong: the last columns or rows may be a usable rest, under the next node.
+function lostBoxes(node, rest, limits) {
+  const {x, y, w, h} = node, isAcross = node.axis === "x", lost = {...node, ...isAcross ? {w: w - rest} : {h: h - rest}, fate: "lost"};
+  if (!rest) return [lost];
+  const left = isAcross ? {x: x + w - rest, y, w: rest, h} : {x, y: y + h - rest, w, h: rest};
+  return [lost, {...left, node: node.node + 1, kind: "rest", fate: isKept(left.w, left.h, limits) ? "kept" : "scrap"}];
 }
 
 function cellsByFate(boxes) {

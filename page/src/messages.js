@@ -49,18 +49,20 @@ function pause(time) { return new Promise(resolve => setTimeout(resolve, time));
 // Keeps a command as a message and sends it; false where it can't be kept. One that waits already isn't kept twice. `refused` is
 // called where the shop refuses it, and may give a link for that notice.
 function send(command, what, accepted = () => {}, refused = () => null) {
-  if (!terminal.number) {
-    chooseTerminal();
-    return false;
-  }
   try {
     whenRefused.set(keepCommand({what, command}, accepted), refused);
   } catch {
     tell(tr`${what}: not sent, because this browser can't keep it until it is answered`, "refused");
     return false;
   }
-  sendKept();
+  sendOrAsk();
   return true;
+}
+
+// What is kept waits until this terminal has a number, for which the first message asks.
+function sendOrAsk() {
+  if (terminal.number) sendKept();
+  else chooseTerminal();
 }
 
 function keepCommand({what, command, many}, accepted, known = terminal.keptHere()) {
@@ -99,7 +101,7 @@ const sending = {
 };
 
 async function sendKept() {
-  if (sending.busy || !terminal.kept().length) return;
+  if (sending.busy || !terminal.number || !terminal.kept().length) return;
   clearTimeout(sending.timer);
   sending.busy = true;
   sending.last = null;
@@ -121,7 +123,7 @@ async function sendKept() {
 
 function sendLater() {
   clearTimeout(sending.timer);
-  if (terminal.kept().length) sending.timer = setTimeout(sendKept, 3000);
+  if (terminal.number && terminal.kept().length) sending.timer = setTimeout(sendKept, 3000);
 }
 
 // True where the first kept message waits no more, or was typed under a run that isn't the one that answers.
@@ -190,7 +192,7 @@ async function findStranger(entries) {
 function strangerOf(entries) {
   const ranges = [...storage.read(SENT, []), ...terminal.messages().map(({terminal: sender, number}) => [sender, number, number])];
   const isSent = ({terminal: sender, number}) => ranges.some(([of, first, last]) => of === sender && first <= number && number <= last);
-  return entries.map(({message}) => message).find(message => message.terminal === terminal.number && !isSent(message));
+  return entries.map(({message}) => message).find(message => terminal.number && message.terminal === terminal.number && !isSent(message));
 }
 
 function spentWords(number) {
@@ -209,26 +211,38 @@ function moveUnsent(number) {
 async function answered({mark, terminal: sender, number, what, command, end, many, run}, reply) {
   const quicker = reply.refused === undefined ? null : await quickerOf(command, reply), isRefused = isRefusal(reply, quicker);
   const why = isRefused ? await refusalWords(reply, command, quicker?.words) : "";
-  const words = isRefused ? tr`Refused: ${what}: ${why}` : quicker?.words || `${what}: ${outcomeWords(command, reply, end)}`;
+  const old = command.do === "import" && !isRefused ? await orderedBefore(command, sender, number) : "", isOld = Boolean(old);
+  const words = isRefused ? tr`Refused: ${what}: ${why}` : quicker?.words || `${what}: ${old || outcomeWords(command, reply, end)}`;
   if (!isRefused) dropStale(command);
-  terminal.keep({mark, terminal: sender, number, words, reply, many, run, isSame: Boolean(quicker?.isSame)});
+  terminal.keep({mark, terminal: sender, number, words, reply, many, run, isSame: Boolean(quicker?.isSame), isOld});
   if (many)
     changeMany(many, told => {
       if (isRefused) told.refused.push([command.part || what, why]);
       else told.done++;
     });
   for (const {mark: old} of terminal.answered().slice(0, -MOST_ANSWERED)) terminal.forget(old);
-  tellAnswer({mark, words, reply, many, isSame: quicker?.isSame});
+  tellAnswer({mark, words, reply, many, isSame: quicker?.isSame, isOld});
+}
+
+// Who ordered before what a file orders, as the first entry of the order's story tells; nothing where this message did.
+async function orderedBefore({order}, sender, number) {
+  const told = await ask(`/story/order/${order}/0`).catch(() => null), [first] = told?.entries || [];
+  if (!told) return tr`done`;
+  if (!first || !["order", "import"].includes(first.message.do)) return tr`was ordered before records began: nothing done`;
+  const {at, message: {terminal: by, number: nth}} = first;
+  return by === sender && nth === number ? "" : tr`was ordered at ${momentText(at)} by terminal ${by}: nothing done`;
 }
 
 // Whether an answer is a refusal of what was wanted: another may have done the same before.
 function isRefusal({refused}, other) { return refused !== undefined && !other?.isSame; }
 
-function tellAnswer({mark, words, reply, many, isSame}) {
-  const isRefused = isRefusal(reply, {isSame});
+function tellAnswer({mark, words, reply, many, isSame, isOld}) {
+  const isRefused = isRefusal(reply, {isSame}), isOthers = reply.before > 0 && reply.before !== terminal.number;
   const link = isRefused ? whenRefused.get(mark)?.() : linkOf(reply);
-  if (!many) tell(words, isRefused ? "refused" : "good", link);
-  if (!isRefused) whenAccepted.get(mark)?.(reply);
+  if (reply.ok === "begin" && !isOthers) say(words);
+  else if (isOthers) tell(tr`Job ${reply.job}: terminal ${reply.before} had begun it. Ask there before you cut.`, "refused");
+  else if (!many) tell(words, isRefused ? "refused" : "good", link);
+  if (!isRefused) whenAccepted.get(mark)?.(reply, isOld);
   for (const when of [whenAccepted, whenRefused]) when.delete(mark);
   if (many) tellMany(many);
   if (!many || manyTold.has(many)) refreshNow();
@@ -250,7 +264,9 @@ function givenBack(isEmpty, fillIn) {
 // Where to go on from an answer.
 function linkOf({ok, job, first}) {
   if (ok === "reserve") return {words: tr`To the saw`, go: () => openJob(job)};
-  return ["order", "import"].includes(ok) ? {words: tr`Plan all`, go: () => planOrdered(first)} : null;
+  if (["done", "break"].includes(ok)) return {words: tr`Take back`, go: () => undoJob(job)};
+  if (ok === "undo") return {words: tr`To cut`, go: () => go(addressOfView("tocut"))};
+  return ["order", "import", "extend"].includes(ok) ? {words: tr`Plan all`, go: () => planOrdered(first)} : null;
 }
 
 // Another tab keeps a message or its answer, which it may be closed before it sends.
@@ -307,9 +323,10 @@ function outcomeWords(command, reply, end) {
       return tr`${count(reply.count, "unit")} received, ${reply.act}/0${more ? tr` to ${reply.act}/${more}` : ""}`;
     case "order": return ordered;
     case "import":
-      if (isOldImport(command, reply)) return tr`was ordered already, pieces wanted from no. ${reply.first} on: nothing was done`;
       return reply.act ? tr`${ordered}, unit ${reply.act}/0 received` : ordered;
     case "reserve": return tr`job ${reply.job}, ${count(reply.cuts, "cut")}`;
+    case "extend": return tr`${count(reply.count, "line")} added, pieces wanted from no. ${reply.first} on`;
+    case "undo": return tr`part ${reply.part} stands again, and its pieces are wanted again`;
     case "done":
     case "break": return endWords(reply, end);
     default: return tr`done`;
@@ -343,15 +360,11 @@ const MANY_KEPT = "cutshop.many.";
 
 const manyTold = new Set();
 
-// What to do in this tab when none of many messages waits any more.
+// What to do in this tab when none of many messages waits any more; it may give a link for their notice.
 const whenManyOver = new Map();
 
 // `parts` are pairs of a name and its command; `view` is where to go then. False where not all can be kept.
 function sendMany(what, parts, accepted, over = () => {}, view = "") {
-  if (!terminal.number) {
-    chooseTerminal();
-    return false;
-  }
   for (const key of storage.keys(MANY_KEPT))
     if (isOver(storage.read(key, {}))) storage.forget(key);
   const many = newMark(), known = terminal.keptHere();
@@ -360,7 +373,7 @@ function sendMany(what, parts, accepted, over = () => {}, view = "") {
     storage.write(MANY_KEPT + many, {what, of: parts.length, done: 0, dropped: 0, refused: [], view});
     whenManyOver.set(many, over);
     for (const [name, command] of parts) {
-      keepCommand({what: name, command, many}, reply => accepted(command, reply), known);
+      keepCommand({what: name, command, many}, (reply, isOld) => accepted(command, reply, isOld), known);
       kept++;
     }
   } catch {
@@ -369,7 +382,7 @@ function sendMany(what, parts, accepted, over = () => {}, view = "") {
       told.of = kept;
     });
   }
-  sendKept();
+  sendOrAsk();
   return kept === parts.length;
 }
 
@@ -389,6 +402,8 @@ function tellMany(many) {
   const told = storage.read(MANY_KEPT + many, null);
   if (!told || !isOver(told) || manyTold.has(many)) return;
   manyTold.add(many);
+  const link = whenManyOver.get(many)?.(told);
+  whenManyOver.delete(many);
   const {what, of, done, dropped, refused, view} = told, parts = [tr`${done} of ${of} done`];
   if (dropped) parts.push(tr`${dropped} dropped`);
   for (const words of new Set(refused.map(([, why]) => why))) {
@@ -396,9 +411,7 @@ function tellMany(many) {
     parts.push(tr`${names.length} refused (${names.join(", ")}): ${words}`);
   }
   tell(`${refused.length ? tr`Refused: ` : ""}${what}: ${parts.join("; ")}`, refused.length ? "refused" : "good",
-    view && done ? {words: tr`To the saw`, go: () => go(addressOfView(view))} : null);
-  whenManyOver.get(many)?.(told);
-  whenManyOver.delete(many);
+    link || (view && done ? {words: tr`To the saw`, go: () => go(addressOfView(view))} : null));
 }
 
 // How far many messages are, in a row of what waits.

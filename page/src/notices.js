@@ -93,8 +93,13 @@ function showKept() {
   fill($("keptNotice"), [rows, doubted, terminal.trouble, terminal.isSpent, away], () => (kept.length || away) && el("div", {class: "notice kept"},
     el("div", {}, ...(doubted.length ? doubtRows(doubted) : []), hasWords ? el("span", {text: keptWords(sure, away)}) : null,
       ...keptRows(rows)),
-    terminal.isSpent ? el("button", {class: "small", text: tr`Another number`, on: {click: chooseTerminal}}) : null));
+    numberButton(sure)));
   if (waitingRows().length > shown) bringUp(waitingRows()[waitingRows().length - 1]);
+}
+
+function numberButton(kept) {
+  const words = terminal.isSpent ? tr`Another number` : terminal.number || !kept.length ? "" : tr`Choose the number`;
+  return words ? el("button", {class: "small", text: words, on: {click: chooseTerminal}}) : null;
 }
 
 // A row for each message, and one for all of one press.
@@ -111,6 +116,7 @@ function waitingRows() { return $("keptNotice").querySelectorAll(".waiting"); }
 function keptWords(kept, away) {
   if (terminal.isSpent) return tr`${spentWords(terminal.number)} Choose another number: what waits is sent under it.`;
   const trouble = terminal.trouble ? tr` Last time ${terminal.trouble}.` : "", since = momentText(away / 1000);
+  if (!terminal.number && kept.length) return tr`${count(kept.length, "message")} ${kept.length === 1 ? "waits" : "wait"} for the number of this terminal.`;
   if (away && !kept.length) return tr`No connection since ${since}.`;
   if (away) return tr`No connection since ${since}; ${count(kept.length, "message")} ${kept.length === 1 ? "waits" : "wait"}.${trouble}`;
   return tr`… ${count(kept.length, "message")} without an answer, sent again until it comes.${trouble}`;

@@ -16,7 +16,11 @@ const HEADS = {
     "count", "qty", "quantity", "anzahl", "anz", "stückzahl", "stück", "stueck", "stk", "menge", "pieces", "pcs", "wanted"
   ],
   worth: ["worth"],
-  height: ["height", "höhe", "hoehe", "h"]
+  height: ["height", "höhe", "hoehe", "h"],
+  customer: ["customer", "client", "kunde", "kundin", "kundenname", "auftraggeber", "kommission"],
+  due: [
+    "due", "due date", "date", "deadline", "delivery", "datum", "termin", "liefertermin", "lieferdatum", "fällig", "fällig am", "faellig"
+  ]
 };
 
 // A unit as a head names it: (cm), [m], in mm. (m. is a shortened word, m² no length.)
@@ -129,6 +133,22 @@ function sidesOfCell(text) {
 // A count as the shop reads it: 3,0 and 3 Stk say 3.
 function readCount(text) {
   return text.replace(/^(\d+)(?:[.,]0{1,2})?\s*(?:stk|stück|stueck|st|pcs|pc|pieces?|x)?\.?$/i, "$1");
+}
+
+// A day as a spreadsheet writes it, 3.12.2026, 3.12.26, 2026-12-03 or 12/31/2026, as the shop counts it; or 0. Of 3/4/2026 nobody knows
+// which is the month.
+function readAnyDay(text) {
+  const [, year, month, day] = /^(\d{4})[-/.](\d{1,2})[-/.](\d{1,2})(?:[T ].*)?$/.exec(text) || [];
+  if (year) return dayNumber(year, month, day);
+  const [, first, mark, second, last] = /^(\d{1,2})([-/.])\s?(\d{1,2})[-/.]\s?(\d{4}|\d{2})$/.exec(text) || [];
+  if (!first || (mark !== "." && first <= 12 && second <= 12 && first !== second)) return 0;
+  const isMonthFirst = mark !== "." && second > 12, long = last.length < 4 ? `20${last}` : last;
+  return isMonthFirst ? dayNumber(long, first, second) : dayNumber(long, second, first);
+}
+
+function dayNumber(year, month, day) {
+  const date = new Date(Date.UTC(year, month - 1, day)), isDay = date.getUTCMonth() === month - 1 && year >= 1970;
+  return isDay ? Number(year) * 10000 + Number(month) * 100 + Number(day) : 0;
 }
 
 const TURNS = new Map([

@@ -51,9 +51,28 @@ function readOrderFile(text, chosen = {}) {
     foreign: foreignOf(rows, how.materials),
     bad: rows.filter(row => Object.keys(row.faults).length),
     texts: isWhole ? [text] : orders.map(textOfLines),
-    isTurned: !isWhole
+    isTurned: !isWhole,
+    said: saidByFile(how, lines)
   };
   return {...file, fault: fileFault(file)};
+}
+
+// What a file says of its order: its customers as the text, the earliest of its days, and what its titles offer as a text.
+function saidByFile({heads, titles}, lines) {
+  const cells = name => {
+    const at = heads.findIndex(head => meaningOf(head.name) === name);
+    return at < 0 ? [] : [...new Set(lines.map(({fields}) => plainCell(fields[at] ?? "")).filter(Boolean))];
+  };
+  const days = cells("due").map(readAnyDay).filter(Boolean), offered = titles.map(({fields}) => fields.map(plainCell).filter(Boolean).join(" · "));
+  return {due: days.length ? Math.min(...days) : 0, text: shortSaid(cells("customer").join(", ")), offered: offered.map(shortSaid)};
+}
+
+// A text with at most as many bytes as an order's may have.
+function shortSaid(text) {
+  const bare = text.replace(/[\u0000-\u001f\u007f-\u009f]+/g, " ").trim();
+  let end = Math.min(bare.length, MAX_SAID);
+  while (bytesOf(bare.slice(0, end)) > MAX_SAID) end--;
+  return bare.slice(0, end);
 }
 
 // A table with what is known of how it is read: the columns, whether 1.200 is a thousand, the units of the sides (two sides of

@@ -97,15 +97,26 @@ function lineTexts(line, number) {
 
 function sendOrder(event) {
   event.preventDefault();
-  const order = readCode("orderCode"), lines = [...$("orderLines").children];
+  const {extending} = oneOrder, order = extending || readCode("orderCode"), lines = [...$("orderLines").children];
   const texts = lines.map((line, i) => lineTexts(line, i + 1));
   showFault("orderFault", lines.length ? "" : NO_MATERIAL);
-  markField($("orderCode"), codeFault(order));
+  markField($("orderCode"), extending ? "" : codeFault(order));
   lines.forEach((line, i) => markFields(line, lineFaults(texts[i], i)));
   if (goToFault($("orderForm")) || !lines.length) return;
-  const typed = [$("orderCode").value, lines.map(typedLine)], isEmpty = () => !isOrderTyped();
-  const command = {do: "order", lines: texts.map(lineOf), order};
-  if (send(command, tr`Order ${order}`, () => {}, givenBack(isEmpty, () => fillOrder(...typed)))) fillOrder("", [{}]);
+  const typed = [$("orderCode").value, lines.map(typedLine), extending], isEmpty = () => !isOrderTyped();
+  const command = {do: "order", lines: texts.map(lineOf), order}, back = givenBack(isEmpty, () => fillOrder(...typed));
+  if (extending) sendExtend(extending, command.lines, back);
+  else if (send(command, tr`Order ${order}`, () => {}, back)) fillOrder("", [{}]);
+}
+
+// Lines are added once it is known which one is the order's last.
+async function sendExtend(order, lines, back) {
+  $("sendOrder").disabled = true;
+  const isSent = await extend(order, lines, back).catch(async error => {
+    tell(`${tr`Add lines to order ${order}`}: ${await faultWords(error)}`, "refused");
+  });
+  $("sendOrder").disabled = false;
+  if (isSent) fillOrder("", [{}]);
 }
 
 function fieldsOf(line) { return [...line.querySelectorAll("[data-field]")]; }
@@ -123,9 +134,11 @@ function isOrderTyped() {
 }
 
 // Fills the form of an order anew; the focus stays in it.
-function fillOrder(code, lines) {
+function fillOrder(code, lines, extending = "") {
   const hadFocus = $("orderLines").contains(document.activeElement);
   $("orderCode").value = code;
+  oneOrder.extending = extending;
+  showHand();
   $("orderLines").replaceChildren();
   for (const typed of lines) {
     addOrderLine();

@@ -28,16 +28,17 @@ async function readOrders() {
   const listed = isFinishedToo() ? shop.allOrders.map(row => row.order) : [];
   const open = new Set(shop.orders.map(row => row.order)), shown = listed.filter(order => inOrders.folds.get(order));
   for (const order of new Set([inOrders.found, ...shown]))
-    if (order && !open.has(order) && !await readIfThere(order)) inOrders.found = "";
+    if (order && (order === inOrders.found || !open.has(order)) && !await readIfThere(order)) inOrders.found = "";
+  await readFound();
 }
 
 // The open orders with their sums; of unfolded ones all lines.
 async function readOpenOrders() {
   const [rows, more] = await readPages("/demands/0", "demands", MOST_PAGES, row => `/demands/${row.demand}`);
   learnLines(rows);
-  const orders = groupsOf(rows, row => row.order);
+  const orders = groupsOf(rows, row => row.order).sort(([a], [b]) => byDay(a, b));
   inOrders.sums = await readSums(orders.map(([{order}]) => order));
-  [shop.orders, shop.moreOrders] = [rows, more];
+  [shop.orders, shop.moreOrders] = [orders.flat(), more];
   const shown = new Set(ordersToShow().filter(([, isOpen]) => isOpen).map(([row]) => row.order));
   for (const [{order}] of orders)
     if (shown.has(order)) await readLines(order);
@@ -53,6 +54,7 @@ async function readSums(codes) {
     const below = codeBelow(code), {orders} = await askCalmly(below ? `/orders/${below}` : "/orders");
     for (const row of orders) sums.set(row.order, row);
   }
+  learnSaid(sums.values());
   return sums;
 }
 
@@ -92,10 +94,10 @@ function showOrders() {
   if (!$("orderLines").children.length && shop.materials.length) addOrderLine();
   const rows = ordersToShow(), {found, note, lines} = inOrders, going = [...shop.amending];
   const more = isFinishedToo() ? shop.moreAllOrders : shop.moreOrders;
-  const shown = rows.map(([row, isOpen]) => [row, isOpen, isOpen && lines.get(row.order)]);
+  const shown = [...rows.map(([row, isOpen]) => [row, isOpen, isOpen && lines.get(row.order), shop.said.get(row.order)]), oneOrder.drawn];
   fill($("orderList"), [shown, more, isFinishedToo(), shop.materials, going, inOrders.isRead, inOrders.isListed],
     () => orderRows(rows, more));
-  fill($("foundOrder"), [found, note, lines.get(found), shop.materials, going], foundRows);
+  fill($("foundOrder"), [found, note, lines.get(found), shop.materials, going, shop.said.get(found), oneOrder], foundRows);
 }
 
 // The orders of the list, and whether each is unfolded: few are at first.
@@ -111,7 +113,7 @@ function orderRows(rows, more) {
   if (!rows.length) return [quiet(!isRead ? "…" : isFinishedToo() ? tr`There is no order.` : tr`No order is open.`)];
   return [
     quiet(tr`How many pieces of a line are wanted can be changed to more or fewer, down to what is made and reserved.`),
-    ...rows.map(([row, isOpen]) => orderCard(row, isOpen, orderFold(row.order, isOpen), "")),
+    ...rows.map(([row, isOpen]) => orderCard(row, isOpen, "", orderFold(row.order, isOpen), "")),
     isFinishedToo() ? moreButton(more, "allOrderPages") : andMore(more)
   ];
 }
@@ -119,7 +121,10 @@ function orderRows(rows, more) {
 function foundRows() {
   const {found, note, lines} = inOrders;
   if (!found) return note ? [el("p", {class: note === "…" ? "quiet" : "fault", text: note})] : [];
-  return [orderCard(sumsOf(found, lines.get(found)), true, el("span", {text: tr`Order ${found}`}), "f")];
+  const card = orderCard(sumsOf(found, lines.get(found)), true, tr`Order ${found}`, null, "f");
+  const also = oneOrder.also ? linkTo(`saw/${oneOrder.also}`, tr`Job ${oneOrder.also}`) : "";
+  card.append(orderActs(found, lines.get(found)), also, ...orderJobs(), ...whereFrom().filter(Boolean));
+  return [card];
 }
 
 function orderFold(order, isOpen) {
@@ -140,14 +145,16 @@ async function unfold(order, isOpen) {
   showOrders();
 }
 
-// An order: its state, its sums, and where it is unfolded its lines.
-function orderCard(row, isOpen, title, key) {
+// An order: its state, what is said of it, its sums, and where it is unfolded its lines.
+function orderCard(row, isOpen, title, fold, key) {
   const {order} = row, lines = isOpen && inOrders.lines.get(order), sums = lines ? sumsOf(order, lines) : row;
   const shown = lines ? lines.map(line => lineForm(line, key)) : isOpen ? [quiet("…")] : [], go = () => cancelOrder(order);
+  const words = [stateOf(sums), saidOf(order)].filter(Boolean).join(" · ");
   return el("div", {class: "ordered"},
-    el("h3", {}, title, el("span", {class: "quiet", text: stateOf(sums)}),
+    el("div", {class: "orderedhead"}, fold || el("h3", {text: title}), el("span", {class: "quiet", text: words}),
       leftOf(sums) ? cancelButton(`${key}o${order}`, tr`Cancel order`, tr`Cancel order ${order}`, go) : null),
-    drawProgress(sums), quiet(progressWords(sums)), ...shown, isOpen ? storyLink("order", order) : null);
+    drawProgress(sums), quiet(progressWords(sums)), isOpen ? noteForm(order, key) : null, ...shown,
+    isOpen ? el("div", {class: "buttons"}, fold ? linkTo(`order/${order}`, tr`Jobs, batches, more lines`, tr`Order ${order}`) : null, storyLink("order", order)) : null);
 }
 
 function cancelButton(key, text, words, go) {
@@ -255,30 +262,46 @@ function noteAmended({demand, wanted}) {
 function findOrder(event) {
   event.preventDefault();
   const text = readCode("findOrder");
-  markField($("findOrder"), text ? "" : tr`is empty: write its code or the number of its pieces wanted`);
+  markField($("findOrder"), text ? "" : tr`is empty: write a code or a number`);
   if (!goToFault($("findForm"))) showOrder(text);
 }
 
 function forgetFound() {
   Object.assign(inOrders, {found: "", sought: "", note: ""});
+  Object.assign(oneOrder, {jobs: [], pieces: [], more: false, also: 0});
   $("findOrder").value = "";
 }
 
-// Shows an order by its code or the number of its pieces wanted, unless another is looked for meanwhile.
+// Shows an order by its code or the number of its pieces wanted, or else the job, part or batch that is meant, unless another is
+// looked for meanwhile.
 async function showOrder(text) {
   const told = {found: "", note: ""};
+  let place = "";
   if ($("findOrder").value.trim().toUpperCase() !== text) $("findOrder").value = text;
   Object.assign(inOrders, {sought: text, found: "", note: "…"});
+  Object.assign(oneOrder, {jobs: [], pieces: [], more: false, also: 0});
   showOrders();
   try {
-    told.found = await orderOf(text);
+    told.found = PART_NAME.test(text) ? "" : await orderOf(text);
+    place = told.found === text ? "" : await otherPlaceOf(text);
   } catch (error) { told.note = await faultWords(error); }
   if (inOrders.sought !== text) return;
   Object.assign(inOrders, told);
   if (told.found && viewName() === "orders") go(`order/${told.found}`);
+  if (told.found && place.startsWith("saw/")) oneOrder.also = Number(place.slice(4));
+  else if (place) return go(place);
   showOrders();
-  if (!told.found && !told.note) markField($("findOrder"), tr`“${text}” is no order's code and no number of pieces wanted`);
+  refreshNow();
+  if (!told.found && !told.note) markField($("findOrder"), tr`“${text}” is no code of an order or a batch, and no number of pieces wanted, a job or a part`);
   if (!goToFault($("findForm")) && window.innerWidth < NARROW) $("findForm").scrollIntoView({block: "center"});
+}
+
+// The address of the part, the job or the batch that a text names, or nothing.
+async function otherPlaceOf(text) {
+  if (PART_NAME.test(text)) return `part/${text}`;
+  const job = readWhole(text, 1, 2147483647);
+  if (job && await ask(`/job/${job}`).catch(() => null)) return `saw/${job}`;
+  return !codeFault(text) && (await partsOfBatch(text)).length + (await piecesOfBatch(text))[0].length ? `batch/${text}` : "";
 }
 
 // The code of the order that has this code, or of which the pieces of this number are; or nothing.

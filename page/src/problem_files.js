@@ -9,7 +9,6 @@ async function showProblem() {
   const picked = $("problemFile").files[0];
   problem.text = null;
   if (!picked) return $("problemPreview").replaceChildren();
-  readLastDemand();
   problem.text = await readText(picked, $("problemPreview"));
   csv.orders = 1;
   showProblemFile();

@@ -15,6 +15,7 @@ const REFUSALS = {
   41: tr`a line can't be ordered so: line numbers have to rise, sides have to be the material's, a bar can't turn`,
   42: tr`there are no such pieces wanted`,
   43: tr`there is no order with this code`,
+  44: tr`an order's day is one of the calendar, and its text has at most 200 bytes and no control characters`,
   50: tr`there is no such part`,
   51: tr`the part doesn't stand any more: it is reserved, cut, scrap or returned`,
   52: tr`only a whole unit, as it was received, can be returned`,
@@ -24,7 +25,9 @@ const REFUSALS = {
   63: tr`the plan has more pieces than are left of some that are wanted`,
   70: tr`there is no such job`,
   71: tr`the job is over already`,
-  72: tr`work can't have halted so: each cut needs all cuts above it`,
+  72: tr`work can't have halted so: each cut needs all cuts above it, and a rest is shorter than what was to be divided`,
+  73: tr`the job is neither done nor broken off, so there is nothing to take back`,
+  74: tr`a part that the job made isn't as the job left it any more`,
   80: tr`the file's text isn't of its form`,
   90: tr`none of the pieces fits the part`,
   91:
@@ -41,24 +44,40 @@ async function refusalWords(reply, command = {}, quicker = "") {
   let words = quicker || REFUSALS[reply.refused] || tr`the shop refused it`;
   if (command.do === "amend") words = await amendFault(command, reply) || words;
   else if (reply.refused === 63) words = await overdrawnWords(countPieces(command.tree)) || words;
+  else if (reply.refused === 74) words = await movedWords(command).catch(() => "") || words;
   return `${words} (${reply.refused} ${reply.name})`;
 }
 
+// Which parts aren't as their job left them any more.
+async function movedWords({job}) {
+  const {material, steps} = await ask(`/steps/${job}`), limits = materialOf(material);
+  const isMoved = ({state, w, h}) => ["reserved", "cut"].includes(state) || (state === "scrap" && isKept(w, h, limits));
+  const moved = steps.filter(isMoved).map(({part, state}) => tr`${part} is ${MOVED[state]}`);
+  return moved.length ? tr`${moved.join(", ")}: the job isn't as it was left any more` : "";
+}
+
+const MOVED = {
+  reserved: tr`reserved`,
+  cut: tr`cut up`,
+  scrap: tr`scrap`
+};
+
 // What ended a job or took a part before, by whom and when, and whether that is what was wanted; nothing where no entry tells it.
 async function quickerOf({do: wanted, job, part}, {refused}) {
-  const ofJob = refused === 71, path = ofJob ? `/story/job/${job}` : refused === 51 && part ? `/story/part/${part}` : "";
+  const ofJob = [71, 73].includes(refused), path = ofJob ? `/story/job/${job}` : refused === 51 && part ? `/story/part/${part}` : "";
   const rows = path ? await entriesTo(path, 0, Infinity).catch(() => []) : [];
   const entry = rows.find(({message}) => Object.hasOwn(BEFORE, message.do) && !(ofJob && message.do === "reserve"));
-  if (!entry) return null;
+  if (!entry || (refused === 73 && entry.message.do !== "undo")) return null;
   const {at, message} = entry, was = !ofJob && ["done", "break"].includes(message.do) ? tr`cut up` : BEFORE[message.do];
   const by = tr`${was} by terminal ${message.terminal}, ${momentText(at)}`;
-  return {words: `${ofJob ? tr`Job ${job}` : tr`Part ${part}`}: ${by}`, isSame: message.do === wanted && ["done", "release", "scrap", "return"].includes(wanted)};
+  return {words: `${ofJob ? tr`Job ${job}` : tr`Part ${part}`}: ${by}`, isSame: message.do === wanted && ["done", "release", "undo", "scrap", "return"].includes(wanted)};
 }
 
 const BEFORE = {
   done: tr`done`,
   break: tr`broken off`,
   release: tr`given back`,
+  undo: tr`taken back`,
   reserve: tr`reserved`,
   scrap: tr`scrapped`,
   return: tr`returned`

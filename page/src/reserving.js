@@ -2,6 +2,7 @@
 
 // From then on it is passed over, and the focus goes to the next step.
 function reserve() {
+  if (isAllShown()) return reserveEach();
   const {part, found} = toCut, plans = shownPlans(), [{tree}] = plans;
   if (part) {
     if (!sendReserve(part, tree)) return;

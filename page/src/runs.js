@@ -30,7 +30,7 @@ async function greetShop() {
   Object.assign(running, {run, isMet: true, isOver: false});
   if (!isNew) return;
   doubts.clear();
-  facts.by = new Map();
+  forgetFacts();
   if (isKnown) refresh.lost = true;
   else meetOther();
 }
@@ -68,19 +68,20 @@ function leaveRun() {
 // All that is known of the shop is dropped, as another may answer by now, with what was asked and typed about it. What is typed
 // into the forms stays, and so does what waits.
 function forgetShop() {
-  const {lines, totals, open, left, kindOfJob} = shop;
-  for (const it of [known, lines, totals, open, left, kindOfJob, halts, imports.before, inStock.wanted]) it.clear();
+  const {lines, said, totals, open, left, kindOfJob} = shop;
+  for (const it of [known, lines, said, totals, open, left, kindOfJob, halts, inStock.wanted]) it.clear();
   Object.assign(facts, {by: new Map(), last: null, shops: facts.shops + 1});
   for (const it of ["sums", "lines", "typed"]) inOrders[it].clear();
   Object.assign(shop, {isKnown: false, orders: [], allOrders: [], jobs: []});
   Object.assign(shop, {moreOrders: false, moreAllOrders: false, moreJobs: false});
   Object.assign(inOrders, {isRead: false, found: "", sought: "", note: "", isListed: false});
-  Object.assign(atSaw, {plans: new Map(), told: null, opening: 0, breaking: false, lost: null, canvas: null});
+  Object.assign(atSaw, {plans: new Map(), ended: [], told: null, opening: 0, breaking: false, lost: null, canvas: null});
   forgetTrace();
   leaveHappened();
-  owner.report = imports.last = held.target = null;
+  owner.report = held.target = null;
   shop.changes++;
   refresh.lost = true;
+  toCut.all?.abort();
   for (const code of [...plansByMaterial.keys()]) forgetPlans(code);
   drawAllAnew();
   if ($("confirm").open) $("confirmNo").click();

@@ -1,10 +1,11 @@
 // ---- At the saw.
 
 // told: the job that is shown, with its plan; opening: the number that was asked for last; plans: of waiting jobs that may be
-// equal, each job's plan; isListed: whether the list of jobs is unfolded where it lies above the ticket; deaf: until when *Done*
-// takes no press.
+// equal, each job's plan; ended: the entries that ended the last jobs; isListed: whether the list of jobs is unfolded where it lies
+// above the ticket; deaf: until when *Done* takes no press.
 const atSaw = {
   plans: new Map(),
+  ended: [],
   job: 0,
   told: null,
   opening: 0,
@@ -18,7 +19,7 @@ const atSaw = {
 // Behind *One done* the next job opens, and a second press of the same hand is none of it.
 const DEAF = 1000;
 
-// The halts of broken jobs: what this visit sent, and what traces told.
+// The halts of broken jobs: what this visit sent, and what entries or steps told.
 const halts = new Map();
 
 // A job with all that its plan hangs on: a store that was restored, or another one, has another job under the same number.
@@ -89,11 +90,12 @@ function kindOfPlan(row, tree = atSaw.plans.get(row.job)) {
 }
 
 function showSaw() {
-  const rows = waitingJobs(), kinds = groupsOf(rows, row => kindOfPlan(row)).sort((a, b) => byMaterial(a[0], b[0]));
+  const rows = waitingJobs(), kinds = groupsOf(rows, row => kindOfPlan(row)).sort(([a], [b]) => byDay(a, b) || byMaterial(a, b));
   const plans = kinds.map(([row]) => planOfJob(row));
   fill($("jobList"), [kinds, plans, atSaw.job, shop.moreJobs, shop.materials],
     () => [...kinds.map(jobRow), ...(kinds.length ? [] : [quiet(tr`No job waits.`), opener("tocut", tr`Plan`)]),
       moreButton(shop.moreJobs, "jobPages")]);
+  fill($("endedJobs"), [atSaw.ended, atSaw.job], () => atSaw.ended.length && [el("h3", {text: tr`Ended last`}), ...atSaw.ended.map(endedRow)]);
   $("jobsWords").textContent = `${rows.length}${shop.moreJobs ? "+" : ""}`;
   $("labelWaiting").disabled = $("printWaiting").disabled = !kinds.length;
   foldJobs();
@@ -113,18 +115,47 @@ function foldJobs() {
 // What is known of a waiting job's plan.
 function planOfJob({job}) { return atSaw.plans.get(job) || factOf(`/job/${job}`)?.tree || ""; }
 
-// Waiting jobs of one plan, as one row: what it cuts, how often, and which jobs these are.
+// Waiting jobs of one plan, as one row: what it cuts, how often, which jobs these are, when they are due, and which are begun.
 function jobRow(rows) {
   const [row] = rows, isShown = rows.some(({job}) => job === atSaw.job), plan = planWords(row, planOfJob(row));
-  const many = rows.length > 1 ? `${rows.length} × ` : "", jobs = rows.map(({job}) => job);
+  const many = rows.length > 1 ? `${rows.length} × ` : "", jobs = rows.map(({job}) => job), job = isShown ? atSaw.job : row.job;
+  const words = [row.material, jobs.length > 1 ? tr`jobs ${rangesOf(jobs)}` : tr`job ${row.job}`, dueWords(row)].filter(Boolean);
+  const begun = groupsOf(rows.filter(other => other.begun), other => other.begun).map(same =>
+    el("div", {}, el("span", {class: "tag", text: tr`${rangesOf(same.map(other => other.job))} begun by terminal ${same[0].begun}`})));
+  return rowButton(`j${row.job}`, job, isShown, el("b", {text: `${many}${plan}`}), el("div", {class: "quiet", text: words.join(", ")}), ...begun);
+}
+
+function dueWords({due}) { return due ? tr`due ${dayOf(due)}` : ""; }
+
+function rowButton(key, job, isShown, ...words) {
   return el("button", {
     class: `row${isShown ? " chosen" : ""}`,
-    "data-key": `j${row.job}`,
+    "data-key": key,
     "aria-pressed": String(isShown),
-    on: {click: () => openJob(isShown ? atSaw.job : row.job)}
+    on: {click: () => openJob(job)}
   },
-    el("div", {}, el("b", {text: `${many}${plan}`}),
-      el("div", {class: "quiet", text: `${row.material}, ${jobs.length > 1 ? tr`jobs ${rangesOf(jobs)}` : tr`job ${row.job}`}`})));
+    el("div", {}, ...words));
+}
+
+// A job that ended: how, when and by whom.
+function endedRow({at, message: {job, do: done, terminal: by}}) {
+  const words = `${STATES[ENDS[done]]}, ${momentText(at)}, ${terminalWords(by)}`;
+  return rowButton(`e${job}`, job, job === atSaw.job, el("b", {text: tr`Job ${job}`}), el("div", {class: "quiet", text: words}));
+}
+
+// The last jobs that ended, each by the entry that ended it last, among the newest entries.
+const MOST_ENDED = 10, MOST_LOOKED_BACK = 3;
+
+async function readEnded() {
+  const ended = new Map();
+  let end = facts.last?.entry || 0;
+  for (let page = 0; page < MOST_LOOKED_BACK && end && ended.size < MOST_ENDED; page++) {
+    const after = Math.max(0, end - ENTRIES), {entries} = await askCalmly(`/history/${after}`);
+    for (const row of entries.filter(({entry, message}) => entry <= end && Object.hasOwn(ENDS, message.do)).reverse())
+      if (!ended.has(row.message.job)) ended.set(row.message.job, row);
+    end = after;
+  }
+  atSaw.ended = [...ended.values()].slice(0, MOST_ENDED);
 }
 
 // Numbers that rise, those that follow one another as a range.
@@ -187,7 +218,8 @@ function faceJob() {
   if (top < $("top").offsetHeight || top > window.innerHeight / 2) $("jobTitle").scrollIntoView();
 }
 
-// Reads the job that is shown, or where none is the first that waits; of a broken one then how the work halted.
+// Reads the job that is shown, or where none is the first that waits, with what is said of its orders; of a broken one then how the
+// work halted.
 async function readShown() {
   const shown = atSaw.job, job = shown || waitingJobs()[0]?.job;
   if (!job) return;
@@ -202,36 +234,43 @@ async function readShown() {
     showFault("jobFault", noJobWords(job));
     if (readAddress().word === "saw") settle("saw");
   }
-  if (atSaw.told?.state !== "broken" || halts.has(keyOf(atSaw.told))) return;
-  showView();
-  await traceCuts(atSaw.told);
+  if (!atSaw.told) return;
+  if (atSaw.told.state === "broken" && !halts.has(keyOf(atSaw.told))) {
+    showView();
+    await readHalt(atSaw.told);
+  }
+  await readTexts(ordersOfJob(atSaw.told));
 }
+
+function ordersOfJob({tree}) { return [...new Set([...countPieces(tree).keys()].map(demand => shop.lines.get(demand)?.order).filter(Boolean))]; }
 
 // A job with its plan, and whose its pieces are.
 async function readJob(job, by = askCalmly) {
   const told = await by(`/job/${job}`);
-  for (const demand of countPieces(told.tree).keys())
-    if (!shop.lines.has(demand)) learnLines([await by(`/demand/${demand}`)]);
+  if ([...countPieces(told.tree).keys()].some(demand => !shop.lines.has(demand)))
+    learnLines((await by(`/steps/${job}`)).steps.filter(step => step.demand).map(step => ({...step, material: told.material})));
   Object.assign(told, {kind: kindOf(told.material), root: readPlan(told.tree, told.w, told.h, told.kerf)});
   shop.kindOfJob.set(job, told.kind);
   if (told.state !== "broken") halts.delete(keyOf(told));
   return told;
 }
 
-// Reads a halt, as long as its job is shown: a cut that was made left its strip, or nothing where the saw takes nothing; of
-// another its rectangle is one part.
-async function traceCuts(told) {
+// Reads how a job halted: the entry tells it; of one that has no entry the steps do.
+async function readHalt(told) {
+  const row = (await entriesTo(`/story/job/${told.job}`, 0, Infinity)).find(({message}) => message.do === "break");
+  halts.set(keyOf(told), row ? haltOf(row.message) : haltOfSteps(told, (await askCalmly(`/steps/${told.job}`)).steps));
+}
+
+// A cut that was made left its strip, or nothing where the saw takes nothing; of another its rectangle is one part.
+function haltOfSteps(told, steps) {
   const halt = {made: new Set(), lost: null, scrapped: new Set()};
   for (const cut of cutsOf(told.root)) {
+    const {state} = steps[cut.node];
     if (cut.above.some(above => !halt.made.has(above))) continue;
-    if (atSaw.job !== told.job) return;
-    const part = await askCalmly(`/trace/${told.job}/${cut.node}`).catch(error => {
-      if (!isRefused(error, 50)) throw error;
-    });
-    if (!part || part.state === "kerf") halt.made.add(cut.cut);
-    else if (part.state === "scrap") halt.scrapped.add(cut.cut);
+    if (!state || state === "kerf") halt.made.add(cut.cut);
+    else if (state === "scrap") halt.scrapped.add(cut.cut);
   }
-  halts.set(keyOf(told), halt);
+  return halt;
 }
 
 function takeJob(told) {
@@ -245,21 +284,26 @@ function limitsOf(told) {
 }
 
 // The message that ends a job, while it has no answer.
-function endSent(job) { return terminal.keptHere().map(entry => entry.command).find(command => command.job === job); }
+function endSent(job) {
+  return terminal.keptHere().map(entry => entry.command).find(command => command.job === job && Object.hasOwn(ENDS, command.do));
+}
 
 // The halt that is marked, or to which a job that isn't done was sent or came; none where no trace was read yet.
 function shownHalt(told, sent, state) {
-  if (atSaw.breaking) return {made: ticks.of(told.job), lost: atSaw.lost};
-  if (state === "released") return {made: new Set(), lost: null};
+  if (atSaw.breaking) return {made: ticks.of(told.job), lost: atSaw.lost, rest: restMeasured()};
+  if (isUncut(state)) return {made: new Set(), lost: null};
   if (state === "broken") return sent ? haltOf(sent) : halts.get(keyOf(told));
   return null;
 }
+
+// Whether nothing of a job's plan is cut, as it was given back or taken back.
+function isUncut(state) { return ["released", "undone"].includes(state); }
 
 // What is known of a job: the state to which it came or was sent, its halt, the cuts that were made, what they left, and
 // whether the plan alone is known, as nothing was cut or no trace was read yet.
 function workOf(told) {
   const sent = endSent(told.job), state = sent ? ENDS[sent.do] : told.state, isWaiting = state === "waiting";
-  const halt = shownHalt(told, sent, state), isPlan = state === "released" || (state === "broken" && !halt);
+  const halt = shownHalt(told, sent, state), isPlan = isUncut(state) || (state === "broken" && !halt);
   const all = state === "done" ? cutsOf(told.root).map(cut => cut.cut) : [];
   const made = halt ? halt.made : isWaiting ? ticks.of(told.job) : new Set(all);
   const boxes = isPlan ? [] : layPlan(told.root, limitsOf(told), halt);
@@ -274,8 +318,8 @@ function showJob() {
   const work = workOf(told), {isWaiting, halt, made} = work;
   const same = isWaiting ? sameJobs(told) : [told.job];
   const shown = [
-    same, keyOf(told), work.state, work.sent, atSaw.breaking, [...made], halt && [halt.lost, [...halt.scrapped || []]],
-    $("jobPicture").clientWidth, limitsOf(told)
+    same, keyOf(told), work.state, work.sent, atSaw.breaking, [...made], halt && [halt.lost, halt.rest, [...halt.scrapped || []]],
+    $("jobPicture").clientWidth, limitsOf(told), told.begun
   ];
   $("jobTitle").textContent = tr`Job ${told.job}${isWaiting ? "" : `, ${stateWords(work)}`}: ${told.material}, part ${told.part}`;
   $("jobWords").textContent = jobWords(work);
@@ -284,12 +328,16 @@ function showJob() {
   $("allDone").textContent = tr`All ${same.length} done`;
   $("allDone").hidden = same.length < 2;
   for (const id of ["done", "release"]) $(id).hidden = !isWaiting;
+  $("begin").hidden = !isWaiting || isBegunHere(told);
+  $("takeBack").hidden = Boolean(work.sent) || !["done", "broken"].includes(work.state);
   $("startBreak").hidden = !isWaiting || !told.root.cuts;
   $("nextJob").hidden = !jobBehind();
   $("breakPanel").hidden = !atSaw.breaking;
   $("tickWords").textContent =
     atSaw.breaking || !isWaiting ? "" : tr`Click a cut to tick it off. Ticks stay in this browser.`;
   fill($("jobFigures"), shown, () => jobFigures(work));
+  const saids = ordersOfJob(told).map(order => [order, saidOf(order)]);
+  fill($("jobOrders"), saids, () => saids.filter(([, said]) => said).map(([order, said]) => el("p", {}, el("b", {text: `${order}: `}), said)));
   fill($("nextCut"), shown, () => nextCut(work));
   fill($("jobPieces"), shown, () => jobPieces(work, same));
   fill($("jobStory"), told.job, () => storyLink("job", told.job));
@@ -325,14 +373,16 @@ const STATES = {
   waiting: tr`waits`,
   done: tr`done`,
   broken: tr`broken off`,
-  released: tr`given back`
+  released: tr`given back`,
+  undone: tr`taken back`
 };
 
 // The state to which a message brings its job.
 const ENDS = {
   done: "done",
   break: "broken",
-  release: "released"
+  release: "released",
+  undo: "undone"
 };
 
 function stateWords({state, sent}) { return `${STATES[state]}${sent ? tr`, unanswered` : ""}`; }
@@ -340,6 +390,7 @@ function stateWords({state, sent}) { return `${STATES[state]}${sent ? tr`, unans
 function jobWords({told, sent, state, isPlan}) {
   if (sent) return tr`The message waits for its answer.`;
   if (state === "released") return tr`The job was given back: nothing was cut, and part ${told.part} stands as it was.`;
+  if (state === "undone") return tr`The job was taken back: part ${told.part} stands again, and its pieces are wanted again.`;
   if (isPlan) return tr`The work was broken off. What was cut is being asked for; until then this is what was planned.`;
   return state === "broken" ? tr`The work was broken off: this is what was cut, and what was left.` : "";
 }
@@ -350,7 +401,8 @@ function jobFigures(work) {
   return [
     figure(sizeText(told.kind, told.w, told.h), tr`part to cut`), figure(`${mm(told.kerf)} mm`, tr`kerf`),
     halt ? figure(tr`${made.size} of ${cuts}`, tr`cuts made`) : figure(cuts, word(cuts === 1 ? "cut" : "cuts")),
-    isPlan ? null : figure(pieces, word(pieces === 1 ? "piece" : "pieces")), figure(stateWords(work), tr`state`)
+    isPlan ? null : figure(pieces, word(pieces === 1 ? "piece" : "pieces")), figure(stateWords(work), tr`state`),
+    work.isWaiting && told.begun ? figure(terminalWords(told.begun), tr`has begun it`) : null
   ];
 }
 
@@ -421,8 +473,9 @@ function cutGives(cut, {told, isPlan, halt, made, left}) {
   const isMade = !isPlan && (!halt || made.has(cut.cut));
   const ends = [cut.first, cut.second].filter(node => node && node.kind !== "cut");
   const given = (isMade ? besideCut(cut, left) : ends).map(box => partWords(box, told));
-  const trims = !cut.second && cut.first.kind === "cut";
+  const trims = !cut.second && cut.first.kind === "cut", saved = halt?.lost === cut.cut && halt.rest ? left.get(cut.node + 1) : null;
   return [
+    saved ? tr`left of it: ${partWords(saved, told)}` : "",
     given.length ? `${isMade ? tr`gives` : tr`was to give`} ${given.join("; ")}` : "",
     trims ? tr`${isMade ? tr`trims` : tr`was to trim`} ${mm(cut.side - cut.at)} mm off` : ""
   ].filter(Boolean).join("; ");
@@ -473,22 +526,68 @@ function clickCut(number) {
       if (other.cut === from || other.above.includes(from)) made.delete(other.cut);
   };
   const isWrong = atSaw.breaking && document.querySelector("[name=breakMode]:checked").value === "lost";
-  if (isWrong) atSaw.lost = atSaw.lost === number ? null : number;
+  const isCleared = atSaw.breaking && atSaw.lost === number, isFirst = !atSaw.breaking && !made.size;
+  if (isCleared || isWrong) atSaw.lost = isCleared ? null : number;
   if (isWrong || made.has(number)) takeBack(number);
-  else made.add(number);
-  if (made.has(number) || isWrong)
+  else if (!isCleared) made.add(number);
+  if (made.has(number) || (isWrong && !isCleared))
     for (const above of cut.above) made.add(above);
   if (atSaw.lost !== null && (made.has(atSaw.lost) || cuts[atSaw.lost].above.some(above => !made.has(above))))
     atSaw.lost = null;
   ticks.set(told, made);
+  if (isFirst && !isBegunHere(told)) beginJob();
   showJob();
   say(tr`${made.size} of ${count(cuts.length, "cut")} ticked`);
 }
 
+// Whether this terminal has begun a job, or says so in a message without an answer.
+function isBegunHere({job, begun}) {
+  return (begun > 0 && begun === terminal.number) || terminal.keptHere().some(({command}) => command.do === "begin" && command.job === job);
+}
+
+// Tells that work on the shown job begins here; who else had begun it is told.
+function beginJob() {
+  const {told} = atSaw, {job} = told;
+  send({do: "begin", job}, tr`Begin job ${job}`, () => {
+    if (atSaw.told && keyOf(atSaw.told) === keyOf(told)) atSaw.told = {...atSaw.told, begun: terminal.number};
+    showView();
+  });
+  showView();
+}
+
+// Takes back that a job was done or broken off.
+function undoJob(job) {
+  const {told} = atSaw;
+  send({do: "undo", job}, tr`Take back job ${job}`, () => {
+    if (told && atSaw.told && told.job === job && keyOf(atSaw.told) === keyOf(told)) atSaw.told = {...atSaw.told, state: "undone"};
+    showView();
+  });
+  showView();
+}
+
+function undoJobs(jobs) {
+  if (jobs.length === 1) return undoJob(jobs[0]);
+  return sendMany(tr`Take back jobs ${rangesOf(jobs)}`, jobs.map(job => [tr`Job ${job}`, {do: "undo", job}]), showView);
+}
+
+// What was measured of the rectangle that the wrong cut was to divide, 0 for nothing; and what is wrong with it.
+function restMeasured() {
+  const fault = restFault();
+  return fault || atSaw.lost === null ? 0 : readMm($("breakRest").value) || 0;
+}
+
+function restFault() {
+  const {lost, told} = atSaw, text = $("breakRest").value.trim();
+  return lost === null || !text ? "" : lengthFault(text, cutsOf(told.root)[lost].side - 1);
+}
+
 function showBreakWords(made) {
-  const words = breakWords(made);
+  const fault = restFault(), words = fault ? tr`Rest measured: ${fault}` : breakWords(made), field = $("breakRest");
   if ($("breakWords").textContent !== words) $("breakWords").textContent = words;
-  $("sendBreak").disabled = !canBreak(made);
+  $("restField").hidden = atSaw.lost === null;
+  field.classList.toggle("badfield", Boolean(fault));
+  field.setAttribute("aria-invalid", String(Boolean(fault)));
+  $("sendBreak").disabled = !canBreak(made) || Boolean(fault);
 }
 
 // Whether something was begun, and not all made.
@@ -498,15 +597,22 @@ function breakWords(made) {
   const {told, lost} = atSaw, {root, kind} = told;
   if (made.size === root.cuts) return tr`All cuts are marked as made: the job is done, not broken.`;
   if (!canBreak(made)) return tr`No cut is marked yet. If none was begun, give the job back instead.`;
-  const cells = cellsByFate(layPlan(root, limitsOf(told), {made, lost}));
-  const wrong = lost === null ? tr`none went wrong` : tr`cut ${lost + 1} went wrong`;
+  const boxes = layPlan(root, limitsOf(told), {made, lost, rest: restMeasured()}), cells = cellsByFate(boxes);
+  const wrong = lost === null ? tr`none went wrong` : tr`cut ${lost + 1} went wrong`, size = box => sizeText(kind, box.w, box.h);
   const left = leftWords(kind, cells.piece, cells.kept, cells.kerf, cells.scrap + cells.lost);
-  return tr`${made.size} of ${count(root.cuts, "cut")} made, ${wrong}. Then: ${left}.`;
+  const kept = boxes.filter(box => box.fate === "kept").map(box => `${told.job}/${box.node} (${size(box)})`);
+  const lostSize = boxes.filter(box => box.fate === "lost").map(size);
+  return [
+    tr`${made.size} of ${count(root.cuts, "cut")} made, ${wrong}. Then: ${left}.`,
+    kept.length ? tr`Kept: ${kept.join(", ")}.` : tr`Nothing is kept.`, lostSize.length ? tr`Lost: ${lostSize[0]}.` : ""
+  ].filter(Boolean).join(" ");
 }
 
-// Opens or closes the panel of a break.
+// Opens or closes the panel of a break. The first cut that isn't ticked is taken for the one that went wrong.
 function setBreaking(isOn) {
-  Object.assign(atSaw, {breaking: isOn, lost: null});
+  const made = isOn ? ticks.of(atSaw.told.job) : null, first = isOn && cutsOf(atSaw.told.root).find(({cut}) => !made.has(cut));
+  Object.assign(atSaw, {breaking: isOn, lost: first ? first.cut : null});
+  $("breakRest").value = "";
   document.querySelector("[name=breakMode][value=made]").checked = true;
   showJob();
 }
@@ -514,31 +620,30 @@ function setBreaking(isOn) {
 async function finish() {
   if (performance.now() < atSaw.deaf) return;
   const {told} = atSaw, made = ticks.of(told.job).size, all = told.root.cuts;
-  const words = made && made < all
-    ? tr`Only ${made} of ${count(all, "cut")} are ticked. Were all made? A job that is done stays done.`
-    : tr`Job ${told.job}: ${all === 1 ? tr`the cut was` : tr`all ${all} cuts were`} made? A job that is done stays done.`;
-  if (await confirmed(words, tr`Done`, made && made < all ? "no" : "yes"))
+  if (!made || made === all || await confirmed(tr`Only ${made} of ${count(all, "cut")} are ticked. Were all made?`, tr`Done`))
     endJob(told, {do: "done", job: told.job}, tr`Job ${told.job} done`);
 }
 
 // All waiting jobs of one plan are done, after one question.
 async function finishAll() {
   const {told} = atSaw, jobs = sameJobs(told), what = tr`Jobs ${rangesOf(jobs)} done`;
-  const words = tr`All ${jobs.length} jobs of this plan, ${rangesOf(jobs)}: were all their cuts made? A job that is done stays done.`;
+  const words = tr`All ${jobs.length} jobs of this plan, ${rangesOf(jobs)}: were all their cuts made?`, ended = [];
   if (!await confirmed(words, tr`All ${jobs.length} done`)) return;
   const isHere = command => atSaw.told?.job === command.job;
   sendMany(what, jobs.map(job => [tr`Job ${job} done`, {do: "done", job}]), command => {
+    ended.push(command.job);
     ticks.forget(command.job);
     if (isHere(command)) atSaw.told = {...atSaw.told, state: "done"};
     showView();
-  });
+  }, () => ended.length ? {words: tr`Take back`, go: () => undoJobs(ended)} : null);
   showView();
   faceJob();
 }
 
 function sendBreak() {
-  const {told, lost} = atSaw, made = [...ticks.of(told.job)].sort((a, b) => a - b);
-  endJob(told, {cuts: made, do: "break", job: told.job, lost: lost === null ? false : lost}, tr`Break off job ${told.job}`);
+  const {told, lost} = atSaw, made = [...ticks.of(told.job)].sort((a, b) => a - b), rest = restMeasured();
+  const command = {cuts: made, do: "break", job: told.job, lost: lost === null ? false : lost, ...rest ? {rest} : {}};
+  endJob(told, command, tr`Break off job ${told.job}`);
 }
 
 async function release() {

@@ -8,7 +8,7 @@ const MAX_KINDS = 100, MAX_PARTS = 1000, MAX_BAR = 150000;
 // A remnant costs so many hundredths of a unit of its size, so that what lies on the rack goes first.
 const REMNANT_COST = 90;
 
-function planAll() { return planOrder(); }
+function planAll() { return isAllShown() ? planEach() : planOrder(); }
 
 function planAlone(part) {
   $("planTitle").focus({preventScroll: true});
@@ -23,6 +23,7 @@ function planOnly(only) {
 
 // Plans what was planned once more, as it is left and stands by now.
 function planAgain() {
+  if (isAllShown()) return planEach(allFound()[0]?.asked.only);
   const {part, only, found} = toCut;
   return planOrder({part: found?.asked.part || part, only, buy: found?.asked.buy});
 }
@@ -70,9 +71,9 @@ async function searchPlans(it, planning, asked, calls, time) {
 function searchOver(it) {
   const isShown = it.code === shop.material;
   it.planning = null;
-  if (it.found?.missing.length && !it.part && isShown) $("buyPanel").open = true;
+  if (it.found?.missing.length && !it.part && isShown && !isAllShown()) $("buyPanel").open = true;
   showToCut();
-  if (isShown) sayPlans();
+  if (isShown || isAllShown()) sayPlans(it.code);
   if (isShown && window.innerWidth < NARROW && viewName() === "tocut" && shownPlans().length) $("planTitle").scrollIntoView();
 }
 
@@ -121,7 +122,8 @@ async function searchOn() {
 }
 
 function stopPlan() {
-  toCut.planning?.abort();
+  toCut.all?.abort();
+  for (const it of plansByMaterial.values()) it.planning?.abort();
   $("stopPlan").disabled = true;
 }
 
@@ -266,7 +268,7 @@ function countOf(plans) {
 // What the bound says, once the search is over.
 function boundSays(found) {
   const {missing, proved, short, asked, goes} = found, {isOne, cost, bound, hasRests} = boundOf(found);
-  if (asked.part || toCut.planning) return "";
+  if (asked.part || plansOf(asked.code).planning) return "";
   if (missing.length)
     return short ? tr`The stock doesn't suffice: no plan cuts all of it.` : tr`What is missing found no room: search longer or buy.`;
   if (goes.length > 1) return tr`Planned in ${goes.length} questions, each of at most ${MAX_KINDS} kinds.`;
@@ -277,8 +279,8 @@ function boundSays(found) {
 }
 
 // Says what was found, once the search is over.
-function sayPlans() {
-  const {found, part} = toCut, plans = shownPlans(), cuts = plans.reduce((sum, plan) => sum + plan.root.cuts, 0);
+function sayPlans(code) {
+  const {found, part} = plansOf(code), plans = found?.plans || [], cuts = plans.reduce((sum, plan) => sum + plan.root.cuts, 0);
   if (!found) return;
   if (part) say(tr`Plan of ${part}: ${count(countOf(plans), "piece")}, ${count(cuts, "cut")}`);
   else say(tr`Plan of ${found.material.material}: ${progressNow(found)}`);
@@ -351,7 +353,7 @@ function questionOfAll(chosen) {
   const pieces = chosen.reduce((sum, row) => sum + leftOf(row), 0), stock = freeParts().filter(row => !isPartOut(row));
   if (!chosen.length) return shop.material && shop.partsOf && demandsToCut().some(row => leftOf(row)) ? tr`Nothing chosen is left to cut.` : "";
   const words = [tr`${count(pieces, "piece")} of ${count(chosen.length, "kind")}, ${count(stock.length, "part")} to cut from.`];
-  if (chosen.length > MAX_KINDS) words.push(tr`They are planned ${MAX_KINDS} kinds at a time, the oldest first.`);
+  if (chosen.length > MAX_KINDS) words.push(tr`They are planned ${MAX_KINDS} kinds at a time, the most urgent first.`);
   if (stock.length > MAX_PARTS || shop.moreParts) words.push(tr`At most ${MAX_PARTS} parts are taken at once, the oldest first.`);
   return words.join(" ");
 }
@@ -361,14 +363,16 @@ function staleWords() { return toCut.planning ? "" : takenWords(toCut.found); }
 
 // What another terminal took of what was found and isn't reserved yet.
 function takenWords(found) {
-  if (!found || found.sent || shop.partsOf !== found.material.material) return "";
-  const isGone = part => !shop.parts.some(row => row.part === part && isFree(row));
-  const gone = shop.moreParts ? [] : found.plans.flatMap(plan => plan.parts).filter(isGone);
+  if (!found || found.sent) return "";
+  const {demands, parts, moreParts, isRead} = knownOf(found.material.material);
+  const isGone = part => !parts.some(row => row.part === part && isFree(row));
+  if (!isRead) return "";
+  const gone = moreParts ? [] : found.plans.flatMap(plan => plan.parts).filter(isGone);
   if (gone.length) return tr`Taken elsewhere meanwhile: ${namesOf(gone.map(part => ({part})))}. Plan again.`;
   const planned = new Map();
   for (const plan of found.plans)
     for (const [demand, pieces] of plan.counts) planned.set(demand, (planned.get(demand) || 0) + pieces * plan.parts.length);
-  const over = shop.demands.find(row => (planned.get(row.demand) || 0) > leftOf(row));
+  const over = demands.find(row => (planned.get(row.demand) || 0) > leftOf(row));
   return over ? tr`${onlyLeftWords(over)}, and the plans have ${planned.get(over.demand)}. Plan again.` : "";
 }
 

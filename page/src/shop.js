@@ -26,6 +26,7 @@ const shop = {
   jobPages: 1,
   kindOfJob: new Map(),
   lines: new Map(),  // demand -> { order, line, material }: what never changes of it
+  said: new Map(),  // order -> { due, text }: what is said of it
   promised: new Map(),  // demand -> pieces in reservations that were pressed here and have no answer yet
   promisedParts: new Set(),  // the parts of those
   partsGoing: new Set(),  // the parts that are being scrapped or returned, without an answer yet
@@ -98,7 +99,10 @@ async function readPages(start, key, pages, behind) {
 
 async function readMaterials() {
   shop.materials = (await askCalmly("/materials")).materials;
-  shop.isKnown = true;
+  if (!shop.isKnown) {
+    shop.isKnown = true;
+    fillTyped();
+  }
   const {word, of} = readAddress();
   if (["cut", "stock"].includes(word) && of && !materialOf(of)) settle(word);
   if (!materialOf(shop.material) && (shop.material || shop.materials.length)) chooseMaterial(shop.materials[0]?.material || "");
@@ -108,11 +112,29 @@ function learnLines(rows) {
   for (const row of rows) shop.lines.set(row.demand, {order: row.order, line: row.line, material: row.material});
 }
 
+function learnSaid(rows) {
+  for (const {order, due, text} of rows) shop.said.set(order, {due, text});
+}
+
+// Reads what is said of orders, where it isn't known.
+async function readTexts(codes) {
+  await readSums(codes.filter(code => !shop.said.has(code)));
+}
+
+// What is said of an order: its day and its text.
+function saidOf(order) {
+  const {due = 0, text = ""} = shop.said.get(order) || {};
+  return [dueWords({due}), text].filter(Boolean).join(", ");
+}
+
 async function readDemands(code = shop.material) {
   const before = shop.changes;
   if (!code) return;
   const [rows, more] = await readPages(`/demands/0/${code}`, "demands", MOST_PAGES, row => `/demands/${row.demand}/${code}`);
-  if (before !== shop.changes) return;
+  if (before === shop.changes) takeDemands(code, rows, more);
+}
+
+function takeDemands(code, rows, more) {
   learnLines(rows);
   noteOpen(code, rows, more);
   Object.assign(knownOf(code), {demands: rows, moreDemands: more});
@@ -121,7 +143,7 @@ async function readDemands(code = shop.material) {
 // The open demands of one other material a pass, so that each material's button tells how much is open.
 async function readOthers() {
   const others = shop.materials.filter(row => row.material !== shop.material);
-  if (!others.length || shop.materials.length > MANY) return;
+  if (!others.length || shop.materials.length > MANY || isAllShown()) return;
   const code = (others.find(row => !shop.open.has(row.material)) || others[shop.turn++ % others.length]).material;
   const {demands, more} = await askCalmly(`/demands/0/${code}`);
   noteOpen(code, demands, more);
@@ -162,7 +184,7 @@ function chooseMaterial(code) {
 // A person chooses a material: the address has it, and what was shown before keeps its own.
 function pickMaterial(code) {
   const {word, of, view} = readAddress(), name = view === "stock" ? "stock" : "cut";
-  if (!of && shop.material) settle(`${word}/${shop.material}`);
+  if (!of && shop.material && !isAllShown()) settle(`${word}/${shop.material}`);
   go(`${name}/${code}`);
   chooseMaterial(code);
 }
@@ -189,8 +211,8 @@ const MANY = 8;
 
 function showMaterials() {
   for (const holder of document.querySelectorAll("[data-materials]")) {
-    fill(holder, [shop.materials, shop.material, [...shop.open]],
-      () => shop.materials.length > MANY ? materialSelect() : shop.materials.map(materialButton));
+    fill(holder, [shop.materials, shop.material, [...shop.open], isAllShown()],
+      () => shop.materials.length > MANY ? materialSelect(holder.closest("#tocut")) : [...holder.closest("#tocut") && shop.materials.length > 1 ? [allButton()] : [], ...shop.materials.map(materialButton)]);
   }
   const options = chosen => shop.materials.map(
     row => el("option", {value: row.material, text: row.material, selected: row.material === chosen}));
@@ -208,19 +230,25 @@ function materialButton(row) {
   const open = shop.open.get(row.material);
   return el("button", {
     "data-key": row.material,
-    "aria-pressed": String(row.material === shop.material),
+    "aria-pressed": String(row.material === shop.material && !isAllShown()),
     on: {click: () => pickMaterial(row.material)}
   },
     row.material, open ? el("span", {class: "tag", text: open, style: "margin-left:.6rem"}) : null,
     el("small", {text: materialWords(row)}));
 }
 
-function materialSelect() {
+function allButton() {
+  return el("button", {"data-key": "all", "aria-pressed": String(isAllShown()), on: {click: () => go("cut")}}, tr`All materials`,
+    el("small", {text: tr`each planned behind another`}));
+}
+
+function materialSelect(hasAll) {
+  const all = hasAll ? el("option", {value: "", text: tr`All materials`, selected: isAllShown()}) : "";
   return el("label", {class: "field"}, tr`Material`,
-    el("select", {"data-key": "material", on: {change: event => pickMaterial(event.target.value)}},
+    el("select", {"data-key": "material", on: {change: ({target: {value}}) => value ? pickMaterial(value) : go("cut")}}, all,
       ...shop.materials.map(row => el("option", {
         value: row.material,
         text: `${row.material}: ${materialWords(row)}`,
-        selected: row.material === shop.material
+        selected: row.material === shop.material && !(hasAll && isAllShown())
       }))));
 }

@@ -39,6 +39,9 @@ function listenToSaw() {
     $("startBreak").focus();
   });
   onClick("sendBreak", sendBreak);
+  onClick("begin", beginJob);
+  onClick("takeBack", () => undoJob(atSaw.told.job));
+  $("breakRest").addEventListener("input", showJob);
   onClick("release", release);
   onClick("nextJob", () => openJob(jobBehind().job));
   onClick("printJob", () => window.print());
@@ -53,6 +56,7 @@ function listenToOrders() {
     $("orderLines").lastChild.querySelector("[data-field=length]").focus();
   });
   $("orderForm").addEventListener("submit", sendOrder);
+  onClick("stopExtend", stopExtending);
   // (so that a file that was mended can be picked again)
   for (const id of ["csvFile", "problemFile"])
     $(id).addEventListener("click", () => {
@@ -87,9 +91,6 @@ function listenToTerminal() {
   onClick("terminalButton", chooseTerminal);
   onClick("terminalCancel", () => $("terminalDialog").close());
   $("terminalForm").addEventListener("submit", useTerminal);
-  $("terminalDialog").addEventListener("cancel", event => {
-    if (!terminal.number) event.preventDefault();
-  });
 }
 
 function listenToWindow() {
@@ -125,6 +126,7 @@ function listenToWindow() {
   for (const done of ["pointerup", "keyup"]) document.addEventListener(done, () => setTimeout(letGo), true);
   for (const done of ["click", "pointercancel"]) document.addEventListener(done, letGo, true);
   window.addEventListener("blur", letGo);
+  window.addEventListener("pagehide", keepTyped);
   new ResizeObserver(keepInPlace).observe($("top"));
   document.addEventListener("keydown", viewByKey);
 }
@@ -162,5 +164,4 @@ showView();
 refreshNow();
 adoptLists();
 showKept();
-if (terminal.number) sendKept();
-else chooseTerminal();
+sendKept();

@@ -39,13 +39,17 @@ const MOST_OPEN = 12;
 
 // All remnants, then the units size by size, the largest first; standing ones of one batch and size are one row.
 function stockRows() {
-  if (!shop.parts.length) return [quiet(shop.partsOf ? tr`Nothing stands. Receive some.` : noMaterial())];
+  if (!shop.parts.length) return [quiet(shop.partsOf ? tr`Nothing stands.` : noMaterial()), receiveOpener()];
   const large = [...shop.parts].sort((a, b) => b.w * b.h - a.w * a.h || b.w - a.w);
   const remnants = large.filter(isRemnant), units = large.filter(part => !isRemnant(part));
   const sizes = groupsOf(units, part => `${part.w} ${part.h}`);
   const folds = [remnants, ...sizes].filter(parts => parts.length).map(parts => [parts, stockGroups(parts)]);
   const isOpen = folds.reduce((sum, [, rows]) => sum + rows.length, 0) <= MOST_OPEN;
   return [...folds.map(([parts, rows]) => stockFold(parts, rows, isOpen)), andMore(shop.moreParts)];
+}
+
+function receiveOpener() {
+  return el("button", {class: "small", text: tr`Receive`, "data-key": "receive", on: {click: () => $("receiveBatch").focus()}});
 }
 
 function stockGroups(parts) {
@@ -216,7 +220,9 @@ async function trace(name) {
     if (viewName() === "stock") go(`part/${name}`);
     const [part] = traced.chain;
     if (part.state === "piece" && !shop.lines.has(part.of)) learnLines([await ask(`/demand/${part.of}`)]);
-    $("traceWords").replaceChildren(...traceWords(traced.chain));
+    const [pieces, more] = chain.length > 1 ? [[]] : await readPages(`/pieces/unit/${name}`, "pieces", MOST_PAGES, row => `/pieces/unit/${name}/${row.part}`);
+    if (traced.name !== name) return;
+    $("traceWords").replaceChildren(...traceWords(traced.chain), ...pieceRows(tr`Pieces of orders`, pieces, "order", more).filter(Boolean));
     drawChain();
     if (window.innerWidth < NARROW) $("tracePanel").scrollIntoView({block: "nearest"});
   } catch (error) { $("traceWords").replaceChildren(el("p", {class: "fault", text: await faultWords(error)})); }
@@ -251,7 +257,8 @@ function traceWords(chain) {
     kerf: tr`taken by the saw`,
     standing: tr`stands`,
     scrap: tr`scrap`,
-    returned: tr`returned to its supplier`
+    returned: tr`returned to its supplier`,
+    undone: tr`not cut, as job ${part.of} was taken back`
   }[part.state];
   const at = kind === "bar" ? `${mm(part.x)} mm` : tr`${mm(part.x)} mm from the left, ${mm(part.y)} mm from the top`;
   const where = chain.length === 1 ? tr`It is a unit as it was received.`
@@ -275,14 +282,22 @@ async function showBatch(batch) {
   try {
     await lookAtShop();
     if (!shop.isKnown) await readMaterials();
-    const found = [];
-    for (const {material} of shop.materials) {
-      const [parts] = await readPages(`/parts/${material}`, "parts", MOST_PAGES, row => `/parts/${material}/${row.part}`);
-      found.push(...parts.filter(part => part.batch === batch).map(part => ({...part, material})));
-    }
-    if (traced.batch === batch) $("traceWords").replaceChildren(...batchRows(batch, found));
+    const parts = await partsOfBatch(batch), [pieces, more] = await piecesOfBatch(batch);
+    const made = pieceRows(tr`Pieces of orders`, pieces, "order", more).filter(Boolean);
+    if (traced.batch === batch) $("traceWords").replaceChildren(...batchRows(batch, parts), ...made);
   } catch (error) { $("traceWords").replaceChildren(el("p", {class: "fault", text: await faultWords(error)})); }
 }
+
+async function partsOfBatch(batch) {
+  const found = [];
+  for (const {material} of shop.materials) {
+    const [parts] = await readPages(`/parts/${material}`, "parts", MOST_PAGES, row => `/parts/${material}/${row.part}`);
+    found.push(...parts.filter(part => part.batch === batch).map(part => ({...part, material})));
+  }
+  return found;
+}
+
+function piecesOfBatch(batch) { return readPages(`/pieces/batch/${batch}`, "pieces", MOST_PAGES, row => `/pieces/batch/${batch}/${row.part}`); }
 
 function batchRows(batch, parts) {
   const rows = groupsOf(parts, ({material, w, h, state, of, root, part}) => [material, w, h, state, of, root === part].join(" "));

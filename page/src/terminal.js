@@ -2,7 +2,6 @@
 
 async function chooseTerminal() {
   $("terminalNumber").value = terminal.isSpent ? "" : terminal.number || "";
-  $("terminalCancel").hidden = !terminal.number;
   $("shopName").value = storage.read("cutshop.name", "");
   $("terminalWords").textContent = "";
   showFault("terminalFault", terminal.isSpent ? spentWords(terminal.number) : "");

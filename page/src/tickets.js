@@ -9,8 +9,9 @@ function printReservedLabels() { return printSheets(toCutJobs, labelPages); }
 function printWaitingLabels() { return printSheets(() => readTickets($("jobMaterial").value), labelPages); }
 
 // The jobs that were just reserved, or all of the material that wait.
-function toCutJobs() {
+async function toCutJobs() {
   const {found} = toCut;
+  if (isAllShown()) return allJobs();
   return found?.sent ? reservedJobs(found) : readTickets(shop.material);
 }
 
@@ -122,11 +123,13 @@ async function labelPages(kinds) {
     wanted.set(demand, row.wanted);
     counts.set(demand, Math.max(0, row.made + row.reserved - here));
   }
+  await readTexts([...new Set([...counts.keys()].map(demand => shop.lines.get(demand).order))]);
   const labels = pieces.map(({demand, job, size}) => {
     const {order, line} = shop.lines.get(demand), number = counts.get(demand) + 1;
     counts.set(demand, number);
     return el("div", {class: "label"}, el("b", {text: order}), el("span", {text: tr`line ${line}`}), el("span", {text: size}),
-      el("span", {text: tr`piece ${number} of ${wanted.get(demand)}`}), el("span", {text: tr`job ${job}`}));
+      el("span", {text: tr`piece ${number} of ${wanted.get(demand)}`}), el("span", {text: tr`job ${job}`}),
+      el("span", {class: "said", text: shop.said.get(order)?.text || ""}));
   });
   const pages = [];
   for (let from = 0; from < labels.length; from += LABELS_A_PAGE)

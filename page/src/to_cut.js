@@ -14,7 +14,10 @@ function plansOf(code = shop.material) {
   return plansByMaterial.get(code);
 }
 
+// all: what stops the planning of all materials, while it goes on; isOne: whether one material was looked at last.
 const toCut = {
+  all: null,
+  isOne: true,
   leftOut: readOut("cutshop.leftOut"),
   partsOut: readOut("cutshop.partsOut")
 };
@@ -24,9 +27,10 @@ for (const key of Object.keys(NO_PLANS))
 function showToCut() {
   const hadFocus = $("planPanel").contains(document.activeElement);
   notePromised();
-  const going = shop.demands.map(row => shop.promised.get(row.demand) || 0);
-  fill($("wanted"), [demandsToCut(), going, [...toCut.leftOut], toCut.only, shop.moreDemands, shop.material, shop.isKnown],
-    wantedRows);
+  const wanted = wantedNow(), said = wanted.map(({order}) => shop.said.get(order)), onlys = shownCodes().map(code => plansOf(code).only);
+  fill($("wanted"), [wanted, said, [...shop.promised], [...toCut.leftOut], onlys, shop.moreDemands, shop.material, shop.isKnown], wantedRows);
+  $("fromPanel").hidden = isAllShown();
+  if (isAllShown()) return showAllMaterials();
   passOverTaken();
   const choices = partChoices();
   fill($("cutFrom"), [choices, toCut.part, [...toCut.partsOut], shop.moreParts, shop.material, shop.partsOf, shop.isKnown],
@@ -57,20 +61,20 @@ function focusNextStep() {
 }
 
 function wantedRows() {
-  const demands = demandsToCut();
+  const demands = wantedNow();
   if (!demands.length)
     return [
       quiet(shop.materials.length ? tr`Nothing to cut.` : noMaterial()), opener("orders", tr`New order`)
     ];
   const left = demands.filter(row => leftOf(row) > 0), out = left.filter(isLeftOut);
-  const going = shop.demands.filter((row, i) => leftOf(row) > 0 && leftOf(demands[i]) === 0).length;
+  const going = shownCodes().flatMap(code => knownOf(code).demands).filter((row, i) => leftOf(row) > 0 && leftOf(demands[i]) === 0).length;
   const all = demands.length - left.length - going;
   return [
     out.length ? el("div", {class: "buttons"}, tr`${count(out.length, ...KINDS)} left out`, putBackButton(out)) : null,
     left.length ? demandTable(left) : null,
     going ? quiet(tr`Of ${count(going, ...KINDS)} all is being reserved.`) : null,
     all ? quiet(tr`Of ${count(all, ...left.length ? OTHER_KINDS : KINDS)} all that aren't made are reserved.`) : null,
-    left.length ? null : opener("saw", tr`At the saw`), andMore(shop.moreDemands)
+    left.length ? null : opener("saw", tr`At the saw`), andMore(shownCodes().some(code => knownOf(code).moreDemands))
   ];
 }
 
@@ -79,7 +83,7 @@ function demandTable(rows) {
   const head = ["", tr`Line`, tr`Size in mm`, tr`Left`, tr`No.`].map(
     (text, i) => el("th", {text, scope: "col", class: i > 2 ? "right" : "", title: i === 4 ? tr`the number of these pieces wanted` : ""}));
   return el("div", {class: "scroll"}, el("table", {class: "demands"}, el("thead", {}, el("tr", {}, ...head)),
-    ...groupsOf(rows, row => row.order).map(same => el("tbody", {}, orderRow(same), ...same.map(demandRow)))));
+    ...groupsOf(rows, row => row.order).sort(([a], [b]) => byDay(a, b)).map(same => el("tbody", {}, orderRow(same), ...same.map(demandRow)))));
 }
 
 function putBackButton(rows) {
@@ -103,12 +107,19 @@ function orderRow(rows) {
     text: tr`Only this`,
     "data-key": `only${order}`,
     "aria-label": tr`Plan order ${order} alone`,
-    "aria-pressed": String(toCut.only === order),
-    on: {click: () => planOnly(order)}
+    "aria-pressed": String(shownCodes().some(code => plansOf(code).only === order)),
+    on: {click: () => isAllShown() ? planEach(order) : planOnly(order)}
   });
-  return el("tr", {class: "order"},
-    el("th", {colspan: "5", scope: "colgroup"}, el("div", {class: "orderhead"}, el("label", {class: "heading"}, box, tr`Order ${order}`), only)));
+  const said = [dueWords(rows[0]), shop.said.get(order)?.text, tr`${grouped(sumLeft(rows))} left`].filter(Boolean).join(", ");
+  return el("tr", {class: "order"}, el("th", {colspan: "5", scope: "colgroup"},
+    el("div", {class: "orderhead"}, el("label", {class: "heading"}, box, el("span", {}, tr`Order ${order}`, el("span", {class: "quiet", text: said}))), only)));
 }
+
+function sumLeft(rows) { return rows.reduce((sum, row) => sum + leftOf(row), 0); }
+
+// Reads what is said of the orders that are wanted.
+function readWantedTexts() { return readTexts([...new Set(wantedNow().map(({order}) => order))]); }
+
 
 // What is left out stays so in this browser: a demand by its number, order and line, a part by what it has in common with
 // others, so that no other store's is meant.
@@ -166,13 +177,13 @@ function demandRow(row) {
   },
     el("td", {}, box), right(String(row.line)),
     el("td", {class: "number"}, el("b", {text: size.replace("\u00a0mm", "")}),
-      row.turn ? el("span", {text: " ↻", "aria-label": tr`may turn`}) : null),
+      row.turn ? el("span", {text: " ↻", "aria-label": tr`may turn`}) : null, isAllShown() ? ` ${row.material}` : null),
     right(tr`${grouped(leftOf(row))} of ${grouped(row.wanted)}`), right(String(row.demand)));
 }
 
 // What is planned: of one order alone its lines, also those that are left out where all are; else all that isn't left out.
 function chosenDemands(code = shop.material, only = plansOf(code).only) {
-  const left = demandsToCut(code).filter(row => leftOf(row) > 0), chosen = left.filter(row => !isLeftOut(row));
+  const left = demandsToCut(code).filter(row => leftOf(row) > 0).sort(byDay), chosen = left.filter(row => !isLeftOut(row));
   if (!only) return chosen;
   const lines = rows => rows.filter(row => row.order === only);
   return lines(chosen).length ? lines(chosen) : lines(left);

@@ -61,6 +61,20 @@ function timeText(time) {
   return new Date(time).toLocaleString(...isGerman ? ["de-DE", how] : []);
 }
 
+// A day as the shop counts it, 20261203, as a text; and as a field of a form has it.
+function dayOf(due) {
+  const day = new Date(0);
+  day.setUTCFullYear(Math.floor(due / 10000), Math.floor(due / 100) % 100 - 1, due % 100);
+  return day.toLocaleDateString(isGerman ? "de-DE" : navigator.language, {timeZone: "UTC", day: "2-digit", month: isGerman ? "2-digit" : "short", year: "numeric"});
+}
+
+function dayField(due) { return due ? String(due).replace(/(....)(..)(..)/, "$1-$2-$3") : ""; }
+
+function readDay(text) { return Number(text.replaceAll("-", "")) || 0; }
+
+// The earliest day first, what has none last.
+function byDay(a, b) { return (a.due || Infinity) - (b.due || Infinity) || 0; }
+
 function count(number, one, many = one + "s") { return `${grouped(number)} ${word(number === 1 ? one : many)}`; }
 
 // What people call demands.

@@ -2,8 +2,8 @@
 // after another; some seconds after the last, and not at all while the page is hidden.
 
 const VIEWS = {
-  tocut: {show: showToCut, read: [readDemands, readParts, readOthers]},
-  saw: {show: showSaw, read: [readShown, showView, readPlans]},
+  tocut: {show: showToCut, read: [readCut, readWantedTexts, readOthers]},
+  saw: {show: showSaw, read: [readShown, showView, readPlans, readEnded]},
   orders: {show: showOrders, read: [readOrders]},
   stock: {show: showStock, read: [readParts, readDemands, readOthers]},
   yield: {show: showYield, read: [readTotals, readBackups]},

@@ -70,10 +70,15 @@ class Terminal(Browser):
     def begin(self, number):
         """Opens the page and chooses the terminal's number, by keys."""
         self.go(self.address)
-        self.until(f"{by_id('terminalDialog')}.open && {by_id('terminalWords')}.textContent")
+        self.open_dialog()
         self.type(by_id("terminalNumber"), str(number))
         self.key("Enter")
         self.until(f"!{by_id('terminalDialog')}.open")
+
+    def open_dialog(self):
+        """Opens the dialog of the terminal's number, which isn't asked for before the first message."""
+        self.value(f"{by_id('terminalButton')}.click()")
+        self.until(f"{by_id('terminalDialog')}.open && {by_id('terminalWords')}.textContent")
 
     @contextmanager
     def losing_answers(self):

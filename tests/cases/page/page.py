@@ -154,7 +154,6 @@ def cut_bar(it):
     job = it.reserve()
     told = it.ask(f"/job/{job}")
     it.click(by_id("done"))
-    it.confirm()
     it.says(f"Job {job} done: pieces")
     it.until("atSaw.told.state === 'done'")
     it.view("yield")
@@ -169,7 +168,7 @@ def cut_bar(it):
 def widths(trial):
     with Terminal(trial, open_shop(trial)) as it:
         it.go(it.address)
-        it.until(f"{by_id('terminalWords')}.textContent")
+        it.open_dialog()
         it.at_widths("terminal")
         it.begin(7)
         stock(it)
@@ -194,7 +193,6 @@ def widths(trial):
         it.reserve()
         it.at_widths("saw-bar")
         it.click(by_id("done"))
-        it.confirm()
         it.says("done: pieces")
         it.until("atSaw.told.state === 'done'")
         it.at_widths("saw-done")
@@ -596,7 +594,7 @@ def both_languages(trial):
     with open(PAGE, encoding="utf-8") as file:
         text = file.read()
     body, script = text.split("<body>")[1].split("<script>")
-    table, code = script.split("const GERMAN = new Map(Object.entries(")[1].split("));", 1)
+    table, code = script.split("const GERMAN=new Map(Object.entries(")[1].split("));", 1)
     german = json.loads(re.sub(r",\s*}", "}", table))
     shown = {html.unescape(it.strip()) for pair in re.findall(r">([^<]+)<|aria-label=\"([^\"]+)\"", body) for it in pair}
     texts = templates_of(code) | {it for it in shown if re.search("[A-Za-z]{2}", it)}
@@ -644,7 +642,6 @@ def german(trial):
         it.until("atSaw.told && document.querySelector('#jobPicture svg')")
         is_german(it, "saw")
         it.click(by_id("done"))
-        it.confirm()
         it.says("Job 2 erledigt: Zuschnitte ")
         it.until("atSaw.told.state === 'done'")
         is_german(it, "done")

@@ -179,7 +179,6 @@ def at_gate(it, gate):
 def done(it, job):
     it.until(f"atSaw.told?.job === {job} && document.querySelector('#jobPicture svg')")
     it.click(by_id("done"))
-    it.confirm()
 
 
 def row_button(place, text):

@@ -46,7 +46,6 @@ def quicker(trial):
         alone(it)
         send(do="done", job=jobs[0])
         it.click(by_id("done"))
-        it.confirm()
         answered(it)
         trial.equal((notices(it, "successes"), notices(it, "refusals")), ([f"Job {jobs[0]}: done by terminal 8"], []))
         told = it.value("terminal.answered().at(-1).words")
@@ -187,6 +186,13 @@ DAY = (
     ({"do": "amend", "demand": 1, "wanted": 39}, ["/order/B-1", "/parts/STEEL", "/jobs/0"]),
     ({"do": "scrap", "part": "1/3"}, ["/order/A-1", "/demands/0", "/jobs/0", "/job/3"]),
     ({"do": "return", "part": "1/4"}, ["/order/A-1", "/demands/0", "/jobs/0", "/job/3"]),
+    ({"do": "note", "order": "B-1", "due": 20261203, "text": "edges ground"}, ["/order/A-1", "/parts/STEEL", "/totals/STEEL", "/job/3"]),
+    ({"do": "extend", "order": "B-1", "lines": [{**LINES[0], "line": 9}]}, ["/order/A-1", "/parts/STEEL", "/jobs/0"]),
+    ({"do": "reserve", "part": "1/2", "tree": BAR}, ["/order/B-1", "/parts/GLASS", "/pieces/order/A-1"]),
+    ({"do": "begin", "job": 6}, ["/job/3", "/orders", "/parts/STEEL", "/demands/0", "/steps/3"]),
+    ({"do": "break", "job": 6, "cuts": [0], "lost": 1, "rest": 4000}, ["/job/3", "/parts/GLASS"]),
+    ({"do": "undo", "job": 6}, ["/job/3", "/parts/GLASS", "/order/B-1"]),
+    ({"do": "undo", "job": 3}, ["/job/6", "/parts/GLASS"]),
     (WIRE, ["/order/A-1", "/parts/STEEL", "/jobs/0", "/totals/GLASS"]),
 )
 
@@ -196,7 +202,8 @@ PATHS = [
     *(f"/{what}{code}" for code in ("STEEL", "GLASS", "WIRE") for what in ("demands/0/", "parts/", "totals/")),
     *(f"/{what}{order}{behind}" for order in ("A-1", "B-1", "C-1") for what, behind in (("order/", ""), ("story/order/", "/0"))),
     *(f"/demand/{demand}" for demand in range(1, 5)),
-    *(f"/{what}{job}{behind}" for job in (3, 4, 5) for what, behind in (("job/", ""), ("story/job/", "/0"))),
+    *(f"/{what}{job}{behind}" for job in (3, 4, 5, 6) for what, behind in (("job/", ""), ("steps/", ""), ("story/job/", "/0"))),
+    *(f"/pieces/{of}" for of in ("order/A-1", "order/B-1", "batch/S-1", "batch/G-1", "unit/1/0", "unit/2/0")),
     *(f"/{what}{part}{behind}" for part in ("1/0", "1/1", "1/3", "1/4", "2/0", "3/1", "4/1", "4/2") for what, behind in (("trace/", ""), ("story/part/", "/0"))),
 ]
 

@@ -553,8 +553,14 @@ def in_words(trial):
             ({"do": "break", "job": 3, "cuts": [0], "lost": False}, "Job 3: done by terminal 8 (71 JobOver)"),
             (
                 {"do": "break", "job": 4, "cuts": [1], "lost": False},
-                "work can't have halted so: each cut needs all cuts above it (72 BadCut)",
+                "work can't have halted so: each cut needs all cuts above it, and a rest is shorter than what was to be divided (72 BadCut)",
             ),
+            ({"do": "note", "order": "A-9", "due": 0, "text": ""}, "there is no order with this code (43 NoOrder)"),
+            (
+                {"do": "note", "order": "A-1", "due": 20261332, "text": ""},
+                "an order's day is one of the calendar, and its text has at most 200 bytes and no control characters (44 BadNote)",
+            ),
+            ({"do": "undo", "job": 4}, "the job is neither done nor broken off, so there is nothing to take back (73 NotOver)"),
             ({"do": "import", "form": "csv", "order": "A-3", "text": "A"}, "the file's text isn't of its form (80 BadText)"),
         )
         it.begin(7)
@@ -628,8 +634,8 @@ def pressed_twice(trial):
 
 @case(
     "the terminal's number at the page",
-    "A number by which no message was sent is offered; of another one it is told where it goes on. Without a number nothing is "
-    "sent, and while a message with a number waits it isn't changed. The log tells what was refused. Digits that are typed in a "
+    "The number is asked for at the first message, which waits for it, over a reload too. A number by which no message was sent is "
+    "offered. Without a number nothing is sent, and while a message with a number waits it isn't changed. The log tells what was refused. Digits that are typed in a "
     "field open no view.",
 )
 def own_number(trial):
@@ -638,16 +644,23 @@ def own_number(trial):
         for number in (4, 7):
             trial.equal(exchange(shop, "/message", {**bar("B-1"), "number": number, "terminal": 1}).get("ok"), "receive")
         it.go(it.address)
-        it.until(f"{by_id('terminalWords')}.textContent === 'No message was sent as terminal 2 yet.'")
-        trial.equal(it.value(f"{by_id('terminalNumber')}.value"), "2")
-        it.value(f"{by_id('terminalDialog')}.close()")
+        it.until("shop.isKnown && !refresh.running")
+        trial.equal(it.value(f"{by_id('terminalDialog')}.open"), False, "the number is asked for before a message")
         it.receive("STEEL", "S-1", "6000", None, 1)
-        it.until(f"{by_id('terminalDialog')}.open")
-        trial.equal(it.value("storage.keys(MESSAGE).length"), 0)
-        it.until(f"{by_id('terminalNumber')}.value")
+        it.until(f"{by_id('terminalDialog')}.open && {by_id('terminalWords')}.textContent === 'No message was sent as terminal 2 yet.'")
+        trial.equal(it.value(f"{by_id('terminalNumber')}.value"), "2")
+        it.click(by_id("terminalCancel"))
+        it.until(f"{by_id('keptNotice')}.textContent.includes('1 message waits for the number of this terminal.')")
+        it.call("Page.reload")
+        it.until(f"document.readyState === 'complete' && {by_id('keptNotice')}.querySelector('.kept > button')")
+        trial.equal(it.value("terminal.kept().map(message => message.number)"), [0])
+        it.click(f"{by_id('keptNotice')}.querySelector('.kept > button')")
+        it.until(f"{by_id('terminalDialog')}.open && {by_id('terminalNumber')}.value")
         it.type(by_id("terminalNumber"), "1")
         it.key("Enter")
-        it.says("Terminal 1 goes on behind its message 7. No other device may have this number.")
+        it.says("Receive 1 × STEEL 6000.0\u00a0mm: 1 unit received, 3/0")
+        it.until("terminal.number === 1 && !terminal.kept().length")
+        trial.equal(it.ask("/terminal/1")["last"], 8)
         for view, field in (("stock", "receiveBatch"), ("saw", "jobNumber")):
             it.view(view)
             it.type(by_id(field), "1")
@@ -657,7 +670,7 @@ def own_number(trial):
         it.view("stock")
         with it.losing_answers():
             it.receive("STEEL", "S-1", "6000", None, 1)
-            it.until(f"{by_id('keptNotice')}.textContent.includes('(number 8)')")
+            it.until(f"{by_id('keptNotice')}.textContent.includes('(number 9)')")
             it.click(by_id("terminalButton"))
             it.type(by_id("terminalNumber"), "2")
             it.key("Enter")
@@ -665,15 +678,16 @@ def own_number(trial):
             it.until(f"{by_id('terminalFault')}.textContent === {json.dumps(words)}")
             it.key("Escape")
             it.until(f"!{by_id('terminalDialog')}.open")
-        it.says("Receive 1 × STEEL 6000.0\u00a0mm: 1 unit received, 3/0")
+        it.says("Receive 1 × STEEL 6000.0\u00a0mm: 1 unit received, 4/0")
         it.value("void send({do: 'scrap', part: '9/9'}, 'Scrap 9/9')")
         it.says("Refused: Scrap 9/9: there is no such part (50 NoPart)")
         it.click(by_id("terminalButton"))
         log = [
-            "9: ✗ Refused: Scrap 9/9: there is no such part (50 NoPart)",
+            "10: ✗ Refused: Scrap 9/9: there is no such part (50 NoPart)",
+            "9: ✓ Receive 1 × STEEL 6000.0\u00a0mm: 1 unit received, 4/0",
             "8: ✓ Receive 1 × STEEL 6000.0\u00a0mm: 1 unit received, 3/0",
         ]
-        it.until(f"{by_id('messageLog')}.querySelectorAll('div').length === 2")
+        it.until(f"{by_id('messageLog')}.querySelectorAll('div').length === 3")
         trial.equal(it.value(f"[...{by_id('messageLog')}.querySelectorAll('div')].map(e => e.textContent)"), log)
         is_quiet(it)
 

@@ -11,8 +11,8 @@ LINE = {"line": 7, "material": "STEEL", "w": 10000, "h": 1, "turn": False, "coun
 
 # The orders that are listed, or the one that was found: code, state, sums.
 CARDS = (
-    "[...document.querySelectorAll('#{} .ordered')].map(e => [e.querySelector('h3').firstChild.textContent, "
-    "e.querySelector('h3 .quiet').textContent, e.querySelector(':scope > p').textContent])"
+    "[...document.querySelectorAll('#{} .ordered')].map(e => [e.querySelector('.orderedhead').firstChild.textContent, "
+    "e.querySelector('.orderedhead .quiet').textContent, e.querySelector(':scope > p').textContent])"
 )
 LISTED, FOUND = CARDS.format("orderList"), CARDS.format("foundOrder")
 
@@ -205,7 +205,7 @@ def found(trial):
             trial.equal(it.value(FOUND)[0][1:], wanted[1:], text)
         for text in ("A-2", "7", "4294967295", "Ä-1"):
             find(text)
-            words = f"order “{text}” is no order's code and no number of pieces wanted"
+            words = f"order “{text}” is no code of an order or a batch, and no number of pieces wanted, a job or a part"
             it.until(f"document.querySelector('#findForm .fault')?.textContent === {json.dumps(words)}")
             trial.equal((it.value(FOUND), it.value("document.activeElement.id")), ([], "findOrder"))
         trial.equal(it.value(LISTED), [a_1, four])

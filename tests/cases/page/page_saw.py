@@ -59,7 +59,7 @@ def figures(it):
 @case(
     "what a job at the page came to",
     "Of a job that was broken off the ticket tells the cuts that were made, the pieces and the rests that there are, in the "
-    "visit that broke it off, and in another by traces, also where the saw takes nothing; of one that was released that "
+    "visit that broke it off, and in another by its entry, also where the saw takes nothing; of one that was released that "
     "nothing was cut.",
 )
 def outcome(trial):
@@ -79,6 +79,7 @@ def outcome(trial):
         open_job(it, bar)
         trial.equal(figures(it)[2:4], ["4 cuts", "4 pieces"])
         it.click(by_id("startBreak"))
+        it.click(row(0))
         it.click(row(0))
         trial.holds("uncut 497.5\u00a0mm, kept as" in it.text("cutList"), "what isn't cut further is kept whole")
         it.click("document.querySelector('[name=breakMode][value=lost]')")
@@ -106,14 +107,14 @@ def outcome(trial):
             drawn = it.value("document.querySelectorAll('#jobPicture > svg > rect.piece').length")
             trial.equal(drawn, made, "pieces in the picture")
             says_what_is(it, job)
-        asked = len([address for address in it.requests if f"/trace/{other}/" in address])
+        asked = len([address for address in it.requests if f"/story/job/{other}/" in address])
         it.view("stock")
         it.view("saw")
         for _ in range(2):
             it.value("refreshNow()")
             it.until("!refresh.running && !queue.busy")
-        again = len([address for address in it.requests if f"/trace/{other}/" in address])
-        trial.equal((asked, again), (3, 3), "one trace for each cut that was begun, once")
+        again = len([address for address in it.requests if f"/story/job/{other}/" in address])
+        trial.equal((asked, again), (1, 1), "one question for how it broke off, once")
         open_job(it, sheet)
         it.shot("saw-released")
         trial.equal(figures(it)[2:], ["0 of 2 cuts made", "given back state"])
@@ -183,6 +184,7 @@ def other_plan(trial):
         it.until("document.querySelectorAll('#cutList .cut').length === 2")
         trial.equal(it.value(made), [False, False])
         it.click(by_id("startBreak"))
+        it.click(row(0))
         trial.holds("No cut is marked yet" in it.text("breakWords"), it.text("breakWords"))
         trial.holds(it.value(f"{by_id('sendBreak')}.disabled"), "a break that nobody marked can be sent")
         for cut in range(2):
@@ -347,7 +349,6 @@ def equal_plans(trial):
         for job, following in ((jobs[2], jobs[3]), (jobs[3], jobs[3])):
             it.until("performance.now() >= atSaw.deaf")
             it.click(by_id("done"))
-            it.confirm()
             it.says(f"Job {job} done: pieces")
             it.until(f"atSaw.job === {following}")
         it.until("atSaw.told.state === 'done'")
@@ -423,7 +424,7 @@ def to_the_letter(trial):
         )
         it.click(by_id("done"))
         it.until(f"{by_id('confirm')}.open")
-        trial.equal(it.text("confirmWords"), "Only 2 of 5 cuts are ticked. Were all made? A job that is done stays done.")
+        trial.equal(it.text("confirmWords"), "Only 2 of 5 cuts are ticked. Were all made?")
         it.confirm()
         it.says(f"Job {job} done: pieces")
         told = re.search(r"pieces ([^,]+), kept ([^,]+), kerf ([^,]+), scrap (.+?)\. Label what is kept: (.*?)(?:✕|$)", it.told())
@@ -456,8 +457,6 @@ def any_order(trial):
         it.until(f"atSaw.told.state === 'broken' && {marks} === '{'✓' * 12}–'")
         open_job(it, second)
         it.click(by_id("startBreak"))
-        it.click("document.querySelector('[name=breakMode][value=lost]')")
-        it.click(row(0))
         it.click(by_id("sendBreak"))
         it.says(f"Break off job {second}: pieces 0.0\u00a0mm, kept 0.0\u00a0mm, kerf 0.0\u00a0mm, scrap 600.0\u00a0mm")
         trial.equal(it.ask(f"/trace/{second}/0")["state"], "scrap")

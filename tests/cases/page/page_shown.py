@@ -299,7 +299,6 @@ def eight(trial):
         trial.equal(it.value(rows), [["8 × 600.0: 100.0", f"STEEL, jobs {jobs[0]} to {jobs[-1]}"]])
         trial.equal([it.text("done"), it.text("allDone")], ["One done", "All 8 done"])
         it.click(by_id("done"))
-        it.confirm()
         it.until(f"atSaw.told.job === {jobs[1]} && atSaw.deaf > performance.now()")
         it.value("done.click()")
         trial.equal(it.value(f"{by_id('confirm')}.open"), False, "a second press of the same hand is taken")

@@ -1,0 +1,105 @@
+// ---- All materials at once: what is wanted of all, each material planned behind another, and all of it reserved by one press.
+
+function isAllShown() {
+  const {word, of} = readAddress();
+  return word === "cut" && !of && shop.materials.length > 1;
+}
+
+// The materials that are looked at.
+function shownCodes() { return isAllShown() ? shop.materials.map(({material}) => material) : [shop.material]; }
+
+// What is wanted of the materials that are looked at.
+function wantedNow() { return shownCodes().flatMap(code => demandsToCut(code)); }
+
+// Reads what is wanted, and of what is wanted the parts.
+async function readCut() {
+  if (isAllShown()) return readAllShown();
+  await readDemands();
+  await readParts();
+}
+
+async function readAllShown() {
+  const before = shop.changes, [rows, more] = await readPages("/demands/0", "demands", MOST_PAGES, row => `/demands/${row.demand}`);
+  if (before !== shop.changes) return;
+  for (const code of shownCodes()) takeDemands(code, rows.filter(row => row.material === code), more);
+  for (const code of shownCodes()) if (knownOf(code).demands.some(row => leftOf(row) > 0)) await readParts(code);
+}
+
+// The materials of which something can be planned.
+function codesToPlan(only = "") {
+  return shownCodes().filter(code => chosenDemands(code, only).length && freeParts(code).some(part => !isPartOut(part)));
+}
+
+// Plans each material, one behind another, until it is stopped; of one order alone where it is named.
+async function planEach(only = "") {
+  const all = toCut.all = new AbortController();
+  for (const code of shownCodes()) forgetPlans(code);
+  $("planTitle").focus({preventScroll: true});
+  for (const code of codesToPlan(only)) {
+    if (!all.signal.aborted) await planOrder({code, only});
+  }
+  if (toCut.all === all) toCut.all = null;
+  showView();
+}
+
+// Plans all that is open, of all materials, behind an order.
+async function planAllOrdered() {
+  go("cut");
+  await lookAtShop();
+  await readCut();
+  await planAll();
+}
+
+function allFound() { return shownCodes().map(code => plansOf(code).found).filter(Boolean); }
+
+function isReservable(found) {
+  return !found.sent && found.plans.some(plan => plan.parts.length && plan.counts.size) && !takenWords(found) && !plansOf(found.material.material).planning;
+}
+
+function showAllMaterials() {
+  const its = shownCodes().map(code => plansOf(code)), founds = allFound(), isPlanning = Boolean(toCut.all);
+  const stale = founds.map(takenWords).filter(Boolean), list = $("planList"), [now] = its.filter(it => it.planning);
+  $("planTitle").textContent = tr`Plan of all materials`;
+  $("planWords").textContent = [promisedWords(), ...its.map(it => it.note)].filter(Boolean).join(" ");
+  $("planAll").disabled = !codesToPlan().length;
+  $("reserve").textContent = tr`Reserve all`;
+  $("reserve").disabled = isPlanning || !founds.some(isReservable);
+  $("reserve").hidden = stale.length > 0;
+  $("planAgain").hidden = !stale.length;
+  $("stopPlan").disabled = !isPlanning;
+  $("labelAll").disabled = $("printAll").disabled = !founds.some(found => found.sent) && !shop.jobs.length;
+  for (const id of ["stagesField", "buyPanel"]) $(id).hidden = true;
+  for (const id of ["planFigures", "boundSays", "missing"]) fill($(id), 0, () => []);
+  const isSent = founds.some(found => found.sent) && !shop.promisedParts.size && !isPlanning;
+  fill($("nextStep"), isSent, () => isSent ? [stepButton([tr`To the saw`, () => go(addressOfView("saw"))])] : []);
+  showFault("planFault", [...its.map(it => it.fault), ...stale].filter(Boolean).join(" "));
+  $("planNow").textContent = now ? tr`${now.code} is planned…` : "";
+  $("planProgress").classList.toggle("idle", !now);
+  $("planBar").removeAttribute("value");
+  const told = founds.map(found => [found.material.material, found.plans.map(({tree, parts}) => [tree, parts]), found.missing, found.sent?.size, [...found.jobs], now?.code]);
+  fill(list, [told, list.clientWidth, window.innerHeight], () => founds.flatMap(materialPlans));
+}
+
+// A material's plans, below what they come to.
+function materialPlans(found) {
+  const {material: {material}, plans, missing} = found, isSearching = Boolean(plansOf(material).planning);
+  const words = [progressNow(found, isSearching), missing.length && !isSearching ? boundSays(found) : ""].filter(Boolean).join(". ");
+  return [el("h3", {text: `${material}: ${words}`}), linkTo(`cut/${material}`, tr`Only ${material}`), ...plans.length ? planCards(plans) : []];
+}
+
+function reserveEach() {
+  const founds = allFound().filter(isReservable);
+  for (const found of founds) {
+    const parts = found.plans.flatMap(plan => plan.parts.map(name => [name, plan.tree]));
+    if (sendReserves(parts, found)) found.sent = new Set(parts.map(([name]) => name));
+  }
+  showToCut();
+  focusNextStep();
+}
+
+// The jobs that were just reserved of all materials, or all that wait.
+async function allJobs() {
+  const founds = allFound().filter(found => found.sent), jobs = [];
+  for (const found of founds) jobs.push(...await reservedJobs(found));
+  return founds.length ? jobs : readTickets("");
+}
