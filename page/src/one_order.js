@@ -77,8 +77,9 @@ async function readFound() {
   if (!found) return;
   await readTexts([found]);
   const entries = await entriesTo(`/story/order/${found}`, 0, Infinity);
+  if (inOrders.found === found) oneOrder.jobs = jobsOf(entries);
   const [pieces, more] = await readPages(`/pieces/order/${found}`, "pieces", MOST_PAGES, row => `/pieces/order/${found}/${row.part}`);
-  if (inOrders.found === found) Object.assign(oneOrder, {jobs: jobsOf(entries), pieces, more});
+  if (inOrders.found === found) Object.assign(oneOrder, {pieces, more});
 }
 
 // The jobs that entries are about, the newest first, each by its last entry that says how it stands.

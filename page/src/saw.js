@@ -53,9 +53,10 @@ const ticks = {
   },
 };
 
+// The jobs that wait, of the chosen material where one is chosen, those due first.
 function waitingJobs() {
   const code = $("jobMaterial").value;
-  return shop.jobs.filter(row => !code || row.material === code);
+  return shop.jobs.filter(row => !code || row.material === code).sort(byDay);
 }
 
 // Reads the plans of waiting jobs whose material, sides and cuts are those of another.
@@ -692,6 +693,7 @@ function showAnyJob(event) {
 // The job that waits behind the shown one, or the first; of the chosen material where there is another of it.
 function jobBehind() {
   const others = rows => rows.filter(row => row.job !== atSaw.job), near = others(waitingJobs());
-  const rows = near.length ? near : others(shop.jobs);
-  return rows.find(row => row.job > atSaw.job) || rows[0];
+  const rows = near.length ? near : others([...shop.jobs].sort(byDay)), shown = shop.jobs.find(row => row.job === atSaw.job);
+  const isBehind = row => (shown ? byDay(row, shown) : 0) || row.job - atSaw.job;
+  return rows.find(row => isBehind(row) > 0) || rows[0];
 }

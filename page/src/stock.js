@@ -220,12 +220,17 @@ async function trace(name) {
     if (viewName() === "stock") go(`part/${name}`);
     const [part] = traced.chain;
     if (part.state === "piece" && !shop.lines.has(part.of)) learnLines([await ask(`/demand/${part.of}`)]);
-    const [pieces, more] = chain.length > 1 ? [[]] : await readPages(`/pieces/unit/${name}`, "pieces", MOST_PAGES, row => `/pieces/unit/${name}/${row.part}`);
-    if (traced.name !== name) return;
-    $("traceWords").replaceChildren(...traceWords(traced.chain), ...pieceRows(tr`Pieces of orders`, pieces, "order", more).filter(Boolean));
+    $("traceWords").replaceChildren(...traceWords(traced.chain));
     drawChain();
     if (window.innerWidth < NARROW) $("tracePanel").scrollIntoView({block: "nearest"});
-  } catch (error) { $("traceWords").replaceChildren(el("p", {class: "fault", text: await faultWords(error)})); }
+    if (chain.length > 1) return;
+    const [pieces, more] = await readPages(`/pieces/unit/${name}`, "pieces", MOST_PAGES, row => `/pieces/unit/${name}/${row.part}`);
+    if (traced.name === name) $("traceWords").append(...pieceRows(tr`Pieces of orders`, pieces, "order", more).filter(Boolean));
+  } catch (error) {
+    const fault = el("p", {class: "fault", text: await faultWords(error)});
+    if (traced.chain) $("traceWords").append(fault);
+    else $("traceWords").replaceChildren(fault);
+  }
 }
 
 // The part, then the part that its job cut, and so on, the unit last. A job's number is its act's.

@@ -4,10 +4,9 @@ cuts, lines that are added, and where pieces came from. The values are of the pa
 import json
 import re
 
-from browser.terminal import Terminal, by_id, exchange, open_shop
+from browser.terminal import Terminal, by_id, open_shop
 from kit.case import case
-from kit.page import is_german, is_quiet, open_tab
-from kit.page_plans import ALL_ANSWERED
+from kit.page import is_german, is_quiet
 from kit.page_saw import BAR, LINES, sender, shop_with_jobs
 
 MARKUP = "edges ground <img src=x onerror=alert(1)>"

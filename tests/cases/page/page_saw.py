@@ -241,15 +241,16 @@ def ended(trial):
         trial.equal(it.value("document.activeElement.id"), "jobTitle")
         trial.holds("Label what is kept" in it.told() and "refused" not in it.told(), it.told())
         trial.equal((it.ask("/terminal/7")["last"], it.ask(f"/job/{second}")["state"]), (1, "waiting"))
+        it.click(by_id("nextJob"))
+        it.until(f"atSaw.told.job === {second}")
+        shop.process.send_signal(signal.SIGSTOP)
+        it.click(by_id("release"))
+        it.until(f"{by_id('confirm')}.open")
         names = it.value(
             "[...document.querySelectorAll('dialog')].map(it => document.getElementById(it.getAttribute('aria-labelledby'))"
             ".textContent.includes('?'))"
         )
         trial.equal(names, [True, True])
-        it.click(by_id("nextJob"))
-        it.until(f"atSaw.told.job === {second}")
-        shop.process.send_signal(signal.SIGSTOP)
-        it.click(by_id("release"))
         it.confirm()
         it.until(f"{by_id('jobTitle')}.textContent.startsWith('Job {second}, given back, unanswered')")
         hidden = "['done', 'startBreak', 'release'].every(id => document.getElementById(id).hidden)"
@@ -427,7 +428,7 @@ def to_the_letter(trial):
         trial.equal(it.text("confirmWords"), "Only 2 of 5 cuts are ticked. Were all made?")
         it.confirm()
         it.says(f"Job {job} done: pieces")
-        told = re.search(r"pieces ([^,]+), kept ([^,]+), kerf ([^,]+), scrap (.+?)\. Label what is kept: (.*?)(?:✕|$)", it.told())
+        told = re.search(r"pieces ([^,]+), kept ([^,]+), kerf ([^,]+), scrap (.+?)\. Label what is kept: (.*?)(?:Take back|✕|$)", it.told())
         totals = it.ask("/totals/GLASS")
         for words, heap in zip(told.groups(), ("pieces", "rack", "kerf", "scrap")):
             number, off = cells_told(words)
