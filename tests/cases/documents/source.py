@@ -22,7 +22,7 @@ LISTED = {
     "shop_desk/src/desk_calls.rt entered": "an entry behind the last of all numbers of 64 bits: a store's end before, and no memory holds so many",
     "shop_desk/src/desk_calls.rt known_rack": "the taker of a rack stops where its list has no room",
     "shop_desk/src/history.rt told_last": "the entries of all numbers were looked at, and no other can follow, by its contract",
-    "shop_desk/src/nodes.rt row_of_step": "a job's row under a number that no job has, which no history makes and no table keeps",
+    "shop_desk/src/nodes.rt row_of_step": "a job's row under a number that no job has, which no history makes",
     "shop_files/src/orders.rt next_row": "a record of a slice, of any length: the reader has no other error",
     "shop_forms/src/writing.rt value_of": "a text that was written by the port's own writer: it is read but for want of memory",
     "shop_opening/src/apart.rt apart_fault": "files in memory, whose writes fail for nothing else",
