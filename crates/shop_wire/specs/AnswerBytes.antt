@@ -2,7 +2,7 @@
 use Rattle.std.specs.Prelude.{ℕ, Bool, true, false, List, [], ◌∷◌, ◌++◌, ◌==◌, length, Option, Some, None, Result, Ok, Err, codes, decimal, if◌then◌else◌}
 use Rattle.http.specs.StatusCode.{code_digits}
 use Rattle.shop_records.specs.declared.refusals.Refusal.{Refusal}
-use Rattle.shop_records.specs.declared.refusals.Refusal.TheVariants.{BadMessage, NoMaterial, NoDemand, NoOrder, NoPart, NoJob, NoMemory, StoreFault}
+use Rattle.shop_records.specs.declared.refusals.Refusal.TheVariants.{BadMessage, NoMaterial, NoDemand, NoOrder, NoPart, NotWhole, NoJob, NoMemory, StoreFault}
 use Rattle.shop_records.specs.declared.messages.Reply.{Reply}
 use Rattle.shop_records.specs.declared.messages.Reply.TheVariants.{Refused}
 use Rattle.shop_records.specs.Messages.{refusal_in}
@@ -78,6 +78,7 @@ refusal_status posted NoMaterial = unfound posted
 refusal_status posted NoDemand = unfound posted
 refusal_status posted NoOrder = unfound posted
 refusal_status posted NoPart = unfound posted
+refusal_status posted NotWhole = unfound posted
 refusal_status posted NoJob = unfound posted
 refusal_status posted NoMemory = 503
 refusal_status posted StoreFault = 503

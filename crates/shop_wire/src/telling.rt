@@ -119,6 +119,7 @@ fn refusal_status(posted: bool, refusal: Refusal) -> u16
         | Refusal::NoDemand
         | Refusal::NoOrder
         | Refusal::NoPart
+        | Refusal::NotWhole
         | Refusal::NoJob => unfound(posted),
         Refusal::NoMemory | Refusal::StoreFault => 503,
         _ => 409,
