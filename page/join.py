@@ -63,13 +63,14 @@ def part(name):
     return re.sub(r"(?m)^ +|^\n", "", text)
 
 
-# Names that cases call in a browser: these stay.
+# Names that cases call in a browser, and of what browsers keep: these stay.
 CALLED = set(
-    """adaptLines addOrderLine areaText askCalmly atSaw chosenDemands chosenPlan clickCut codeOfName countOf cutsOf demandsToCut factOf
-    faultWords foldJobs foldNotices forgetRead forgetShop importsOf inOrders isFree isLost isStaleBy keyOf learnLines leftOf lineFaults
-    lookAtShop makeBackup metresText momentText openJob pauseOf piecesOf planAgain planAll planWords plansByMaterial plansQuestion printWaiting
-    problemFault readJobCells readOrderFile readReply readShown readTickets refreshNow refreshPass searchOn sendBreak sendCsv sendKept
-    sendMany setBreaking showJob showLink showView stopPlan terminalWords textOf toCut undoJob viewName waitForPass whenAccepted""".split()
+    """adaptLines addOrderLine areaText askCalmly atSaw chosenDemands chosenPlan clickCut codeOfName countOf csvForm cutsOf
+    demandsToCut factOf faultWords foldJobs foldNotices forgetRead forgetShop importsOf inOrders isFree isLost isOld isStaleBy keyOf
+    learnLines leftOf lineFaults lookAtShop makeBackup metresText momentText openJob pauseOf piecesOf planAgain planAll
+    planWords plansByMaterial plansQuestion printWaiting problemFault readJobCells readOrderFile readReply readShown readTickets
+    refreshNow refreshPass searchOn sendBreak sendCsv sendKept sendMany setBreaking showJob showLink showView stopPlan
+    terminalWords textOf toCut undoJob viewName waitForPass whenAccepted""".split()
 )
 NAME = re.compile(r"[A-Za-z_$][\w$]*")
 # What stands before and behind a word that is a property, a key or a text.

@@ -140,7 +140,7 @@ def cut_sheet(it):
     it.click("document.querySelector('[name=breakMode][value=lost]')")
     it.click(f"document.querySelectorAll('#cutList button')[{deep}]")
     it.trial.equal(it.value("atSaw.lost"), deep)
-    said = it.text("breakWords").partition("Then: ")[2].rstrip(".")
+    said = re.split(r"\. (?:Kept|Nothing is kept)", it.text("breakWords").partition("Then: ")[2])[0]
     it.click(by_id("sendBreak"))
     it.says(f"Break off job {job}: {said}")
     it.until("atSaw.told.state === 'broken'")
@@ -615,7 +615,7 @@ def both_languages(trial):
 def german(trial):
     with Terminal(trial, open_shop(trial), "de-DE") as it:
         it.go(it.address)
-        it.until(f"{by_id('terminalWords')}.textContent")
+        it.open_dialog()
         trial.equal(it.value("document.documentElement.lang"), "de")
         is_german(it, "terminal")
         it.begin(7)

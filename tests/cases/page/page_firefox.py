@@ -10,6 +10,7 @@ SHOWN = {
     "cut/STEEL": "wanted.textContent.includes('600.0') || wanted.textContent.includes('100.0')",
     "saw/3": "jobTitle.textContent.startsWith('Job 3') && document.querySelector('#jobPicture svg')",
     "order/A-1": "foundOrder.textContent.includes('A-1')",
+    "cut": "planTitle.textContent.length > 4",
     "stock/STEEL": "stockList.textContent.includes('600.0')",
     "part/1/0": "tracePicture.querySelector('svg')",
     "batch/G-1": "document.getElementById('traceWords').textContent.includes('2/0')",
@@ -29,6 +30,7 @@ def firefox(trial):
     for language in ("en", "de"):
         with Firefox(language) as it:
             it.go(address)
+            it.value(f"void {by_id('terminalButton')}.click()")
             it.until(f"{by_id('terminalDialog')}.open && {by_id('terminalNumber')}.value")
             it.value(f"{by_id('terminalForm')}.querySelector('.act').click()")
             it.until(f"!{by_id('terminalDialog')}.open")

@@ -90,7 +90,7 @@ def happened(trial):
         links = "[...document.querySelectorAll('#happenedList .links')].map(e => [...e.children].map(a => [a.textContent, a.getAttribute('href')]))"
         part, job, order, batch = ["Part 1/0", "#part/1/0"], ["Job 2", "#saw/2"], ["Order A-1", "#order/A-1"], ["Batch S-1", "#batch/S-1"]
         of_all = it.value(links)[::-1]
-        trial.equal([of_all[2], of_all[3], of_all[6], of_all[9], of_all[12]], [[part, batch], [order], [job, part], [job], [order]])
+        trial.equal([of_all[2], of_all[3], of_all[6], of_all[9], of_all[12]], [[part, batch], [order], [job, part], [job, ["Take back", None]], [order]])
         it.choose(by_id("ofTerminal"), "3")
         it.until(f"{ROWS}.length === 7")
         trial.equal(it.value(ROWS), told(11, 10, 9, 8, 7, 6, 5))

@@ -564,7 +564,7 @@ def by_heads(trial):
                 "none: its size",
             ],
         )
-        left = "Left out: “Kunde”, column 1; “Stück je Kiste”, column 5; “Bemerkung”, column 6."
+        left = "Left out: “Stück je Kiste”, column 5; “Bemerkung”, column 6."
         trial.equal(it.text("csvLeftOut"), left)
         it.choose(column.format("material"), "GLASS")
         it.until("document.querySelector('#csvPreview .fault').textContent === 'Say what “1.200” is.'")
