@@ -3,8 +3,8 @@
 use crate::rows::Row;
 use cut_measure::{Code, MOST_NUMBERS, PartName};
 use shop_book::{Book, BookFault, Ledger, is_same_halt};
-use shop_records::{Entry, JobHalt, Material, Pair};
-use std::alloc::Global;
+use shop_records::{Entry, Job, JobHalt, Material, Pair};
+use std::alloc::{AllocError, Global};
 use std::cmp::Ordering;
 
 /// More parts than bear the number of an act.
@@ -55,6 +55,31 @@ fn first_halt<B: Book, F: Book>(
     Ok(None)
 }
 
+// The text of a job's tree.
+fn tree_of(alloc: Global, job: &Job) -> Result<String, AllocError> {
+    let mut text = String::new(alloc);
+    job.plan.write(&mut text)?;
+    Ok(text)
+}
+
+// Whether the rows of two jobs are the same. The sides and the kerf of a plan stand in other tables.
+fn is_same_row(alloc: Global, one: &Job, other: &Job) -> Result<bool, AllocError> {
+    if one.part != other.part || one.state != other.state {
+        return Ok(false);
+    }
+    let tree = tree_of(alloc, one)?;
+    let other = tree_of(alloc, other)?;
+    Ok(tree.as_str() == other.as_str())
+}
+
+fn same_job(alloc: Global, one: &Option<Job>, other: &Option<Job>) -> Result<bool, AllocError> {
+    match (one, other) {
+        (None, None) => Ok(true),
+        (Some(a), Some(b)) => is_same_row(alloc, a, b),
+        _ => Ok(false),
+    }
+}
+
 fn first_job<B: Book, F: Book>(
     alloc: Global,
     book: &mut B,
@@ -62,7 +87,7 @@ fn first_job<B: Book, F: Book>(
 ) -> Result<Option<Row>, BookFault> {
     let behind = book.next_act()?.max(anew.next_act()?);
     for number in 1..behind {
-        if book.job(alloc, number)? != anew.job(alloc, number)? {
+        if !same_job(alloc, &book.job(alloc, number)?, &anew.job(alloc, number)?)? {
             return Ok(Some(Row::Job(number)));
         }
     }

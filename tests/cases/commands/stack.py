@@ -39,6 +39,7 @@ DEPTHS = {
     "shop_answers/src/planning.rt stands_twice": (100, "the demands of a question"),
     "shop_book/src/due_jobs.rt due_among": (256, "the leaves of a tree"),
     "shop_commands/src/faults.rt from": (2, "a fault of lines that is one of a plan"),
+    "shop_desk/src/decided.rt last_of": (200, "the lines of an order"),
     "shop_machine/src/ending.rt are_reserved": (256, "the leaves of a tree"),
     "shop_machine/src/ordering.rt lines_refusal": (200, "the lines of an order"),
     "shop_machine/src/reserving.rt is_too_many": (256, "the leaves of a tree"),

@@ -107,7 +107,7 @@ def states(trial):
     trial.equal(found["totals2"], [("GLASS", 320, 80, 40, 0, 10, 110, 80), ("STEEL", 0, 0, 0, 0, 0, 0, 0)])
     trial.equal(found["journal"], [(number, 0, 1, number, *it) for number, it in enumerate(ENTRIES, 1)])
     trial.equal(found["uses"], [(3, "CG-1"), (4, "A-2"), (5, "CG-1")])
-    trial.equal([found[it] for it in ("notes", "begun", "halts")], [[], [], []])
+    trial.equal([found[it] for it in ("notes", "begun", "halts")], [[], [], [(4, '{"cuts":1,"lost":false}')]])
 
 
 @case(
