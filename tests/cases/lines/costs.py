@@ -99,18 +99,19 @@ def stocked_file(trial, count):
 
 @case(
     "pages of a large stock",
-    "Where 60000 units stand and 60000 demands are open the first page of either, and plans of the first of them, take at most three "
-    "times the processor time that they take where these are 2000, over a file and in memory; in memory a page from the middle on "
-    "does, too.",
+    "Where 60000 units stand and 60000 demands are open the first page of either, and plans of a demand, take at most three times the "
+    "processor time that they take where these are 2000, over a file and in memory; in memory a page from the middle on does, too. Plans "
+    "without a choice look at the day of each open demand, and take at most forty times as long for these thirty times as many.",
 )
 def pages(trial):
     first = {
         "parts": '{"after":"","ask":"parts","material":"STEEL"}',
         "demands": '{"after":0,"ask":"demands"}',
         "demands of a material": '{"after":0,"ask":"demands","material":"STEEL"}',
-        "plans": '{"ask":"plans","calls":1,"material":"STEEL"}',
+        "plans": '{"ask":"plans","calls":1,"demands":[1],"material":"STEEL"}',
     }
-    in_file, in_memory = [], []
+    chosen = {"plans without a choice": '{"ask":"plans","calls":1,"material":"STEEL"}'}
+    in_file, in_memory, by_day = [], [], []
     for count in STOCKS:
         middle = {
             "parts behind": compact({"after": f"{count // 200}/0", "ask": "parts", "material": "STEEL"}),
@@ -118,6 +119,7 @@ def pages(trial):
         }
         shop = trial.shop(stocked_file(trial, count))
         in_file.append(asked_costs(trial, shop, first))
+        by_day.append(asked_costs(trial, shop, chosen))
         shop.kill()
         shop = Replay(trial, {})
         trial.equal([it for it in shop.replies(stocked(count).lines) if b'"ok"' not in it], [])
@@ -125,6 +127,8 @@ def pages(trial):
         trial.equal(shop.end(), (0, b""))
     at_most_thrice(trial, *in_file, STOCKS)
     at_most_thrice(trial, *in_memory, STOCKS)
+    for name, seconds in by_day[1].items():
+        trial.holds(seconds <= 40 * by_day[0][name], f"{name}: {seconds} and {by_day[0][name]} seconds")
 
 
 @case(

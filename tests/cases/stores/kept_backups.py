@@ -114,7 +114,11 @@ def refused(trial):
     shop = keeping(trial, 1, limit=3)
     trial.equal(shop.exchange(REQUEST), told(1))
     os.rename(trial.path("shop.db"), trial.path("away.db"))
-    got = shop.exchange(REQUEST)
+    # The shop may have seen already that its file is away, and have ended.
+    try:
+        got = shop.exchange(REQUEST)
+    except ConnectionError:
+        got = b""
     os.rename(trial.path("away.db"), trial.path("shop.db"))
     trial.equal((got in (answer(503, FAULT), b""), names(trial)), (True, ["1"]), got)
 
