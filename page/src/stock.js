@@ -39,7 +39,7 @@ const MOST_OPEN = 12;
 
 // All remnants, then the units size by size, the largest first; standing ones of one batch and size are one row.
 function stockRows() {
-  if (!shop.parts.length) return [quiet(shop.partsOf ? tr`Nothing stands.` : noMaterial()), receiveOpener()];
+  if (!shop.parts.length) return [quiet(shop.partsOf ? tr`Nothing stands.` : noMaterial()), shop.partsOf ? receiveOpener() : ""];
   const large = [...shop.parts].sort((a, b) => b.w * b.h - a.w * a.h || b.w - a.w);
   const remnants = large.filter(isRemnant), units = large.filter(part => !isRemnant(part));
   const sizes = groupsOf(units, part => `${part.w} ${part.h}`);

@@ -124,12 +124,13 @@ async function labelPages(kinds) {
     counts.set(demand, Math.max(0, row.made + row.reserved - here));
   }
   await readTexts([...new Set([...counts.keys()].map(demand => shop.lines.get(demand).order))]);
+  const textOfOrder = order => shop.said.get(order)?.text;
   const labels = pieces.map(({demand, job, size}) => {
     const {order, line} = shop.lines.get(demand), number = counts.get(demand) + 1;
     counts.set(demand, number);
     return el("div", {class: "label"}, el("b", {text: order}), el("span", {text: tr`line ${line}`}), el("span", {text: size}),
       el("span", {text: tr`piece ${number} of ${wanted.get(demand)}`}), el("span", {text: tr`job ${job}`}),
-      el("span", {class: "said", text: shop.said.get(order)?.text || ""}));
+      textOfOrder(order) ? el("span", {class: "said", text: textOfOrder(order)}) : null);
   });
   const pages = [];
   for (let from = 0; from < labels.length; from += LABELS_A_PAGE)

@@ -370,7 +370,7 @@ def german_orders(trial):
         is_german(it, "orders-found")
         it.type(by_id("findOrder"), "b-2")
         it.key("Enter")
-        words = "Auftrag „B-2“ ist weder der Code eines Auftrags noch die Nummer einer Position"
+        words = "Auftrag „B-2“ ist kein Code eines Auftrags oder einer Charge und keine Nummer einer Position, eines Jobs oder eines Teils"
         it.until(f"document.querySelector('#findForm .fault')?.textContent === {json.dumps(words)}")
         is_german(it, "orders-none")
         is_quiet(it)
