@@ -264,10 +264,12 @@ def halt_by_chance(it, dice):
     if not made and lost is None:
         return False
     it.value("setBreaking(true)")
+    # The first open cut is taken for the one that went wrong; a click on it clears that, another one ticks it off.
+    it.value("atSaw.lost === null || clickCut(atSaw.lost)")
     for cut in sorted(made):
         it.value(f"ticks.of(atSaw.job).has({cut}) || clickCut({cut})")
     if lost is not None:
-        it.value(f"(document.querySelector('[name=breakMode][value=lost]').checked = true, clickCut({lost}))")
+        it.value(f"atSaw.lost === {lost} || (document.querySelector('[name=breakMode][value=lost]').checked = true, clickCut({lost}))")
     it.trial.equal(it.value("[[...ticks.of(atSaw.job)].sort((a, b) => a - b), atSaw.lost]"), [sorted(made), lost])
     return True
 
