@@ -218,17 +218,17 @@ def program(trial):
 
 @case(
     "the first screen as told",
-    "In a browser README's six steps, from the typed line on, receive, order, plan, reserve and print all, and end a job.",
+    "In a browser README's five steps, from the typed line on, receive, order, plan, reserve and print all, and end a job.",
 )
 def first_screen(trial):
     lines = blocks("README.md", "\n## Two commands\n", "\n## A first day in the browser\n")[0]
     with Typist(trial) as typist, Terminal(trial, typist) as it:
         typist.type(lines[-1])
         it.go(it.address)
+        it.receive("GLASS", "G-7", "2400.0", "1300.0", 4)
         it.until(f"{by_id('terminalDialog')}.open && {by_id('terminalNumber')}.value === '1'")
         it.key("Enter")
         it.until(f"!{by_id('terminalDialog')}.open")
-        it.receive("GLASS", "G-7", "2400.0", "1300.0", 4)
         it.says("4 units received, 1/0 to 1/3")
         it.view("orders")
         it.type(by_id("fileCode"), "HALL-12")
@@ -252,6 +252,5 @@ def first_screen(trial):
         it.click("[...document.querySelectorAll('#nextStep button')].find(e => e.textContent === 'To the saw')")
         it.until("atSaw.told && atSaw.told.job === 2")
         it.click(by_id("done"))
-        it.confirm()
         it.says("Job 2 done: pieces")
         trial.equal(it.value("ask('/job/2').then(reply => reply.state)"), "done")
