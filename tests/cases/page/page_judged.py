@@ -264,8 +264,9 @@ def halt_by_chance(it, dice):
     if not made and lost is None:
         return False
     it.value("setBreaking(true)")
-    # The first open cut is taken for the one that went wrong; a click on it clears that, another one ticks it off.
-    it.value("atSaw.lost === null || clickCut(atSaw.lost)")
+    # (the first cut is taken for the wrong one, and a click clears that)
+    it.trial.equal(it.value("atSaw.lost"), 0)
+    it.value("clickCut(0)")
     for cut in sorted(made):
         it.value(f"ticks.of(atSaw.job).has({cut}) || clickCut({cut})")
     if lost is not None:

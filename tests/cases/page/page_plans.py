@@ -473,7 +473,7 @@ def what_is_left(trial):
         ]
         trial.equal(it.value(stands), wanted)
         first = it.session
-        other = open_tab(it, "tocut")
+        other = open_tab(it, "cut/GLASS")
         it.until(f"{boxes}.length === 5")
         it.session = first
         it.call("Page.bringToFront")
