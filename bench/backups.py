@@ -6,9 +6,9 @@
 PROGRAM is the built program, crates/cutshop/out/cutshop by default (`rt run` in crates/cutshop makes it). In each folder, one
 on a disk and one on tmpfs by default, plain SQL makes a store behind so many parts (100000 and 1000000 by default), as many
 jobs, orders and kept messages. Backups are made one after the other, so many rounds, and each is deleted before the next:
-told is what one takes, from asking to its answer, the least and the greatest, beside how many bytes are copied. Then eight
+it reports what one takes, from asking to its answer, the least and the greatest, beside how many bytes are copied. Then eight
 terminals post 1000 messages at once, with nothing beside them and then while backups are made, one 50 milliseconds behind
-the other: told is the slowest answer of either, the least and the greatest of the rounds, and how many backups were made.
+the other: it reports the slowest answer of either, the least and the greatest of the rounds, and how many backups were made.
 """
 
 import argparse
@@ -23,7 +23,7 @@ HERE = os.path.dirname(os.path.abspath(__file__))
 sys.path.insert(0, os.path.join(HERE, "..", "tests"))
 sys.dont_write_bytecode = True
 
-from kit.backups import REQUEST, open_shop, told  # noqa: E402
+from kit.backups import REQUEST, open_shop, backup_answer  # noqa: E402
 from kit.terminals import Terminal, at_once  # noqa: E402
 from kit import aged, crowds, tables  # noqa: E402
 from kit.case import Trial  # noqa: E402
@@ -45,7 +45,7 @@ def backup(shop, folder):
     begin = time.perf_counter()
     answer = shop.exchange(REQUEST)
     took = 1000 * (time.perf_counter() - begin)
-    if answer != told(1):
+    if answer != backup_answer(1):
         raise RuntimeError(f"a backup was answered {answer}")
     copied = sum(it.stat().st_size for it in os.scandir(os.path.join(folder, "1")))
     shutil.rmtree(os.path.join(folder, "1"))
@@ -56,7 +56,7 @@ def slowest(shop, numbers, count=125):
     """The slowest answer of eight terminals of these numbers, in milliseconds."""
     terminals = [Terminal(it) for it in numbers]
     faults = at_once(shop, terminals, count)
-    if faults or [len(it.told) for it in terminals] != [count] * len(terminals):
+    if faults or [len(it.exchanges) for it in terminals] != [count] * len(terminals):
         raise SystemExit(f"not all was answered: {faults}")
     return 1000 * max(it.slowest for it in terminals)
 
@@ -80,8 +80,8 @@ def measured(shop, folder, rounds):
     return [it for it, _ in took], took[-1][1], alone, beside, len(backups)
 
 
-def told_of(program, place, count, rounds):
-    """What is told of a store of so many parts in a folder."""
+def row_of(program, place, count, rounds):
+    """What is reported of a store of so many parts in a folder."""
     with tempfile.TemporaryDirectory(dir=place) as under:
         made(os.path.join(under, "shop.db"), count)
         shop = open_shop(Trial(program, False, under))
@@ -103,7 +103,7 @@ def main():
     parser.add_argument("--folder", nargs="+", default=["/var/tmp", "/dev/shm"])
     given = parser.parse_args()
     for place, count in itertools.product(given.folder, given.parts):
-        print(told_of(os.path.abspath(given.program), place, count, given.rounds), flush=True)
+        print(row_of(os.path.abspath(given.program), place, count, given.rounds), flush=True)
 
 
 if __name__ == "__main__":

@@ -1,5 +1,5 @@
 #!/usr/bin/env python3
-"""Answers the lines of a busy shop over a book in a file of SQL tables, and tells what a line costs.
+"""Answers the lines of a busy shop over a book in a file of SQL tables, and reports what a line costs.
 
     bench/books.py [--program FILE] [--memory FILE] [--folder FOLDER ..] [--lines N ..] [--runs N] [--root FOLDER]
 

@@ -1,5 +1,5 @@
 #!/usr/bin/env python3
-"""Runs `cutshop replay` on the lines of a busy shop, and tells its speed and its memory.
+"""Runs `cutshop replay` on the lines of a busy shop, and reports its speed and its memory.
 
     bench/busy_shop.py [PROGRAM] [--seed N] [--lines N ..] [--million] [--runs N] [--beside PROGRAM] [--files]
 
@@ -11,7 +11,7 @@ jobs, order files, racks, lists and plans. The script runs the program on each n
 by default, and 1000000 with --million), and prints for each the lines a second, what a line costs in processor time,
 and the peak memory; then the ratio of the cost of a line between the most lines and the fewest: 1.0 means that a line
 costs the same however many came before. With --beside, another program takes the same lines in turn with the first, has
-to answer the same, and the ratio of their costs is told. With --files, bench/books.py goes on with the same numbers of
+to answer the same, and the ratio of their costs is reported. With --files, bench/books.py goes on with the same numbers of
 lines over books in files.
 """
 
@@ -289,7 +289,7 @@ def run(program, path, count):
     return seconds, usage.ru_utime + usage.ru_stime, usage.ru_maxrss, digest.digest()
 
 
-def told(name, count, runs):
+def row_of(name, count, runs):
     """Prints the least of some runs, and gives its processor time and its memory."""
     seconds, cost, memory = min(r[0] for r in runs), min(r[1] for r in runs), max(r[2] for r in runs)
     print(
@@ -308,10 +308,10 @@ def measure(name, shares, given):
             path = os.path.join(folder, "lines")
             write(path, count, given.seed, shares)
             turns = [[run(program, path, count) for program in programs] for _ in range(given.runs)]
-        cost, memory = told(name, count, [turn[0] for turn in turns])
+        cost, memory = row_of(name, count, [turn[0] for turn in turns])
         costs.append(cost / count)
         if given.beside:
-            other, more = told(f"{name}, beside", count, [turn[1] for turn in turns])
+            other, more = row_of(f"{name}, beside", count, [turn[1] for turn in turns])
             if len({answer for turn in turns for _, _, _, answer in turn}) != 1:
                 sys.exit("the two programs don't answer the same")
             print(f"    ratio of costs {cost / other:.2f}, of memory {memory / more:.2f}", flush=True)

@@ -3,7 +3,7 @@
 
     bench/commits.py [--program FILE] [--root FOLDER] [--materials N ..] [--parts N ..] [--ends N] [--runs N]
 
-Told is what a commit takes of the processor, in microseconds, where so many parts stand of one material and of 20: the least
+It reports what a commit takes of the processor, in microseconds, where so many parts stand of one material and of 20: the least
 of some runs with so many jobs that end, less the least of as many without any.
 
 Without --program, the program in bench/commits is proved and built by `rt run` in a repository of its own in a temporary

@@ -57,7 +57,7 @@ def bars():
 
 @contextmanager
 def thinking(shop, count, yard, asked):
-    """So many questions to a yard that are thought about; told is when one was answered before the posts were."""
+    """So many questions to a yard that are thought about; it is reported if one was answered before the posts were."""
     for line in yard.lines:
         if b'"ok"' not in shop.reply(line):
             raise SystemExit(f"{line} is refused")
@@ -76,7 +76,7 @@ def slowest(program, crowd, count=125):
         shop, terminals = trial.shop(), [Terminal(it) for it in range(2, 10)]
         with crowd(shop):
             faults = at_once(shop, terminals, count)
-        if faults or [len(it.told) for it in terminals] != [count] * len(terminals):
+        if faults or [len(it.exchanges) for it in terminals] != [count] * len(terminals):
             raise SystemExit(f"not all was answered: {faults}")
         return max(it.slowest for it in terminals) * 1000
 

@@ -5,13 +5,13 @@
 
 PROGRAM is the built program, crates/cutshop/out/cutshop by default. A shop's history is orders of 200 lines that are all
 made, by bars that were cut into 200 pieces each: a part for each piece and each kerf strip. Beside it stand 100 bars, 100
-remnants on the rack, 100 open demands and 100 waiting jobs. Each question is asked so many times (100 by default); told is
+remnants on the rack, 100 open demands and 100 waiting jobs. Each question is asked so many times (100 by default); it reports
 what one takes, in microseconds, by the number of parts of history, and how often as long it takes behind the most parts as
 behind the fewest.
 
 Over the book in memory a question's time is that of so many at once to one `cutshop replay` that had the history before,
-from the first byte to the last reply, by the least of five such runs. Over a book in a file `cutshop serve` is asked by HTTP, a connection each, and told is the time from asking
-to the last byte; `/totals` is asked too, whose cost is that of a look-up. Told beside them is how long the program takes
+from the first byte to the last reply, by the least of five such runs. Over a book in a file `cutshop serve` is asked by HTTP, a connection each, and it reports the time from asking
+to the last byte; `/totals` is asked too, whose cost is that of a look-up. It also reports how long the program takes
 to its line `listening on`, `cutshop ticket` from its start to its end, and how much memory `serve` had at most behind all questions.
 """
 
@@ -212,7 +212,7 @@ def over_tables(program, parts, times, root):
         return took
 
 
-def tell(title, counts, columns):
+def print_table(title, counts, columns):
     print(f"\n{title}, microseconds\n")
     print("| Question | " + " | ".join(f"{it} parts" for it in counts) + " | Most beside fewest |")
     print("|---|" + "---|" * (len(counts) + 1))
@@ -231,9 +231,9 @@ def main():
     reader.add_argument("--tables", action="store_true", help="the book in a file alone")
     words = reader.parse_args()
     if not words.tables:
-        tell("In memory", words.parts, [over_memory(words.program, it, words.times) for it in words.parts])
+        print_table("In memory", words.parts, [over_memory(words.program, it, words.times) for it in words.parts])
     if not words.memory:
-        tell("In a file", words.parts, [over_tables(words.program, it, words.times, words.folder) for it in words.parts])
+        print_table("In a file", words.parts, [over_tables(words.program, it, words.times, words.folder) for it in words.parts])
 
 
 if __name__ == "__main__":

@@ -1,5 +1,5 @@
 #!/usr/bin/env python3
-"""Tells what the port of SQLite takes of a start: how long it takes to open a shop's file and to read one row.
+"""Reports what the port of SQLite takes of a start: how long it takes to open a shop's file and to read one row.
 
     bench/opening.py [--program FILE] [--cutshop FILE] [--folder FOLDER] [--parts N ..] [--runs N]
 

@@ -1,5 +1,5 @@
 #!/usr/bin/env python3
-"""Plans whole orders, class by class, and tells how many units they take over the bound.
+"""Plans whole orders, class by class, and reports how many units they take over the bound.
 
     bench/orders.py [CLASS ..] [--count N] [--seed N] [--program PATH] [--calls N] [--stages S] [--runs N]
                     [--keep FOLDER] [--list]
@@ -16,13 +16,13 @@ had the same orders, its units over the bound and what it proved best stand besi
 
 --count and --seed say which orders: those of the seed from the first on. --stages limits the stages of each plan. Two classes
 at the planners' limits, whose time and memory are of interest, are run where they are named. --keep leaves the problem files in
-a folder, named by class, seed and number. --list tells the classes.
+a folder, named by class, seed and number. --list prints the classes.
 
 The orders of a class that has several sizes and remnants, or pieces that may turn, can't be said in a problem file, which has
 one size and turns nothing. `cutshop replay` gets them as a shop's messages and a question `plans`, all that has no end as sizes
 to buy, a remnant at the cost of its cells; the time is that of the question. Each answer is checked (`tests/kit/questions.py`),
 and what stands for units is the cost: in units, where there is one size, else in metres of bar or square metres. Orders that
-the stock can't make are told and not counted. With --keep they are left as the lines that are sent.
+the stock can't make are reported and not counted. With --keep they are left as the lines that are sent.
 """
 
 import argparse
@@ -101,7 +101,7 @@ class Order:
         return question(MATERIAL, buy=buy, calls=calls, **({"stages": stages} if stages else {}))
 
     def measure(self):
-        """What a cost is told in: a unit of the one size, or a metre of bar, or a square metre."""
+        """What a cost is reported in: a unit of the one size, or a metre of bar, or a square metre."""
         if len(self.sizes) == 1 and not self.rests:
             return 100 * self.sizes[0][0] * self.sizes[0][1]
         return 100 * 10000 * (1 if self.sizes[0][1] == 1 else 10000)
@@ -353,7 +353,7 @@ def whole(program, path, order, calls, stages):
 
 
 def asked(program, yard, line):
-    """What `replay` answers to a question behind a yard's messages, and what it tells of the material."""
+    """What `replay` answers to a question behind a yard's messages, and what it reports of the material."""
     child = subprocess.Popen([program, "replay"], stdin=subprocess.PIPE, stdout=subprocess.PIPE)
 
     def reply(line):
@@ -362,8 +362,8 @@ def asked(program, yard, line):
         return child.stdout.readline().decode().removesuffix("\n")
 
     for message in yard.lines:
-        if '"ok"' not in (told := reply(message)):
-            raise Failed(f"\n  {message}: {told}")
+        if '"ok"' not in (output := reply(message)):
+            raise Failed(f"\n  {message}: {output}")
     content = content_of(reply, MATERIAL)
     begin = time.perf_counter()
     text = reply(line)
@@ -377,7 +377,7 @@ def asked(program, yard, line):
 
 
 def planned(path, order, of, calls, given, row):
-    """Plans an order some times, checks what is told, and adds it to the row of its class."""
+    """Plans an order some times, checks what is reported, and adds it to the row of its class."""
     if of.is_for_query:
         yard, keys = order.yard(), order.question(calls, given.stages)
         ran, contents = zip(*[asked(given.program, yard, compact(keys)) for _ in range(given.runs)])
@@ -386,11 +386,11 @@ def planned(path, order, of, calls, given, row):
     if len({it.text for it in ran}) > 1:
         raise Failed("\n  two runs tell different plans")
     if of.is_for_query:
-        told = checked_answer(contents[0], keys, ran[0].text)
-        if told["missing"]:
-            print(f"({sum(it['pieces'] for it in told['missing'])} pieces are missing, short {told['short']})", flush=True)
+        output = checked_answer(contents[0], keys, ran[0].text)
+        if output["missing"]:
+            print(f"({sum(it['pieces'] for it in output['missing'])} pieces are missing, short {output['short']})", flush=True)
             return
-        units, bound, proved = told["cost"] / order.measure(), told["bound"] / order.measure(), told["proved"]
+        units, bound, proved = output["cost"] / order.measure(), output["bound"] / order.measure(), output["proved"]
     else:
         answer = checked(order.problem(), order.kerf, ran[0].text, given.stages)
         units, bound, proved = answer.units, answer.bound, answer.proved
@@ -411,16 +411,16 @@ def kept(folder, name, order, of, calls, stages):
 HEAD = "| Class | Orders | Kinds, pieces | Units | Bound | Over | Proved best | ms, most | MiB | The trial |\n|" + "---|" * 10
 
 
-def tell(name, seed, row):
+def row_text(name, seed, row):
     """A class's row of the table."""
     many = max(row.orders, 1)
     over = 100 * (row.units - row.bound) / max(row.bound, 1)
     same = TRIAL.get((name, seed, row.orders))
     trial = f"{100 * (same[0] - same[1]) / same[1]:.2f} %, {same[2]} of {row.orders}" if same else ""
-    told = [name, row.orders, f"{row.kinds / many:.0f}, {row.pieces / many:.0f}", f"{row.units:.10g}", f"{row.bound:.10g}"]
-    told += [f"{over:.2f} %"]
-    told += [f"{row.proved} of {row.orders}", f"{1000 * row.seconds / many:.0f}, {1000 * row.slowest:.0f}"]
-    return "| " + " | ".join(map(str, [*told, row.memory // 1024, trial])) + " |"
+    output = [name, row.orders, f"{row.kinds / many:.0f}, {row.pieces / many:.0f}", f"{row.units:.10g}", f"{row.bound:.10g}"]
+    output += [f"{over:.2f} %"]
+    output += [f"{row.proved} of {row.orders}", f"{1000 * row.seconds / many:.0f}, {1000 * row.slowest:.0f}"]
+    return "| " + " | ".join(map(str, [*output, row.memory // 1024, trial])) + " |"
 
 
 def run(name, given, folder):
@@ -436,7 +436,7 @@ def run(name, given, folder):
         except Failed as why:
             print(f"{name}, seed {seed}, order {number}:{why}", flush=True)
             is_well = False
-    print(tell(name, seed, row), flush=True)
+    print(row_text(name, seed, row), flush=True)
     return is_well
 
 

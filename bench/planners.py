@@ -1,5 +1,5 @@
 #!/usr/bin/env python3
-"""Times `plan_bar` and `plan_sheet`, and tells how each grows.
+"""Times `plan_bar` and `plan_sheet`, and reports how each grows.
 
     bench/planners.py [--runs N] [--root FOLDER]
 

@@ -3,7 +3,7 @@
 
 PROGRAM is the built program, crates/cutshop/out/cutshop by default. A bar is reserved for a plan of one demand and released
 again, so many times (200 by default), once by plans of one piece and once by plans of 250. Over the book in memory they are
-lines of one `cutshop replay`; over a book in a file they are posted to `cutshop serve`, a connection each. Told are the
+lines of one `cutshop replay`; over a book in a file they are posted to `cutshop serve`, a connection each. It reports the
 microseconds of a pair of both messages, the least of five runs in memory and the median in a file.
 """
 

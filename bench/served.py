@@ -138,8 +138,8 @@ class Served:
 def sent_by_all(served, rounds, kill_at):
     """Runs all terminals beside the reader of reports; kills and starts the program again when so many were answered."""
     answered = multiprocessing.Value("i", 0)
-    stop, out, told = multiprocessing.Event(), multiprocessing.Queue(), multiprocessing.Queue()
-    reader = multiprocessing.Process(target=reports, args=(served.port, stop, told))
+    stop, out, output = multiprocessing.Event(), multiprocessing.Queue(), multiprocessing.Queue()
+    reader = multiprocessing.Process(target=reports, args=(served.port, stop, output))
     reader.start()
     workers = [multiprocessing.Process(target=terminal_runs, args=(t, served.port, rounds, answered, out)) for t in range(1, TERMINALS + 1)]
     begin = time.perf_counter()
@@ -153,7 +153,7 @@ def sent_by_all(served, rounds, kill_at):
     sent = dict(out.get() for _ in workers)
     seconds = time.perf_counter() - begin
     stop.set()
-    count = told.get()
+    count = output.get()
     for worker in [*workers, reader]:
         worker.join()
         if worker.exitcode:
@@ -178,13 +178,13 @@ def rows_of(path):
         raise SystemExit("sqlite finds the file damaged")
     acts, demands = {0: 0}, {0: 0}
     for terminal, number, reply in db.execute("SELECT terminal, number, reply FROM kept"):
-        told = json.loads(reply)
-        if told["ok"] == "receive":
-            acts[told["act"]] = (terminal, number)
-        if told["ok"] == "reserve":
-            acts[told["job"]] = (terminal, number)
-        if told["ok"] == "order":
-            demands[told["first"]] = (terminal, number)
+        output = json.loads(reply)
+        if output["ok"] == "receive":
+            acts[output["act"]] = (terminal, number)
+        if output["ok"] == "reserve":
+            acts[output["job"]] = (terminal, number)
+        if output["ok"] == "order":
+            demands[output["first"]] = (terminal, number)
     rows = {
         "materials": set(db.execute("SELECT * FROM materials")),
         "orders": set(db.execute("SELECT * FROM orders")),

@@ -10,17 +10,17 @@ folder=$1 url=${2:-http://127.0.0.1:8017}
 reply=$(curl -fsS -X POST -d '' "$url/backup")
 number=$(printf '%s' "$reply" | sed -n 's/.*"backup":\([0-9]*\).*/\1/p')
 copy=$folder/$number/$(ls "$folder/$number" | grep -v -e '-wal$')
-if told=$(cutshop audit --store "$copy" 2>&1); then
+if output=$(cutshop audit --store "$copy" 2>&1); then
     echo "backup $number is made and whole"
     exit 0
 fi
-case $told in
+case $output in
 *' messages were kept before entries began')
     cutshop history --store "$copy" --read-only > /dev/null
     echo "backup $number is made and can be read"
     ;;
 *)
-    echo "backup $number isn't whole: $told" >&2
+    echo "backup $number isn't whole: $output" >&2
     exit 1
     ;;
 esac

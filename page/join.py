@@ -59,7 +59,7 @@ def part(name):
     if name.endswith(".js"):
         text = tight_script(re.sub(r"(?m)^ *//.*\n|  // .*$", "", text))
     if name.endswith(".css"):
-        text = re.sub(r"\s*([{};:,])\s+", r"\1", text).replace(";}", "}")
+        text = re.sub(r"\s*([{};:,>])\s+", r"\1", text).replace(";}", "}")
     return re.sub(r"(?m)^ +|^\n", "", text)
 
 
@@ -68,7 +68,7 @@ CALLED = set(
     """adaptLines addOrderLine areaText askCalmly atSaw chosenDemands chosenPlan clickCut codeOfName countOf csvForm cutsOf
     demandsToCut factOf faultWords foldJobs foldNotices forgetRead forgetShop importsOf inOrders isFree isLost isOld isStaleBy keyOf
     learnLines leftOf lineFaults lookAtShop makeBackup metresText momentText openJob pauseOf piecesOf planAgain planAll
-    planWords plansByMaterial plansQuestion printWaiting problemFault readJobCells readOrderFile readReply readShown readTickets
+    planWords plansByMaterial plansQuestion MOST_CALLS problemFault readJobCells readOrderFile readReply readShown readTickets
     refreshNow refreshPass searchOn sendBreak sendCsv sendKept sendMany setBreaking showJob showLink showView stopPlan
     terminalWords textOf toCut undoJob viewName waitForPass whenAccepted""".split()
 )
@@ -79,13 +79,13 @@ BEFORE, BEHIND = set(".'\"#-`"), set(":\"'-`")
 
 def own_names(script):
     """Names that a script declares, that are names wherever they stand, and that are long for how often they stand; the best first."""
-    declared = set(re.findall(r"(?:\bfunction |\bconst )(\w+)", script))
+    declared = set(re.findall(r"(?:(?<=function )|(?<=const ))\w+|\b[A-Z]+_[A-Z_]+\b", script))
     in_texts = {word for text in split_script(script)[1::2] if text[0] in "\"'" for word in NAME.findall(text)}
     counts = {}
     for found in NAME.finditer(script):
         is_name = script[found.start() - 1] not in BEFORE and script[found.end()] not in BEHIND
         counts[found[0]] = counts.get(found[0], 0) + 1 if is_name and counts.get(found[0], 0) >= 0 else -1
-    own = [it for it in declared - in_texts - CALLED if re.match("[a-z]+[A-Z]", it) and counts[it] > 0]
+    own = [it for it in declared - in_texts - CALLED if re.match("[a-z]+[A-Z]|[A-Z]+_[A-Z]", it) and counts[it] > 0]
     return sorted(own, key=lambda it: (-(len(it) - 3) * counts[it], it))
 
 

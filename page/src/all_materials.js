@@ -30,13 +30,13 @@ function codesToPlan(only = "") {
   return shownCodes().filter(code => chosenDemands(code, only).length && freeParts(code).some(part => !isPartOut(part)));
 }
 
-// Plans each material, one behind another, until it is stopped; of one order alone where it is named.
-async function planEach(only = "") {
-  const all = toCut.all = new AbortController();
+// Plans each material, one behind another, until it is stopped; of one order alone where it is named; with units to buy as they are told.
+async function planEach(only = "", buyOf = () => null) {
+  const all = toCut.all = new AbortController(), codes = codesToPlan(only), buys = new Map(codes.map(code => [code, buyOf(code)]));
   for (const code of shownCodes()) forgetPlans(code);
   $("planTitle").focus({preventScroll: true});
-  for (const code of codesToPlan(only)) {
-    if (!all.signal.aborted) await planOrder({code, only});
+  for (const code of codes) {
+    if (!all.signal.aborted) await planOrder({code, only, buy: buys.get(code)});
   }
   if (toCut.all === all) toCut.all = null;
   showView();
@@ -57,8 +57,8 @@ function isReservable(found) {
 }
 
 function showAllMaterials() {
-  const its = shownCodes().map(code => plansOf(code)), founds = allFound(), isPlanning = Boolean(toCut.all);
-  const stale = founds.map(takenWords).filter(Boolean), list = $("planList"), [now] = its.filter(it => it.planning);
+  const its = shownCodes().map(code => plansOf(code)), founds = allFound(), isPlanning = Boolean(toCut.all) || its.some(it => it.planning);
+  const stale = founds.map(takenWords).filter(Boolean), [now] = its.filter(it => it.planning), isFound = founds.length > 0;
   $("planTitle").textContent = tr`Plan of all materials`;
   $("planWords").textContent = [promisedWords(), ...its.map(it => it.note)].filter(Boolean).join(" ");
   $("planAll").disabled = !codesToPlan().length;
@@ -67,24 +67,34 @@ function showAllMaterials() {
   $("reserve").hidden = stale.length > 0;
   $("planAgain").hidden = !stale.length;
   $("stopPlan").disabled = !isPlanning;
-  $("labelAll").disabled = $("printAll").disabled = !founds.some(found => found.sent) && !shop.jobs.length;
+  for (const id of PRINT_BUTTONS) $(id).disabled = !founds.some(found => found.sent) && !shop.jobs.length;
   for (const id of ["stagesField", "buyPanel"]) $(id).hidden = true;
-  for (const id of ["planFigures", "boundSays", "missing"]) fill($(id), 0, () => []);
+  empty("planFigures", "boundSays", "missing");
   const isSent = founds.some(found => found.sent) && !shop.promisedParts.size && !isPlanning;
-  fill($("nextStep"), isSent, () => isSent ? [stepButton([tr`To the saw`, () => go(addressOfView("saw"))])] : []);
+  fill($("nextStep"), () => isSent ? [stepButton([tr`To the saw`, () => go(addressOfView("saw"))])] : []);
   showFault("planFault", [...its.map(it => it.fault), ...stale].filter(Boolean).join(" "));
-  $("planNow").textContent = now ? tr`${now.code} is planned…` : "";
-  $("planProgress").classList.toggle("idle", !now);
-  $("planBar").removeAttribute("value");
-  const told = founds.map(found => [found.material.material, found.plans.map(({tree, parts}) => [tree, parts]), found.missing, found.sent?.size, [...found.jobs], now?.code]);
-  fill(list, [told, list.clientWidth, window.innerHeight], () => founds.flatMap(materialPlans));
+  $("planNow").textContent = now ? tr`${now.code} is planned…` : isFound ? tr`${count(founds.length, "material")} planned` : "";
+  $("planProgress").classList.toggle("idle", !now && !isFound);
+  [$("planBar").max, $("planBar").value] = [Math.max(1, founds.length + (now && !now.found ? 1 : 0)), founds.length];
+  fill($("planList"), () => [...shownCodes().flatMap(noStockRows), ...founds.flatMap(materialPlans)]);
+}
+
+// Where something of a material is wanted, and nothing of it stands.
+function noStockRows(code) {
+  if (!chosenDemands(code).length || !knownOf(code).isRead || freeParts(code).length) return [];
+  const receive = {class: "small", text: tr`Receive`, "data-key": `receive ${code}`, on: {click: () => go(`stock/${code}`)}};
+  return [el("p", {}, tr`No stock of ${code}.`, " ", el("button", receive))];
 }
 
 // A material's plans, below what they come to.
 function materialPlans(found) {
   const {material: {material}, plans, missing} = found, isSearching = Boolean(plansOf(material).planning);
-  const words = [progressNow(found, isSearching), missing.length && !isSearching ? boundSays(found) : ""].filter(Boolean).join(". ");
-  return [el("h3", {text: `${material}: ${words}`}), linkTo(`cut/${material}`, tr`Only ${material}`), ...plans.length ? planCards(plans) : []];
+  return [
+    el("h3", {text: `${material} · ${progressNow(found, isSearching)}`}), linkTo(`cut/${material}`, tr`Only ${material}`),
+    plans.length ? el("div", {class: "figures"}, ...planFigures(found, "").filter(Boolean)) : null, boundRow(found),
+    missing.length ? el("div", {class: "missing"}, ...missingRows(found)) : null,
+    buyPanel(found), ...plans.length ? planCards(plans) : []
+  ];
 }
 
 function reserveEach() {

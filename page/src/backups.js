@@ -24,7 +24,7 @@ async function readBackups() {
 function showBackups() {
   const {isThere, isMaking} = backups, last = lastBackup();
   $("backupPanel").hidden = isThere === null;
-  fill($("backup"), [isThere, isMaking, last], () => isThere ? backupRows(isMaking, last) : quiet(
+  fill($("backup"), () => isThere ? backupRows(isMaking, last) : quiet(
     tr`The program has no folder for backups. Whoever starts it adds --backup and the name of a folder, best on another disk than the store's: then a button here makes one, while the shop is open.`));
 }
 

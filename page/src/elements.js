@@ -1,12 +1,16 @@
 // ---- The document.
 
-// An element; text and data go through textContent and attributes, never through markup.
+// An element; text and data go through textContent and attributes, never through markup. What is `typed` is in a field's value;
+// what hangs on that is `live`, a function that tells the text.
 function el(name, given = {}, ...children) {
   const made = document.createElement(name);
   for (const [key, value] of Object.entries(given)) {
     if (key === "on")
       for (const [event, act] of Object.entries(value)) made.addEventListener(event, act);
     else if (key === "text") made.textContent = value;
+    else if (key === "typed") made.value = value ?? made.value;
+    else if (key === "live") Object.assign(made, {live: value}).dataset.live = "";
+    else if (typeof value === "boolean") setTruth(made, key, value);
     else if (key in made && typeof value !== "string") made[key] = value;
     else made.setAttribute(key, value);
   }
@@ -14,8 +18,16 @@ function el(name, given = {}, ...children) {
   return made;
 }
 
-// What each holder shows.
+// (the attribute tells it, too, so that it is in what is built)
+function setTruth(made, key, value) {
+  made[key] = value;
+  made.toggleAttribute(key, value);
+}
+
+// What each holder shows, as it was built.
 let drawn = new WeakMap();
+
+const markup = new XMLSerializer();
 
 function drawAllAnew() { drawn = new WeakMap(); }
 
@@ -33,27 +45,45 @@ function hold(event) {
 function letGo() {
   held.target = null;
   setTimeout(() => {
-    for (const [holder, how] of [...held.waiting]) fill(holder, ...how);
+    for (const [holder, build] of [...held.waiting]) fill(holder, build);
   });
 }
 
-// Fills a holder anew only where what it shows has changed; the focus stays where it was, or goes to the panel's heading
-// where what had it is gone.
-function fill(holder, shown, build) {
+// Has a holder show what is built, anew only where that is other than what was built for it last: what is typed into fields is in
+// their values alone. Focus, caret and scrolling stay where they were; where what had the focus is gone, it goes to the panel's heading.
+function fill(holder, build) {
   held.waiting.delete(holder);
   if (holder.contains(held.target)) {
-    held.waiting.set(holder, [shown, build]);
+    held.waiting.set(holder, build);
     return;
   }
-  const text = JSON.stringify(shown) ?? "";
+  const built = [build()].flat().filter(Boolean), text = built.map(node => markup.serializeToString(node)).join("");
   if (drawn.get(holder) === text) return;
   drawn.set(holder, text);
+  const keep = placeIn(holder);
+  holder.replaceChildren(...built);
+  for (const it of holder.querySelectorAll("[data-live]")) it.textContent = it.live();
+  keep();
+}
+
+// What a person has at hand in a holder, to be had again once it is filled anew: the choice, the focus with its caret, the scrolling.
+function placeIn(holder) {
   const focused = holder.contains(document.activeElement) ? document.activeElement : null, key = focused?.dataset.key;
-  const chosen = holder.tagName === "SELECT" ? holder.value : null;
-  holder.replaceChildren(...[build()].flat().filter(Boolean));
-  if (chosen && [...holder.options].some(option => option.value === chosen)) holder.value = chosen;
-  if (key) holder.querySelector(`[data-key="${CSS.escape(key)}"]`)?.focus({preventScroll: true});
-  if (focused && document.activeElement === document.body) focusHeading(holder.closest(".panel"));
+  const chosen = holder.tagName === "SELECT" ? holder.value : null, {selectionStart: from = null, selectionEnd: to} = focused || {};
+  const scrolls = () => [...holder.querySelectorAll(".scroll")], places = scrolls().map(it => [it.scrollLeft, it.scrollTop]);
+  return () => {
+    if (chosen && [...holder.options].some(option => option.value === chosen)) holder.value = chosen;
+    scrolls().slice(0, places.length).forEach((it, i) => it.scrollTo(...places[i]));
+    const same = key && holder.querySelector(`[data-key="${CSS.escape(key)}"]`);
+    if (same) same.focus({preventScroll: true});
+    if (same && from !== null) same.setSelectionRange(from, to);
+    if (focused && document.activeElement === document.body) focusHeading(holder.closest(".panel"));
+  };
+}
+
+// Nothing is shown in holders any more.
+function empty(...ids) {
+  for (const id of ids) fill($(id), () => []);
 }
 
 // Whether what had the focus can't keep it: it is gone, hidden, or can't be pressed any more.

@@ -3,14 +3,11 @@
 const MOST_CARDS = 60;
 
 function showPlans() {
-  const plans = shownPlans(), {found, part} = toCut, list = $("planList");
-  const told = plans.map(plan => [plan.tree, plan.parts, plan.buy, plan.w, plan.h, plan.parts.map(name => found?.jobs.get(name))]);
-  fill(list, [told, list.clientWidth, window.innerHeight], () => plans.length ? planCards(plans) : []);
-  fill($("planFigures"), [told], () => plans.length && planFigures(plans));
-  const says = found && !part ? [boundSays(found)] : [];
-  fill($("boundSays"), [says, Boolean(toCut.planning), found?.calls, Boolean(found?.sent)],
-    () => says.map(text => el("p", {}, el("b", {text}), " ", searchOnButton())));
-  fill($("missing"), [found?.missing, part, Boolean(toCut.planning)], () => found?.missing.length && !part ? missingRows(found) : []);
+  const plans = shownPlans(), {found, part} = toCut;
+  fill($("planList"), () => plans.length ? planCards(plans) : []);
+  fill($("planFigures"), () => plans.length ? planFigures(found, part) : []);
+  fill($("boundSays"), () => found && !part ? boundRow(found) : []);
+  fill($("missing"), () => part ? [] : missingRows(found));
   $("reserve").disabled = !canReserve(plans);
   $("reserve").hidden = Boolean(staleWords());
   $("planAgain").hidden = !staleWords();
@@ -21,11 +18,12 @@ function canReserve(plans) {
   return plans.some(plan => plan.parts.length && plan.counts.size) && !toCut.found.sent && !staleWords();
 }
 
-// A button that searches longer, where that may find more.
-function searchOnButton() {
-  const {found, planning} = toCut;
-  if (planning || found.proved || found.sent || found.calls >= MOST_CALLS || found.goes.length > 1) return null;
-  return el("button", {class: "small", text: tr`Search longer`, "data-key": "longer", on: {click: searchOn}});
+// What the bound says, and a button that searches longer, where that may find more.
+function boundRow(found) {
+  const {asked: {code}, proved, sent, calls, goes} = found;
+  const isOver = plansOf(code).planning || proved || sent || calls >= MOST_CALLS || goes.length > 1;
+  const longer = {class: "small", text: tr`Search longer`, "data-key": `longer ${code}`, on: {click: () => searchOn(code)}};
+  return el("p", {}, el("b", {text: boundSays(found)}), " ", isOver ? null : el("button", longer));
 }
 
 // The largest plan gives the scale of all. Where there is room the pieces stand beside the picture.
@@ -76,7 +74,7 @@ function jobsWords(parts, {material}) {
   return jobs.length ? `: ${jobs.length > 1 ? tr`jobs ${jobs.join(", ")}` : tr`job ${jobs[0]}`}` : "";
 }
 
-function planFigures(plans) {
+function planFigures({plans}, part) {
   const [{material}] = plans, {kind} = material, cells = {piece: 0, kept: 0, kerf: 0, scrap: 0};
   let whole = 0, cuts = 0;
   for (const plan of plans) {
@@ -86,7 +84,7 @@ function planFigures(plans) {
     cuts += many * plan.root.cuts;
   }
   const rests = plans.flatMap(plan => layPlan(plan.root, material)).filter(box => box.fate === "kept");
-  const largest = rests.reduce((a, b) => a && a.w * a.h >= b.w * b.h ? a : b, null), pieces = countOf(plans), {part, found} = toCut;
+  const largest = rests.reduce((a, b) => a && a.w * a.h >= b.w * b.h ? a : b, null), pieces = countOf(plans);
   return [
     part ? null : figure(usedWords({plans, material}), tr`are cut up`),
     figure(grouped(pieces), word(pieces === 1 ? "piece" : "pieces")),
@@ -95,17 +93,18 @@ function planFigures(plans) {
     largest ? figure(sizeText(kind, largest.w, largest.h), tr`largest rest`) : null,
     figure(percent(cells.kept, whole), part ? tr`kept as rests` : tr`kept as rests, ${cellsText(kind, cells.kept)}`),
     figure(percent(cells.kerf + cells.scrap, whole), tr`kerf and scrap`),
-    part || !found ? null : figure(String(plans.length), word(plans.length === 1 ? "different plan" : "different plans"))
+    part ? null : figure(String(plans.length), word(plans.length === 1 ? "different plan" : "different plans"))
   ];
 }
 
 // Whose the pieces are that aren't planned.
-function missingRows({missing, material: {kind}}) {
-  const rows = missing.map(({demand, pieces}) => {
-    const row = shop.demands.find(other => other.demand === demand);
+function missingRows(found) {
+  if (!found?.missing.length) return [];
+  const {missing, asked: {code}, material: {kind}} = found, {demands} = knownOf(code), rows = missing.map(({demand, pieces}) => {
+    const row = demands.find(other => other.demand === demand);
     return pieceItem(pieces, row ? sizeText(kind, row.w, row.h) : "", demand);
   });
-  return [el("h3", {text: toCut.planning ? tr`Not placed yet` : tr`Not planned`}), el("ul", {}, ...rows)];
+  return [el("h3", {text: plansOf(code).planning ? tr`Not placed yet` : tr`Not planned`}), el("ul", {}, ...rows)];
 }
 
 function plannedWords(box) { return pieceWords(box, shop.lines.get(box.demand)); }

@@ -72,10 +72,9 @@ function showHappened() {
   $("happenedTitle").textContent = isStory(of) ? storyWords(kind, name.join("/")) : tr`What happened`;
   showNarrow();
   const shown = isRead ? rows.filter(isNarrowed) : [];
-  const going = shown.map(({message}) => Boolean(message.job && endSent(message.job)));
-  fill($("happenedList"), [isRead, of, shown, note, happened.looked, chosenOf(), shop.lines.size, shop.materials, going],
+  fill($("happenedList"),
     () => !isRead ? [quiet("…")] : note ? [el("p", {class: "fault", text: note})] : [andMore(rows.more), ...dayRows(shown)]);
-  fill($("happenedPages"), [isRead, of, happened.entries, rows.length], () => isRead ? pageLinks(of) : []);
+  fill($("happenedPages"), () => isRead ? pageLinks(of) : []);
 }
 
 function storyWords(kind, name) {
@@ -94,8 +93,8 @@ function showNarrow() {
   const [terminal] = chosenOf(), there = new Set(happened.rows.map(({message}) => message.terminal));
   if (terminal) there.add(Number(terminal));
   const numbers = [...there].sort((a, b) => a - b), option = ([value, text]) => el("option", {value, text});
-  fill($("ofTerminal"), numbers, () => [["", tr`all`], ...numbers.map(number => [String(number), terminalWords(number)])].map(option));
-  fill($("ofWord"), 0, () => [["", tr`all`], ...Object.entries(DONE_WORDS)].map(option));
+  fill($("ofTerminal"), () => [["", tr`all`], ...numbers.map(number => [String(number), terminalWords(number)])].map(option));
+  fill($("ofWord"), () => [["", tr`all`], ...Object.entries(DONE_WORDS)].map(option));
 }
 
 function terminalWords(number) { return number ? tr`Terminal ${number}` : tr`shop file`; }

@@ -5,7 +5,7 @@ async function readText(file, holder) {
   const read = file.size > MAX_FILE ? null : await file.arrayBuffer().catch(() => null);
   if (read) return textOf(new Uint8Array(read));
   const fault = file.size > MAX_FILE ? longWords(MAX_FILE) : tr`The file can't be read. Pick it again.`;
-  holder.replaceChildren(el("p", {class: "fault", text: fault}));
+  fill(holder, () => el("p", {class: "fault", text: fault}));
   return null;
 }
 
@@ -18,14 +18,13 @@ function readDemand(number) {
 }
 
 // The picked file as it was read, its text, and what was chosen for it; orders: how many it becomes; named: the code that its
-// name gave; drawn: how often it was drawn; asked: how often it was asked which orders are there, behind a pause of the timer.
+// name gave; asked: how often it was asked which orders are there, behind a pause of the timer.
 const csv = {
   text: "",
   chosen: {},
   file: null,
   orders: 1,
   named: "",
-  drawn: 0,
   asked: 0,
   timer: 0
 };
@@ -35,7 +34,7 @@ const MEANT = "cutshop.materials", MAX_MEANT = 500;
 
 async function showCsv() {
   const picked = $("csvFile").files[0];
-  if (!picked) return $("csvPreview").replaceChildren();
+  if (!picked) return empty("csvPreview");
   const text = await readText(picked, $("csvPreview"));
   if (text === null) return;
   Object.assign(csv, {text, chosen: {materials: storage.read(MEANT, {})}});
@@ -78,8 +77,8 @@ function mendCell(at, name, text) {
 function showCsvFile() {
   const file = csv.file = readOrderFile(csv.text, csv.chosen), {rows, bad} = file;
   csv.orders = file.texts?.length || 1;
-  if (file.isTooLarge) return $("csvPreview").replaceChildren(el("p", {class: "fault", text: file.fault}));
-  fill($("csvPreview"), ++csv.drawn, () => drawCsvFile(file));
+  fill($("csvPreview"), () => file.isTooLarge ? el("p", {class: "fault", text: file.fault}) : drawCsvFile(file));
+  if (file.isTooLarge) return;
   say(tr`${count(rows.length, "line")} read${bad.length ? tr`, ${bad.length} of them bad` : ""}`);
   showCodes();
 }
@@ -118,7 +117,7 @@ function csvSaid({said: {due, text, offered}}) {
     "data-key": `csv ${name}`,
     id: `csv-${name}`,
     autocomplete: "off",
-    on: {input: ({target: {value}}) => Object.assign(chosen, {[name]: value})},
+    on: {input: ({target: {value}}) => Object.assign(csv.chosen, {[name]: value})},
     ...given
   }));
   const take = title => el("button", {type: "button", class: "small", text: tr`Text: ${quoted(title)}`, on: {click: () => chooseForCsv({text: title})}});
@@ -308,7 +307,7 @@ function showCodes() {
   const isPicked = $("csvPreview").firstChild || $("problemPreview").firstChild;
   const words = [];
   if (isPicked && csv.orders > 1 && code) words.push(tr`Orders ${codes[0]} to ${codes.at(-1)}, of at most ${MAX_LINES} lines.`);
-  fill($("fileCodes"), words, () => words.map(quiet));
+  fill($("fileCodes"), () => words.map(quiet));
   clearTimeout(csv.timer);
   csv.asked++;
   if (isPicked && !codeFault(codes.at(-1))) csv.timer = setTimeout(() => showThere(codes, words), 250);
@@ -324,7 +323,7 @@ async function showThere(codes, words) {
   const told = tr`There already: ${there.join(", ")}. The same file does nothing again; another one is refused.`, {file} = csv;
   const isGood = file && codes.length === 1 && !file.fault && !file.bad.length;
   const add = isGood ? el("button", {class: "small", id: "extendCsv", text: tr`Add these lines to ${there[0]}`, on: {click: () => extendByFile(there[0])}}) : "";
-  fill($("fileCodes"), [...words, told, isGood], () => [...words.map(quiet), el("p", {class: "fault", text: told}), add]);
+  fill($("fileCodes"), () => [...words.map(quiet), el("p", {class: "fault", text: told}), add]);
 }
 
 // Adds the picked file's lines to an order that is there.
@@ -358,22 +357,17 @@ function sendProblemFile() {
   if (order) sendImports(order, [{do: "import", form: "cgcut", material, order, text}], "cgcut");
 }
 
-// Once an order of a file is there, what is said of it is noted, and behind the last one all is done that is to follow.
+// Orders are sent with what is said of them; behind the last one all is done that is to follow.
 function sendImports(code, commands, form, said = {due: 0, text: ""}, ordered = () => {}) {
   const what = tr`Order ${code} from a file`, typed = [$("fileCode").value, form, {...csv}, {...problem}];
-  const refused = givenBack(isFileEmpty, () => fillFile(...typed)), note = (order, isOld) =>
-    isOld || !(said.due || said.text) || send({do: "note", ...said, order}, tr`Order ${order}: ${noteWords(said)}`);
-  const accepted = ({order}, isOld) => {
-    note(order, isOld);
-    ordered();
-  };
+  const refused = givenBack(isFileEmpty, () => fillFile(...typed)), note = said.due || said.text ? said : null;
   const over = told => {
     takeBack(told, commands, typed, isFileEmpty);
     if (told.done) ordered();
   };
   const isSent = commands.length === 1
-    ? send(commands[0], what, accepted, refused)
-    : sendMany(what, commands.map(command => [command.order, command]), ({order}, reply, isOld) => note(order, isOld), over);
+    ? send(commands[0], what, () => ordered(), refused, note)
+    : sendMany(what, commands.map(command => [command.order, command]), () => {}, over, "", note);
   if (isSent) clearFile();
 }
 
@@ -387,8 +381,7 @@ function takeBack({refused}, commands, [code, form, sheet], isEmpty) {
 
 function clearFile() {
   for (const id of ["csvFile", "problemFile", "fileCode"]) $(id).value = "";
-  for (const id of ["csvPreview", "problemPreview"]) $(id).replaceChildren();
-  held.waiting.delete($("csvPreview"));
+  empty("csvPreview", "problemPreview");
   problem.text = null;
   Object.assign(csv, {file: null, named: "", orders: 1});
   showCodes();
@@ -399,7 +392,7 @@ function fillFile(code, form, sheet, pieces) {
   clearFile();
   $("fileCode").value = code;
   if (form === "csv") {
-    Object.assign(csv, sheet, {drawn: csv.drawn});
+    Object.assign(csv, sheet);
     showCsvFile();
   } else {
     Object.assign(problem, pieces);

@@ -117,7 +117,7 @@ function csvForm() {
 
 function showCsvButtons() {
   for (const holder of document.querySelectorAll("[data-csv]"))
-    fill(holder, [csvForm(), CSV_LISTS[holder.dataset.csv].what], () => csvButtons(holder.dataset.csv));
+    fill(holder, () => csvButtons(holder.dataset.csv));
 }
 
 function csvButtons(view) {

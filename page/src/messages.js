@@ -47,10 +47,10 @@ function alone(work) { return navigator.locks ? navigator.locks.request("cutshop
 function pause(time) { return new Promise(resolve => setTimeout(resolve, time)); }
 
 // Keeps a command as a message and sends it; false where it can't be kept. One that waits already isn't kept twice. `refused` is
-// called where the shop refuses it, and may give a link for that notice.
-function send(command, what, accepted = () => {}, refused = () => null) {
+// called where the shop refuses it, and may give a link for that notice. `note` is what is said of the order that it makes.
+function send(command, what, accepted = () => {}, refused = () => null, note = null) {
   try {
-    whenRefused.set(keepCommand({what, command}, accepted), refused);
+    whenRefused.set(keepCommand({what, command, note}, accepted), refused);
   } catch {
     tell(tr`${what}: not sent, because this browser can't keep it until it is answered`, "refused");
     return false;
@@ -65,13 +65,13 @@ function sendOrAsk() {
   else chooseTerminal();
 }
 
-function keepCommand({what, command, many}, accepted, known = terminal.keptHere()) {
+function keepCommand({what, command, many, note}, accepted, known = terminal.keptHere()) {
   const text = JSON.stringify(command), same = known.find(kept => JSON.stringify(kept.command) === text);
   const mark = same ? same.mark : newMark();
   const {run} = running, sender = terminal.number;
   if (!same)
     terminal.keep(
-      {mark, terminal: sender, number: 0, what, command, end: endOf(command), many, run, seen: facts.last});
+      {mark, terminal: sender, number: 0, what, command, end: endOf(command), many, note, run, seen: facts.last});
   whenAccepted.set(mark, accepted);
   return mark;
 }
@@ -207,26 +207,33 @@ function moveUnsent(number) {
   Object.assign(terminal, {number, isSpent: false});
 }
 
-// Keeps an answer in place of its command, and tells it.
-async function answered({mark, terminal: sender, number, what, command, end, many, run}, reply) {
+// Keeps an answer in place of its command, and tells it. What is said of an order that a file made is kept as a message before: it goes
+// on whatever becomes of the tab in which it was typed.
+async function answered({mark, terminal: sender, number, what, command, end, many, note, run}, reply) {
   const quicker = reply.refused === undefined ? null : await quickerOf(command, reply), isRefused = isRefusal(reply, quicker);
   const why = isRefused ? await refusalWords(reply, command, quicker?.words) : "";
-  const old = command.do === "import" && !isRefused ? await orderedBefore(command, sender, number) : "", isOld = Boolean(old);
+  const old = command.do === "import" && !isRefused ? await orderedBefore(command, sender, number, note) : "", isOld = Boolean(old);
   const words = isRefused ? tr`Refused: ${what}: ${why}` : quicker?.words || `${what}: ${old || outcomeWords(command, reply, end)}`;
   if (!isRefused) dropStale(command);
-  terminal.keep({mark, terminal: sender, number, words, reply, many, run, isSame: Boolean(quicker?.isSame), isOld});
+  if (note && !isRefused && !isOld)
+    keepCommand({what: tr`Order ${command.order}: ${noteWords(note)}`, command: {do: "note", ...note, order: command.order}}, () => {});
+  terminal.keep({mark, terminal: sender, number, words, reply, many, run, isSame: Boolean(quicker?.isSame)});
   if (many)
     changeMany(many, told => {
       if (isRefused) told.refused.push([command.part || what, why]);
       else told.done++;
+      if (isOld) told.old = [...told.old || [], [what, old]];
     });
   for (const {mark: old} of terminal.answered().slice(0, -MOST_ANSWERED)) terminal.forget(old);
-  tellAnswer({mark, words, reply, many, isSame: quicker?.isSame, isOld});
+  tellAnswer({mark, words, reply, many, isSame: quicker?.isSame});
 }
 
-// Who ordered before what a file orders, as the first entry of the order's story tells; nothing where this message did.
-async function orderedBefore({order}, sender, number) {
-  const told = await ask(`/story/order/${order}/0`).catch(() => null), [first] = told?.entries || [];
+// Who ordered before what a file orders, as the first entry of the order's story tells; nothing where this message did. Where that can't be
+// read, and something is to be noted of the order, the message is sent once more.
+async function orderedBefore({order}, sender, number, note) {
+  const told = await ask(`/story/order/${order}/0`).catch(error => {
+    if (note) throw error;
+  }), [first] = told?.entries || [];
   if (!told) return tr`done`;
   if (!first || !["order", "import"].includes(first.message.do)) return tr`was ordered before records began: nothing done`;
   const {at, message: {terminal: by, number: nth}} = first;
@@ -236,13 +243,13 @@ async function orderedBefore({order}, sender, number) {
 // Whether an answer is a refusal of what was wanted: another may have done the same before.
 function isRefusal({refused}, other) { return refused !== undefined && !other?.isSame; }
 
-function tellAnswer({mark, words, reply, many, isSame, isOld}) {
+function tellAnswer({mark, words, reply, many, isSame}) {
   const isRefused = isRefusal(reply, {isSame}), isOthers = reply.before > 0 && reply.before !== terminal.number;
   const link = isRefused ? whenRefused.get(mark)?.() : linkOf(reply);
   if (reply.ok === "begin" && !isOthers) say(words);
   else if (isOthers) tell(tr`Job ${reply.job}: terminal ${reply.before} had begun it. Ask there before you cut.`, "refused");
   else if (!many) tell(words, isRefused ? "refused" : "good", link);
-  if (!isRefused) whenAccepted.get(mark)?.(reply, isOld);
+  if (!isRefused) whenAccepted.get(mark)?.(reply);
   for (const when of [whenAccepted, whenRefused]) when.delete(mark);
   if (many) tellMany(many);
   if (!many || manyTold.has(many)) refreshNow();
@@ -363,8 +370,9 @@ const manyTold = new Set();
 // What to do in this tab when none of many messages waits any more; it may give a link for their notice.
 const whenManyOver = new Map();
 
-// `parts` are pairs of a name and its command; `view` is where to go then. False where not all can be kept.
-function sendMany(what, parts, accepted, over = () => {}, view = "") {
+// `parts` are pairs of a name and its command; `view` is where to go then; `note` is what is said of each order that they make. False where
+// not all can be kept.
+function sendMany(what, parts, accepted, over = () => {}, view = "", note = null) {
   for (const key of storage.keys(MANY_KEPT))
     if (isOver(storage.read(key, {}))) storage.forget(key);
   const many = newMark(), known = terminal.keptHere();
@@ -373,7 +381,7 @@ function sendMany(what, parts, accepted, over = () => {}, view = "") {
     storage.write(MANY_KEPT + many, {what, of: parts.length, done: 0, dropped: 0, refused: [], view});
     whenManyOver.set(many, over);
     for (const [name, command] of parts) {
-      keepCommand({what: name, command, many}, (reply, isOld) => accepted(command, reply, isOld), known);
+      keepCommand({what: name, command, many, note}, reply => accepted(command, reply), known);
       kept++;
     }
   } catch {
@@ -404,7 +412,7 @@ function tellMany(many) {
   manyTold.add(many);
   const link = whenManyOver.get(many)?.(told);
   whenManyOver.delete(many);
-  const {what, of, done, dropped, refused, view} = told, parts = [tr`${done} of ${of} done`];
+  const {what, of, done, dropped, refused, view, old = []} = told, parts = [tr`${done} of ${of} done`, ...old.map(([name, words]) => `${name} ${words}`)];
   if (dropped) parts.push(tr`${dropped} dropped`);
   for (const words of new Set(refused.map(([, why]) => why))) {
     const names = refused.filter(([, why]) => why === words).map(([name]) => name);

@@ -90,7 +90,7 @@ function showKept() {
   const sure = kept.filter(message => !isDoubted(message)), shown = waitingRows().length;
   const rows = sure.map(message => [message, sending.dropping.has(message.mark)]);
   const away = running.away && Date.now() - running.away >= AWAY ? running.away : 0, hasWords = sure.length > 0 || away > 0;
-  fill($("keptNotice"), [rows, doubted, terminal.trouble, terminal.isSpent, away], () => (kept.length || away) && el("div", {class: "notice kept"},
+  fill($("keptNotice"), () => (kept.length || away) && el("div", {class: "notice kept"},
     el("div", {}, ...(doubted.length ? doubtRows(doubted) : []), hasWords ? el("span", {text: keptWords(sure, away)}) : null,
       ...keptRows(rows)),
     numberButton(sure)));
@@ -117,8 +117,9 @@ function keptWords(kept, away) {
   if (terminal.isSpent) return tr`${spentWords(terminal.number)} Choose another number: what waits is sent under it.`;
   const trouble = terminal.trouble ? tr` Last time ${terminal.trouble}.` : "", since = momentText(away / 1000);
   if (!terminal.number && kept.length) return tr`${count(kept.length, "message")} ${kept.length === 1 ? "waits" : "wait"} for the number of this terminal.`;
-  if (away && !kept.length) return tr`No connection since ${since}.`;
-  if (away) return tr`No connection since ${since}; ${count(kept.length, "message")} ${kept.length === 1 ? "waits" : "wait"}.${trouble}`;
+  const shown = ` ${tr`What is shown is as it was then.`}`;
+  if (away && !kept.length) return tr`No connection since ${since}.` + shown;
+  if (away) return tr`No connection since ${since}; ${count(kept.length, "message")} ${kept.length === 1 ? "waits" : "wait"}.${trouble}` + shown;
   return tr`… ${count(kept.length, "message")} without an answer, sent again until it comes.${trouble}`;
 }
 

@@ -2,15 +2,14 @@
 
 // notes: of orders what was typed of their day and text and isn't sent; jobs, pieces, more: of the order that was looked for its jobs,
 // each by the entry that is about it last, its pieces, and whether there are more; also: a job that has the number that was looked
-// for; extending: the order to which lines are added by hand; drawn: how often a note was filled in again.
+// for; extending: the order to which lines are added by hand.
 const oneOrder = {
   notes: new Map(),
   jobs: [],
   pieces: [],
   more: false,
   also: 0,
-  extending: "",
-  drawn: 0
+  extending: ""
 };
 
 const MAX_SAID = 200;
@@ -26,19 +25,19 @@ function saidFault(text) {
 
 // The day on which an order is due and a text of it, saved by one press.
 function noteForm(order, key) {
-  const said = sentNote(order) || shop.said.get(order) || {due: 0, text: ""}, now = oneOrder.notes.get(order) || {day: dayField(said.due), text: said.text};
+  const said = sentNote(order) || shop.said.get(order) || {due: 0, text: ""}, typed = oneOrder.notes.get(order);
   const input = (name, given) => el("input", {
     "data-field": name,
     "data-key": `${key}${name}${order}`,
     autocomplete: "off",
     on: {input: () => {
       oneOrder.notes.set(order, {day: due.value, text: text.value});
-      left.textContent = bytesLeftWords(text.value);
+      left.textContent = left.live();
     }},
     ...given
   });
-  const due = input("due", {type: "date", min: "1970-01-01", max: "9999-12-31", value: now.day}), text = input("text", {value: now.text});
-  const left = el("span", {class: "quiet", text: bytesLeftWords(now.text)});
+  const due = input("due", {type: "date", min: "1970-01-01", max: "9999-12-31", value: dayField(said.due), typed: typed?.day});
+  const text = input("text", {value: said.text, typed: typed?.text}), left = el("span", {class: "quiet", live: () => bytesLeftWords(text.value)});
   const submit = event => {
     event.preventDefault();
     saveNote(order, due, text);
@@ -61,7 +60,7 @@ function saveNote(order, dueField, textField) {
   const what = tr`Order ${order}: ${noteWords({due, text})}`, isEmpty = () => !oneOrder.notes.has(order);
   const fillIn = () => {
     oneOrder.notes.set(order, typed);
-    oneOrder.drawn++;
+    drawAllAnew();
     showView();
   };
   if (send({do: "note", due, order, text}, what, () => {}, givenBack(isEmpty, fillIn))) oneOrder.notes.delete(order);
@@ -143,7 +142,7 @@ function extendByHand(order) {
 
 function showHand() {
   const {extending} = oneOrder;
-  $("handTitle").textContent = extending ? tr`Add lines to order ${extending}` : tr`Order by hand`;
+  $("handTitle").textContent = extending ? tr`Add lines to order ${extending}` : tr`New order by hand`;
   $("sendOrder").textContent = extending ? tr`Add lines` : tr`Order`;
   $("codeField").hidden = Boolean(extending);
   $("stopExtend").hidden = !extending;

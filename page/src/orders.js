@@ -92,12 +92,9 @@ function stateOf({wanted, made}) { return wanted === 0 ? tr`cancelled` : made ==
 function showOrders() {
   notePromised();
   if (!$("orderLines").children.length && shop.materials.length) addOrderLine();
-  const rows = ordersToShow(), {found, note, lines} = inOrders, going = [...shop.amending];
   const more = isFinishedToo() ? shop.moreAllOrders : shop.moreOrders;
-  const shown = [...rows.map(([row, isOpen]) => [row, isOpen, isOpen && lines.get(row.order), shop.said.get(row.order)]), oneOrder.drawn];
-  fill($("orderList"), [shown, more, isFinishedToo(), shop.materials, going, inOrders.isRead, inOrders.isListed],
-    () => orderRows(rows, more));
-  fill($("foundOrder"), [found, note, lines.get(found), shop.materials, going, shop.said.get(found), oneOrder], foundRows);
+  fill($("orderList"), () => orderRows(ordersToShow(), more));
+  fill($("foundOrder"), foundRows);
 }
 
 // The orders of the list, and whether each is unfolded: few are at first.
@@ -177,7 +174,8 @@ function lineForm(row, key) {
     "data-key": `${key}w${demand}`,
     "data-field": "wanted",
     "aria-label": tr`How many are wanted of line ${line} of order ${order}`,
-    value: inOrders.typed.get(demand) ?? String(going ?? row.wanted),
+    value: String(going ?? row.wanted),
+    typed: inOrders.typed.get(demand),
     on: {input: () => inOrders.typed.set(demand, field.value)}
   });
   const change = el("button", {
@@ -223,7 +221,12 @@ function changeLine(row, field) {
   markField(field, fault);
   if (fault) return field.focus();
   const what = tr`Order ${order}, line ${line}: ${grouped(wanted)} wanted in place of ${grouped(row.wanted)}`;
-  if (wanted === row.wanted || send({demand, do: "amend", wanted}, what, noteAmended)) inOrders.typed.delete(demand);
+  const back = givenBack(() => !inOrders.typed.has(demand), () => {
+    inOrders.typed.set(demand, text);
+    drawAllAnew();
+    showView();
+  });
+  if (wanted === row.wanted || send({demand, do: "amend", wanted}, what, noteAmended, back)) inOrders.typed.delete(demand);
   showOrders();
 }
 

@@ -8,7 +8,7 @@ const problem = {
 async function showProblem() {
   const picked = $("problemFile").files[0];
   problem.text = null;
-  if (!picked) return $("problemPreview").replaceChildren();
+  if (!picked) return empty("problemPreview");
   problem.text = await readText(picked, $("problemPreview"));
   csv.orders = 1;
   showProblemFile();
@@ -19,15 +19,15 @@ function showProblemFile() {
   const {text} = problem;
   if (text === null) return;
   const fault = problemFault(text);
-  $("problemPreview")
-    .replaceChildren(
-      fault ? el("p", {class: "fault", text: fault}) : problemRows(text), el("div", {class: "buttons"}, el("button", {
-        class: "act",
-        id: "sendProblem",
-        text: tr`Receive and order`,
-        disabled: Boolean(fault),
-        on: {click: sendProblemFile}
-      })));
+  fill($("problemPreview"), () => [
+    fault ? el("p", {class: "fault", text: fault}) : problemRows(text), el("div", {class: "buttons"}, el("button", {
+      class: "act",
+      id: "sendProblem",
+      text: tr`Receive and order`,
+      disabled: Boolean(fault),
+      on: {click: sendProblemFile}
+    }))
+  ]);
 }
 
 function problemRows(text) {

@@ -30,10 +30,8 @@ const REFUSALS = {
   74: tr`a part that the job made isn't as the job left it any more`,
   80: tr`the file's text isn't of its form`,
   90: tr`none of the pieces fits the part`,
-  91:
-    tr`the plan is too large: at most 500 steps a side, 255 cuts, and bars of 15000.0 mm. Try a larger grid, fewer kinds of pieces, or a smaller part`,
-  92: tr`the grid is 0, or larger than a side of a piece with the kerf`,
-  93: tr`there is nothing to plan: choose kinds of pieces of which some are left, at most 40 for a grid and 100 for all`,
+  91: tr`a plan is of bars of at most 15000.0 mm`,
+  93: tr`there is nothing to plan: choose kinds of pieces of which some are left, at most 100`,
   98: tr`the shop is out of memory`,
   99: tr`the shop's store failed`,
 };

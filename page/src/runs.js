@@ -69,13 +69,13 @@ function leaveRun() {
 // into the forms stays, and so does what waits.
 function forgetShop() {
   const {lines, said, totals, open, left, kindOfJob} = shop;
-  for (const it of [known, lines, said, totals, open, left, kindOfJob, halts, inStock.wanted]) it.clear();
+  for (const it of [known, lines, said, totals, open, left, kindOfJob, halts, breaks, inStock.wanted]) it.clear();
   Object.assign(facts, {by: new Map(), last: null, shops: facts.shops + 1});
   for (const it of ["sums", "lines", "typed"]) inOrders[it].clear();
   Object.assign(shop, {isKnown: false, orders: [], allOrders: [], jobs: []});
   Object.assign(shop, {moreOrders: false, moreAllOrders: false, moreJobs: false});
   Object.assign(inOrders, {isRead: false, found: "", sought: "", note: "", isListed: false});
-  Object.assign(atSaw, {plans: new Map(), ended: [], told: null, opening: 0, breaking: false, lost: null, canvas: null});
+  Object.assign(atSaw, {plans: new Map(), ended: [], endedTo: 0, told: null, opening: 0, breaking: false, lost: null, canvas: null});
   forgetTrace();
   leaveHappened();
   owner.report = held.target = null;

@@ -1,11 +1,12 @@
 // ---- At the saw.
 
 // told: the job that is shown, with its plan; opening: the number that was asked for last; plans: of waiting jobs that may be
-// equal, each job's plan; ended: the entries that ended the last jobs; isListed: whether the list of jobs is unfolded where it lies
+// equal, each job's plan; ended: the entries that ended the last jobs, as of entry endedTo; isListed: whether the list of jobs is unfolded where it lies
 // above the ticket; deaf: until when *Done* takes no press.
 const atSaw = {
   plans: new Map(),
   ended: [],
+  endedTo: 0,
   job: 0,
   told: null,
   opening: 0,
@@ -15,6 +16,13 @@ const atSaw = {
   isListed: false,
   deaf: 0
 };
+
+// Of jobs whose break is marked: the wrong cut and the rest that was typed, by the job's key.
+const breaks = new Map();
+
+function noteBreak() {
+  if (atSaw.breaking) breaks.set(keyOf(atSaw.told), {lost: atSaw.lost, rest: $("breakRest").value});
+}
 
 // Behind *One done* the next job opens, and a second press of the same hand is none of it.
 const DEAF = 1000;
@@ -92,13 +100,12 @@ function kindOfPlan(row, tree = atSaw.plans.get(row.job)) {
 
 function showSaw() {
   const rows = waitingJobs(), kinds = groupsOf(rows, row => kindOfPlan(row)).sort(([a], [b]) => byDay(a, b) || byMaterial(a, b));
-  const plans = kinds.map(([row]) => planOfJob(row));
-  fill($("jobList"), [kinds, plans, atSaw.job, shop.moreJobs, shop.materials],
+  fill($("jobList"),
     () => [...kinds.map(jobRow), ...(kinds.length ? [] : [quiet(tr`No job waits.`), opener("tocut", tr`Plan`)]),
       moreButton(shop.moreJobs, "jobPages")]);
-  fill($("endedJobs"), [atSaw.ended, atSaw.job], () => atSaw.ended.length && [el("h3", {text: tr`Ended last`}), ...atSaw.ended.map(endedRow)]);
+  fill($("endedJobs"), () => atSaw.ended.length && [el("h3", {text: tr`Ended last`}), ...atSaw.ended.map(endedRow)]);
   $("jobsWords").textContent = `${rows.length}${shop.moreJobs ? "+" : ""}`;
-  $("labelWaiting").disabled = $("printWaiting").disabled = !kinds.length;
+  for (const id of PRINT_WAITING) $(id).disabled = !kinds.length;
   foldJobs();
   showJob();
 }
@@ -132,6 +139,7 @@ function rowButton(key, job, isShown, ...words) {
   return el("button", {
     class: `row${isShown ? " chosen" : ""}`,
     "data-key": key,
+    value: String(job),
     "aria-pressed": String(isShown),
     on: {click: () => openJob(job)}
   },
@@ -144,19 +152,21 @@ function endedRow({at, message: {job, do: done, terminal: by}}) {
   return rowButton(`e${job}`, job, job === atSaw.job, el("b", {text: tr`Job ${job}`}), el("div", {class: "quiet", text: words}));
 }
 
-// The last jobs that ended, each by the entry that ended it last, among the newest entries.
-const MOST_ENDED = 10, MOST_LOOKED_BACK = 3;
+// The last jobs that ended, each by the entry that ended it last: what happened since they were read goes before them.
+const MOST_ENDED = 10;
 
 async function readEnded() {
-  const ended = new Map();
-  let end = facts.last?.entry || 0;
-  for (let page = 0; page < MOST_LOOKED_BACK && end && ended.size < MOST_ENDED; page++) {
+  const last = facts.last?.entry || 0, ended = new Map();
+  let end = last;
+  for (let page = 0; page < MOST_BACK && end > atSaw.endedTo && ended.size < MOST_ENDED; page++) {
     const after = Math.max(0, end - ENTRIES), {entries} = await askCalmly(`/history/${after}`);
     for (const row of entries.filter(({entry, message}) => entry <= end && Object.hasOwn(ENDS, message.do)).reverse())
       if (!ended.has(row.message.job)) ended.set(row.message.job, row);
     end = after;
   }
-  atSaw.ended = [...ended.values()].slice(0, MOST_ENDED);
+  for (const row of atSaw.ended)
+    if (!ended.has(row.message.job)) ended.set(row.message.job, row);
+  Object.assign(atSaw, {ended: [...ended.values()].slice(0, MOST_ENDED), endedTo: last});
 }
 
 // Numbers that rise, those that follow one another as a range.
@@ -274,9 +284,12 @@ function haltOfSteps(told, steps) {
   return halt;
 }
 
+// A job is shown; a break of it that was being marked is marked on.
 function takeJob(told) {
-  const isSame = atSaw.told && keyOf(atSaw.told) === keyOf(told) && told.state === "waiting";
-  Object.assign(atSaw, {job: told.job, told}, isSame ? {} : {breaking: false, lost: null});
+  noteBreak();
+  const isSame = atSaw.told && keyOf(atSaw.told) === keyOf(told), marked = told.state === "waiting" ? breaks.get(keyOf(told)) : null;
+  Object.assign(atSaw, {job: told.job, told, breaking: Boolean(marked), lost: marked?.lost ?? null});
+  if (!isSame) $("breakRest").value = marked?.rest ?? "";
   ticks.keepTo(told);
 }
 
@@ -316,14 +329,11 @@ function showJob() {
   const told = atSaw.told;
   $("jobPanel").hidden = !told;
   if (!told) return;
-  const work = workOf(told), {isWaiting, halt, made} = work;
+  const work = workOf(told), {isWaiting, made} = work;
   const same = isWaiting ? sameJobs(told) : [told.job];
-  const shown = [
-    same, keyOf(told), work.state, work.sent, atSaw.breaking, [...made], halt && [halt.lost, halt.rest, [...halt.scrapped || []]],
-    $("jobPicture").clientWidth, limitsOf(told), told.begun
-  ];
   $("jobTitle").textContent = tr`Job ${told.job}${isWaiting ? "" : `, ${stateWords(work)}`}: ${told.material}, part ${told.part}`;
   $("jobWords").textContent = jobWords(work);
+  $("jobPage").textContent = pageWords(told.material);
   $("jobButtons").hidden = atSaw.breaking;
   $("done").textContent = same.length > 1 ? tr`One done` : tr`Done`;
   $("allDone").textContent = tr`All ${same.length} done`;
@@ -336,22 +346,22 @@ function showJob() {
   $("breakPanel").hidden = !atSaw.breaking;
   $("tickWords").textContent =
     atSaw.breaking || !isWaiting ? "" : tr`Click a cut to tick it off. Ticks stay in this browser.`;
-  fill($("jobFigures"), shown, () => jobFigures(work));
+  fill($("jobFigures"), () => jobFigures(work));
   const saids = ordersOfJob(told).map(order => [order, saidOf(order)]);
-  fill($("jobOrders"), saids, () => saids.filter(([, said]) => said).map(([order, said]) => el("p", {}, el("b", {text: `${order}: `}), said)));
-  fill($("nextCut"), shown, () => nextCut(work));
-  fill($("jobPieces"), shown, () => jobPieces(work, same));
-  fill($("jobStory"), told.job, () => storyLink("job", told.job));
-  fill($("cutList"), shown, () => cutsOf(told.root).map(cut => el("li", {}, cutRow(cut, work))));
-  fill($("jobSheet"), shown, () => jobSheet(work));
-  fill($("jobPicture"), shown, () => []);
-  if (!$("jobPicture").firstChild) drawJob(work);
+  fill($("jobOrders"), () => saids.filter(([, said]) => said).map(([order, said]) => el("p", {}, el("b", {text: `${order}: `}), said)));
+  fill($("nextCut"), () => nextCut(work));
+  fill($("jobPieces"), () => jobPieces(work, same));
+  fill($("jobStory"), () => storyLink("job", told.job));
+  fill($("cutList"), () => cutsOf(told.root).map(cut => el("li", {}, cutRow(cut, work))));
+  fill($("jobSheet"), () => jobSheet(work));
+  fill($("jobPicture"), () => jobPicture(work));
   if (atSaw.breaking) showBreakWords(made);
 }
 
-function drawJob({told, made, halt, isWaiting, isPlan}) {
-  const restName = box => `${told.job}/${box.node}`;
-  atSaw.canvas = drawPlan($("jobPicture"), told.root, limitsOf(told), {
+function jobPicture({told, made, halt, isWaiting, isPlan}) {
+  const restName = box => `${told.job}/${box.node}`, holder = el("div", {});
+  atSaw.canvas = drawPlan(holder, told.root, limitsOf(told), {
+    room: Math.max(200, $("jobPicture").clientWidth - 2),
     wordsOf: box => pieceWords(box, shop.lines.get(box.demand)),
     restName,
     made,
@@ -359,12 +369,13 @@ function drawJob({told, made, halt, isWaiting, isPlan}) {
     planned: isPlan,
     onCut: isWaiting ? clickCut : null
   });
+  return [...holder.childNodes];
 }
 
 // Shows in the picture what a cut divides.
 function pointOut(cut) {
-  if (!atSaw.canvas) return;
-  const {shown} = atSaw.canvas;
+  const shown = $("jobPicture").querySelector(".shown");
+  if (!shown) return;
   if (!cut) return shown.setAttribute("visibility", "hidden");
   for (const [key, value] of Object.entries({...place(atSaw.canvas, cut), visibility: "visible"}))
     shown.setAttribute(key, value);
@@ -612,6 +623,7 @@ function breakWords(made) {
 // Opens or closes the panel of a break. The first cut that isn't ticked is taken for the one that went wrong.
 function setBreaking(isOn) {
   const made = isOn ? ticks.of(atSaw.told.job) : null, first = isOn && cutsOf(atSaw.told.root).find(({cut}) => !made.has(cut));
+  breaks.delete(keyOf(atSaw.told));
   Object.assign(atSaw, {breaking: isOn, lost: first ? first.cut : null});
   $("breakRest").value = "";
   document.querySelector("[name=breakMode][value=made]").checked = true;
@@ -644,7 +656,15 @@ async function finishAll() {
 function sendBreak() {
   const {told, lost} = atSaw, made = [...ticks.of(told.job)].sort((a, b) => a - b), rest = restMeasured();
   const command = {cuts: made, do: "break", job: told.job, lost: lost === null ? false : lost, ...rest ? {rest} : {}};
-  endJob(told, command, tr`Break off job ${told.job}`);
+  const marked = {lost, rest: $("breakRest").value};
+  endJob(told, command, tr`Break off job ${told.job}`, () => {
+    breaks.set(keyOf(told), marked);
+    if (atSaw.told && keyOf(atSaw.told) === keyOf(told)) {
+      $("breakRest").value = marked.rest;
+      takeJob(atSaw.told);
+    }
+    showView();
+  });
 }
 
 async function release() {
@@ -662,7 +682,7 @@ function releaseWords({job, part, root}) {
 }
 
 // Sends what ends a job. From then on nothing on the ticket ends it a second time, unless the shop refuses.
-function endJob(told, command, what) {
+function endJob(told, command, what, refused) {
   send(command, what, () => {
     if (command.do === "break") halts.set(keyOf(told), haltOf(command));
     ticks.forget(told.job);
@@ -670,7 +690,7 @@ function endJob(told, command, what) {
     atSaw.told = {...atSaw.told, state: ENDS[command.do]};
     setBreaking(false);
     if (command.do === "done") openSame(told);
-  });
+  }, refused);
   setBreaking(false);
   faceJob();
 }

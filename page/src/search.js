@@ -23,7 +23,7 @@ function planOnly(only) {
 
 // Plans what was planned once more, as it is left and stands by now.
 function planAgain() {
-  if (isAllShown()) return planEach(allFound()[0]?.asked.only);
+  if (isAllShown()) return planEach(allFound()[0]?.asked.only, code => plansOf(code).found?.asked.buy);
   const {part, only, found} = toCut;
   return planOrder({part: found?.asked.part || part, only, buy: found?.asked.buy});
 }
@@ -58,14 +58,22 @@ async function promisesKept(it, planning) {
 }
 
 // A question names at most MAX_KINDS demands. Of more the next ones get a question of their own, and the parts that are left.
+// Plans of several questions count together only where nothing happened in the shop from before the first until behind the last: else the
+// first one's stand alone.
 async function searchPlans(it, planning, asked, calls, time) {
-  const goes = [], chosen = chosenDemands(asked.code, asked.only).map(row => row.demand);
+  const goes = [], before = facts.last, chosen = chosenDemands(asked.code, asked.only).map(row => row.demand);
   do {
     const from = goes.length * MAX_KINDS, taken = new Set(goes.flatMap(go => go.plans.flatMap(plan => plan.parts)));
     const named = {...asked, demands: chosen.slice(from, from + MAX_KINDS), taken};
     if (!await searchGo(it, planning, named, goes, goes.length, calls, time)) break;
   } while (goes.length * MAX_KINDS < chosen.length && !planning.signal.aborted);
-  if (planning === it.planning) searchOver(it);
+  if (goes.length > 1) await lookAtShop().catch(() => {});
+  if (planning !== it.planning) return;
+  if (goes.length > 1 && facts.last !== before) {
+    it.found = {...it.found, ...foundBy(goes.slice(0, 1)), goes: goes.slice(0, 1)};
+    it.note = tr`Something happened meanwhile: these are the most urgent ${MAX_KINDS} kinds alone.`;
+  }
+  searchOver(it);
 }
 
 function searchOver(it) {
@@ -112,11 +120,11 @@ function nextCalls(code, calls, took, left) {
 }
 
 // Searches on from what was found, as long as it takes, for what is left and stands by now.
-async function searchOn() {
-  const it = plansOf(), planning = it.planning = new AbortController(), {asked, goes} = it.found;
+async function searchOn(code = shop.material) {
+  const it = plansOf(code), planning = it.planning = new AbortController(), {asked, goes} = it.found;
   showToCut();
   await readLists(it.code);
-  const demands = chosenDemands(it.code, asked.only).map(row => row.demand);
+  const demands = chosenDemands(it.code, asked.only).slice(0, MAX_KINDS).map(row => row.demand);
   if (planning !== it.planning || !await searchGo(it, planning, {...asked, demands}, goes.slice(), 0, MOST_CALLS, Infinity)) return;
   searchOver(it);
 }
@@ -302,12 +310,12 @@ function showQuestion() {
   $("planWords").textContent = words.filter(Boolean).join(" ");
   $("planAll").disabled = !chosenDemands(shop.material, "").length || !hasStock;
   $("stopPlan").disabled = !toCut.planning || toCut.planning.signal.aborted;
-  $("labelAll").disabled = $("printAll").disabled = !found?.sent && !shop.jobs.some(job => job.material === shop.material);
+  for (const id of PRINT_BUTTONS) $(id).disabled = !found?.sent && !shop.jobs.some(job => job.material === shop.material);
   showStages();
   showProgress();
-  fill($("nextStep"), nextSteps().map(([words]) => words), () => nextSteps().map(stepButton));
+  fill($("nextStep"), () => nextSteps().map(stepButton));
   showFault("planFault", toCut.fault || staleWords());
-  adaptBuy(chosen.length);
+  showBuying(chosen.length);
 }
 
 // What is planned on one part.

@@ -211,13 +211,13 @@ const MANY = 8;
 
 function showMaterials() {
   for (const holder of document.querySelectorAll("[data-materials]")) {
-    fill(holder, [shop.materials, shop.material, [...shop.open], isAllShown()],
+    fill(holder,
       () => shop.materials.length > MANY ? materialSelect(holder.closest("#tocut")) : [...holder.closest("#tocut") && shop.materials.length > 1 ? [allButton()] : [], ...shop.materials.map(materialButton)]);
   }
   const options = chosen => shop.materials.map(
     row => el("option", {value: row.material, text: row.material, selected: row.material === chosen}));
-  for (const id of ["receiveMaterial", "problemMaterial"]) fill($(id), shop.materials, () => options(shop.material));
-  fill($("jobMaterial"), shop.materials, () => [el("option", {value: "", text: tr`all materials`}), ...options("")]);
+  for (const id of ["receiveMaterial", "problemMaterial"]) fill($(id), () => options(shop.material));
+  fill($("jobMaterial"), () => [el("option", {value: "", text: tr`all materials`}), ...options("")]);
   $("jobCount").textContent = `${shop.jobs.length}${shop.moreJobs ? "+" : ""}`;
   $("jobCount").hidden = !shop.jobs.length;
 }

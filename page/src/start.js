@@ -4,10 +4,8 @@ function onClick(id, act) { $(id).addEventListener("click", act); }
 
 function listenToPlans() {
   onClick("planAll", planAll);
-  onClick("printAll", printReserved);
-  onClick("labelAll", printReservedLabels);
+  PRINT_BUTTONS.forEach((id, i) => onClick(id, () => printSheets(toCutJobs, PAPERS[i])));
   onClick("stopPlan", stopPlan);
-  $("buyForm").addEventListener("submit", planBuying);
   onClick("planAgain", planAgain);
   $("stages").addEventListener("change", () => chooseStages(shop.material, Number($("stages").value)));
   onClick("reserve", reserve);
@@ -45,8 +43,7 @@ function listenToSaw() {
   onClick("release", release);
   onClick("nextJob", () => openJob(jobBehind().job));
   onClick("printJob", () => window.print());
-  onClick("printWaiting", printWaiting);
-  onClick("labelWaiting", printWaitingLabels);
+  PRINT_WAITING.forEach((id, i) => onClick(id, () => printSheets(() => readTickets($("jobMaterial").value), PAPERS[i])));
   window.addEventListener("afterprint", () => document.body.classList.remove("sheets"));
 }
 
@@ -93,7 +90,17 @@ function listenToTerminal() {
   $("terminalForm").addEventListener("submit", useTerminal);
 }
 
+// Leads past a list, to what stands behind it.
+function passList(event) {
+  const behind = $(event.target.dataset.past);
+  event.preventDefault();
+  if (behind.tabIndex < 0) behind.tabIndex = -1;
+  behind.focus();
+  behind.scrollIntoView({block: "nearest"});
+}
+
 function listenToWindow() {
+  for (const link of document.querySelectorAll("[data-past]")) link.addEventListener("click", passList);
   onClick("moreNotices", () => {
     inNotices.isOpen = !inNotices.isOpen;
     foldNotices();

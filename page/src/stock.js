@@ -17,8 +17,7 @@ const inStock = {
 function showStock() {
   notePromised();
   $("stockTitle").textContent = shop.material ? tr`${shop.material}: standing and reserved` : tr`Standing and reserved`;
-  const shown = [shop.parts, [...shop.partsGoing], shop.moreParts, shop.material, shop.partsOf, shop.isKnown];
-  fill($("stockList"), shown, stockRows);
+  fill($("stockList"), stockRows);
   if (traced.chain && traced.width !== $("tracePicture").clientWidth) drawChain();
   adaptReceive();
 }
@@ -111,7 +110,8 @@ function howManyField(parts) {
     "data-key": `n${part}`,
     "data-count": part,
     "aria-label": tr`How many of the ${parts.length} that begin with ${part}`,
-    value: inStock.wanted.get(part) || "1",
+    value: "1",
+    typed: inStock.wanted.get(part),
     on: {
       input: event => {
         inStock.wanted.set(part, event.target.value);

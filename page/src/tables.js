@@ -11,17 +11,19 @@ function textOf(bytes) {
 }
 
 // The records of a text, at most so many: each a row's number as a spreadsheet counts them, and a list of fields. Quoted fields
-// are what they quote, empty rows are no records. A quote that is never closed quotes nothing, and then no quote does.
+// are what they quote, blank rows are no records and are counted, but for those at the end. A quote that is never closed quotes nothing, and then no quote does.
 function readRecords(text, mark, most = Infinity, hasQuotes = true) {
-  const records = [];
-  let fields = [], field = "", isQuoted = false, isBegun = false, at = 1;
+  const records = Object.assign([], {blank: 0});
+  let fields = [], field = "", isQuoted = false, isBegun = false, at = 1, blank = 0;
   const endField = () => {
     fields.push(hasQuotes ? field : field.replace(/^"(.*)"$/, "$1"));
     field = "";
   };
   const endRow = () => {
     endField();
+    blank = isBegun ? 0 : blank + 1;
     if (isBegun) records.push({at, fields});
+    else records.blank++;
     fields = [];
     isBegun = false;
     at++;
@@ -46,7 +48,7 @@ function readRecords(text, mark, most = Infinity, hasQuotes = true) {
   }
   if (isQuoted) return readRecords(text, mark, most, false);
   endRow();
-  return Object.assign(records, {hasQuotes});
+  return Object.assign(records, {hasQuotes, blank: records.blank - blank});
 }
 
 function isFull({fields}) { return fields.some(field => field.trim()); }
@@ -93,7 +95,7 @@ function readTable(text, isHeadless) {
   const heads = headless || wide > MAX_COLUMNS ? [] : headsOf(head, isDouble ? full[at + 1].fields : [], wide);
   const rows = headless ? full : full.slice(at + (isDouble ? 2 : 1)), titles = headless ? [] : full.slice(0, at);
   const isPlain = !told && records.hasQuotes && mark === "," && full.length === records.length && !at && isSame(first, FIELDS);
-  return {told, mark, headless, wide, heads, titles, rows, empty: records.length - full.length, isPlain};
+  return {told, mark, headless, wide, heads, titles, rows, empty: records.length - full.length + records.blank, isPlain};
 }
 
 // Whether a row below heads belongs to them: all that it has are heads or units.

@@ -1,12 +1,9 @@
-// ---- Jobs on paper: bars as one list, a row for each plan; sheets as tickets, small ones two on a page; and labels, 24 on a page.
+// ---- Jobs on paper: bars as one list, a row for each plan; sheets as tickets, small ones two on a page; and labels, 24 on a page, or as
+// a list.
 
-function printReserved() { return printSheets(toCutJobs, workSheets); }
-
-function printWaiting() { return printSheets(() => readTickets($("jobMaterial").value), workSheets); }
-
-function printReservedLabels() { return printSheets(toCutJobs, labelPages); }
-
-function printWaitingLabels() { return printSheets(() => readTickets($("jobMaterial").value), labelPages); }
+// What prints the jobs of To cut, and those that wait at the saw, as each of PAPERS.
+const PRINT_BUTTONS = ["printAll", "labelAll", "listAll"], PRINT_WAITING = ["printWaiting", "labelWaiting", "listWaiting"];
+const PAPERS = [workSheets, labelPages, labelList];
 
 // The jobs that were just reserved, or all of the material that wait.
 async function toCutJobs() {
@@ -57,9 +54,7 @@ function workSheets(kinds) {
 function barList(kinds) {
   const [[{material}]] = kinds, right = text => el("th", {text, scope: "col", class: "right"}), head = text => el("th", {text, scope: "col"});
   const heads = [right(tr`Times`), head(tr`Cuts in mm, with order and line`), head(tr`Rest`), head(tr`Jobs`), head(tr`Done`)];
-  return el("section", {class: "barlist"}, el("table", {},
-    el("thead", {}, el("tr", {}, el("th", {colspan: "5", class: "pagehead", text: pageWords(material)})), el("tr", {}, ...heads)),
-    el("tbody", {}, ...kinds.map(barRow))));
+  return el("section", {class: "barlist"}, paperTable(pageWords(material), heads, kinds.map(barRow)));
 }
 
 function barRow(jobs) {
@@ -110,11 +105,11 @@ function ticketSheet(jobs) {
 
 const LABELS_A_PAGE = 24;
 
-// A label for each piece, in the order in which they come from the saw. They are counted on from those of the line that are made
-// or wait besides.
-async function labelPages(kinds) {
-  const pieces = kinds.flatMap(jobs => jobs.flatMap(({job, root, kind}) =>
-    nodesOf(root).filter(box => box.kind === "piece").map(box => ({...box, job, size: pieceSize(kind, box)}))));
+// What a label of each piece says, in the order in which they come from the saw. They are counted on from those of the line that are
+// made or wait besides.
+async function labelsOf(kinds) {
+  const pieces = kinds.flatMap(jobs => jobs.flatMap(({job, root, kind, material}) =>
+    nodesOf(root).filter(box => box.kind === "piece").map(box => ({demand: box.demand, job, material, size: pieceSize(kind, box)}))));
   const counts = new Map(), wanted = new Map();
   for (const {demand} of pieces) counts.set(demand, (counts.get(demand) || 0) + 1);
   for (const [demand, here] of counts) {
@@ -124,18 +119,37 @@ async function labelPages(kinds) {
     counts.set(demand, Math.max(0, row.made + row.reserved - here));
   }
   await readTexts([...new Set([...counts.keys()].map(demand => shop.lines.get(demand).order))]);
-  const textOfOrder = order => shop.said.get(order)?.text;
-  const labels = pieces.map(({demand, job, size}) => {
+  return pieces.map(({demand, job, material, size}) => {
     const {order, line} = shop.lines.get(demand), number = counts.get(demand) + 1;
     counts.set(demand, number);
-    return el("div", {class: "label"}, el("b", {text: order}), el("span", {text: tr`line ${line}`}), el("span", {text: size}),
-      el("span", {text: tr`piece ${number} of ${wanted.get(demand)}`}), el("span", {text: tr`job ${job}`}),
-      textOfOrder(order) ? el("span", {class: "said", text: textOfOrder(order)}) : null);
+    return {order, line, size, nth: tr`piece ${number} of ${wanted.get(demand)}`, job, material, said: shop.said.get(order)?.text || ""};
   });
-  const pages = [];
-  for (let from = 0; from < labels.length; from += LABELS_A_PAGE)
-    pages.push(el("section", {class: "labels"}, ...labels.slice(from, from + LABELS_A_PAGE)));
+}
+
+function materialsOf(labels) { return pageWords([...new Set(labels.map(({material}) => material))].join(", ")); }
+
+async function labelPages(kinds) {
+  const labels = await labelsOf(kinds), pages = [];
+  for (let from = 0; from < labels.length; from += LABELS_A_PAGE) {
+    const here = labels.slice(from, from + LABELS_A_PAGE);
+    pages.push(el("section", {class: "labels"}, ...here.map(({order, line, size, nth, job, said}) =>
+      el("div", {class: "label"}, el("b", {text: order}), el("span", {text: tr`line ${line}`}), el("span", {text: size}), el("span", {text: nth}),
+        el("span", {text: tr`job ${job}`}), said ? el("span", {class: "said", text: said}) : null)), el("p", {class: "pagehead", text: materialsOf(here)})));
+  }
   return pages;
+}
+
+// The same as one list; its head stands on each page.
+async function labelList(kinds) {
+  const labels = await labelsOf(kinds), heads = [tr`Order`, tr`Line`, tr`Size in mm`, tr`Piece`, tr`Job`, tr`Text`];
+  const rows = labels.map(({order, line, size, nth, job, said}) => el("tr", {}, ...[order, line, size, nth, job, said].map(text => el("td", {text: String(text)}))));
+  return [el("section", {class: "barlist labellist"}, paperTable(materialsOf(labels), heads.map(text => el("th", {text, scope: "col"})), rows))];
+}
+
+// A table whose page's words and heads stand on each page.
+function paperTable(words, heads, rows) {
+  return el("table", {}, el("thead", {}, el("tr", {}, el("th", {class: "pagehead", colspan: String(heads.length), text: words})), el("tr", {}, ...heads)),
+    el("tbody", {}, ...rows));
 }
 
 // A piece's size as it was ordered.

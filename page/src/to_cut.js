@@ -14,10 +14,12 @@ function plansOf(code = shop.material) {
   return plansByMaterial.get(code);
 }
 
-// all: what stops the planning of all materials, while it goes on; isOne: whether one material was looked at last.
+// all: what stops the planning of all materials, while it goes on; isOne: whether one material was looked at last; folds: which orders a
+// person unfolded or folded.
 const toCut = {
   all: null,
   isOne: true,
+  folds: new Map(),
   leftOut: readOut("cutshop.leftOut"),
   partsOut: readOut("cutshop.partsOut")
 };
@@ -27,14 +29,11 @@ for (const key of Object.keys(NO_PLANS))
 function showToCut() {
   const hadFocus = $("planPanel").contains(document.activeElement);
   notePromised();
-  const wanted = wantedNow(), said = wanted.map(({order}) => shop.said.get(order)), onlys = shownCodes().map(code => plansOf(code).only);
-  fill($("wanted"), [wanted, said, [...shop.promised], [...toCut.leftOut], onlys, shop.moreDemands, shop.material, shop.isKnown], wantedRows);
+  fill($("wanted"), wantedRows);
   $("fromPanel").hidden = isAllShown();
   if (isAllShown()) return showAllMaterials();
   passOverTaken();
-  const choices = partChoices();
-  fill($("cutFrom"), [choices, toCut.part, [...toCut.partsOut], shop.moreParts, shop.material, shop.partsOf, shop.isKnown],
-    () => cutFromRows(choices));
+  fill($("cutFrom"), () => cutFromRows(partChoices()));
   showQuestion();
   showPlans();
   if (hadFocus && isLost(document.activeElement)) focusNextStep();
@@ -78,12 +77,14 @@ function wantedRows() {
   ];
 }
 
-// The demands of which something is left, a line each, below their orders.
+// The orders of which something is left, the earliest due first, and below those that are unfolded their lines: few are at first.
 function demandTable(rows) {
+  const isFew = rows.length <= MOST_OPEN, isOpen = ([{order}]) => toCut.folds.get(order) ?? isFew;
+  const orders = groupsOf(rows, row => row.order).sort(([a], [b]) => byDay(a, b));
   const head = ["", tr`Line`, tr`Size in mm`, tr`Left`, tr`No.`].map(
     (text, i) => el("th", {text, scope: "col", class: i > 2 ? "right" : "", title: i === 4 ? tr`the number of these pieces wanted` : ""}));
-  return el("div", {class: "scroll"}, el("table", {class: "demands"}, el("thead", {}, el("tr", {}, ...head)),
-    ...groupsOf(rows, row => row.order).sort(([a], [b]) => byDay(a, b)).map(same => el("tbody", {}, orderRow(same), ...same.map(demandRow)))));
+  return el("div", {class: "scroll"}, el("table", {class: "demands"}, el("thead", {hidden: !orders.some(isOpen)}, el("tr", {}, ...head)),
+    ...orders.map(same => el("tbody", {}, orderRow(same, isOpen(same)), ...isOpen(same) ? same.map(demandRow) : []))));
 }
 
 function putBackButton(rows) {
@@ -91,17 +92,30 @@ function putBackButton(rows) {
     {class: "small", id: "putBack", text: tr`Put all back`, "data-key": "back", on: {click: () => passOver(rows, false)}});
 }
 
-// An order, with one box for all of its demands.
-function orderRow(rows) {
+// An order, with one box for all of its demands, and a button that unfolds them.
+function orderRow(rows, isOpen) {
   const chosen = rows.filter(row => !isLeftOut(row)), [{order}] = rows;
   const box = el("input", {
     type: "checkbox",
     "data-key": `o${order}`,
     checked: chosen.length > 0,
+    indeterminate: chosen.length > 0 && chosen.length < rows.length,
     "aria-label": tr`All of order ${order}`,
     on: {change: event => passOver(rows, !event.target.checked)}
   });
-  box.indeterminate = chosen.length > 0 && chosen.length < rows.length;
+  const fold = el("button", {
+    class: "unfold",
+    text: order,
+    "data-key": `fold${order}`,
+    "aria-expanded": String(isOpen),
+    "aria-label": tr`Lines of order ${order}`,
+    on: {
+      click: () => {
+        toCut.folds.set(order, !isOpen);
+        showToCut();
+      }
+    }
+  });
   const only = el("button", {
     class: "small",
     text: tr`Only this`,
@@ -111,8 +125,8 @@ function orderRow(rows) {
     on: {click: () => isAllShown() ? planEach(order) : planOnly(order)}
   });
   const said = [dueWords(rows[0]), shop.said.get(order)?.text, tr`${grouped(sumLeft(rows))} left`].filter(Boolean).join(", ");
-  return el("tr", {class: "order"}, el("th", {colspan: "5", scope: "colgroup"},
-    el("div", {class: "orderhead"}, el("label", {class: "heading"}, box, el("span", {}, tr`Order ${order}`, el("span", {class: "quiet", text: said}))), only)));
+  return el("tr", {class: "order"}, el("td", {colspan: "5"},
+    el("div", {class: "orderhead"}, box, fold, only, el("span", {class: "quiet", text: said}))));
 }
 
 function sumLeft(rows) { return rows.reduce((sum, row) => sum + leftOf(row), 0); }
@@ -139,24 +153,25 @@ function isLeftOut(row) { return toCut.leftOut.has(leftOutKey(row)); }
 function isPartOut(part) { return toCut.partsOut.has(partOutKey(part)); }
 
 function passOver(rows, isOver) {
-  leaveOut("leftOut", rows.map(leftOutKey), isOver);
+  leaveOut("leftOut", rows, leftOutKey, isOver);
   say(`${count(rows.length, ...KINDS)} ${isOver ? tr`left out` : tr`taken in`}`);
 }
 
 function passOverParts(parts, isOver) {
-  leaveOut("partsOut", parts.map(partOutKey), isOver);
+  leaveOut("partsOut", parts, partOutKey, isOver);
   say(`${parts.map(part => part.part).join(", ")} ${isOver ? tr`left out` : tr`taken in`}`);
 }
 
-function leaveOut(name, keys, isOver) {
+// The plans of what is left out or taken in go.
+function leaveOut(name, rows, keyOfRow, isOver) {
   const out = toCut[name];
-  for (const key of keys)
+  for (const key of rows.map(keyOfRow))
     if (isOver) out.add(key);
     else out.delete(key);
   try {
     storage.write(`cutshop.${name}`, [...out].slice(-MAX_LEFT_OUT));
   } catch { tell(tr`This browser can't keep what is left out: it is forgotten with this page.`, "refused"); }
-  forgetPlans();
+  for (const {material} of rows) forgetPlans(material);
   showToCut();
 }
 
@@ -177,7 +192,7 @@ function demandRow(row) {
   },
     el("td", {}, box), right(String(row.line)),
     el("td", {class: "number"}, el("b", {text: size.replace("\u00a0mm", "")}),
-      row.turn ? el("span", {text: " ↻", "aria-label": tr`may turn`}) : null, isAllShown() ? ` ${row.material}` : null),
+      row.turn ? el("span", {text: " ↻", "aria-label": tr`may turn`}) : null, isAllShown() ? el("div", {class: "quiet", text: row.material}) : null),
     right(tr`${grouped(leftOf(row))} of ${grouped(row.wanted)}`), right(String(row.demand)));
 }
 
@@ -270,7 +285,7 @@ function chooseStages(code, stages) {
 function showStages() {
   $("stagesField").hidden = !shop.material || kindOf(shop.material) === "bar";
   const now = stagesOf(shop.material);
-  fill($("stages"), [shop.material, now],
+  fill($("stages"),
     () => STAGES.map(stages => el("option", {value: String(stages), text: stages ? String(stages) : tr`any`, selected: stages === now})));
   if ($("stages").value !== String(now)) $("stages").value = String(now);
 }

@@ -11,14 +11,14 @@ const HEAPS = [
 function showYield() {
   const rows =
     shop.materials.filter(row => shop.totals.has(row.material)).map(row => ({...row, ...shop.totals.get(row.material)}));
-  fill($("yieldBars"), [rows, shop.isKnown],
+  fill($("yieldBars"),
     () => [el("h2", {text: tr`Where the material is`}), rows.length ? null : quiet(noMaterial()), ...rows.map(yieldRow),
       ...(rows.length ? [yieldHint(), yieldTable(rows)] : []),
       shop.materials.length > rows.length
         ? quiet(tr`Shown are ${rows.length} of ${
             shop.materials.length} materials, among them the one that is chosen under Stock.`)
         : null]);
-  fill($("report"), owner.report,
+  fill($("report"),
     () => owner.report ? reportRows(owner.report) : quiet(tr`Choose a material's report to read and print it.`));
   showBackups();
 }
@@ -106,6 +106,9 @@ async function openReport(code) {
   $("report").scrollIntoView({block: "nearest"});
 }
 
+// So many parts of a report are no single page.
+const MANY_PARTS = 30;
+
 function reportRows({material, kind, totals, parts, more, at}) {
   const right = text => el("td", {class: "right", text}), held = heldOf(totals), heap = cells => heapText({...totals, kind}, cells);
   const rows =
@@ -113,6 +116,7 @@ function reportRows({material, kind, totals, parts, more, at}) {
   return [
     el("div", {class: "buttons noprint"},
       el("button", {class: "act", id: "printReport", text: tr`Print the report`, on: {click: () => window.print()}})),
+    el("p", {class: "printonly pagehead", text: pageWords(material)}),
     el("h2", {text: tr`Yield of ${material} (${word(kind)}), ${at}`}),
     el("table", {},
       el("tbody", {},
@@ -124,7 +128,7 @@ function reportRows({material, kind, totals, parts, more, at}) {
         el("tr", {}, el("th", {text: tr`yield: pieces of all that came and wasn't returned`}), right(""),
           right(percent(totals.pieces, held))))),
     el("h3", {text: tr`${count(parts.length, "part")}${more ? tr` and more` : ""} standing or reserved`}),
-    el("table", {},
+    el("table", {}, parts.length > MANY_PARTS ? el("thead", {class: "printonly"}, el("tr", {}, el("th", {colspan: "4", class: "pagehead", text: pageWords(material)}))) : null,
       el("tbody", {},
         ...parts.map(part => el("tr", {}, el("td", {text: part.part}), right(sizeText(kind, part.w, part.h)),
                        el("td", {text: isRemnant(part) ? tr`remnant` : tr`unit`}),

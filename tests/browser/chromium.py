@@ -16,7 +16,7 @@ from kit.case import Failed, Skipped
 SECONDS = 120
 
 # So often it is looked whether what is to be clicked stays where it is, and nothing lies over it.
-MOST_LOOKS = 100
+MAX_LOOKS = 100
 
 # A click, a typed text and a key are Chromium's own input events, so that what can't be seen or reached isn't clicked.
 KEYS = {"Enter": 13, "Tab": 9, "Escape": 27, " ": 32, "ArrowDown": 40, "ArrowUp": 38}
@@ -174,7 +174,7 @@ class Browser:
         """Presses the mouse's button on what an expression finds, and tells whether that wasn't elsewhere by then."""
         self.until(f"(() => {{ const e = {find}; return e && !e.disabled && e.getBoundingClientRect().width > 0; }})()")
         place, is_seen = self.place(find), False
-        for _ in range(MOST_LOOKS):
+        for _ in range(MAX_LOOKS):
             time.sleep(0.02)
             before, place = place, self.place(find)
             is_seen = place == before and self.value(f"({find}).contains(document.elementFromPoint({place[0]}, {place[1]}))")

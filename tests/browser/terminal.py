@@ -24,9 +24,9 @@ def by_id(name):
     return f"document.getElementById({json.dumps(name)})"
 
 
-def open_shop(trial, shop_file=SHOP_FILE, store="shop.db"):
+def open_shop(trial, shop_file=SHOP_FILE, store="shop.db", words=()):
     """A shop that serves the page."""
-    shop = trial.shop(store, shop_file=trial.write("shop.toml", shop_file), words=("--page", PAGE))
+    shop = trial.shop(store, shop_file=trial.write("shop.toml", shop_file), words=("--page", PAGE, *words))
     trial.holds(shop.is_open, "the shop doesn't open")
     return shop
 

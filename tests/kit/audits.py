@@ -29,7 +29,7 @@ def run(trial, command, store, *words):
 
 
 def audited(trial, store, entries, torn=None, sent="", words=()):
-    """Audits a store: it has so many entries, and is whole, or this is what the second line tells."""
+    """Audits a store: it has so many entries, and is whole, or this is what the second line reports."""
     ran = run(trial, "audit", store, *words)
     if torn is None:
         trial.ended(ran, 0, f"entries {entries}\nwhole\n", sent=sent or store)
@@ -38,7 +38,7 @@ def audited(trial, store, entries, torn=None, sent="", words=()):
 
 
 def torn_line(trial, store, entries, sent=""):
-    """What the second line tells of a store that isn't whole and has so many entries."""
+    """What the second line reports of a store that isn't whole and has so many entries."""
     ran = run(trial, "audit", store)
     line = ran.err.decode().partition("\n")[2]
     trial.ended(ran, 1, f"entries {entries}\n", "fault audit\n", sent=sent)
@@ -46,7 +46,7 @@ def torn_line(trial, store, entries, sent=""):
 
 
 def is_torn(trial, store, sent=""):
-    """Wants a store not to be called whole: a fault tells what of it was found, at its opening or behind it."""
+    """Wants a store not to be called whole: a fault reports what of it was found, at its opening or behind it."""
     ran = run(trial, "audit", store)
     is_fault = fault_in(ran.err).startswith((b"fault ", b"refused 99 ")) and not fault_in(ran.err).startswith(b"fault file")
     trial.holds(ran.status == 1 and is_fault and b"whole" not in ran.out, f"{sent}: {ran}")

@@ -14,8 +14,8 @@ REQUEST = b"POST /backup HTTP/1.1\r\nHost: shop\r\nContent-Length: 0\r\n\r\n"
 FAILED = "cutshop: answered 99 StoreFault; no backup was made in "
 
 
-def told(number):
-    """The answer that tells a backup's number."""
+def backup_answer(number):
+    """The answer that reports a backup's number."""
     return answer(200, f'{{"backup":{number},"ok":"backup"}}')
 
 
@@ -47,13 +47,13 @@ def rows_of(path):
 def has_done(trial, rows, terminal, path):
     """How many messages of a terminal a copy has: the first ones, as they were answered, and the rows that they make."""
     found = [it for it in rows["kept"] if it[0] == terminal.number]
-    trial.equal(found, [(terminal.number, number, *it) for number, it in enumerate(terminal.told[: len(found)], 1)], path)
+    trial.equal(found, [(terminal.number, number, *it) for number, it in enumerate(terminal.exchanges[: len(found)], 1)], path)
     # (a material, and then by turns a unit, an order, a job, and the two strips and three parts that it leaves)
     units, orders, jobs, cut = [max(len(found) + it, 0) // 4 for it in (2, 1, 0, -1)]
     parts = sum(it[2] == terminal.code for it in rows["parts"])
     made = {it[0] for it in rows["parts"] if it[2] == terminal.code}
-    told = (parts, sum(it[3] == terminal.code for it in rows["demands"]), sum(it[1] in made for it in rows["jobs"]))
-    trial.equal(told, (units + 5 * cut, orders, jobs), f"{path}: the parts, demands and jobs of {len(found)} messages")
+    output = (parts, sum(it[3] == terminal.code for it in rows["demands"]), sum(it[1] in made for it in rows["jobs"]))
+    trial.equal(output, (units + 5 * cut, orders, jobs), f"{path}: the parts, demands and jobs of {len(found)} messages")
     return len(found)
 
 
@@ -70,7 +70,7 @@ def is_whole(trial, path, terminals):
     counts = []
     for it in terminals:
         count = has_done(trial, rows, it, path)
-        again = it.told[:count] if count <= 12 else it.told[:1] + it.told[count - 3 : count]
+        again = it.exchanges[:count] if count <= 12 else it.exchanges[:1] + it.exchanges[count - 3 : count]
         trial.equal([(line, shop.reply(line).decode()) for line, _ in again], again, path)
         last = json.loads(shop.get(f"/terminal/{it.number}").partition(b"\r\n\r\n")[2])["last"]
         trial.equal(last, count, path)
@@ -87,9 +87,9 @@ def posting(shop, terminals, pause=0.005):
 
     def post(it, ends):
         while not ends.wait(pause):
-            is_whole_answer, fault = it.send(shop, len(it.told))
+            is_whole_answer, fault = it.send(shop, len(it.exchanges))
             if fault or not is_whole_answer:
-                faults.append(f"terminal {it.number}, message {len(it.told) + 1}: {fault}")
+                faults.append(f"terminal {it.number}, message {len(it.exchanges) + 1}: {fault}")
                 return
 
     with ExitStack() as stack:

@@ -12,7 +12,7 @@ def work(trial, shop, count=125):
     """Has eight terminals post so many messages each at once: each is accepted, soon."""
     terminals = [Terminal(it) for it in TERMINALS]
     trial.equal(at_once(shop, terminals, count), [])
-    trial.equal([len(it.told) for it in terminals], [count] * len(terminals))
+    trial.equal([len(it.exchanges) for it in terminals], [count] * len(terminals))
     slowest = max(it.slowest for it in terminals)
     trial.holds(slowest < SOON, f"the slowest answer took {slowest:.2f} seconds")
 
@@ -21,4 +21,4 @@ def work_alone(trial, shop, count=125):
     """Has the same terminals post the same messages one terminal after the other."""
     for it in TERMINALS:
         terminal = Terminal(it)
-        trial.equal((terminal.send_all(shop, count), len(terminal.told)), (None, count))
+        trial.equal((terminal.send_all(shop, count), len(terminal.exchanges)), (None, count))

@@ -24,7 +24,7 @@ def planned(trial, text, wanted, kerf="0", step="1"):
         trial.ended(ran, 1, err=f"{wanted}\n", sent=text)
 
 
-def told(worth, ceiling, dropped, tree):
+def plan_output(worth, ceiling, dropped, tree):
     return f"worth {worth}\nceiling {ceiling}\ndropped {dropped}\ntree {tree}\n"
 
 
@@ -54,11 +54,11 @@ def serving(trial, port, store, shop, **named):
 
 
 def mistaken(trial, words, named=""):
-    """Wants status 2 of these words, nothing on standard output, and an error that names this before it tells the usage."""
+    """Wants status 2 of these words, nothing on standard output, and an error that names this before it reports the usage."""
     ran = trial.run(*words)
-    told = ran.err.decode().partition("\n\nUsage: ")[0]
-    trial.equal((ran.status, ran.out, told[: len(MISTAKE)].encode()), (2, b"", MISTAKE), " ".join(words))
-    trial.holds(named in told, f"{' '.join(words)}: {named} isn't named by {told}")
+    output = ran.err.decode().partition("\n\nUsage: ")[0]
+    trial.equal((ran.status, ran.out, output[: len(MISTAKE)].encode()), (2, b"", MISTAKE), " ".join(words))
+    trial.holds(named in output, f"{' '.join(words)}: {named} isn't named by {output}")
 
 
 def all_mistaken(trial, lines):

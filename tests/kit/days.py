@@ -136,9 +136,9 @@ class Replay:
 
         writer = threading.Thread(target=write)
         writer.start()
-        told = [self.process.stdout.readline().removesuffix(b"\n") for _ in lines]
+        output = [self.process.stdout.readline().removesuffix(b"\n") for _ in lines]
         writer.join()
-        return told
+        return output
 
     def busy(self):
         """For how many seconds it had a processor so far."""

@@ -15,11 +15,11 @@ PATH = os.path.join(os.path.dirname(os.path.abspath(__file__)), "..", "..", "doc
 
 # Of exchanges that are alike so many are looked at in a run of the suite, each with at most so many bytes; then the next each time that
 # their number doubled.
-LOOKED_AT, MOST_BYTES = 20, 30000
+LOOKED_AT, MAX_BYTES = 20, 30000
 SEEN, LOCK = {}, threading.Lock()
 
 METHODS = ("get", "post")
-# Refusals of the form of a request, which no body has to tell.
+# Refusals of the form of a request, which no body has to report.
 BARE = (400, 403, 404, 405, 411, 412, 413, 431)
 
 
@@ -68,7 +68,7 @@ def wrong_with(judge, value):
     if fault is None:
         return None
     while fault.context:
-        # (of several forms the one that is nearest is told)
+        # (of several forms the one that is nearest is reported)
         fault = max(fault.context, key=lambda it: len(it.absolute_path))
     return f"{'/'.join(map(str, fault.absolute_path)) or 'the value'}: {fault.message[:300]}"
 
@@ -107,7 +107,7 @@ def number_of(text):
 
 # Names of parts may have numbers that are out of their ranges, which a pattern doesn't say; and JSON's numbers may be written in forms that
 # the shop doesn't take, texts in ones that no text is.
-MOST_ACT, MOST_NODE = 2147483647, 4294967295
+MAX_ACT, MAX_NODE = 2147483647, 4294967295
 OTHER_NUMBER = re.compile(rb"[0-9][.eE]|-0|\b0[0-9]")
 
 
@@ -116,7 +116,7 @@ def has_far_name(value):
     if isinstance(value, (dict, list)):
         return any(has_far_name(it) for it in (value.values() if isinstance(value, dict) else value))
     found = re.fullmatch("([0-9]+)/([0-9]+)", value) if isinstance(value, str) else None
-    return bool(found) and (int(found[1]) > MOST_ACT or int(found[2]) > MOST_NODE)
+    return bool(found) and (int(found[1]) > MAX_ACT or int(found[2]) > MAX_NODE)
 
 
 def value_of(body):
@@ -172,14 +172,14 @@ def fault_in(request, answer):
     """What of an exchange isn't as the document says, or None. Of what is no whole answer, and of a head that isn't plain, it says nothing."""
     if jsonschema is None or not answer:
         return None
-    asked, told = parsed(request), read(answer)
-    if not asked or not told or len(told[3]) > MOST_BYTES:
+    asked, output = parsed(request), read(answer)
+    if not asked or not output or len(output[3]) > MAX_BYTES:
         return None
     method, path, body = asked
-    status, kind, allowed, text = told
+    status, kind, allowed, text = output
     template, is_good = route_of(path)
     reply = value_of(text) if kind == "application/json" else None
-    of_body = word_of(value_of(body)) if method == "post" and len(body) <= MOST_BYTES else None
+    of_body = word_of(value_of(body)) if method == "post" and len(body) <= MAX_BYTES else None
     told_as = (reply.get("ok"), reply.get("refused")) if isinstance(reply, dict) else ()
     if not is_due((method, template, is_good, status, str(of_body), *told_as)):
         return None

@@ -45,11 +45,11 @@ extern void _exit(int) __attribute__((noreturn));
 
 enum { MEMORY = 1, READ, WRITE, FILES, LOOKS, PORT, ACCEPT, WATCH, WAIT, CLOCK, DATE, DISK };
 enum { KEPT = 1, DROPPED, TORN, HALTED };
-enum { SECTOR = 512, MOST_PATHS = 64, MOST_NOTES = 1 << 16, MOST_NUMBERS = 1024, MOST_LENGTH = 512 };
+enum { SECTOR = 512, MAX_PATHS = 64, MAX_NOTES = 1 << 16, MAX_NUMBERS = 1024, MAX_LENGTH = 512 };
 
 // A file or folder that was opened, and a number of it that stays open, or -1 for a folder.
 struct path {
-    char name[MOST_LENGTH];
+    char name[MAX_LENGTH];
     int own;
 };
 
@@ -71,12 +71,12 @@ static long at, most, seed;
 static const char *under;
 static long own_page[4];
 static volatile long *calls = own_page;
-static struct path paths[MOST_PATHS];
+static struct path paths[MAX_PATHS];
 static int path_count;
-static struct note notes[MOST_NOTES];
+static struct note notes[MAX_NOTES];
 static int note_count;
 // By the number of an open file below the folder: one more than its path's place.
-static int places[MOST_NUMBERS];
+static int places[MAX_NUMBERS];
 
 static void *(*real_malloc)(size_t);
 static void *(*real_realloc)(void *, size_t);
@@ -154,11 +154,11 @@ static void move(const char *from, const char *to) {
     for (int i = 0; i < path_count; i++) {
         const char *rest = behind(paths[i].name, from);
         if (!rest) continue;
-        char moved[2 * MOST_LENGTH];
-        strncpy(moved, to, MOST_LENGTH - 1);
-        moved[MOST_LENGTH - 1] = 0;
-        strncpy(moved + strlen(moved), rest, MOST_LENGTH);
-        strncpy(paths[i].name, moved, MOST_LENGTH - 1);
+        char moved[2 * MAX_LENGTH];
+        strncpy(moved, to, MAX_LENGTH - 1);
+        moved[MAX_LENGTH - 1] = 0;
+        strncpy(moved + strlen(moved), rest, MAX_LENGTH);
+        strncpy(paths[i].name, moved, MAX_LENGTH - 1);
     }
 }
 
@@ -198,11 +198,11 @@ static int file_fails(void) {
 
 static int fails(int kind) { return is_hit(kind) && failed(error_number); }
 
-static int is_below(int file) { return file >= 0 && file < MOST_NUMBERS && places[file]; }
+static int is_below(int file) { return file >= 0 && file < MAX_NUMBERS && places[file]; }
 
 // Notes that a path is changed here, over so many bytes.
 static void note(int path, int how, long place, long count) {
-    if ((stop != DROPPED && stop != TORN) || note_count == MOST_NOTES) return;
+    if ((stop != DROPPED && stop != TORN) || note_count == MAX_NOTES) return;
     int own = paths[path].own;
     struct note *it = &notes[note_count++];
     *it = (struct note){path, how, place, count, how ? 0 : syscall(LSEEK_CALL, own, 0, SEEK_END), 0};
@@ -239,8 +239,8 @@ static int place_of(const char *name) {
     int i = 0;
     while (i < path_count && strcmp(paths[i].name, name)) i++;
     if (i == path_count) {
-        if (path_count == MOST_PATHS) _exit(10);
-        strncpy(paths[i].name, name, MOST_LENGTH - 1);
+        if (path_count == MAX_PATHS) _exit(10);
+        strncpy(paths[i].name, name, MAX_LENGTH - 1);
         paths[i].own = syscall(OPENAT_CALL, AT_FDCWD, name, O_RDWR);
         path_count++;
     }
@@ -293,7 +293,7 @@ int open(const char *name, int flags, ...) {
     if (is_there && (flags & O_CREAT ? file_fails() : fails(LOOKS))) return -1;
     int is_new = is_there && flags & O_CREAT && syscall(ACCESS_CALL, name, 0);
     int file = syscall(OPENAT_CALL, AT_FDCWD, name, flags, mode);
-    if (file >= 0 && file < MOST_NUMBERS) {
+    if (file >= 0 && file < MAX_NUMBERS) {
         places[file] = is_there ? place_of(name) + 1 : 0;
         if (is_new) note(places[file] - 1, FILE_MADE, 0, 0);
     }
@@ -309,7 +309,7 @@ int openat(int folder, const char *name, int flags, ...) {
     int is_there = folder == AT_FDCWD && is_under(name);
     if (is_there && fails(LOOKS)) return -1;
     int file = syscall(OPENAT_CALL, folder, name, flags, mode);
-    if (file >= 0 && file < MOST_NUMBERS) places[file] = is_there ? place_of(name) + 1 : 0;
+    if (file >= 0 && file < MAX_NUMBERS) places[file] = is_there ? place_of(name) + 1 : 0;
     return file;
 }
 

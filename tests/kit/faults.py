@@ -35,9 +35,9 @@ def library():
                 raise Failed(f"\n  none of {', '.join(COMPILERS)} is here, to build {SOURCE}")
             folder = tempfile.TemporaryDirectory(prefix="cutshop-faults-")
             path = os.path.join(folder.name, "faults.so")
-            is_built, told = build(compiler, path)
+            is_built, output = build(compiler, path)
             if not is_built:
-                raise Failed(f"\n  {told}")
+                raise Failed(f"\n  {output}")
             BUILT.append((path, folder))
         return BUILT[0][0]
 
@@ -47,7 +47,7 @@ class Faults:
     `at`-th, from 1 (0: none); once or from then `on`; with this error. Streams take at most `by` bytes a call. `stop`: the
     program ends there, with what wasn't synced kept, dropped or torn by a `seed`, or stands still there until it is told to go on
     (halted). `under` is the folder of the files, the case's own where none is given. `date`: the seconds since 1970 that the clock
-    tells, which stand still."""
+    reports, which stand still."""
 
     def __init__(self, trial, of="", at=0, on=False, error=errno.EIO, by=0, stop="", seed=0, under=None, date=None):
         # (each run has its own count)
@@ -76,13 +76,13 @@ class Faults:
             return int.from_bytes(file.read(8), "little")
 
     def set_ahead(self, seconds):
-        """Has the clock of the program tell a time so many seconds ahead from now on."""
+        """Has the clock of the program report a time so many seconds ahead from now on."""
         with open(self.count_path, "r+b") as file:
             file.seek(8)
             file.write(seconds.to_bytes(8, "little"))
 
     def set_date(self, seconds):
-        """Has the clock of the program tell so many seconds since 1970 from now on, below 0 before it."""
+        """Has the clock of the program report so many seconds since 1970 from now on, below 0 before it."""
         with open(self.count_path, "r+b") as file:
             file.seek(16)
             file.write((1).to_bytes(8, "little") + seconds.to_bytes(8, "little", signed=True))
@@ -95,7 +95,7 @@ class Faults:
 
 def sweep(trial, stride, disturbed, *faults, more_than=0):
     """Has `disturbed` run with each of these faults at each call, or at each of a stride, two at a time. It gets the number of
-    the call, 0 for none, and the fault by name, and tells how many calls there were."""
+    the call, 0 for none, and the fault by name, and reports how many calls there were."""
     count = disturbed(0)
     trial.holds(count > more_than, f"{count} calls were seen")
     runs = [(at + 1, named) for named in faults for at in trial.places(count, stride)]

@@ -36,7 +36,7 @@ def received(count, w=10, h=8, material="GLASS", batch="B-1"):
     return {"batch": batch, "count": count, "do": "receive", "h": h, "material": material, "w": w}
 
 
-def told(trial, shop, sent, wanted):
+def answers(trial, shop, sent, wanted):
     """Sends a line, or what is one as an object, and wants this reply, as text or as an object."""
     sent = sent if isinstance(sent, str) else compact(sent)
     wanted = wanted if isinstance(wanted, str) else json.dumps(wanted, ensure_ascii=False, separators=(",", ":"), sort_keys=True)
@@ -52,14 +52,14 @@ def over_each(trial, lines, check):
     when it was opened again, where each message gets its kept reply. The path of the store."""
     shop = Replay(trial, {})
     for sent, reply in lines:
-        told(trial, shop, sent, reply)
+        answers(trial, shop, sent, reply)
     check(shop)
     trial.equal(shop.end(), (0, b""))
     for is_again in (False, True):
         shop = trial.shop(environment=Faults(trial, date=0).environment)
         for sent, reply in lines:
             if not is_again or '"ok"' in reply and '"do"' in sent:
-                told(trial, shop, sent, reply)
+                answers(trial, shop, sent, reply)
         check(shop)
         shop.kill()
     return shop.store

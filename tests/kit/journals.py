@@ -1,4 +1,4 @@
-"""What the history of a shop is: of its accepted messages, in their order, the entries, what each is about, and what is told of them.
+"""What the history of a shop is: of its accepted messages, in their order, the entries, what each is about, and what is reported of them.
 
 All of it is reckoned by the rules of the formats from messages and replies alone."""
 
@@ -8,8 +8,8 @@ from dataclasses import dataclass, field
 
 from kit.questions import compact
 
-# As many entries an answer tells at most, and none behind the first with which it has so many bytes of texts.
-MOST_TOLD, MOST_BYTES = 100, 1000000
+# As many entries an answer reports at most, and none behind the first with which it has so many bytes of texts.
+MAX_LISTED, MAX_BYTES = 100, 1000000
 
 
 def canonical(text):
@@ -30,7 +30,7 @@ class Entry:
     jobs: set = field(default_factory=set)
     parts: set = field(default_factory=set)
 
-    def told(self):
+    def as_answer(self):
         """It as an answer has it."""
         return {"at": self.at, "entry": self.number, "message": json.loads(self.command), "reply": json.loads(self.reply)}
 
@@ -45,29 +45,29 @@ class Journal:
 
     def accept(self, line, reply, at=0):
         """Another message with its reply, accepted at a time."""
-        message, told = json.loads(line), json.loads(reply)
+        message, output = json.loads(line), json.loads(reply)
         at = max(at, self.entries[-1].at if self.entries else 0)
         entry = Entry(len(self.entries) + 1, at, canonical(line), canonical(reply))
         word, order, act, job, part = message["do"], "", 0, 0, (0, 0)
         # A unit of a receipt is about it whatever its node; so is a part that the end of a job made.
         made = None
         if word == "receive":
-            act = made = told["act"]
+            act = made = output["act"]
         elif word in ("order", "import"):
             order = message["order"]
             if order not in self.imports:
-                act = told.get("act", 0)
+                act = output.get("act", 0)
                 made = act or None
-                self.order_of |= {told["first"] + it: order for it in range(told["count"])}
+                self.order_of |= {output["first"] + it: order for it in range(output["count"])}
             if word == "import":
                 self.imports.add(order)
         elif word == "amend":
             order = self.order_of[message["demand"]]
         elif word in ("note", "extend"):
             order = message["order"]
-            self.order_of |= {told["first"] + it: order for it in range(told["count"])} if word == "extend" else {}
+            self.order_of |= {output["first"] + it: order for it in range(output["count"])} if word == "extend" else {}
         elif word == "reserve":
-            act = job = told["job"]
+            act = job = output["job"]
             part = tuple(int(it) for it in message["part"].split("/"))
             orders = {self.order_of[int(it)] for it in re.findall(r"\bp([0-9]+)", message["tree"])}
             self.jobs[job] = (message["part"], orders)
@@ -113,12 +113,12 @@ class Journal:
         return compact({"began": times[0], "entries": len(self.entries), "last": times[-1], "ok": "shop"})
 
     def answer(self, word, entries, after):
-        """The answer to `history` or `story` that tells of these entries behind a number."""
+        """The answer to `history` or `story` that reports of these entries behind a number."""
         behind, shown, reached = [it for it in entries if it.number > after], [], 0
         for it in behind:
-            if len(shown) == MOST_TOLD or reached >= MOST_BYTES:
+            if len(shown) == MAX_LISTED or reached >= MAX_BYTES:
                 break
-            shown.append(it.told())
+            shown.append(it.as_answer())
             reached += len(it.command.encode()) + len(it.reply.encode())
         more = len(shown) < len(behind)
         return json.dumps(
@@ -133,8 +133,8 @@ class Journal:
 
     def lines(self, after=0):
         """What `cutshop history` prints."""
-        told = [it.told() for it in self.entries if it.number > after]
-        return "".join(json.dumps(it, ensure_ascii=False, separators=(",", ":"), sort_keys=True) + "\n" for it in told)
+        output = [it.as_answer() for it in self.entries if it.number > after]
+        return "".join(json.dumps(it, ensure_ascii=False, separators=(",", ":"), sort_keys=True) + "\n" for it in output)
 
 
 def journal_of(exchanges, at=0):

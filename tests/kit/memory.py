@@ -7,10 +7,11 @@ from kit import tables
 from kit.case import Skipped, fault_in
 from kit.days import REFUSED, Replay, questions_of
 from kit.faults import Faults
+from kit.shop import answer
 
 
 def sweep(trial, run, stride):
-    """Runs with no request refused, then with each in turn, or with each of a stride, two at a time. A run may tell how many
+    """Runs with no request refused, then with each in turn, or with each of a stride, two at a time. A run may report how many
     requests come before the first that is refused."""
     whole = Faults(trial, "memory", date=0)
     first = run(whole) or 0
@@ -55,7 +56,7 @@ def is_as_before(trial, shop, day, number):
 
 def replayed(trial, day, faults):
     """Sends a day's lines to `replay`. One that is refused 98 changes nothing, and gets its reply when it is sent again; where
-    the program ends it tells `fault memory`. In the end all that was accepted has its kept reply."""
+    the program ends it reports `fault memory`. In the end all that was accepted has its kept reply."""
     shop = Replay(trial, faults.environment)
     for number, (line, reply) in enumerate(zip(day.lines, day.replies)):
         got = shop.reply(line)
@@ -79,6 +80,34 @@ def replayed(trial, day, faults):
 def ended_for_memory(trial, shop, sent):
     status, _, errors = shop.end()
     trial.equal((status, fault_in(errors)), (1, b"fault memory\n"), sent)
+
+
+def texts_refused(trial, store, paths, stride):
+    """Asks a store's shop for texts with each request for memory refused in turn: the whole text, or 98 with 503, or nothing, and
+    asked again the text."""
+    shop = trial.shop(tables.copy(store, trial.path("asked.db")))
+    wanted = [shop.get(it) for it in paths]
+    shop.kill()
+    trial.equal([it.partition(b"\r\n")[0] for it in wanted], [b"HTTP/1.1 200 OK"] * len(paths))
+
+    def run(faults):
+        # (each run has a store of its own)
+        copy = tables.copy(store, trial.path(f"{faults.at:06}.db"))
+        shop = opened(trial, copy, faults)
+        first = faults.calls()
+        for path, text in zip(paths, wanted):
+            got = sent(shop.get, path)
+            trial.equal(got in (text, answer(503, REFUSED), b""), True, f"{path}, request {faults.at}: {got}")
+            if not got and shop.has_ended():
+                ended_for_memory(trial, shop, path)
+                break
+            if got != text:
+                trial.equal(shop.get(path), text, f"{path}, request {faults.at}")
+        shop.kill()
+        os.remove(copy)
+        return first
+
+    sweep(trial, run, stride)
 
 
 def served(trial, day, faults):

@@ -62,21 +62,21 @@ def old_store(trial, count, more=0):
 
 def ask(trial, shop, asked):
     """Asks what a line asks, or a path."""
-    told = shop.get(asked) if asked.startswith("/") else shop.reply(asked)
-    trial.holds(told.startswith(b"HTTP/1.1 200 OK") if asked.startswith("/") else b'"ok"' in told, f"{asked}: {told[:200]}")
-    return told
+    output = shop.get(asked) if asked.startswith("/") else shop.reply(asked)
+    trial.holds(output.startswith(b"HTTP/1.1 200 OK") if asked.startswith("/") else b'"ok"' in output, f"{asked}: {output[:200]}")
+    return output
 
 
 def measured(shop, deeds):
     """How many seconds of a processor each of these takes, by its name; the least of some rounds."""
-    told = {}
+    output = {}
     for _ in range(ROUNDS):
         for name, deed in deeds.items():
             before = shop.busy()
             for _ in range(TIMES):
                 deed()
-            told.setdefault(name, []).append(shop.busy() - before)
-    return {name: min(its) for name, its in told.items()}
+            output.setdefault(name, []).append(shop.busy() - before)
+    return {name: min(its) for name, its in output.items()}
 
 
 def asked_costs(trial, shop, asked):

@@ -98,16 +98,16 @@ class Owners:
         self.accepted = set()
 
     def accept(self, line, reply):
-        message, told = json.loads(line), json.loads(reply)
+        message, output = json.loads(line), json.loads(reply)
         word = message["do"]
         if word == "material":
             self.materials[message["material"]] = message
         elif word == "receive":
-            self.receive(message["material"], told["act"], message["count"], message["w"], message["h"])
-        elif word == "import" and told["act"] and (told["act"], 0) not in self.units:
-            self.receive(message["material"], told["act"], 1, *[int(it) for it in message["text"].split()[1:3]])
+            self.receive(message["material"], output["act"], message["count"], message["w"], message["h"])
+        elif word == "import" and output["act"] and (output["act"], 0) not in self.units:
+            self.receive(message["material"], output["act"], 1, *[int(it) for it in message["text"].split()[1:3]])
         elif word == "reserve":
-            self.jobs[told["job"]] = (tuple(int(it) for it in message["part"].split("/")), message["tree"])
+            self.jobs[output["job"]] = (tuple(int(it) for it in message["part"].split("/")), message["tree"])
         elif word in ("done", "break"):
             self.end(message["job"], outcome_of(message))
         elif word == "undo":

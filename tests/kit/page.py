@@ -14,7 +14,7 @@ GERMAN = (
     '6;STEEL;"800";0,1;nein;3;8000\r\n'
 )
 
-# When an entry was accepted, as the page tells it of today.
+# When an entry was accepted, as the page reports it of today.
 TIME = r", \d+:\d\d(\s[AP]M)?"
 
 

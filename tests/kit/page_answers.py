@@ -33,13 +33,13 @@ def answering(it, path, answer):
 def plans(rows, cost, bound, missing=0, step=0, proved=False):
     """An answer to a question for plans. `rows` are parts' names, how many are bought, the tree, and the sides; `missing` is how
     many pieces of demand 1 are."""
-    told = [{"buy": buy, "h": h, "parts": parts, "tree": tree, "w": w} for parts, buy, tree, w, h in rows]
+    output = [{"buy": buy, "h": h, "parts": parts, "tree": tree, "w": w} for parts, buy, tree, w, h in rows]
     return {
         "bound": bound,
         "cost": cost,
         "missing": [{"demand": 1, "pieces": missing}] if missing else [],
         "ok": "plans",
-        "plans": told,
+        "plans": output,
         "prices": [],
         "proved": proved,
         "short": missing > 0,

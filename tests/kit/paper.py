@@ -43,8 +43,8 @@ NAMES = {
 STATES = ("standing", "reserved", "cut", "piece", "kerf", "scrap", "returned", "undone")
 JOB_STATES = ("waiting", "done", "broken", "released", "undone")
 SUMS = ("stock", "rack", "pieces", "kerf", "scrap", "returned")
-MOST_NUMBER, MOST_CELLS, MOST_PIECES, MOST_WORTH = 2147483647, 10**15, 10**6, 10**9
-MOST_LINES, MOST_CUTS, MOST_NOTE, PAGE = 200, 255, 200, 100
+MAX_NUMBER, MAX_CELLS, MAX_PIECES, MAX_WORTH = 2147483647, 10**15, 10**6, 10**9
+MAX_LINES, MAX_CUTS, MAX_NOTE, PAGE = 200, 255, 200, 100
 
 
 class Refused(Exception):
@@ -70,7 +70,7 @@ def is_day(due):
 def is_said(text):
     """Whether a note may have this text."""
     controls = any(ord(it) < 0x20 or 0x7F <= ord(it) <= 0x9F for it in text)
-    return len(text.encode()) <= MOST_NOTE and not controls
+    return len(text.encode()) <= MAX_NOTE and not controls
 
 
 def has_sides(kind, w, h):
@@ -138,7 +138,7 @@ class Job:
     tree: str
     nodes: list
     state: str = "waiting"
-    # How it broke off, where that is kept: its `cuts`, `lost` and, where one was told, `rest`.
+    # How it broke off, where that is kept: its `cuts`, `lost` and, where one was reported, `rest`.
     halt: dict = None
     begun: int = 0
     pieces: Counter = field(default_factory=Counter)
@@ -156,7 +156,7 @@ def nodes_of(tree, w, h, kerf):
             return None
         word, number = words[len(nodes)], len(nodes)
         if found := re.fullmatch("p([1-9][0-9]{0,9})(t?)", word):
-            if int(found[1]) > MOST_NUMBER:
+            if int(found[1]) > MAX_NUMBER:
                 return None
             nodes.append(Node(x, y, w, h, "piece", demand=int(found[1]), turned=bool(found[2])))
             return number
@@ -165,7 +165,7 @@ def nodes_of(tree, w, h, kerf):
             return number
         found = re.fullmatch("([xy])([1-9][0-9]{0,9})", word)
         cut = sum(it.cut >= 0 for it in nodes)
-        if not found or cut == MOST_CUTS:
+        if not found or cut == MAX_CUTS:
             return None
         at, side = int(found[2]), w if found[1] == "x" else h
         if at >= side:
@@ -185,7 +185,7 @@ def nodes_of(tree, w, h, kerf):
 
 
 def halted(halt):
-    """The numbers of the cuts that were made, the one that went wrong, and the rest that was told; of None, of all cuts."""
+    """The numbers of the cuts that were made, the one that went wrong, and the rest that was reported; of None, of all cuts."""
     if halt is None:
         return None, None, 0
     cuts, lost = halt["cuts"], halt["lost"]
@@ -265,23 +265,23 @@ class Paper:
         value = json.loads(line)
         try:
             if "ask" in value:
-                told = getattr(self, f"ask_{value['ask']}")(value)
-                return told if isinstance(told, str) else self.told(value["ask"], told)
+                output = getattr(self, f"ask_{value['ask']}")(value)
+                return output if isinstance(output, str) else self.reply_text(value["ask"], output)
             pair, text = (value["terminal"], value["number"]), canonical(line)
             if pair in self.kept:
                 if self.kept[pair][0] != text:
                     raise Refused(11)
                 return self.kept[pair][1]
-            told = self.told(value["do"], getattr(self, f"do_{value['do']}")(value))
+            output = self.reply_text(value["do"], getattr(self, f"do_{value['do']}")(value))
         except Refused as why:
             return compact({"name": NAMES[why.args[0]], "refused": why.args[0]})
-        self.kept[pair] = (text, told)
-        entry = self.journal.accept(line, told, at)
+        self.kept[pair] = (text, output)
+        entry = self.journal.accept(line, output, at)
         if value["do"] in ("done", "break"):
             self.ends[value["job"]] = entry.at
-        return told
+        return output
 
-    def told(self, word, reply):
+    def reply_text(self, word, reply):
         return json.dumps({"ok": word, **reply}, ensure_ascii=False, separators=(",", ":"), sort_keys=True)
 
     # ---- what there is, or a refusal
@@ -331,15 +331,15 @@ class Paper:
         return {key: it for key, it in sorted(self.parts.items()) if key[0] == job and not self.is_unit(key)}
 
     def next_act(self):
-        if self.act == MOST_NUMBER:
+        if self.act == MAX_NUMBER:
             raise Refused(33)
         return self.act + 1
 
     # ---- messages
 
-    def do_material(self, told):
-        code = told["material"]
-        new = Material(told["kind"], told["kerf"], told["min_long"], told["min_short"])
+    def do_material(self, output):
+        code = output["material"]
+        new = Material(output["kind"], output["kerf"], output["min_long"], output["min_short"])
         is_bar = new.kind == "bar"
         if not (new.kerf <= 200 and 1 <= new.min_short <= new.min_long <= 200000) or is_bar and new.min_short != 1:
             raise Refused(22)
@@ -351,17 +351,17 @@ class Paper:
     def received(self, material):
         return sum(it.w * it.h for key, it in self.parts.items() if it.material == material and self.is_unit(key))
 
-    def do_receive(self, told):
-        material, w, h, count = self.of_material(told["material"]), told["w"], told["h"], told["count"]
+    def do_receive(self, output):
+        material, w, h, count = self.of_material(output["material"]), output["w"], output["h"], output["count"]
         if not has_sides(material.kind, w, h):
             raise Refused(30)
         if not 1 <= count <= 100:
             raise Refused(31)
-        if self.received(told["material"]) + count * w * h > MOST_CELLS:
+        if self.received(output["material"]) + count * w * h > MAX_CELLS:
             raise Refused(32)
         self.act = self.next_act()
         for node in range(count):
-            self.parts[self.act, node] = Part(told["material"], told["batch"], (self.act, node), 0, 0, w, h)
+            self.parts[self.act, node] = Part(output["material"], output["batch"], (self.act, node), 0, 0, w, h)
         return {"act": self.act, "count": count}
 
     def judged(self, lines, last):
@@ -369,10 +369,10 @@ class Paper:
         for it in lines:
             kind = self.of_material(it["material"]).kind
             is_good = it["line"] > last and has_sides(kind, it["w"], it["h"]) and not (kind == "bar" and it["turn"])
-            if not is_good or not 1 <= it["count"] <= MOST_PIECES or not 1 <= it["worth"] <= MOST_WORTH:
+            if not is_good or not 1 <= it["count"] <= MAX_PIECES or not 1 <= it["worth"] <= MAX_WORTH:
                 raise Refused(41)
             last = it["line"]
-        if self.demand + len(lines) > MOST_NUMBER:
+        if self.demand + len(lines) > MAX_NUMBER:
             raise Refused(33)
 
     def wanted(self, order, lines):
@@ -384,69 +384,69 @@ class Paper:
             self.orders.setdefault(order, []).append(self.demand)
         return self.demand - len(lines) + 1
 
-    def do_order(self, told):
-        lines = told["lines"]
-        if told["order"] in self.orders:
+    def do_order(self, output):
+        lines = output["lines"]
+        if output["order"] in self.orders:
             raise Refused(40)
-        if not 1 <= len(lines) <= MOST_LINES:
+        if not 1 <= len(lines) <= MAX_LINES:
             raise Refused(41)
         self.judged(lines, 0)
-        return {"count": len(lines), "first": self.wanted(told["order"], lines), "order": told["order"]}
+        return {"count": len(lines), "first": self.wanted(output["order"], lines), "order": output["order"]}
 
-    def do_extend(self, told):
-        there, lines = self.of_order(told["order"]), told["lines"]
-        if not lines or len(there) + len(lines) > MOST_LINES:
+    def do_extend(self, output):
+        there, lines = self.of_order(output["order"]), output["lines"]
+        if not lines or len(there) + len(lines) > MAX_LINES:
             raise Refused(41)
         self.judged(lines, self.demands[there[-1]].line)
-        return {"count": len(lines), "first": self.wanted(told["order"], lines), "order": told["order"]}
+        return {"count": len(lines), "first": self.wanted(output["order"], lines), "order": output["order"]}
 
-    def do_note(self, told):
-        self.of_order(told["order"])
-        if told["due"] and not is_day(told["due"]) or not is_said(told["text"]):
+    def do_note(self, output):
+        self.of_order(output["order"])
+        if output["due"] and not is_day(output["due"]) or not is_said(output["text"]):
             raise Refused(44)
-        self.notes[told["order"]] = (told["due"], told["text"])
-        return {"order": told["order"]}
+        self.notes[output["order"]] = (output["due"], output["text"])
+        return {"order": output["order"]}
 
-    def do_import(self, told):
-        order, asked = told["order"], (told["form"], told.get("material", ""), told["text"])
+    def do_import(self, output):
+        order, asked = output["order"], (output["form"], output.get("material", ""), output["text"])
         if order in self.imports and self.imports[order][0] == asked:
             return self.imports[order][1]
         if order in self.orders:
             raise Refused(40)
         act = 0
-        if told["form"] == "csv":
-            rows = [it.split(",") for it in told["text"].split() if it][1:]
+        if output["form"] == "csv":
+            rows = [it.split(",") for it in output["text"].split() if it][1:]
             sides = [(round(float(it[2]) * 10), round(float(it[3]) * 10)) for it in rows]
             lines = [
                 {"count": int(it[5]), "h": h, "line": int(it[0]), "material": it[1], "turn": it[4] == "yes", "w": w, "worth": int(it[6])}
                 for it, (w, h) in zip(rows, sides)
             ]
         else:
-            self.of_material(told["material"])
-            numbers = [int(it) for it in told["text"].split()]
-            line = {"material": told["material"], "turn": False}
+            self.of_material(output["material"])
+            numbers = [int(it) for it in output["text"].split()]
+            line = {"material": output["material"], "turn": False}
             pieces = [numbers[3 + 4 * it : 7 + 4 * it] for it in range(numbers[0])]
             lines = [{**line, "count": count, "h": h, "line": at, "w": w, "worth": worth} for at, (w, h, count, worth) in enumerate(pieces, 1)]
         self.judged(lines, 0)
-        if told["form"] == "cgcut":
+        if output["form"] == "cgcut":
             act = self.act = self.next_act()
-            self.parts[act, 0] = Part(told["material"], order, (act, 0), 0, 0, *numbers[1:3])
+            self.parts[act, 0] = Part(output["material"], order, (act, 0), 0, 0, *numbers[1:3])
         reply = {"act": act, "count": len(lines), "first": self.wanted(order, lines), "order": order}
         self.imports[order] = (asked, reply)
         return reply
 
-    def do_amend(self, told):
-        demand = self.of_demand(told["demand"])
-        if told["wanted"] > MOST_PIECES:
+    def do_amend(self, output):
+        demand = self.of_demand(output["demand"])
+        if output["wanted"] > MAX_PIECES:
             raise Refused(41)
-        if told["wanted"] < demand.reserved + demand.made:
+        if output["wanted"] < demand.reserved + demand.made:
             raise Refused(63)
-        demand.wanted = told["wanted"]
-        return {"demand": told["demand"], "wanted": told["wanted"]}
+        demand.wanted = output["wanted"]
+        return {"demand": output["demand"], "wanted": output["wanted"]}
 
-    def do_reserve(self, told):
-        part = self.of_standing(told["part"])
-        nodes = nodes_of(told["tree"], part.w, part.h, self.materials[part.material].kerf)
+    def do_reserve(self, output):
+        part = self.of_standing(output["part"])
+        nodes = nodes_of(output["tree"], part.w, part.h, self.materials[part.material].kerf)
         pieces = [it for it in nodes or [] if it.what == "piece"]
         if not pieces:
             raise Refused(60)
@@ -463,14 +463,14 @@ class Paper:
         self.act = self.next_act()
         for it, count in counts.items():
             self.demands[it].reserved += count
-        job = self.jobs[self.act] = Job(key_of(told["part"]), told["tree"], nodes, pieces=counts)
+        job = self.jobs[self.act] = Job(key_of(output["part"]), output["tree"], nodes, pieces=counts)
         part.state, part.of = "reserved", self.act
         return {"cuts": job.cuts(), "job": self.act}
 
-    def do_begin(self, told):
-        job = self.of_waiting(told["job"])
-        before, job.begun = job.begun, told["terminal"]
-        return {"before": before, "job": told["job"]}
+    def do_begin(self, output):
+        job = self.of_waiting(output["job"])
+        before, job.begun = job.begun, output["terminal"]
+        return {"before": before, "job": output["job"]}
 
     def left_by(self, number, halt):
         """The parts that a job leaves, all cuts made or up to a halt."""
@@ -498,27 +498,27 @@ class Paper:
             cells["rack" if it.state == "standing" else it.state] += it.w * it.h
         return {"job": number, "kerf": cells["kerf"], "pieces": cells["piece"], "rack": cells["rack"], "scrap": cells["scrap"]}
 
-    def do_done(self, told):
-        self.of_waiting(told["job"])
-        return self.end(told["job"], "done", None)
+    def do_done(self, output):
+        self.of_waiting(output["job"])
+        return self.end(output["job"], "done", None)
 
-    def do_break(self, told):
-        job = self.of_waiting(told["job"])
-        halt = {key: told[key] for key in ("cuts", "lost", "rest") if key in told}
+    def do_break(self, output):
+        job = self.of_waiting(output["job"])
+        halt = {key: output[key] for key in ("cuts", "lost", "rest") if key in output}
         if not allows(job.nodes, halt):
             raise Refused(72)
-        return self.end(told["job"], "broken", halt)
+        return self.end(output["job"], "broken", halt)
 
-    def do_release(self, told):
-        job = self.of_waiting(told["job"])
+    def do_release(self, output):
+        job = self.of_waiting(output["job"])
         for demand, count in job.pieces.items():
             self.demands[demand].reserved -= count
         part = self.parts[job.part]
         part.state, part.of, job.state = "standing", 0, "released"
-        return {"job": told["job"]}
+        return {"job": output["job"]}
 
-    def do_undo(self, told):
-        number = told["job"]
+    def do_undo(self, output):
+        number = output["job"]
         job = self.of_job(number)
         is_over = job.state == "done" or job.state == "broken" and job.halt is not None and allows(job.nodes, job.halt)
         if not is_over:
@@ -534,16 +534,16 @@ class Paper:
         part.state, part.of, job.state = "standing", 0, "undone"
         return {"job": number, "part": name_of(job.part)}
 
-    def do_scrap(self, told):
-        self.of_standing(told["part"]).state = "scrap"
-        return {"part": told["part"]}
+    def do_scrap(self, output):
+        self.of_standing(output["part"]).state = "scrap"
+        return {"part": output["part"]}
 
-    def do_return(self, told):
-        part = self.of_standing(told["part"])
-        if not self.is_unit(key_of(told["part"])):
+    def do_return(self, output):
+        part = self.of_standing(output["part"])
+        if not self.is_unit(key_of(output["part"])):
             raise Refused(52)
         part.state = "returned"
-        return {"part": told["part"]}
+        return {"part": output["part"]}
 
     # ---- queries
 
@@ -557,36 +557,36 @@ class Paper:
                 cells["received"] += it.w * it.h if self.is_unit(key) else 0
         return {it: cells[it] for it in ("received", *SUMS)}
 
-    def ask_totals(self, told):
-        self.of_material(told["material"])
-        return {"material": told["material"], **self.sums(told["material"])}
+    def ask_totals(self, output):
+        self.of_material(output["material"])
+        return {"material": output["material"], **self.sums(output["material"])}
 
     def lying(self, material):
         """The parts of a material that stand or are reserved, by rising name."""
         return [(key, it) for key, it in sorted(self.parts.items()) if it.material == material and it.state in STATES[:2]]
 
-    def ask_rack(self, told):
-        self.of_material(told["material"])
-        rows = [(key, it) for key, it in self.lying(told["material"]) if not self.is_unit(key)]
+    def ask_rack(self, output):
+        self.of_material(output["material"])
+        rows = [(key, it) for key, it in self.lying(output["material"]) if not self.is_unit(key)]
         parts = [{"h": it.h, "part": name_of(key), "state": it.state, "w": it.w} for key, it in rows]
-        return {"material": told["material"], "parts": parts}
+        return {"material": output["material"], "parts": parts}
 
     def part_row(self, key):
         it = self.parts[key]
         return {"batch": it.batch, "h": it.h, "of": it.of, "part": name_of(key), "root": name_of(it.root), "state": it.state, "w": it.w}
 
-    def ask_trace(self, told):
-        part = self.of_part(told["part"])
-        return {**self.part_row(key_of(told["part"])), "x": part.x, "y": part.y}
+    def ask_trace(self, output):
+        part = self.of_part(output["part"])
+        return {**self.part_row(key_of(output["part"])), "x": part.x, "y": part.y}
 
     def page(self, word, rows):
         return {"more": len(rows) > PAGE, word: rows[:PAGE]}
 
-    def ask_parts(self, told):
-        self.of_material(told["material"])
-        after = key_of(told["after"]) if told["after"] else (0, 0)
-        rows = [self.part_row(key) for key, _ in self.lying(told["material"]) if key > after]
-        return {"material": told["material"], **self.page("parts", rows)}
+    def ask_parts(self, output):
+        self.of_material(output["material"])
+        after = key_of(output["after"]) if output["after"] else (0, 0)
+        rows = [self.part_row(key) for key, _ in self.lying(output["material"]) if key > after]
+        return {"material": output["material"], **self.page("parts", rows)}
 
     def ask_materials(self, _):
         rows = [
@@ -595,10 +595,10 @@ class Paper:
         ]
         return {"materials": rows}
 
-    def ask_demand(self, told):
-        it = self.of_demand(told["demand"])
+    def ask_demand(self, output):
+        it = self.of_demand(output["demand"])
         keys = ("line", "made", "material", "order", "reserved", "wanted")
-        return {"demand": told["demand"], **{key: getattr(it, key) for key in keys}}
+        return {"demand": output["demand"], **{key: getattr(it, key) for key in keys}}
 
     def due(self, order):
         return self.notes.get(order, (0, ""))[0]
@@ -607,24 +607,24 @@ class Paper:
         it = self.demands[number]
         return {"demand": number, "due": self.due(it.order), **vars(it)}
 
-    def ask_demands(self, told):
-        material = told.get("material")
+    def ask_demands(self, output):
+        material = output.get("material")
         if material is not None:
             self.of_material(material)
         open_ones = [number for number, it in self.demands.items() if it.made < it.wanted and material in (None, it.material)]
-        return self.page("demands", [self.demand_row(it) for it in open_ones if it > told["after"]])
+        return self.page("demands", [self.demand_row(it) for it in open_ones if it > output["after"]])
 
-    def ask_orders(self, told):
+    def ask_orders(self, output):
         rows = []
-        for code in sorted(it for it in self.orders if it > told["after"]):
+        for code in sorted(it for it in self.orders if it > output["after"]):
             lines = [self.demands[it] for it in self.orders[code]]
             sums = {key: sum(getattr(it, key) for it in lines) for key in ("made", "reserved", "wanted")}
             due, text = self.notes.get(code, (0, ""))
             rows.append({"due": due, "lines": len(lines), "order": code, "text": text, **sums})
         return self.page("orders", rows)
 
-    def ask_lines(self, told):
-        return {"lines": [self.demand_row(it) for it in self.of_order(told["order"])], "order": told["order"]}
+    def ask_lines(self, output):
+        return {"lines": [self.demand_row(it) for it in self.of_order(output["order"])], "order": output["order"]}
 
     def orders_of(self, job):
         return {self.demands[it].order for it in job.pieces}
@@ -635,47 +635,47 @@ class Paper:
         sides = {"cuts": job.cuts(), "h": part.h, "material": part.material, "part": name_of(job.part), "w": part.w}
         return {"begun": job.begun, "job": number, **sides}
 
-    def ask_jobs(self, told):
+    def ask_jobs(self, output):
         rows = []
         for number, job in self.jobs.items():
-            if job.state == "waiting" and number > told["after"]:
+            if job.state == "waiting" and number > output["after"]:
                 days = [self.due(it) for it in self.orders_of(job) if self.due(it)]
                 rows.append({**self.head(number), "due": min(days, default=0)})
         return self.page("jobs", rows)
 
-    def ask_job(self, told):
-        job = self.of_job(told["job"])
-        head = self.head(told["job"])
+    def ask_job(self, output):
+        job = self.of_job(output["job"])
+        head = self.head(output["job"])
         return {**head, "kerf": self.materials[head["material"]].kerf, "state": job.state, "tree": job.tree}
 
-    def ask_terminal(self, told):
-        return {"last": max((it[1] for it in self.kept if it[0] == told["terminal"]), default=0), "terminal": told["terminal"]}
+    def ask_terminal(self, output):
+        return {"last": max((it[1] for it in self.kept if it[0] == output["terminal"]), default=0), "terminal": output["terminal"]}
 
     def piece_row(self, key):
         it = self.parts[key]
         demand = self.demands[it.of]
         of = {"demand": it.of, "line": demand.line, "order": demand.order}
-        told = {"at": self.ends.get(key[0], 0), "batch": it.batch, "material": it.material, "part": name_of(key), "root": name_of(it.root)}
-        return {**told, **of, "h": it.h, "w": it.w}
+        output = {"at": self.ends.get(key[0], 0), "batch": it.batch, "material": it.material, "part": name_of(key), "root": name_of(it.root)}
+        return {**output, **of, "h": it.h, "w": it.w}
 
-    def ask_pieces(self, told):
-        after = key_of(told["after"]) if told["after"] else (0, 0)
-        if "order" in told:
-            self.of_order(told["order"])
-        if "unit" in told:
-            self.of_part(told["unit"])
-            if not self.is_unit(key_of(told["unit"])):
+    def ask_pieces(self, output):
+        after = key_of(output["after"]) if output["after"] else (0, 0)
+        if "order" in output:
+            self.of_order(output["order"])
+        if "unit" in output:
+            self.of_part(output["unit"])
+            if not self.is_unit(key_of(output["unit"])):
                 raise Refused(52)
         rows = []
         for key, it in sorted(self.parts.items()):
             if it.state == "piece" and key > after:
                 chosen = {"order": self.demands[it.of].order, "batch": it.batch, "unit": name_of(it.root)}
-                if all(chosen[kind] == told[kind] for kind in chosen if kind in told):
+                if all(chosen[kind] == output[kind] for kind in chosen if kind in output):
                     rows.append(self.piece_row(key))
         return self.page("pieces", rows)
 
-    def ask_steps(self, told):
-        number = told["job"]
+    def ask_steps(self, output):
+        number = output["job"]
         job = self.of_job(number)
         head, steps = self.head(number), []
         for at, it in enumerate(job.nodes):
@@ -697,23 +697,23 @@ class Paper:
                     "y": it.y,
                 }
             )
-        told = {it: head[it] for it in ("job", "material", "part")}
-        return {**told, "kerf": self.materials[head["material"]].kerf, "state": job.state, "steps": steps}
+        output = {it: head[it] for it in ("job", "material", "part")}
+        return {**output, "kerf": self.materials[head["material"]].kerf, "state": job.state, "steps": steps}
 
     def ask_shop(self, _):
         return self.journal.shop()
 
-    def ask_history(self, told):
-        return self.journal.history(told["after"])
+    def ask_history(self, output):
+        return self.journal.history(output["after"])
 
-    def ask_story(self, told):
-        if "order" in told:
-            self.of_order(told["order"])
-        elif "job" in told:
-            self.of_job(told["job"])
+    def ask_story(self, output):
+        if "order" in output:
+            self.of_order(output["order"])
+        elif "job" in output:
+            self.of_job(output["job"])
         else:
-            self.of_part(told["part"])
-        return self.journal.story(**{key: told[key] for key in ("after", "order", "job", "part") if key in told})
+            self.of_part(output["part"])
+        return self.journal.story(**{key: output[key] for key in ("after", "order", "job", "part") if key in output})
 
     # ---- texts
 
@@ -779,7 +779,7 @@ class Paper:
             ],
             "kept": kept,
             "imports": [
-                (order, forms.index(form), material, text, self.told("import", reply))
+                (order, forms.index(form), material, text, self.reply_text("import", reply))
                 for order, ((form, material, text), reply) in self.imports.items()
             ],
             "totals": [],

@@ -8,10 +8,10 @@ from itertools import groupby
 
 from kit.case import Failed, short
 
-MOST_CUTS = 255
+MAX_CUTS = 255
 
 # The most units of an answer.
-MOST_UNITS = 100000
+MAX_UNITS = 100000
 
 NUMBER = "[1-9][0-9]*"
 
@@ -42,7 +42,7 @@ class Problem:
 
 @dataclass
 class Answer:
-    """The plans of a whole order: how often each tree is cut, and what is told above them."""
+    """The plans of a whole order: how often each tree is cut, and what is reported above them."""
 
     units: int
     bound: int
@@ -79,7 +79,7 @@ def cut_from(w, h, kerf, demands, tree):
             wrong(f"the word {word!r}: {tree}")
     if parts:
         wrong(f"the tree ends early: {tree}")
-    if cuts > MOST_CUTS:
+    if cuts > MAX_CUTS:
         wrong(f"{cuts} cuts: {tree}")
     return counts
 
@@ -163,7 +163,7 @@ def checked(problem, kerf, text, stages=None):
         units += times
         for kind, count in pieces.items():
             counts[kind] += times * count
-    if units != answer.units or units > MOST_UNITS:
+    if units != answer.units or units > MAX_UNITS:
         wrong(f"{units} units are planned, {answer.units} told")
     unfit = 0
     for number, kind in enumerate(problem.kinds, 1):
@@ -173,7 +173,7 @@ def checked(problem, kerf, text, stages=None):
     planned = sum(counts.values())
     if planned + answer.missing != problem.pieces():
         wrong(f"{planned} pieces are planned and {answer.missing} missing, of {problem.pieces()}")
-    if answer.missing != unfit and (units < MOST_UNITS or answer.missing < unfit):
+    if answer.missing != unfit and (units < MAX_UNITS or answer.missing < unfit):
         wrong(f"{answer.missing} pieces are missing, {unfit} don't fit")
     if not answer.missing and answer.bound > units:
         wrong(f"{units} units are fewer than the bound {answer.bound}")

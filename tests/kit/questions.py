@@ -1,5 +1,5 @@
 """Answers to the question `plans`, read by themselves: what a question asks of a shop, and whether an answer is all that the
-formats say of one, whatever was found. The bound is counted anew from the prices that are told, by tables of its own."""
+formats say of one, whatever was found. The bound is counted anew from the prices that are reported, by tables of its own."""
 
 import json
 import math
@@ -9,14 +9,14 @@ from collections import Counter
 from dataclasses import dataclass
 from operator import add
 
-from kit.plans import MOST_UNITS, cut_from, largest_rest, stages_of, wrong
+from kit.plans import MAX_UNITS, cut_from, largest_rest, stages_of, wrong
 
-MOST_DEMANDS, MOST_PARTS = 100, 1000
-LONGEST_BAR = 150000
+MAX_DEMANDS, MAX_PARTS = 100, 1000
+MAX_BAR_LEN = 150000
 # As many places as a table over every length may have here.
-MOST_PLACES = 40000
-MOST_WORTH = 10**9
-MOST_BOUND = 10**18
+MAX_PLACES = 40000
+MAX_WORTH = 10**9
+MAX_BOUND = 10**18
 
 # Keys of an answer and of its parts, and what stands there.
 NUMBERS = ("bound", "cost", "rest", "step")
@@ -81,7 +81,7 @@ def rows_of(ask, word, key, after, **keys):
 
 
 def content_of(ask, material):
-    """What a shop tells of a material. `ask` sends a line and gives the reply."""
+    """What a shop reports of a material. `ask` sends a line and gives the reply."""
     (found,) = [it for it in json.loads(ask('{"ask":"materials"}'))["materials"] if it["material"] == material]
     demands = {
         it["demand"]: Demand(it["w"], it["h"], it["turn"], it["wanted"] - it["reserved"] - it["made"], it.get("due", 0))
@@ -111,12 +111,12 @@ class Asked:
     @classmethod
     def of(cls, content, question):
         left = [number for number, it in content.demands.items() if it.left]
-        # (those whose orders are due first, those without a day last, and of one day by rising number; told by rising number)
-        first = sorted(left, key=lambda it: (not content.demands[it].due, content.demands[it].due, it))[:MOST_DEMANDS]
+        # (those whose orders are due first, those without a day last, and of one day by rising number; reported by rising number)
+        first = sorted(left, key=lambda it: (not content.demands[it].due, content.demands[it].due, it))[:MAX_DEMANDS]
         numbers = question.get("demands", sorted(first))
         wants = {it: content.demands[it] for it in numbers if it in left}
-        names = [it for it, part in content.parts.items() if not content.is_bar or part.w <= LONGEST_BAR]
-        parts = {it: content.parts[it] for it in question.get("parts", names[:MOST_PARTS])}
+        names = [it for it, part in content.parts.items() if not content.is_bar or part.w <= MAX_BAR_LEN]
+        parts = {it: content.parts[it] for it in question.get("parts", names[:MAX_PARTS])}
         buy = [(it["w"], it["h"]) for it in question.get("buy", [])]
         step = 0 if content.is_bar else question.get("step", 0)
         return cls(content, wants, parts, buy, question.get("remnant", 90), step, question.get("stages"))
@@ -138,7 +138,7 @@ class Asked:
         return (side + self.content.kerf) // (self.step or 1)
 
     def is_exact(self):
-        """Whether the bound that the prices give is the one that is told: no table over classes of sides was taken."""
+        """Whether the bound that the prices give is the one that is reported: no table over classes of sides was taken."""
         return self.content.is_bar or self.step > 0
 
 
@@ -198,7 +198,7 @@ class Sheets:
             pieces += [(w, h, price)] + [(h, w, price)] * want.turn
         columns = sums_of({it[0] for it in pieces}, max(asked.steps_of(w) for w, _ in asked.sides()))
         rows = sums_of({it[1] for it in pieces}, max(asked.steps_of(h) for _, h in asked.sides()))
-        if not asked.is_exact() and len(columns) * len(rows) > MOST_PLACES:
+        if not asked.is_exact() and len(columns) * len(rows) > MAX_PLACES:
             return None
         sheets, beside, below = cls(columns, rows, [[] for _ in rows]), partners_of(columns), partners_of(rows)
         for x, w in enumerate(columns):
@@ -242,7 +242,7 @@ def bound_of(asked, prices):
         if of and not any(excess for excess, number in above if number is None):
             paid = max(0, rate * worth - sum(excess * (number or 0) for excess, number in above))
             greatest = max(greatest, -(-paid // of))
-    return min(-(-greatest // divisor) * divisor, MOST_BOUND)
+    return min(-(-greatest // divisor) * divisor, MAX_BOUND)
 
 
 # An answer.
@@ -254,37 +254,37 @@ def is_number(value):
 
 def read_told(text):
     """An answer's object, whose form and order of keys are those of the formats."""
-    told = json.loads(text)
-    if not isinstance(told, dict) or compact(told) != text:
+    output = json.loads(text)
+    if not isinstance(output, dict) or compact(output) != text:
         wrong(f"not compact, or its keys aren't in their order: {text}")
-    if set(told) != {*NUMBERS, *FLAGS, *LISTS, "ok"} or told["ok"] != "plans":
+    if set(output) != {*NUMBERS, *FLAGS, *LISTS, "ok"} or output["ok"] != "plans":
         wrong(f"no answer of plans: {text}")
-    if not all(is_number(told[it]) for it in NUMBERS) or not all(isinstance(told[it], bool) for it in FLAGS):
+    if not all(is_number(output[it]) for it in NUMBERS) or not all(isinstance(output[it], bool) for it in FLAGS):
         wrong(f"numbers or flags: {text}")
     for name, keys in LISTS.items():
-        for row in told[name]:
+        for row in output[name]:
             if not isinstance(row, dict) or set(row) != set(keys):
                 wrong(f"of {name}: {row}")
             if not all(is_number(row[key]) if of is int else isinstance(row[key], of) for key, of in keys.items()):
                 wrong(f"of {name}: {row}")
-    return told
+    return output
 
 
-def check_prices(asked, told):
+def check_prices(asked, output):
     """The prices are of wants that have one, in the question's order, and give the bound."""
-    prices = {it["demand"]: it["worth"] for it in told["prices"]}
-    if [it["demand"] for it in told["prices"]] != [it for it in asked.wants if it in prices]:
-        wrong(f"prices of {[it['demand'] for it in told['prices']]}, wants {list(asked.wants)}")
+    prices = {it["demand"]: it["worth"] for it in output["prices"]}
+    if [it["demand"] for it in output["prices"]] != [it for it in asked.wants if it in prices]:
+        wrong(f"prices of {[it['demand'] for it in output['prices']]}, wants {list(asked.wants)}")
     for number, worth in prices.items():
         want = asked.wants[number]
         is_small = asked.step > 0 and not min(asked.steps_of(want.w), asked.steps_of(want.h))
-        if not 1 <= worth <= MOST_WORTH or is_small:
+        if not 1 <= worth <= MAX_WORTH or is_small:
             wrong(f"a price of {worth} of demand {number}: {want}, step {asked.step}")
     bound = bound_of(asked, prices)
     if bound is None:
         return
-    if told["bound"] > bound or asked.is_exact() and told["bound"] < bound:
-        wrong(f"the bound is {told['bound']}, and the prices give {bound}")
+    if output["bound"] > bound or asked.is_exact() and output["bound"] < bound:
+        wrong(f"the bound is {output['bound']}, and the prices give {bound}")
 
 
 def name_key(name):
@@ -335,12 +335,12 @@ def is_remnant(asked, entry):
     return [asked.parts[it].is_remnant for it in entry["parts"][:1]]
 
 
-def check_missing(asked, told, planned, units):
+def check_missing(asked, output, planned, units):
     """Pieces planned and missing are all that are left; one is missing only where nothing unused holds it."""
-    missing = {it["demand"]: it["pieces"] for it in told["missing"]}
-    if [it["demand"] for it in told["missing"]] != sorted(missing) or not all(missing.values()):
-        wrong(f"missing: {told['missing']}")
-    used = {name for it in told["plans"] for name in it["parts"]}
+    missing = {it["demand"]: it["pieces"] for it in output["missing"]}
+    if [it["demand"] for it in output["missing"]] != sorted(missing) or not all(missing.values()):
+        wrong(f"missing: {output['missing']}")
+    used = {name for it in output["plans"] for name in it["parts"]}
     unused = [(it.w, it.h) for name, it in asked.parts.items() if name not in used] + asked.buy
     for number in missing.keys() | planned.keys():
         if number not in asked.wants:
@@ -348,16 +348,16 @@ def check_missing(asked, told, planned, units):
     for number, want in asked.wants.items():
         if planned[number] + missing.get(number, 0) != want.left:
             wrong(f"demand {number}: {planned[number]} planned, {missing.get(number, 0)} missing, {want.left} left")
-        if number in missing and units < MOST_UNITS and any(want.is_held_by(*it) for it in unused):
+        if number in missing and units < MAX_UNITS and any(want.is_held_by(*it) for it in unused):
             wrong(f"demand {number} is missing, and a unit that isn't used holds a piece")
 
 
 def checked_answer(content, question, text):
     """The answer that a text has, of which everything holds that may be asked of it whatever was found."""
-    asked, told = Asked.of(content, question), read_told(text)
+    asked, output = Asked.of(content, question), read_told(text)
     demands = {number: (it.w, it.h, it.turn) for number, it in asked.wants.items()}
     planned, cost, units, rest = Counter(), 0, 0, 0
-    for entry in told["plans"]:
+    for entry in output["plans"]:
         times = len(entry["parts"]) or entry["buy"]
         cost += times * check_entry(asked, entry)
         pieces = cut_from(entry["w"], entry["h"], content.kerf, demands, entry["tree"])
@@ -369,18 +369,18 @@ def checked_answer(content, question, text):
         rest = max(rest, largest_rest(entry["w"], entry["h"], content.kerf, entry["tree"], *sides))
         units += times
         planned.update({number: times * count for number, count in pieces.items()})
-    check_order(asked, told["plans"])
-    check_missing(asked, told, planned, units)
-    check_prices(asked, told)
-    if (cost, asked.step) != (told["cost"], told["step"]) or units > MOST_UNITS:
-        wrong(f"{units} units of cost {cost}, {told['cost']} told; step {told['step']}, {asked.step} asked")
-    if told["rest"] != rest:
-        wrong(f"a rest of {rest}, {told['rest']} told: {text}")
-    if not told["missing"] and told["bound"] > cost:
-        wrong(f"a cost of {cost}, below the bound {told['bound']}")
-    if told["proved"] != (not told["missing"] and told["bound"] == cost):
-        wrong(f"proved {told['proved']}: cost {cost}, bound {told['bound']}, missing {told['missing']}")
+    check_order(asked, output["plans"])
+    check_missing(asked, output, planned, units)
+    check_prices(asked, output)
+    if (cost, asked.step) != (output["cost"], output["step"]) or units > MAX_UNITS:
+        wrong(f"{units} units of cost {cost}, {output['cost']} told; step {output['step']}, {asked.step} asked")
+    if output["rest"] != rest:
+        wrong(f"a rest of {rest}, {output['rest']} told: {text}")
+    if not output["missing"] and output["bound"] > cost:
+        wrong(f"a cost of {cost}, below the bound {output['bound']}")
+    if output["proved"] != (not output["missing"] and output["bound"] == cost):
+        wrong(f"proved {output['proved']}: cost {cost}, bound {output['bound']}, missing {output['missing']}")
     stock = sum(asked.cost_of_part(it) for it in asked.parts.values())
-    if told["short"] != (not asked.buy and told["bound"] > stock):
-        wrong(f"short {told['short']}: bound {told['bound']}, stock {stock}, to buy {asked.buy}")
-    return told
+    if output["short"] != (not asked.buy and output["bound"] > stock):
+        wrong(f"short {output['short']}: bound {output['bound']}, stock {stock}, to buy {asked.buy}")
+    return output

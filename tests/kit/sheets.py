@@ -8,7 +8,7 @@ HEADER = "line,material,length,width,turn,count,worth\n"
 @dataclass
 class Sheet:
     """A file. `asked` is what the page asks first, and `said` what a person answers; `orders` are the orders' codes with their
-    rows as the shop reads them, `left` the rows that are left out with why, `sums` those that are told as wrong."""
+    rows as the shop reads them, `left` the rows that are left out with why, `sums` those that are reported as wrong."""
 
     name: str
     content: bytes

@@ -129,14 +129,14 @@ def free_port():
     raise OSError("no port is free")
 
 
-# What a server tells of the requests that it answers, where no page is served and no name of it is given.
+# What a server reports of the requests that it answers, where no page is served and no name of it is given.
 ANY_HOST = b"cutshop: Host isn't judged; with --host or --origin only requests for names of this shop are answered\n"
 
-# What the program tells as its own version.
+# What the program reports as its own version.
 VERSION = "1.1.0"
 
 # What stands behind it: of a program that was built without proofs, that it was.
-MARK = {"told": ""}
+MARK = {"suffix": ""}
 
 
 def is_watched(program):
@@ -146,25 +146,25 @@ def is_watched(program):
 
 
 def look_at(program):
-    """Keeps in mind which program is tried, as it tells that behind its version."""
-    MARK["told"] = " (unproved)" if is_watched(program) else ""
+    """Keeps in mind which program is tried, as it reports that behind its version."""
+    MARK["suffix"] = " (unproved)" if is_watched(program) else ""
 
 
 def version_told():
-    """What the program that is tried tells as its version."""
-    return VERSION + MARK["told"]
+    """What the program that is tried reports as its version."""
+    return VERSION + MARK["suffix"]
 
 
 def begin_line(store, is_new=True, kept=0, is_named=False):
-    """What a server of a store tells on standard error when it begins, where so many messages are kept; and where it serves no page
+    """What a server of a store reports on standard error when it begins, where so many messages are kept; and where it serves no page
     and isn't named, that it answers whatever the host."""
     of = "a new store" if is_new else "a store that was there"
-    told = f"cutshop {version_told()}: serving {store}, {of}, messages kept: {kept}\n".encode()
-    return told + (b"" if is_named else ANY_HOST)
+    output = f"cutshop {version_told()}: serving {store}, {of}, messages kept: {kept}\n".encode()
+    return output + (b"" if is_named else ANY_HOST)
 
 
 def end_line(store):
-    """The line that it tells when it ends."""
+    """The line that it reports when it ends."""
     return f"cutshop {version_told()}: ended serving {store}\n".encode()
 
 
@@ -203,8 +203,8 @@ class Shop:
                 env={**os.environ, **(environment or {})},
                 preexec_fn=prepare,
             )
-            self.told = self.process.stdout.readline()
-            if self.told == f"listening on 127.0.0.1:{self.port}\n".encode():
+            self.output = self.process.stdout.readline()
+            if self.output == f"listening on 127.0.0.1:{self.port}\n".encode():
                 return
             self.status = self.process.wait()
             self.errors = self.process.stderr.read()
@@ -214,7 +214,7 @@ class Shop:
 
     @property
     def is_open(self):
-        """Whether it said that it listens. If not, `status`, `told` and `errors` say how it ended."""
+        """Whether it said that it listens. If not, `status`, `reported` and `errors` say how it ended."""
         return self.port is not None
 
     def connect(self):
@@ -284,7 +284,7 @@ class Shop:
     def end(self):
         """Waits until it ends by itself, and gives its status and what it wrote on standard error."""
         out, errors = self.process.communicate(timeout=SECONDS)
-        return self.process.returncode, self.told + out, errors
+        return self.process.returncode, self.output + out, errors
 
     def kill(self, number=signal.SIGKILL):
         """Stops it, if it still runs, and gives its status."""

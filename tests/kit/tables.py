@@ -95,6 +95,17 @@ def wanted_columns(name):
     return [(it, "TEXT" if it in TEXTS else "INTEGER", 1, places.get(it, 0)) for it in COLUMNS[name].split()]
 
 
+def check(trial, path, wanted):
+    """A file's tables have the columns of the formats, STRICT, and those that are named exactly these rows."""
+    for name in COLUMNS:
+        trial.equal(columns_of(path, name), wanted_columns(name), name)
+        ((statement,),) = select(path, f"SELECT sql FROM sqlite_schema WHERE name = '{name}'")
+        trial.holds(statement.rstrip().endswith("STRICT"), statement)
+    found = rows(path)
+    for name, it in wanted.items():
+        trial.equal(found[name], it, name)
+
+
 # The tables of version 1, as plain SQL, the one that version 2 adds, and those that version 3 adds.
 VERSION_1 = """
 CREATE TABLE meta (name TEXT NOT NULL, value INTEGER NOT NULL, PRIMARY KEY (name)) STRICT;

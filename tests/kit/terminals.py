@@ -17,13 +17,13 @@ class Terminal:
     def __init__(self, number):
         self.number, self.code = number, f"M-{number}"
         # Of each of its messages the text and the reply that was read whole, or None.
-        self.told = []
+        self.exchanges = []
         # How many seconds its slowest answer took.
         self.slowest = 0
 
     def message(self, index):
         """Its message of an index, of which later ones name the acts and demands that earlier replies gave."""
-        replies = [json.loads(reply) for _, reply in self.told]
+        replies = [json.loads(reply) for _, reply in self.exchanges]
         if index == 0:
             keys = {"do": "material", "kind": "sheet", "kerf": 1, "min_long": 5, "min_short": 4}
         else:
@@ -57,10 +57,10 @@ class Terminal:
             return False, None
         if b'"ok"' not in body:
             return True, f"{line} is answered {body}"
-        if index == len(self.told):
-            self.told.append((line, body.decode()))
-        elif self.told[index] != (line, body.decode()):
-            return True, f"{line} was answered {self.told[index][1]} and is answered {body}"
+        if index == len(self.exchanges):
+            self.exchanges.append((line, body.decode()))
+        elif self.exchanges[index] != (line, body.decode()):
+            return True, f"{line} was answered {self.exchanges[index][1]} and is answered {body}"
         return True, None
 
     def send_all(self, shop, count):
@@ -113,7 +113,7 @@ def stopped_at(shop, terminals, count, number):
 
     def stop():
         limit = time.monotonic() + 60
-        while sum(len(it.told) for it in terminals) < count and time.monotonic() < limit:
+        while sum(len(it.exchanges) for it in terminals) < count and time.monotonic() < limit:
             time.sleep(0.002)
         shop.kill(number)
 

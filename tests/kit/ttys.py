@@ -16,13 +16,13 @@ def at_terminal(words, stream, folder):
     streams = {"stdout": subprocess.PIPE, "stderr": subprocess.PIPE, stream: theirs}
     process = subprocess.Popen(words, stdin=subprocess.DEVNULL, cwd=folder, **streams)
     os.close(theirs)
-    told = b""
+    output = b""
     try:
         while piece := os.read(ours, 65536):
-            told += piece
+            output += piece
     except OSError:
         # (the other side is closed)
         pass
     os.close(ours)
     out, errors = process.communicate(timeout=SECONDS)
-    return process.returncode, out if stream == "stderr" else errors, told, time.monotonic() - began
+    return process.returncode, out if stream == "stderr" else errors, output, time.monotonic() - began

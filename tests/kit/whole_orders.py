@@ -32,7 +32,7 @@ def sheet(w, h, *kinds):
 
 
 def sizes_in(words):
-    """The sizes that words tell: width, height, whether it may turn, and the number, None where there is none."""
+    """The sizes that words report: width, height, whether it may turn, and the number, None where there is none."""
     found = re.findall(r"(\d+)(?:x(\d+))?(t?)(?:\*(\d+))?", words)
     return [(int(w), int(h or 1), bool(turn), int(number) if number else None) for w, h, turn, number in found]
 

@@ -87,16 +87,16 @@ def question(material, **keys):
 
 
 def answered(trial, shop, asked, content=None):
-    """The answer to a question, checked against what the shop tells of the material, or told before."""
+    """The answer to a question, checked against what the shop reports of the material, or reported before."""
     content = content or content_of(shop.reply, asked["material"])
     text = shop.reply(compact(asked)).decode()
     trial.holds(text.startswith('{"bound":'), f"{compact(asked)}: {text}")
     return checked_answer(content, asked, text)
 
 
-def reservations(told, dice, number, terminal=9):
+def reservations(output, dice, number, terminal=9):
     """Messages that reserve each part of an answer for its plan, in an order by chance."""
-    plans = [(part, entry["tree"]) for entry in told["plans"] for part in entry["parts"]]
+    plans = [(part, entry["tree"]) for entry in output["plans"] for part in entry["parts"]]
     dice.shuffle(plans)
     return [
         compact({"do": "reserve", "number": number + at, "part": part, "terminal": terminal, "tree": tree})

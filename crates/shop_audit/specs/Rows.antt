@@ -2,7 +2,7 @@
 use Rattle.std.specs.Prelude.{List, ℕ, ◌++◌, codes}
 use Rattle.std.specs.Fmt.{decimal}
 use Rattle.shop_audit.specs.declared.rows.Row.{Row}
-use Rattle.shop_audit.specs.declared.rows.Row.TheVariants.{Begun, Demand, Halt, OtherHalt, Import, OtherImport, Job, Journal, Kept, Material, LastAct, LastDemand, Note, Order, Part}
+use Rattle.shop_audit.specs.declared.rows.Row.TheVariants.{Begun, Demand, Halt, OtherHalt, Import, OtherImport, Job, Journal, Kept, Material, LastAct, LastDemand, Note, Order, Part, Use, OtherUse}
 
 abbrev pub row_table : Row → List ℕ
 row_table (Begun number) = codes "begun"
@@ -20,6 +20,8 @@ row_table LastDemand = codes "meta"
 row_table (Note code) = codes "notes"
 row_table (Order code) = codes "orders"
 row_table (Part name) = codes "parts"
+row_table (Use job order) = codes "uses"
+row_table OtherUse = codes "uses"
 
 -- its columns are joined by `/`
 abbrev pub row_key : Row → List ℕ
@@ -38,3 +40,5 @@ row_key LastDemand = codes "demand"
 row_key (Note code) = code
 row_key (Order code) = code
 row_key (Part name) = decimal name.act ++ codes "/" ++ decimal name.node
+row_key (Use job order) = decimal job ++ codes "/" ++ order
+row_key OtherUse = codes "a job or an order that isn't there"

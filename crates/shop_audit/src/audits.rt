@@ -55,7 +55,8 @@ fn is_same<B: Book, F: Book>(
     Ok(one.has_rows_of(other))
 }
 
-// What is found of the other rows of a book that has so many entries, which with what is kept of them are the same anew.
+// What is found of the other rows of a book that has so many entries, which with what is kept of them are the same anew, and at
+// last of the orders of jobs that it lists.
 fn rows_verdict<B: Book, F: Book>(
     alloc: Global,
     book: &mut B,
@@ -69,10 +70,13 @@ fn rows_verdict<B: Book, F: Book>(
     ensures clean_disk { F.has_clean_disk anew.new → F.has_clean_disk anew.old }
 {
     let same = is_same(alloc, book, anew, entries)?;
-    if same {
-        Ok(Verdict::Whole)
-    } else {
-        Ok(Verdict::Row)
+    if !same {
+        return Ok(Verdict::Row);
+    }
+    let stray = book.stray_use(alloc)?;
+    match stray {
+        Some(_) => Ok(Verdict::Row),
+        None => Ok(Verdict::Whole),
     }
 }
 

@@ -2,7 +2,7 @@
 
 use crate::rows::Row;
 use cut_measure::{Code, MOST_NUMBERS, PartName};
-use shop_book::{Book, BookFault, Ledger, is_same_halt};
+use shop_book::{Book, BookFault, Ledger, StrayUse, is_same_halt};
 use shop_records::{Entry, Job, JobHalt, Material, Pair};
 use std::alloc::{AllocError, Global};
 use std::cmp::Ordering;
@@ -360,7 +360,24 @@ fn first_before_meta<B: Book, F: Book>(
     first_material(alloc, book, anew)
 }
 
-/// The first row by which two books with so many entries differ, where their contents do.
+// The row that a stray order of a job is told as.
+fn use_row(stray: &StrayUse) -> Row {
+    match stray {
+        StrayUse::Use(job, order) => Row::Use(*job, *order),
+        StrayUse::Other => Row::OtherUse,
+    }
+}
+
+// The first order of a job by which a book differs from its own jobs' plans, which is the last row that may differ.
+fn first_use<B: Book>(alloc: Global, book: &mut B) -> Result<Row, BookFault> {
+    let found = book.stray_use(alloc)?;
+    match &found {
+        Some(stray) => Ok(use_row(stray)),
+        None => Ok(Row::LastAct),
+    }
+}
+
+/// The first row by which two books with so many entries differ, where their contents do, or what the first one lists of its jobs.
 pub fn first_row<B: Book, F: Book>(
     alloc: Global,
     book: &mut B,
@@ -385,6 +402,6 @@ pub fn first_row<B: Book, F: Book>(
     let behind = book.next_act()?.max(anew.next_act()?);
     match first_part(book.rows(), anew.rows(), behind) {
         Some(row) => Ok(row),
-        None => Ok(Row::LastAct),
+        None => first_use(alloc, book),
     }
 }

@@ -1,6 +1,7 @@
 //! The rows by which two books may differ.
 
-ghost use Rattle.std.specs.Prelude.{◌≡◌, ◌++◌, OnOk, string_bytes};
+ghost use Rattle.std.specs.Prelude.{◌≡◌, ◌++◌, OnOk, codes, string_bytes};
+ghost use Rattle.std.specs.Fmt.{decimal};
 ghost use Rattle.shop_audit.specs.Rows.{row_key, row_table};
 
 use cut_measure::{Code, PartName};
@@ -34,6 +35,19 @@ pub enum Row {
     Note(Code),
     Order(Code),
     Part(PartName),
+    /// This order of the job of this number.
+    Use(u32, Code),
+    /// An order of a job that is none.
+    OtherUse,
+}
+
+// Appends the number of a job and the code of an order.
+fn write_use(text: &mut String, job: u32, order: Code) -> Result<(), AllocError>
+    ensures { OnOk result (string_bytes text.new
+        ≡ string_bytes text.old ++ decimal job ++ codes "/" ++ order) }
+{
+    write!(text, "{job}/")?;
+    order.write(text)
 }
 
 impl Row {
@@ -57,6 +71,8 @@ impl Row {
             Row::Note(_) => "notes",
             Row::Order(_) => "orders",
             Row::Part(_) => "parts",
+            Row::Use(..) => "uses",
+            Row::OtherUse => "uses",
         }
     }
 
@@ -80,6 +96,8 @@ impl Row {
             Row::Note(code) => code.write(text),
             Row::Order(code) => code.write(text),
             Row::Part(name) => write!(text, "{}/{}", name.act(), name.node()),
+            Row::Use(job, order) => write_use(text, job, order),
+            Row::OtherUse => text.push_str("a job or an order that isn't there"),
         }
     }
 }

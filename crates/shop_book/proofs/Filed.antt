@@ -25,8 +25,9 @@ use Rattle.shop_rows.specs.Rows.{map_of, rise, row_at}
 use Rattle.shop_rows.proofs.ByLine.{found_in, in_found, next_row}
 use Rattle.shop_rows.proofs.Listed.{tie}
 use Rattle.shop_rows.proofs.Named.{row_key}
-use Rattle.shop_book.specs.Pieces.{first_left, is_filed_for, is_filed_in, is_filed_of, start_after, AreFiled, HaveLinesOf, IsFiled, IsFiledForOrder, IsLeast, MadePiece, PassesNone, StaysFiled}
-use Rattle.shop_book.specs.declared.piece_index.PieceIndex.{PieceIndex}
+use Rattle.shop_book.specs.Filing.{first_left, is_filed_for, is_filed_in, is_filed_of, start_after, IsLeast, PassesNone, StaysFiled}
+use Rattle.shop_book.specs.Pieces.{AreFiled, HaveLinesOf, IsFiled, IsFiledForOrder, MadePiece}
+use Rattle.shop_book.specs.declared.number_index.NumberIndex.{NumberIndex}
 use Rattle.shop_book.proofs.Held.{get-rows}
 
 -- ---- keys by what they are filed under, and then by act
@@ -127,27 +128,43 @@ module _ {K S : Type 0} (of : K → S) (act : K → ℕ) (cmp : S → S → Orde
 
 -- ---- what is filed
 
+pub stays_itself : (index : NumberIndex) → StaysFiled index index
+stays_itself index = record { numbers = λ under number filed. filed; codes = λ under number filed. filed; names = λ under number filed. filed }
+
+pub stays_then : (a b c : NumberIndex) → StaysFiled a b → StaysFiled b c → StaysFiled a c
+stays_then a b c one two = record {
+  numbers = λ under number filed. two.numbers under number (one.numbers under number filed);
+  codes = λ under number filed. two.codes under number (one.codes under number filed);
+  names = λ under number filed. two.names under number (one.names under number filed);
+}
+
 -- what is in two lists is in one of them
 in_either : {X : Type 0} (x : X) (xs ys : List X) → IsIn x (xs ++ ys) → IsIn x xs ⊎ IsIn x ys
 in_either x [] ys i = inr i
 in_either x (y ∷ xs) ys (inl e) = inl (inl e)
 in_either x (y ∷ xs) ys (inr i) = elim (in_either x xs ys i) [ inl j ↦ inl (inr j) | inr j ↦ inr j ]
 
-in_next : {X : Type 0} (rows : List X) (i : ℕ) (row x : X) → i < length rows → row ≡ get_or rows i row → IsIn x (take (i + 1) rows) → IsIn x (take i rows) ⊎ IsIn x (row ∷ [])
+pub in_next : {X : Type 0} (rows : List X) (i : ℕ) (row x : X) → i < length rows → row ≡ get_or rows i row → IsIn x (take (i + 1) rows) → IsIn x (take i rows) ⊎ IsIn x (row ∷ [])
 in_next rows i row x within is there = in_either x (take i rows) (row ∷ []) (subst (IsIn x) (next_row rows i row within is) there)
 
-pub filed_stay : (old new : PieceIndex) (parts : List Part) → StaysFiled old new → AreFiled old parts → AreFiled new parts
-filed_stay old new parts stays are part there piece = stays part (are part there piece)
+pub filed_stay : (old new : NumberIndex) (parts : List Part) → StaysFiled old new → AreFiled old parts → AreFiled new parts
+filed_stay old new parts stays are part there piece =
+    let f = are part there piece in
+    record {
+      demand = stays.numbers (state_of part.state) part.name.act f.demand;
+      batch = stays.codes part.batch part.name.act f.batch;
+      unit = stays.names part.root part.name.act f.unit;
+    }
 
-pub filed_more : (index : PieceIndex) (parts : List Part) (i : ℕ) (part : Part) → i < length parts → part ≡ get_or parts i part → AreFiled index (take i parts) → AreFiled index (part ∷ []) → AreFiled index (take (i + 1) parts)
+pub filed_more : (index : NumberIndex) (parts : List Part) (i : ℕ) (part : Part) → i < length parts → part ≡ get_or parts i part → AreFiled index (take i parts) → AreFiled index (part ∷ []) → AreFiled index (take (i + 1) parts)
 filed_more index parts i part within is before own other there piece =
     elim (in_next parts i part other within is there) [ inl j ↦ before other j piece | inr j ↦ own other j piece ]
 
-pub no_piece_filed : (index : PieceIndex) (part : Part) → is_piece part.state ≡ false → AreFiled index (part ∷ [])
+pub no_piece_filed : (index : NumberIndex) (part : Part) → is_piece part.state ≡ false → AreFiled index (part ∷ [])
 no_piece_filed index part none other (inl e) piece = absurd (true≢false (sym piece ∙ ap (λ (p : Part). is_piece p.state) e ∙ none))
 no_piece_filed index part none other (inr i) piece = absurd i
 
-pub piece_filed : (index : PieceIndex) (part : Part) → IsFiled index part → AreFiled index (part ∷ [])
+pub piece_filed : (index : NumberIndex) (part : Part) → IsFiled index part → AreFiled index (part ∷ [])
 piece_filed index part filed other (inl e) piece = subst (IsFiled index) (sym e) filed
 piece_filed index part filed other (inr i) piece = absurd i
 
@@ -170,7 +187,7 @@ moved_put : (moved : Option Part) (m : FinMap name_cmp Part) (name : Name) (part
 moved_put None m name part e = inr e
 moved_put (Some row) m name part e = elim (one_put row m name part e) [ inl same ↦ inl (inl same) | inr old ↦ inr old ]
 
-module _ (index : PieceIndex) (old new rows undone : List Part) (moved : Option Part) (up : rise part_key name_cmp old ≡ true) (up_new : rise part_key name_cmp new ≡ true) where
+module _ (index : NumberIndex) (old new rows undone : List Part) (moved : Option Part) (up : rise part_key name_cmp old ≡ true) (up_new : rise part_key name_cmp new ≡ true) where
   pub filed_after : map_of part_key name_cmp new ≡ with_parts rows (with_parts undone (with_moved moved (map_of part_key name_cmp old)))
       → AreFiled index old → AreFiled index rows → AreFiled index undone → AreFiled index (option_to_list moved) → AreFiled index new
   filed_after put was own gone turned part there piece = by_rows (each_put rows (with_parts undone (with_moved moved kept)) part.name part found)
@@ -200,7 +217,7 @@ module _ (index : PieceIndex) (old new rows undone : List Part) (moved : Option 
 
 -- ---- acts of an order's demands
 
-module _ (index : PieceIndex) (rows : List Demand) (order : List ℕ) (last : Option ℕ) where
+module _ (index : NumberIndex) (rows : List Demand) (order : List ℕ) (last : Option ℕ) where
   pub no_lines_yet : PassesNone (IsFiledForOrder index [] order) last None
   no_lines_yet = record { left = tt; none = λ act left filed. filed.among }
 
@@ -224,17 +241,17 @@ one_order of a b e f = cc
 pub passes_fewer : (P Q : ℕ → Type 0) (last found : Option ℕ) → ((act : ℕ) → Q act → P act) → PassesNone P last found → PassesNone Q last found
 passes_fewer P Q last found more passes = record { left = passes.left; none = λ act left has. passes.none act left (more act has) }
 
-one_code : (a b : List ℕ) → same_code a b ≡ true → a ≡ b
+pub one_code : (a b : List ℕ) → same_code a b ≡ true → a ≡ b
 one_code a b same = codes_exact a b (tie _ same)
 
-one_name : (a b : Name) → same_name a b ≡ true → a ≡ b
+pub one_name : (a b : Name) → same_name a b ≡ true → a ≡ b
 one_name a b same =
     let parts = and_parts _ _ same in
     let act : a.act ≡ b.act = eqb-true a.act b.act parts.0 in
     let node : a.node ≡ b.node = eqb-true a.node b.node parts.1 in
     λ i. record { act = act i; node = node i }
 
-module _ (index : PieceIndex) (content : Content) (parts : List Part) (filed : AreFiled index parts) where
+module _ (index : NumberIndex) (content : Content) (parts : List Part) (filed : AreFiled index parts) where
   pub batch_made : (batch : List ℕ) (act : ℕ) → MadePiece content parts (source.Batch batch) act → IsTrue (is_filed_of index batch act)
   batch_made batch act made =
       let both = and_parts _ _ made.from in

@@ -10,6 +10,9 @@ pub mod Lasts
 -- the pieces of an order, of a batch and of a unit
 pub mod Filed
 pub mod PiecesTold
+-- jobs and entries in an index
+pub mod JobsFiled
+pub mod EntriesFiled
 -- the lines of an order
 pub mod LinesTold
 -- rows in a ledger, and what lasts beside it

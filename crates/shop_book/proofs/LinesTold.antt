@@ -1,5 +1,5 @@
 -- The lines of an order among the demands of a book.
-use Rattle.std.proofs.Common.{◌≡◌, inl, inr, ℕ, Bool, true, List, [], ◌∷◌, get_or, sym, ap, ◌∙◌, true≢false}
+use Rattle.std.proofs.Common.{◌≡◌, inl, inr, ℕ, Bool, true, false, List, [], ◌∷◌, cond, get_or, refl, sym, ap, ◌∙◌, true≢false}
 use Rattle.std.specs.Prelude.{Option, Some, None, IfSome, filter}
 use Rattle.std.specs.List.{list_all}
 use Rattle.std.specs.declared.cmp.Ordering.TheVariants.{Less}
@@ -20,6 +20,8 @@ use Rattle.shop_rows.proofs.Places.{rising_at, tested}
 use Rattle.shop_rows.proofs.Summed.{both}
 use Rattle.shop_book.specs.Orders.{is_among, is_placed, order_at}
 use Rattle.shop_book.specs.declared.known_orders.KnownOrder.{KnownOrder}
+use Rattle.shop_book.specs.Stories.{is_of_order}
+use Rattle.shop_book.proofs.Filed.{one_code}
 use Rattle.shop_book.proofs.Held.{get-rows}
 
 -- ---- rows among which all of an order lie
@@ -40,6 +42,38 @@ module _ (order : List ℕ) (orders : List KnownOrder) (demands : List Demand) (
   -- or nowhere
   pub no_rows_of : order_at order orders ≡ None → (row : Demand) → IsIn row demands → row.order ≡ order → ⊥
   no_rows_of none row i own = true≢false (sym (own_found None none row i own))
+
+-- a test that passes alone what passes another one
+filter_twice : {X : Type 0} (p q : X → Bool) (xs : List X) → ((x : X) → IsIn x xs → p x ≡ true → q x ≡ true) → filter p (filter q xs) ≡ filter p xs
+filter_twice p q [] more = refl
+filter_twice p q (x ∷ xs) more = by (filter_twice p q xs (λ y there. more y (inr there))) (q x) (p x) refl refl
+  where
+    kept : (b : Bool) → q x ≡ b → filter p (filter q (x ∷ xs)) ≡ filter p (cond b (x ∷ filter q xs) (filter q xs))
+    kept b e = ap (λ b. filter p (cond b (x ∷ filter q xs) (filter q xs))) e
+
+    by : filter p (filter q xs) ≡ filter p xs → (b c : Bool) → q x ≡ b → p x ≡ c → filter p (filter q (x ∷ xs)) ≡ filter p (x ∷ xs)
+    by rest true c e f = kept true e ∙ (λ i. cond (p x) (x ∷ rest i) (rest i))
+    by rest false true e f = absurd (true≢false (sym (more x (inl refl) f) ∙ e))
+    by rest false false e f = kept false e ∙ rest ∙ sym (ap (λ b. cond b (x ∷ filter p xs) (filter p xs)) f)
+
+-- a test that none passes
+filter_none : {X : Type 0} (p : X → Bool) (xs : List X) → ((x : X) → IsIn x xs → p x ≡ true → ⊥) → filter p xs ≡ []
+filter_none p [] none = refl
+filter_none p (x ∷ xs) none = by (filter_none p xs (λ y there. none y (inr there))) (p x) refl
+  where
+    by : filter p xs ≡ [] → (b : Bool) → p x ≡ b → cond (p x) (x ∷ filter p xs) (filter p xs) ≡ []
+    by rest true e = absurd (none x (inl refl) e)
+    by rest false e = ap (λ b. cond b (x ∷ filter p xs) (filter p xs)) e ∙ rest
+
+module _ (order : List ℕ) (orders : List KnownOrder) (demands : List Demand) (placed : list_all (is_placed orders) demands ≡ true) where
+  -- those of an order within its span are all of it
+  pub own_in_span : (known : KnownOrder) → order_at order orders ≡ Some known → filter (is_of_order order) (filter (λ demand. is_within known.span demand.number) demands) ≡ filter (is_of_order order) demands
+  own_in_span known is =
+      filter_twice (is_of_order order) (λ (demand : Demand). is_within known.span demand.number) demands (λ row there own. own_found order orders demands placed (Some known) is row there (one_code row.order order own))
+
+  -- and of one that isn't there are none
+  pub own_of_none : order_at order orders ≡ None → filter (is_of_order order) demands ≡ []
+  own_of_none none = filter_none (is_of_order order) demands (λ row there own. no_rows_of order orders demands placed none row there (one_code row.order order own))
 
 -- the lines are those of all demands, where these are among them and all of the order are among these
 module _ (order : List ℕ) (rows demands : List Demand) (among : (row : Demand) → IsIn row rows → IsIn row demands) where

@@ -8,7 +8,11 @@ pub mod Orders
 pub mod Memory
 pub mod Equal
 pub mod Tallies
+-- what is filed in an index
+pub mod Filing
 pub mod Pieces
+pub mod FiledJobs
+pub mod FiledEntries
 -- rows in a ledger, and what lasts beside it
 pub mod KeptUp
 pub mod Ledgers

@@ -14,6 +14,7 @@ ghost use Rattle.shop_book.specs.Ledgers.{bare, content_in};
 ghost use Rattle.std.specs.FinMap.{len};
 
 use crate::ledger::Ledger;
+use crate::uses::StrayUse;
 use cut_measure::{Code, PartName};
 use shop_records::{
     Change, CodeList, Demand, DemandList, Entry, EntryRows, ImportRow, Job, JobBegin, JobHalt,
@@ -395,6 +396,12 @@ pub trait Book {
         ensures counts { has_clean_disk self.new → (m : Content) → holds self.old m
             → IfOk result (λ counts. (counts.0 ≡ len m.kept) × (counts.1 ≡ len m.imports)
             × (counts.2 ≡ len m.halts)) }
+        ensures keeps { Keeps has_clean_disk holds may_leave failed
+            (CountsFailure result) self.old self.new };
+
+    /// Where the orders of jobs that a store lists differ from the plans of its jobs, if it lists any. No book is read from them,
+    /// and no clause says which row it is.
+    fn stray_use(&mut self, alloc: Global) -> Result<Option<StrayUse>, BookFault>
         ensures keeps { Keeps has_clean_disk holds may_leave failed
             (CountsFailure result) self.old self.new };
 

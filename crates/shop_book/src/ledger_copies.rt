@@ -22,7 +22,9 @@ impl Ledger {
         let demands = Vec::from_slice(alloc, &self.demands)?;
         let lists = self.lists.copy(alloc)?;
         let pieces = self.pieces.copy()?;
+        let works = self.works.copy()?;
         Ok(Ledger {
+            alloc,
             materials,
             parts,
             totals,
@@ -36,6 +38,7 @@ impl Ledger {
             last_demand: self.last_demand,
             lists,
             pieces,
+            works,
         })
     }
 

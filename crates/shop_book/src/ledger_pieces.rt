@@ -9,7 +9,8 @@ ghost use Rattle.shop_records.specs.declared.pieces.PieceSource.TheVariants as s
 ghost use Rattle.shop_records.specs.declared.records.Part.{Part as PartOf};
 ghost use Rattle.shop_rows.specs.PartRows.{parts_in};
 ghost use Rattle.shop_book.specs.Ledgers.{content_in};
-ghost use Rattle.shop_book.specs.Pieces.{first_left, is_asked, HaveLinesOf, MadePiece, PassesNone};
+ghost use Rattle.shop_book.specs.Filing.{first_left, PassesNone};
+ghost use Rattle.shop_book.specs.Pieces.{is_asked, HaveLinesOf, MadePiece};
 
 use crate::known_orders::rows_with;
 use crate::ledger::Ledger;
@@ -176,8 +177,8 @@ impl Ledger {
     {
         match of {
             PieceSource::Order(order) => self.pieces.order_act(lines, *order, last),
-            PieceSource::Batch(batch) => self.pieces.batch_act(*batch, last),
-            PieceSource::Unit(unit) => self.pieces.unit_act(*unit, last),
+            PieceSource::Batch(batch) => self.pieces.next_of(*batch, last),
+            PieceSource::Unit(unit) => self.pieces.next_in(*unit, last),
         }
     }
 

@@ -7,8 +7,10 @@ ghost use Rattle.cut_measure.specs.Codes.{code_cmp};
 ghost use Rattle.shop_records.specs.Content.{pair_cmp};
 ghost use Rattle.shop_rows.specs.Keys.{entry_key, halt_key, import_key};
 ghost use Rattle.shop_rows.specs.Rows.{rise};
+ghost use Rattle.shop_book.specs.FiledEntries.{AreEntriesFiled};
 
 use crate::keeping::KeptText;
+use crate::number_index::NumberIndex;
 use shop_records::{Entry, ImportRow, JobHalt, Pair};
 use std::alloc::Global;
 use std::collections::BTreeMap;
@@ -21,8 +23,10 @@ pub struct MemStorage {
     pub(crate) imports: Vec<ImportRow>,
     pub(crate) halts: Vec<JobHalt>,
     pub(crate) entries: Vec<Entry>,
+    pub(crate) index: NumberIndex,
     ghost kept_rise: { IsTrue (is_sorted pair_cmp kept.entries) },
     ghost imports_rise: { IsTrue (rise import_key code_cmp imports.items) },
     ghost halts_rise: { IsTrue (rise halt_key nat_cmp halts.items) },
     ghost entries_rise: { IsTrue (rise entry_key nat_cmp entries.items) },
+    ghost filed: { AreEntriesFiled index entries.items },
 }

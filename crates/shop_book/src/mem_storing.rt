@@ -10,13 +10,18 @@ ghost use Rattle.shop_records.specs.declared.journal.Entry.{Entry as EntryOf};
 
 use crate::job_ends::time_of_end;
 use crate::keeping::{KeptText, copy_kept, count_kept, find_kept, last_kept};
+use crate::ledger::Ledger;
 use crate::mem_storage::MemStorage;
 use crate::memory_lists::{copy_halts, copy_imports, find_halt, find_import};
+use crate::number_index::NumberIndex;
 use crate::same_entries::are_same;
 use crate::same_halts::are_same_halts;
 use crate::storage::{Storage, StorageFault};
+use crate::uses::StrayUse;
 use cut_measure::Code;
-use shop_records::{Change, Entry, EntryRows, ImportRow, JobHalt, Kept, KeptMessage, Pair};
+use shop_records::{
+    Change, Entry, EntryRows, ImportRow, JobHalt, Kept, KeptMessage, Pair, Subject,
+};
 use shop_rows::{copy_rows, entries_after, find, first_rows, put_copy, put_some, reserve_rows};
 use std::alloc::{AllocError, Global};
 use std::collections::BTreeMap;
@@ -36,6 +41,7 @@ impl MemStorage {
             imports: Vec::new(alloc),
             halts: Vec::new(alloc),
             entries: Vec::new(alloc),
+            index: NumberIndex::new(alloc),
         }
     }
 
@@ -50,12 +56,14 @@ impl MemStorage {
         let imports = copy_imports(&self.imports)?;
         let halts = copy_halts(alloc, &self.halts)?;
         let entries = Vec::from_slice(alloc, &self.entries)?;
+        let index = self.index.copy()?;
         Ok(MemStorage {
             alloc,
             kept,
             imports,
             halts,
             entries,
+            index,
         })
     }
 
@@ -240,6 +248,10 @@ impl Storage for MemStorage {
         Ok(list)
     }
 
+    fn next_about(&self, about: &Subject, acts: &[u32], after: u64) -> Option<u64> {
+        self.index.next_about(about, acts, after)
+    }
+
     fn ended(&self, job: u32) -> u64 {
         time_of_end(job, entries_after(&self.entries, 0))
     }
@@ -252,12 +264,21 @@ impl Storage for MemStorage {
         ))
     }
 
+    fn stray_use(
+        &mut self,
+        _alloc: Global,
+        _ledger: &Ledger,
+    ) -> Result<Option<StrayUse>, StorageFault> {
+        Ok(None)
+    }
+
     fn commit(&mut self, change: &Change) -> Result<(), StorageFault> {
         let import = copy_import(self.alloc, &change.import)?;
         let halt = copy_halt(self.alloc, &change.halt)?;
         reserve_rows(&mut self.halts, 1)?;
         reserve_rows(&mut self.imports, 1)?;
         reserve_rows(&mut self.entries, 1)?;
+        self.index.file_new_entry(&change.entry)?;
         keep_text(self.alloc, &mut self.kept, &change.kept)?;
         put_some(&mut self.imports, import);
         put_some(&mut self.halts, halt);

@@ -1,16 +1,41 @@
 //! A ledger takes a change in two steps: reserving capacity may fail and changes no row, putting the rows can't fail.
 
+ghost use Rattle.std.specs.Prelude.{OnOk};
+ghost use Rattle.std.specs.Option.{option_to_list};
+ghost use Rattle.shop_book.specs.FiledJobs.{AreJobsFiled};
+ghost use Rattle.shop_book.specs.Filing.{StaysFiled};
 ghost use Rattle.shop_book.specs.Ledgers.{bare, content_in, HasRoomFor};
+ghost use Rattle.shop_book.specs.Pieces.{AreFiled};
 ghost use Rattle.shop_records.specs.Content.{changed, fresh};
 
 use crate::known_orders::{put_order, reach_all};
 use crate::ledger::Ledger;
 use crate::memory_lists::{put_demands, put_job, reserve_both};
 use crate::memory_parts::{put_stock, reserve_parts};
-use crate::piece_index::PieceIndex;
+use crate::number_index::NumberIndex;
 use shop_records::Change;
 use shop_rows::{OpenRows, PartRows, put_some, reserve_names, reserve_rows};
 use std::alloc::{AllocError, Global};
+
+// Files the acts of a change's pieces, and its job.
+fn file_change(
+    alloc: Global,
+    pieces: &mut NumberIndex,
+    works: &mut NumberIndex,
+    change: &Change,
+) -> Result<(), AllocError>
+    ensures rows { OnOk result (AreFiled pieces.new change.now.parts) }
+    ensures undone { OnOk result (AreFiled pieces.new change.now.undone) }
+    ensures moved { OnOk result (AreFiled pieces.new (option_to_list change.now.moved)) }
+    ensures job { OnOk result (AreJobsFiled works.new (option_to_list change.now.job)) }
+    ensures pieces { StaysFiled pieces.old pieces.new }
+    ensures works { StaysFiled works.old works.new }
+{
+    pieces.file_moved(&change.moved)?;
+    pieces.file_all(change.undone.as_slice())?;
+    pieces.file_all(change.parts.as_slice())?;
+    works.file_some_job(alloc, &change.job)
+}
 
 impl Ledger {
     ghost use Rattle.std.specs.Prelude.{◌≡◌, OnOk, OnErr};
@@ -20,6 +45,7 @@ impl Ledger {
         ensures { content_in result ≡ fresh }
     {
         Ledger {
+            alloc,
             materials: Vec::new(alloc),
             parts: PartRows::new(alloc),
             totals: Vec::new(alloc),
@@ -32,11 +58,12 @@ impl Ledger {
             last_act: 0,
             last_demand: 0,
             lists: OpenRows::new(alloc),
-            pieces: PieceIndex::new(alloc),
+            pieces: NumberIndex::new(alloc),
+            works: NumberIndex::new(alloc),
         }
     }
 
-    /// Reserves capacity for every row of a change, and files the acts of its pieces. Changes no row, even if memory runs out.
+    /// Reserves capacity for every row of a change, and files the acts of its pieces and its job. Changes no row, even if memory runs out.
     pub fn make_room(&mut self, change: &Change) -> Result<(), AllocError>
         ensures content { content_in self.new ≡ content_in self.old }
         ensures room { OnOk result (HasRoomFor change.now self.new) }
@@ -44,9 +71,7 @@ impl Ledger {
         let rows = change.parts.as_slice();
         let undone = change.undone.as_slice();
         let count = change.demands.as_slice().len();
-        self.pieces.file_moved(&change.moved)?;
-        self.pieces.file_all(undone)?;
-        self.pieces.file_all(rows)?;
+        file_change(self.alloc, &mut self.pieces, &mut self.works, change)?;
         self.materials.reserve(1)?;
         let parts = undone.len() + rows.len() + 1;
         reserve_parts(&mut self.parts, &mut self.totals, parts)?;

@@ -5,12 +5,15 @@ ghost use Rattle.shop_records.specs.Content.{Content, kept_at, import_at, halt_a
 ghost use Rattle.shop_records.specs.Lists.{IsLastNumber, end_entry, entries_behind};
 ghost use Rattle.shop_records.specs.Soundness.{Fits};
 ghost use Rattle.shop_records.specs.declared.journal.Entry.{Entry as EntryOf};
+ghost use Rattle.shop_book.specs.FiledEntries.{SkipsNone};
 ghost use Rattle.shop_book.specs.Storages.{IsRead};
 ghost use Rattle.std.specs.FinMap.{len};
 ghost use Rattle.shop_book.specs.declared.storage.StorageFault.TheVariants.{NoMemory};
 
+use crate::ledger::Ledger;
+use crate::uses::StrayUse;
 use cut_measure::Code;
-use shop_records::{Change, Entry, EntryRows, ImportRow, JobHalt, Kept};
+use shop_records::{Change, Entry, EntryRows, ImportRow, JobHalt, Kept, Subject};
 use std::alloc::{AllocError, Global};
 
 /// Why a storage has no answer.
@@ -120,6 +123,12 @@ pub trait Storage {
         ensures memory { MAY_FAIL ≡ false → IfErr result (λ fault. fault ≡ NoMemory) }
         ensures leaves { IsRead has_clean_disk holds may_leave self.old self.new };
 
+    /// Behind which number the entries go on that have the code of an order, the name of a part, or one of these jobs or acts; it
+    /// may be one too low. None where no entry does.
+    fn next_about(&self, about: &Subject, acts: &[u32], after: u64) -> Option<u64>
+        ensures next { has_clean_disk self.now → (m : Content) → holds self.now m
+            → SkipsNone (entries_behind m 0) about.now acts.now after result };
+
     /// When the job of a number was done or broken, by its entry; 0 where that has none.
     fn ended(&self, job: u32) -> u64
         ensures time { has_clean_disk self.now → (m : Content) → holds self.now m
@@ -136,6 +145,16 @@ pub trait Storage {
             → IfOk result (λ counts. (counts.0 ≡ len m.kept) × (counts.1 ≡ len m.imports)
             × (counts.2 ≡ len m.halts)) }
         ensures sure { MAY_FAIL ≡ false → IsOk result }
+        ensures leaves { IsRead has_clean_disk holds may_leave self.old self.new };
+
+    /// Where the orders of jobs that a store lists differ from the plans of the jobs in a ledger, if it lists any. No book is read
+    /// from them, and no clause says which row it is.
+    fn stray_use(
+        &mut self,
+        alloc: Global,
+        ledger: &Ledger,
+    ) -> Result<Option<StrayUse>, StorageFault>
+        ensures memory { MAY_FAIL ≡ false → IfErr result (λ fault. fault ≡ NoMemory) }
         ensures leaves { IsRead has_clean_disk holds may_leave self.old self.new };
 
     /// Makes a change that fits the content last as a whole, or not at all. An `Err` leaves the content as it was, whatever the

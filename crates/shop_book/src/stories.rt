@@ -2,12 +2,16 @@
 
 ghost use Rattle.std.specs.Prelude.{◌≡◌, IfOk, IsTrue};
 ghost use Rattle.std.specs.Ordering.{nat_cmp};
+ghost use Rattle.shop_records.specs.Elements.{IsIn};
 ghost use Rattle.shop_records.specs.Lists.{ends_job, is_about, is_code_of, is_name_of, made_part, makes_units, undoes_job};
+ghost use Rattle.shop_records.specs.declared.journal.Entry.{Entry as EntryOf};
 ghost use Rattle.shop_rows.specs.Keys.{job_key};
 ghost use Rattle.shop_rows.specs.Rows.{rise};
+ghost use Rattle.shop_book.specs.FiledEntries.{HasKey};
 ghost use Rattle.shop_book.specs.Ledgers.{content_in};
 ghost use Rattle.shop_book.specs.Stories.{has_piece_among, has_piece_in, is_of_order, is_on_in, numbers_about, numbers_of};
 
+use crate::known_orders::rows_with;
 use crate::ledger::Ledger;
 use cut_measure::{Code, PartName};
 use shop_records::{Demand, Entry, Job, NumberList, Subject, Word};
@@ -161,6 +165,15 @@ fn is_name_of(name: PartName, found: Option<PartName>) -> bool
     }
 }
 
+// One act.
+fn one_act(alloc: Global, number: u32) -> Result<NumberList, AllocError>
+    ensures { IfOk result (λ acts. IsIn number acts) }
+{
+    let mut acts = NumberList::new(alloc);
+    acts.push(number)?;
+    Ok(acts)
+}
+
 impl Ledger {
     ghost use Rattle.shop_records.specs.declared.journal.Subject.TheVariants.{Order, Part as PartOf};
 
@@ -169,7 +182,8 @@ impl Ledger {
         ensures { IfOk result
             (λ numbers. numbers ≡ numbers_about (content_in self.now) (Order order)) }
     {
-        let numbers = numbers_of(alloc, &self.demands, order)?;
+        let lines = rows_with(self.strays, &self.orders, &self.demands, order);
+        let numbers = numbers_of(alloc, lines, order)?;
         Ok(numbers)
     }
 
@@ -181,6 +195,52 @@ impl Ledger {
             Subject::Order(code) => self.numbers_in(alloc, *code),
             Subject::Job(_) => Ok(NumberList::new(alloc)),
             Subject::Part(_) => Ok(NumberList::new(alloc)),
+        }
+    }
+
+    // The jobs that have pieces of these demands.
+    fn acts_of_order(
+        &self,
+        alloc: Global,
+        order: Code,
+        numbers: &[u32],
+    ) -> Result<NumberList, AllocError>
+        requires { numbers.now ≡ numbers_about (content_in self.now) (Order order) }
+        ensures { IfOk result (λ acts. (entry : EntryOf)
+            → IsTrue (is_about (content_in self.now) (Order order) entry)
+            → HasKey (Order order) acts entry) }
+    {
+        let acts = self.works.jobs_for(alloc, numbers)?;
+        Ok(acts)
+    }
+
+    // The act that made a part, and the jobs on it.
+    fn acts_of_part(&self, alloc: Global, name: PartName) -> Result<NumberList, AllocError>
+        ensures { IfOk result (λ acts. (entry : EntryOf)
+            → IsTrue (is_about (content_in self.now) (PartOf name) entry)
+            → HasKey (PartOf name) acts entry) }
+    {
+        let acts = self.works.acts_of_part(alloc, name)?;
+        Ok(acts)
+    }
+
+    /// Jobs and acts such that each entry about a subject with these demands has one of them, the code of the order or the name of
+    /// the part.
+    pub fn acts_about(
+        &self,
+        alloc: Global,
+        about: &Subject,
+        numbers: &[u32],
+    ) -> Result<NumberList, AllocError>
+        requires { numbers.now ≡ numbers_about (content_in self.now) about.now }
+        ensures { IfOk result (λ acts. (entry : EntryOf)
+            → IsTrue (is_about (content_in self.now) about.now entry)
+            → HasKey about.now acts entry) }
+    {
+        match about {
+            Subject::Order(code) => self.acts_of_order(alloc, *code, numbers),
+            Subject::Job(number) => one_act(alloc, *number),
+            Subject::Part(name) => self.acts_of_part(alloc, *name),
         }
     }
 

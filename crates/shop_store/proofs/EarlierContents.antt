@@ -6,6 +6,7 @@ use Rattle.std.specs.Ordering.{nat_cmp}
 use Rattle.sqlite.specs.State.{State, Survives}
 use Rattle.sqlite.proofs.StateLemmas.{survives_then, survives_weaker}
 use Rattle.cut_measure.specs.Codes.{code_cmp}
+use Rattle.shop_records.specs.Elements.{IsIn}
 use Rattle.shop_records.specs.Content.{Content, entry_at, entry_count, of_found}
 use Rattle.shop_records.specs.Lists.{entries_behind}
 use Rattle.shop_records.specs.declared.journal.Entry.{Entry}
@@ -43,6 +44,7 @@ none_remembered m none it number at ends =
       of_last = number ∙ sym count;
       time = at ∙ sym (ap (of_found (λ (entry : Entry). entry.at)) last);
       of_jobs = subst (λ es. AreEnds es it.ends) (sym behind) ends;
+      filed = λ entry there. absurd (subst (IsIn entry) behind there);
     }
 
 module _ (H : State → Books → Type 0) (stays : (old new : State) (b : Books) → Leaves old new → H old b → H new b) where

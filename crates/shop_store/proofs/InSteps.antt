@@ -1,13 +1,19 @@
 -- Entries that are looked for some at a time.
-use Rattle.std.proofs.Common.{◌≡◌, ◌-◌, ◌<◌, ◌≤◌, ℕ, zero, suc, List, [], ◌∷◌, ◌++◌, length, filter, take, drop, Some, refl, sym, ap, ◌∙◌, arith}
+use Rattle.std.proofs.Common.{◌≡◌, ◌-◌, ◌<◌, ◌≤◌, ℕ, zero, suc, inl, inr, Bool, true, false, cond, None, List, [], ◌∷◌, ◌++◌, length, filter, take, drop, Some, refl, sym, ap, ◌∙◌, arith}
+use Rattle.std.specs.Prelude.{nat_lt}
+use Rattle.std.specs.FinMap.{values}
 use Rattle.std.specs.List.{slice_get}
+use Rattle.std.proofs.lemmas.Bool.{lt-ltb, ltb-true}
 use Rattle.std.proofs.lemmas.List.{append_assoc, append-nil, length-append, take-append-drop}
 use Rattle.std.proofs.lemmas.List.Elements.{filter-append}
 use Rattle.shop_records.specs.Content.{Content}
+use Rattle.shop_records.specs.Elements.{IsIn}
 use Rattle.shop_records.specs.Lists.{entries_about, entries_behind, is_about}
 use Rattle.shop_records.specs.declared.journal.Entry.{Entry}
 use Rattle.shop_records.specs.declared.journal.Subject.{Subject}
 use Rattle.shop_records.specs.declared.journal.Subject.TheVariants as subject
+use Rattle.shop_rows.proofs.ByLine.{in_filter}
+use Rattle.shop_book.specs.FiledEntries.{HasKey, SkipsNone}
 use Rattle.shop_book.specs.Ledgers.{bare}
 use Rattle.shop_book.specs.Storages.{IsRead}
 
@@ -87,6 +93,10 @@ module _ (m : Content) (about : Subject) (most : ℕ) (old : List Entry) (at : �
       let ended = none_of count (entries_behind m at) some (sym are ∙ none) in
       ap (λ rows. take most (old ++ filter (is_about m about) rows)) ended ∙ ap (take most) (append-nil old) ∙ take_whole most old few
 
+  -- there are none
+  pub none_step : entries_about m about at ≡ [] → length old ≤ most → take most (old ++ entries_about m about at) ≡ old
+  none_step none few = ap (λ l. take most (old ++ l)) none ∙ ap (take most) (append-nil old) ∙ take_whole most old few
+
   pub next_step : (held : Content) → held ≡ bare m → (count : ℕ) (chunk : List Entry) → chunk ≡ take count (entries_behind m at) → (next : ℕ) → entries_behind m next ≡ drop (length chunk) (entries_behind m at)
       → (new : List Entry) → new ≡ take most (old ++ filter (is_about held about) chunk) → take most (old ++ entries_about m about at) ≡ take most (new ++ entries_about m about next)
   next_step held is count chunk are next behind new pushed =
@@ -99,6 +109,60 @@ module _ (m : Content) (about : Subject) (most : ℕ) (old : List Entry) (at : �
       ap (λ l. take most (old ++ l)) about_both ∙ ap (take most) (sym (append_assoc old (filter p chunk) (filter p (entries_behind m next))))
       ∙ sym (take_more most (old ++ filter p chunk) (filter p (entries_behind m next)))
       ∙ ap (λ l. take most (l ++ filter p (entries_behind m next))) (sym (pushed ∙ ap (λ q. take most (old ++ filter q chunk)) same))
+
+-- ---- entries that are skipped
+
+module _ {X : Type 0} (p : X → Bool) where
+  dropped : (x : X) (b : Bool) (ys : List X) → p x ≡ false → filter p (cond b (x ∷ ys) ys) ≡ filter p ys
+  dropped x true ys e = ap (λ c. cond c (x ∷ filter p ys) (filter p ys)) e
+  dropped x false ys e = refl
+
+  -- tests that agree on what passes
+  same_filtered : (q r : X → Bool) (xs : List X) → ((x : X) → IsIn x xs → p x ≡ true → q x ≡ r x) → filter p (filter q xs) ≡ filter p (filter r xs)
+  same_filtered q r [] same = refl
+  same_filtered q r (x ∷ xs) same = by (same_filtered q r xs (λ y there. same y (inr there))) (p x) refl
+    where
+      alike : filter p (filter q xs) ≡ filter p (filter r xs) → (b : Bool) → filter p (cond b (x ∷ filter q xs) (filter q xs)) ≡ filter p (cond b (x ∷ filter r xs) (filter r xs))
+      alike rest true = λ i. cond (p x) (x ∷ rest i) (rest i)
+      alike rest false = rest
+
+      by : filter p (filter q xs) ≡ filter p (filter r xs) → (b : Bool) → p x ≡ b → filter p (filter q (x ∷ xs)) ≡ filter p (filter r (x ∷ xs))
+      by rest true e = alike rest (q x) ∙ ap (λ b. filter p (cond b (x ∷ filter r xs) (filter r xs))) (same x (inl refl) e)
+      by rest false e = dropped x (q x) (filter q xs) e ∙ rest ∙ sym (dropped x (r x) (filter r xs) e)
+
+  none_filtered : (xs : List X) → filter p (filter (λ x. false) xs) ≡ []
+  none_filtered [] = refl
+  none_filtered (x ∷ xs) = none_filtered xs
+
+module _ (m : Content) (about : Subject) (at : ℕ) (acts : List ℕ) (held : Content) (is : held ≡ bare m) (keys : (entry : Entry) → is_about held about entry ≡ true → HasKey about acts entry) where
+  key_of : (entry : Entry) → is_about m about entry ≡ true → HasKey about acts entry
+  key_of entry own = keys entry (ap (λ (q : Entry → Bool). q entry) (ap (λ c. is_about c about) is ∙ bare_about m about) ∙ own)
+
+  behind_none : (entry : Entry) → IsIn entry (values m.entries) → at < entry.number → IsIn entry (entries_behind m 0)
+  behind_none entry there more = in_filter (λ (e : Entry). nat_lt 0 e.number) (values m.entries) entry there (lt-ltb 0 entry.number (omega (arith, more)))
+
+  -- those behind a number are those behind the next one
+  pub skip_to : (next : ℕ) → SkipsNone (entries_behind m 0) about acts at (Some next) → entries_about m about at ≡ entries_about m about next
+  skip_to next skips = same_filtered (is_about m about) (λ (e : Entry). nat_lt at e.number) (λ (e : Entry). nat_lt next e.number) (values m.entries) (λ entry there own. by entry there own (nat_lt at entry.number) (nat_lt next entry.number) refl refl)
+    where
+      by : (entry : Entry) → IsIn entry (values m.entries) → is_about m about entry ≡ true → (b c : Bool) → nat_lt at entry.number ≡ b → nat_lt next entry.number ≡ c → nat_lt at entry.number ≡ nat_lt next entry.number
+      by entry there own true c e f =
+          let more = ltb-true at entry.number e in
+          let lt : next < entry.number = skips.none entry (behind_none entry there more) more (key_of entry own) in
+          e ∙ sym (lt-ltb next entry.number lt)
+      by entry there own false true e f =
+          let lt = ltb-true next entry.number f in
+          let le : at ≤ next = skips.left in
+          lt-ltb at entry.number (omega (arith, lt, le)) ∙ sym f
+      by entry there own false false e f = e ∙ sym f
+
+  -- there are none
+  pub skip_all : SkipsNone (entries_behind m 0) about acts at None → entries_about m about at ≡ []
+  skip_all skips = same_filtered (is_about m about) (λ (e : Entry). nat_lt at e.number) (λ (e : Entry). false) (values m.entries) (λ entry there own. by entry there own (nat_lt at entry.number) refl) ∙ none_filtered (is_about m about) (values m.entries)
+    where
+      by : (entry : Entry) → IsIn entry (values m.entries) → is_about m about entry ≡ true → (b : Bool) → nat_lt at entry.number ≡ b → nat_lt at entry.number ≡ false
+      by entry there own true e = let more = ltb-true at entry.number e in absurd (skips.none entry (behind_none entry there more) more (key_of entry own))
+      by entry there own false e = e
 
 -- ---- readings, one after another
 

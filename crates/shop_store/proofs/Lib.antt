@@ -18,3 +18,5 @@ pub mod HeldEither
 pub mod Chunks
 pub mod Loads
 pub mod LoadedParts
+-- what lists the orders of jobs
+pub mod UsesQuery

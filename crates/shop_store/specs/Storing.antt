@@ -5,6 +5,7 @@ use Rattle.shop_records.specs.Content.{Content, entry_count, last_time}
 use Rattle.shop_records.specs.Lists.{entries_behind}
 use Rattle.shop_tables.specs.Held.{HoldsContent}
 use Rattle.shop_book.specs.Ends.{AreEnds}
+use Rattle.shop_book.specs.FiledEntries.{AreEntriesFiled}
 use Rattle.shop_book.specs.declared.storage.StorageFault.{StorageFault}
 use Rattle.shop_book.specs.declared.storage.StorageFault.TheVariants as storage
 use Rattle.shop_statements.specs.declared.faults.TableFault.{TableFault}
@@ -12,11 +13,12 @@ use Rattle.shop_statements.specs.declared.faults.TableFault.TheVariants as table
 use Rattle.shop_store.specs.declared.remembered.Remembered.{Remembered}
 
 -- These are the number and the time of a content's last entry, 0 and 0 where there is none, and the times of the first entries
--- of messages that ended jobs.
+-- of messages that ended jobs; and each entry is filed.
 pub record IsRemembered (m : Content) (it : Remembered) : Type 0 where
   pub of_last : it.number ≡ entry_count m
   pub time : it.at ≡ last_time m
   pub of_jobs : AreEnds (entries_behind m 0) it.ends
+  pub filed : AreEntriesFiled it.index (entries_behind m 0)
 
 -- the connection holds the content and, unless the disk failed, this is what is remembered of its entries
 abbrev pub HoldsTables : State → Remembered → Content → Type 0

@@ -8,15 +8,19 @@ ghost use Rattle.shop_records.specs.Lists.{entries_behind};
 ghost use Rattle.shop_statements.specs.Shown.{Leaves, OnBooks};
 ghost use Rattle.shop_tables.specs.Changing.{HasTrail};
 ghost use Rattle.shop_book.specs.Ends.{AreEnds};
-ghost use Rattle.shop_store.specs.Entries.{IsFoundOf, IsLastOf, IsNext};
+ghost use Rattle.shop_book.specs.FiledEntries.{AreEntriesFiled};
+ghost use Rattle.shop_store.specs.Entries.{IsFiledOn, IsFoundOf, IsLastOf, IsNext};
 ghost use Rattle.shop_store.specs.Storing.{IsRemembered};
 
 use crate::remembered::Remembered;
-use crate::stories::{ENTRIES_AT_ONCE, MOST_STEPS};
-use shop_book::JobEnds;
+use crate::stories::MOST_STEPS;
+use shop_book::{JobEnds, NumberIndex};
 use shop_tables::{TableFault, entries_after, find_last_entry, stray_entry};
 use sqlite::{Alter, Connection};
 use std::alloc::Global;
+
+/// How many entries are read at a time.
+const ENTRIES_AT_ONCE: usize = 1000;
 
 /// What is remembered where there is no entry.
 pub(crate) fn no_entries(alloc: Global) -> Remembered
@@ -26,18 +30,22 @@ pub(crate) fn no_entries(alloc: Global) -> Remembered
         number: 0,
         at: 0,
         ends: JobEnds::new(alloc),
+        index: NumberIndex::new(alloc),
     }
 }
 
-// Puts the ends of which the next entries behind a number tell, and tells behind which number to go on, if there are others.
+// Puts the ends of which the next entries behind a number tell, files them, and tells behind which number to go on, if there are others.
 fn step<S: Alter>(
     alloc: Global,
     conn: &mut Connection<S>,
     at: u64,
     ends: &mut JobEnds,
+    index: &mut NumberIndex,
 ) -> Result<Option<u64>, TableFault>
     ensures ends { OnBooks (state S.Store conn.old) (state S.Store conn.new)
         (λ books. IfOk result (λ next. IsNext books.content ends.old at next ends.new)) }
+    ensures filed { OnBooks (state S.Store conn.old) (state S.Store conn.new)
+        (λ books. IfOk result (λ next. IsFiledOn books.content index.old at next index.new)) }
     ensures leaves { Leaves (state S.Store conn.old) (state S.Store conn.new) }
     ensures mode { conn.old.in_transaction ≡ false → conn.new.in_transaction ≡ false }
 {
@@ -47,22 +55,29 @@ fn step<S: Alter>(
         return Ok(None);
     };
     ends.put_all(entries)?;
+    index.file_entries(entries)?;
     Ok(Some(last.number))
 }
 
-// When jobs were done or broken, by all entries, which are read once.
-fn find_ends<S: Alter>(alloc: Global, conn: &mut Connection<S>) -> Result<JobEnds, TableFault>
+// When jobs were done or broken, and the index, by all entries, which are read once.
+fn find_trail<S: Alter>(
+    alloc: Global,
+    conn: &mut Connection<S>,
+) -> Result<(JobEnds, NumberIndex), TableFault>
     ensures ends { OnBooks (state S.Store conn.old) (state S.Store conn.new)
-        (λ books. IfOk result (AreEnds (entries_behind books.content 0))) }
+        (λ books. IfOk result (λ found. AreEnds (entries_behind books.content 0) found.0)) }
+    ensures filed { OnBooks (state S.Store conn.old) (state S.Store conn.new)
+        (λ books. IfOk result (λ found. AreEntriesFiled found.1 (entries_behind books.content 0))) }
     ensures leaves { Leaves (state S.Store conn.old) (state S.Store conn.new) }
     ensures mode { conn.old.in_transaction ≡ false → conn.new.in_transaction ≡ false }
 {
     let mut ends = JobEnds::new(alloc);
+    let mut index = NumberIndex::new(alloc);
     let mut at = 0;
     'steps: for _ in 0..MOST_STEPS {
-        match step(alloc, conn, at, &mut ends)? {
+        match step(alloc, conn, at, &mut ends, &mut index)? {
             Some(next) => at = next,
-            None => return Ok(ends),
+            None => return Ok((ends, index)),
         }
     }
     Err(TableFault::NoMemory)
@@ -96,6 +111,11 @@ pub(crate) fn find_remembered<S: Alter>(
     let Some((number, at)) = find_last(conn)? else {
         return Ok(None);
     };
-    let ends = find_ends(alloc, conn)?;
-    Ok(Some(Remembered { number, at, ends }))
+    let (ends, index) = find_trail(alloc, conn)?;
+    Ok(Some(Remembered {
+        number,
+        at,
+        ends,
+        index,
+    }))
 }

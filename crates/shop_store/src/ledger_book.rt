@@ -14,7 +14,7 @@ ghost use Rattle.shop_store.specs.LedgerBooks.{CountsFault, failed_of, fault_by,
 use crate::posted::LedgerBook;
 use crate::stories::scan;
 use cut_measure::{Code, PartName};
-use shop_book::{Book, BookFault, FoundJob, JobHead, Ledger, Storage, StorageFault};
+use shop_book::{Book, BookFault, FoundJob, JobHead, Ledger, Storage, StorageFault, StrayUse};
 use shop_records::{
     Change, CodeList, Demand, DemandList, Entry, EntryRows, ImportRow, Job, JobBegin, JobHalt,
     Kept, Material, MaterialList, NumberList, OrderNote, Part, PartList, PartVisitor, Subject,
@@ -539,6 +539,15 @@ impl<S: Storage> Book for LedgerBook<S> {
         ensures keeps { KeepsBoth S.Storage (CountsFailure result) self.old self.new }
     {
         let answer = self.storage.text_counts();
+        self.count(answer)
+    }
+
+    fn stray_use(&mut self, alloc: Global) -> Result<Option<StrayUse>, BookFault>
+        ensures ledger { self.new.ledger ≡ self.old.ledger }
+        ensures memory { S.MAY_FAIL ≡ false → IfErr result (λ fault. fault ≡ NoMemory) }
+        ensures keeps { KeepsBoth S.Storage (CountsFailure result) self.old self.new }
+    {
+        let answer = self.storage.stray_use(alloc, &self.ledger);
         self.count(answer)
     }
 

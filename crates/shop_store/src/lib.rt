@@ -19,6 +19,7 @@ mod sql;
 mod sql_storage;
 mod sql_storing;
 mod stories;
+mod uses;
 
 pub use loaded::Loaded;
 pub use loading::{load_earlier_ledger, load_ledger, load_second_ledger};

@@ -4,9 +4,10 @@ ghost use Rattle.std.specs.Prelude.{◌≡◌};
 ghost use Rattle.shop_store.specs.Storing.{read_by_tables};
 
 use crate::sql_storage::SqlStorage;
+use crate::uses::find_stray_use;
 use cut_measure::Code;
-use shop_book::{Storage, StorageFault};
-use shop_records::{Change, Entry, EntryRows, ImportRow, JobHalt, Kept, Pair};
+use shop_book::{Ledger, Storage, StorageFault, StrayUse};
+use shop_records::{Change, Entry, EntryRows, ImportRow, JobHalt, Kept, Pair, Subject};
 use shop_tables::{
     TableFault, commit_change, count_kept, count_texts, entries_after, find_entry, find_halt,
     find_import, find_kept, find_last_number,
@@ -43,6 +44,7 @@ impl<S: Alter> SqlStorage<S> {
             self.old.remembered.at }
         ensures ends { AddEnds (option_to_list entry.now)
             self.old.remembered.ends self.new.remembered.ends }
+        ensures index { self.new.remembered.index ≡ self.old.remembered.index }
     {
         if let Some(entry) = entry {
             self.remembered.number = entry.number;
@@ -117,6 +119,10 @@ impl<S: Alter> Storage for SqlStorage<S> {
         from_tables(entries_after(alloc, &mut self.conn, after, most))
     }
 
+    fn next_about(&self, about: &Subject, acts: &[u32], after: u64) -> Option<u64> {
+        self.remembered.index.next_about(about, acts, after)
+    }
+
     fn ended(&self, job: u32) -> u64 {
         self.remembered.ends.at(job)
     }
@@ -125,8 +131,17 @@ impl<S: Alter> Storage for SqlStorage<S> {
         from_tables(count_texts(&mut self.conn))
     }
 
+    fn stray_use(
+        &mut self,
+        alloc: Global,
+        ledger: &Ledger,
+    ) -> Result<Option<StrayUse>, StorageFault> {
+        from_tables(find_stray_use(alloc, &mut self.conn, ledger))
+    }
+
     fn commit(&mut self, change: &Change) -> Result<(), StorageFault> {
         self.remembered.ends.reserve()?;
+        self.remembered.index.file_new_entry(&change.entry)?;
         match from_tables(commit_change(self.alloc, &mut self.conn, change)) {
             Ok(()) => {
                 self.remember(&change.entry);

@@ -1,8 +1,10 @@
-//! The entries about a subject, looked for among all entries, some at a time.
+//! The entries about a subject, one after another, as the index of the entries names them.
 
-ghost use Rattle.std.specs.Prelude.{◌≡◌, ◌++◌, ◌≤◌, IfErr, IfOk, OnOk, false, filter, length, take};
+ghost use Rattle.std.specs.Prelude.{◌≡◌, ◌++◌, ◌≤◌, IfErr, IfOk, IsTrue, OnOk, false, filter, length, take};
 ghost use Rattle.shop_records.specs.Content.{Content};
 ghost use Rattle.shop_records.specs.Lists.{entries_about, is_about};
+ghost use Rattle.shop_records.specs.declared.journal.Entry.{Entry as EntryOf};
+ghost use Rattle.shop_book.specs.FiledEntries.{HasKey};
 ghost use Rattle.shop_book.specs.Ledgers.{bare, content_in};
 ghost use Rattle.shop_book.specs.Storages.{IsRead};
 ghost use Rattle.shop_book.specs.Stories.{numbers_about};
@@ -13,9 +15,6 @@ use shop_book::{Ledger, Storage, StorageFault};
 use shop_records::{Entry, EntryRows, Subject};
 use shop_rows::push_copy;
 use std::alloc::{AllocError, Global};
-
-/// How many entries are read at a time.
-pub(crate) const ENTRIES_AT_ONCE: usize = 1000;
 
 /// More times than there are entries.
 pub(crate) const MOST_STEPS: u64 = 18446744073709551615;
@@ -45,18 +44,22 @@ fn push_about(
     Ok(())
 }
 
-// Looks for more among the next entries behind a number, and tells behind which number to go on, if there are others.
+// Looks for more at the next entry that the index names behind a number, and tells behind which number to go on, if there are
+// others.
 fn step<S: Storage>(
     alloc: Global,
     ledger: &Ledger,
     storage: &mut S,
     about: &Subject,
     numbers: &[u32],
+    acts: &[u32],
     at: u64,
     rows: &mut EntryRows,
     most: usize,
 ) -> Result<Option<u64>, StorageFault>
     requires numbers { numbers.now ≡ numbers_about (content_in ledger.now) about.now }
+    requires acts { (entry : EntryOf) → IsTrue (is_about (content_in ledger.now) about.now entry)
+        → HasKey about.now acts.now entry }
     requires few { length rows.old ≤ most }
     ensures few { OnOk result (length rows.new ≤ most) }
     ensures rows { S.has_clean_disk storage.new → (m : Content) → S.holds storage.old m
@@ -68,7 +71,10 @@ fn step<S: Storage>(
     if most <= rows.as_slice().len() {
         return Ok(None);
     }
-    let chunk = storage.entries_after(alloc, at, ENTRIES_AT_ONCE)?;
+    let Some(next) = storage.next_about(about, acts, at) else {
+        return Ok(None);
+    };
+    let chunk = storage.entries_after(alloc, next, 1)?;
     let entries = chunk.as_slice();
     let Some(last) = entries.last() else {
         return Ok(None);
@@ -93,6 +99,7 @@ pub(crate) fn scan<S: Storage>(
     ensures leaves { IsRead S.has_clean_disk S.holds S.may_leave storage.old storage.new }
 {
     let numbers = ledger.numbers_about(alloc, about)?;
+    let acts = ledger.acts_about(alloc, about, numbers.as_slice())?;
     let mut rows = EntryRows::new(alloc);
     let mut at = after;
     'steps: for _ in 0..MOST_STEPS {
@@ -102,6 +109,7 @@ pub(crate) fn scan<S: Storage>(
             storage,
             about,
             numbers.as_slice(),
+            acts.as_slice(),
             at,
             &mut rows,
             most,

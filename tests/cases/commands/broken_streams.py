@@ -1,4 +1,4 @@
-"""Streams that fail, are interrupted, or take one byte at a time: what is answered, and what is told."""
+"""Streams that fail, are interrupted, or take one byte at a time: what is answered, and what is reported."""
 
 import errno
 import os
@@ -47,9 +47,9 @@ def together(trial):
         with open(path, "rb") as given, open(trial.path("replies.txt"), "wb") as out:
             ran = subprocess.run([trial.program, "replay"], stdin=given, stdout=out, env={**os.environ, **faults.environment})
         with open(trial.path("replies.txt"), "rb") as file:
-            told = file.read().splitlines(keepends=True)
-        trial.equal((ran.returncode, len(told)), (0, replies))
-        total, longest = sum(map(len, told)), max(map(len, told))
+            output = file.read().splitlines(keepends=True)
+        trial.equal((ran.returncode, len(output)), (0, replies))
+        total, longest = sum(map(len, output)), max(map(len, output))
         least, most = total // (HELD + longest), 1 + total // HELD
         trial.holds(least <= faults.calls() <= most, f"{faults.calls()} writes of {total} bytes, the longest reply {longest}")
 
@@ -89,7 +89,7 @@ def texts_fail(trial):
     shop = trial.shop(limit=len(day.lines))
     for line in day.lines:
         shop.reply(line)
-    told, status = shop.end()[1], shop.end()[0]
+    output, status = shop.end()[1], shop.end()[0]
     trial.equal(status, 0)
     problem = trial.write("problem.txt", "1\n10 8\n4 3 10 12\n")
     commands = [("plan", problem, "--kerf", "1", "--step", "1"), ("--help",)]
@@ -100,10 +100,10 @@ def texts_fail(trial):
         for at in trial.places(len(text), 41):
             ran = trial.run(*words, environment=Faults(trial, "write", at=at + 1, by=1).environment)
             trial.ended(ran, 1, text[:at], b"fault write\n", sent=f"{words}, write {at + 1}")
-    for at in trial.places(len(told), 11):
+    for at in trial.places(len(output), 11):
         shop = trial.shop(environment=Faults(trial, "write", at=at + 1, by=1).environment)
         trial.equal((shop.is_open, shop.status, fault_in(shop.errors)), (False, 1, b"fault write\n"), f"write {at + 1}")
-        trial.holds(told.startswith(shop.told[: len("listening on 127.0.0.1:")]), shop.told)
+        trial.holds(output.startswith(shop.output[: len("listening on 127.0.0.1:")]), shop.output)
 
 
 @case(
@@ -136,7 +136,7 @@ def interrupted(trial):
 
 
 def first_write(trial):
-    """How many writes of one byte tell that a shop listens, those on standard error aside."""
+    """How many writes of one byte report that a shop listens, those on standard error aside."""
     faults = Faults(trial, "write", by=1)
     trial.shop("empty.db", environment=faults.environment).kill()
     return faults.calls()

@@ -1,11 +1,11 @@
-"""The program's commands: what they print, the status that they end with, and the line that tells a fault."""
+"""The program's commands: what they print, the status that they end with, and the line that reports a fault."""
 
 import os
 import subprocess
 
 from kit import tables
 from kit.case import case
-from kit.commands import GLASS, MISTAKE, STEEL, all_mistaken, mistaken, over, planned, serving, taken_port, told
+from kit.commands import GLASS, MISTAKE, STEEL, all_mistaken, mistaken, over, planned, serving, taken_port, plan_output
 
 
 @case(
@@ -14,10 +14,10 @@ from kit.commands import GLASS, MISTAKE, STEEL, all_mistaken, mistaken, over, pl
     "piece of 4 by 3 of which two are cut.",
 )
 def plans(trial):
-    planned(trial, "1 4 3 4 3 1 12", told(12, 12, 0, "p1"))
-    planned(trial, "1 4 3 4 3 1 12", told(12, 12, 0, "p1"), kerf="200")
-    planned(trial, "1 5 3 5 3 1 9", told(0, 9, 0, "r"), step="2")
-    planned(trial, "1 500 1 500 1 1 7", told(7, 7, 0, "p1"))
+    planned(trial, "1 4 3 4 3 1 12", plan_output(12, 12, 0, "p1"))
+    planned(trial, "1 4 3 4 3 1 12", plan_output(12, 12, 0, "p1"), kerf="200")
+    planned(trial, "1 5 3 5 3 1 9", plan_output(0, 9, 0, "r"), step="2")
+    planned(trial, "1 500 1 500 1 1 7", plan_output(7, 7, 0, "p1"))
 
 
 @case(
@@ -35,7 +35,7 @@ def dropping(trial):
 
 @case(
     "faults of problem texts",
-    "The first fault of a problem's text is told with its place, then the planner's, each with status 1.",
+    "The first fault of a problem's text is reported with its place, then the planner's, each with status 1.",
 )
 def faults_of_problems(trial):
     planned(trial, "2 10 8 4 3 2 66 5 8 1", "fault text 21 Short")
@@ -59,7 +59,7 @@ def faults_of_problems(trial):
 def lengths(trial):
     planned(trial, " " * 65536, "fault text 65536 Short")
     planned(trial, " " * 65537, "fault text 65536 Long")
-    planned(trial, "1 4 3 4 3 1 12".ljust(65536), told(12, 12, 0, "p1"))
+    planned(trial, "1 4 3 4 3 1 12".ljust(65536), plan_output(12, 12, 0, "p1"))
     with open(trial.path("huge.txt"), "wb") as file:
         file.truncate(1 << 36)
     trial.ended(trial.run("plan", "huge.txt", "--kerf", "0", "--step", "1"), 1, err="fault text 65536 Long\n")
@@ -135,7 +135,7 @@ def no_input(trial):
     trial.equal(over(trial, "replay", given=trial.folder), (1, b"fault read\n"))
 
 
-@case("errors that can't be written", "Where standard error takes no byte the status alone tells the fault.")
+@case("errors that can't be written", "Where standard error takes no byte the status alone reports the fault.")
 def no_errors(trial):
     ran = subprocess.run(
         [trial.program, "plan", "no.txt", "--kerf", "0", "--step", "1"], stderr=open("/dev/full", "wb"), cwd=trial.folder
@@ -254,7 +254,7 @@ def growing(trial):
 @case(
     "shop files at their limits",
     "1000 entries and 65536 bytes are read; 1001 entries, 65537 bytes, another key and no list are `fault shop text`; "
-    "the first bad entry is told.",
+    "the first bad entry is reported.",
 )
 def shop_files(trial):
     short = 'code = "{}"\nkind = "bar"\nkerf = "0"\nmin_long = "1"\nmin_short = "0.1"\n'

@@ -1,10 +1,10 @@
 """What `serve` was given it uses, whatever it is: materials of a shop file, a page, a folder of backups and how many stay; files that
-are too long for each command that reads one; and whether a store is told as one that was made."""
+are too long for each command that reads one; and whether a store is reported as one that was made."""
 
 import os
 
 from kit import tables
-from kit.backups import REQUEST, told
+from kit.backups import REQUEST, backup_answer
 from kit.browsers import asked, page_answer
 from kit.case import case
 from kit.commands import STEEL
@@ -28,7 +28,7 @@ def materials(count):
 @case(
     "shop files of 1 to 1000 materials",
     "Each material of a shop file of 1, 2, 3, 4, 17, 255, 256, 257, 999 and 1000 is added with its kerf, and no other, and as many "
-    "messages are told as kept; the file lies in any folder, under any name.",
+    "messages are reported as kept; the file lies in any folder, under any name.",
 )
 def shop_files(trial):
     os.makedirs(trial.path("a folder/ünter"))
@@ -86,7 +86,7 @@ def backups(trial):
         trial.holds(shop.is_open, getattr(shop, "errors", b""))
         first = 1 + max([int(it) for it in os.listdir(trial.path(folder)) if it.isdigit()], default=0)
         for it in range(count):
-            trial.equal(shop.exchange(REQUEST), told(first + it), folder)
+            trial.equal(shop.exchange(REQUEST), backup_answer(first + it), folder)
         shop.kill()
         made = {str(first + it) for it in range(count)}
         stayed = {it for it in os.listdir(trial.path(folder)) if it in made}
@@ -143,7 +143,7 @@ def too_long(trial):
 
 
 def begun_as(trial, store, is_new, kept, words):
-    """A shop of a store tells that it was made, or was there, and how many messages it keeps."""
+    """A shop of a store reports that it was made, or was there, and how many messages it keeps."""
     shop = trial.shop(store, limit=1)
     trial.holds(shop.is_open, getattr(shop, "errors", b""))
     shop.get("/materials")
@@ -152,8 +152,8 @@ def begun_as(trial, store, is_new, kept, words):
 
 @case(
     "stores that were there and keep nothing",
-    "A store that a shop, `ticket` or `yield` made, and that keeps no message yet, is told as one that was there at each start behind "
-    "that, as is one with a message; `ticket` and `yield` of it don't tell that it was made, whatever they are asked for.",
+    "A store that a shop, `ticket` or `yield` made, and that keeps no message yet, is reported as one that was there at each start behind "
+    "that, as is one with a message; `ticket` and `yield` of it don't report that it was made, whatever they are asked for.",
 )
 def there_already(trial):
     begun_as(trial, "new.db", True, 0, "a new store")

@@ -100,8 +100,8 @@ def version(trial):
 )
 def manual(trial):
     page = text_of("packaging", "cutshop.1")
-    told = subprocess.run([trial.program, "--help"], capture_output=True, text=True, timeout=60).stdout
-    commands = re.findall(r"^  ([a-z]+) ", told.split("Commands:")[1].split("Options:")[0], re.M)
+    output = subprocess.run([trial.program, "--help"], capture_output=True, text=True, timeout=60).stdout
+    commands = re.findall(r"^  ([a-z]+) ", output.split("Commands:")[1].split("Options:")[0], re.M)
     for command in commands:
         if command != "help":
             trial.equal(f".B cutshop {command}\n" in page, True, command)

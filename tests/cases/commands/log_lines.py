@@ -1,4 +1,4 @@
-"""What a server tells of itself where nobody reads it: a line that can't be written at once is dropped and counted, and the same line
+"""What a server reports of itself where nobody reads it: a line that can't be written at once is dropped and counted, and the same line
 is written once a minute."""
 
 import errno
@@ -7,7 +7,7 @@ import os
 import select
 import time
 
-from kit.backups import REQUEST, open_shop, told
+from kit.backups import REQUEST, open_shop, backup_answer
 from kit.case import case
 from kit.faults import Faults
 from kit.glass import GLASS, SHEET
@@ -48,18 +48,18 @@ def unread(trial):
     shop = open_shop(trial)
     trial.equal(fcntl.fcntl(shop.process.stderr, fcntl.F_SETPIPE_SZ, SMALLEST), SMALLEST)
     for number in range(1, 201):
-        trial.equal(timed(trial, shop, REQUEST, f"backup {number}"), told(number))
+        trial.equal(timed(trial, shop, REQUEST, f"backup {number}"), backup_answer(number))
         if number % 20 == 0:
             trial.equal(timed(trial, shop, b"GET /materials HTTP/1.0\r\n\r\n", number)[:15], b"HTTP/1.1 200 OK")
     lines = waiting(shop).splitlines()
     made = [it for it in lines if it.startswith(b"cutshop: made backup ")]
     trial.equal(made, [b"cutshop: made backup %d in backups" % number for number in range(1, len(made) + 1)])
     trial.holds(len(made) < 200, f"{len(made)} lines were written")
-    trial.equal(shop.exchange(REQUEST), told(201))
-    # (the start tells three lines: of itself, of hosts that aren't judged, of the disk)
+    trial.equal(shop.exchange(REQUEST), backup_answer(201))
+    # (the start reports three lines: of itself, of hosts that aren't judged, of the disk)
     lost = f"cutshop: {203 - len(lines)} lines were not written\n"
     trial.equal(waiting(shop).decode(), f"{lost}cutshop: made backup 201 in backups\n")
-    trial.equal(shop.exchange(REQUEST), told(202))
+    trial.equal(shop.exchange(REQUEST), backup_answer(202))
     trial.equal(waiting(shop).decode(), "cutshop: made backup 202 in backups\n")
 
 
@@ -71,15 +71,15 @@ def closed(trial):
     shop = open_shop(trial)
     shop.process.stderr.close()
     for number in (1, 2, 3):
-        trial.equal(timed(trial, shop, REQUEST, "its reader is gone"), told(number))
+        trial.equal(timed(trial, shop, REQUEST, "its reader is gone"), backup_answer(number))
     none = open_shop(trial, "none.db", "others", prepare=lambda: os.close(2))
     for number in (1, 2, 3):
-        trial.equal(timed(trial, none, REQUEST, "it is closed"), told(number))
+        trial.equal(timed(trial, none, REQUEST, "it is closed"), backup_answer(number))
 
 
 @case(
     "the same line again and again",
-    "Messages that a full disk refuses are told once a minute; how many were left out stands behind the next line. Another line is "
+    "Messages that a full disk refuses are reported once a minute; how many were left out stands behind the next line. Another line is "
     "written between them.",
 )
 def again(trial):

@@ -4,9 +4,8 @@ import os
 
 from kit import tables
 from kit.case import case, fault_in
-from kit.days import ASKED, NAMES, REFUSED, day_of
-from kit.memory import ended_for_memory, opened, replayed, sent, served, sweep
-from kit.shop import answer
+from kit.days import ASKED, NAMES, day_of
+from kit.memory import replayed, served, sweep, texts_refused
 
 SHOP_FILE = "".join(
     f'[[material]]\ncode = "{code}"\nkind = "{kind}"\nkerf = "0.3"\nmin_long = "2.0"\nmin_short = "0.1"\n'
@@ -48,12 +47,12 @@ for NAME in (*NAMES, ASKED):
 def starts(trial):
     path = trial.write("shop.toml", SHOP_FILE)
     wanted = [b'{"kerf":0,"material":"%s","ok":"totals","pieces":0,"rack":0,' % it for it in (b"STEEL", b"GLASS")]
-    told = (b"fault memory\n", b"shop entry 1 refused 98 NoMemory\n", b"shop entry 2 refused 98 NoMemory\n")
+    output = (b"fault memory\n", b"shop entry 1 refused 98 NoMemory\n", b"shop entry 2 refused 98 NoMemory\n")
 
     def run(faults):
         shop = trial.shop(f"{faults.at}.db", shop_file=path, environment=faults.environment)
         if not shop.is_open:
-            trial.equal((shop.status, fault_in(shop.errors) in told), (1, True), f"request {faults.at}: {shop.errors}")
+            trial.equal((shop.status, fault_in(shop.errors) in output), (1, True), f"request {faults.at}: {shop.errors}")
         shop.kill()
         shop = trial.shop(f"{faults.at}.db", shop_file=path)
         got = [shop.reply(f'{{"ask":"totals","material":"{it}"}}') for it in ("STEEL", "GLASS")]
@@ -80,32 +79,7 @@ def stored(trial):
     "or nothing, and asked again the text.",
 )
 def texts(trial):
-    store = stored(trial)
-    paths = ("/ticket/2", "/yield/GLASS")
-    shop = trial.shop()
-    wanted = [shop.get(it) for it in paths]
-    shop.kill()
-    trial.equal([it.partition(b"\r\n")[0] for it in wanted], [b"HTTP/1.1 200 OK"] * 2)
-
-    def run(faults):
-        # (each run has a store of its own)
-        copy = trial.path(f"{faults.at:06}.db")
-        tables.copy(store, copy)
-        again = opened(trial, copy, faults)
-        first = faults.calls()
-        for path, text in zip(paths, wanted):
-            got = sent(again.get, path)
-            trial.equal(got in (text, answer(503, REFUSED), b""), True, f"{path}, request {faults.at}: {got}")
-            if not got and again.has_ended():
-                ended_for_memory(trial, again, path)
-                break
-            if got != text:
-                trial.equal(again.get(path), text, f"{path}, request {faults.at}")
-        again.kill()
-        os.remove(copy)
-        return first
-
-    sweep(trial, run, 5)
+    texts_refused(trial, stored(trial), ("/ticket/2", "/yield/GLASS"), 5)
 
 
 @case(
@@ -117,7 +91,7 @@ def commands(trial):
     store = stored(trial)
     problem = trial.write("problem.txt", "1\n10 8\n4 3 10 12\n")
 
-    def swept(stride, told, *words):
+    def swept(stride, output, *words):
         whole = trial.run(*words)
         trial.equal((whole.status, whole.err), (0, b""), words)
 
@@ -126,7 +100,7 @@ def commands(trial):
             tables.copy(store, copy)
             ran = trial.run(*[copy if it == store else it for it in words], environment=faults.environment)
             first = ran.out if words[0] == "history" and whole.out.startswith(ran.out) else b""
-            trial.equal(ran == whole or (ran.status, ran.out, fault_in(ran.err) in told) == (1, first, True), True, f"{words} {ran}")
+            trial.equal(ran == whole or (ran.status, ran.out, fault_in(ran.err) in output) == (1, first, True), True, f"{words} {ran}")
             os.remove(copy)
 
         sweep(trial, run, stride)

@@ -33,7 +33,7 @@ def refused(trial, text, row, field, sentence, *words):
 
 @case(
     "lines of order files",
-    "The number of an order file's lines is told, of 200 too, with a byte order mark and quotes, and of one at all its limits.",
+    "The number of an order file's lines is reported, of 200 too, with a byte order mark and quotes, and of one at all its limits.",
 )
 def lines(trial):
     for text, count in (
@@ -60,9 +60,9 @@ def messages(trial):
     at = [line.index(f'"{key}":') for key in wanted]
     trial.equal((at, line.count("\n"), line[-2:]), (sorted(at), 1, "}\n"), line)
     shop = trial.shop(shop_file=trial.write("shop.toml", STEEL))
-    told = b'{"act":0,"count":2,"first":1,"ok":"import","order":"A-1"}'
-    trial.equal(shop.reply(line), told, line)
-    trial.equal(trial.replay([MATERIAL, line.strip()]).out.split(b"\n")[1], told, line)
+    output = b'{"act":0,"count":2,"first":1,"ok":"import","order":"A-1"}'
+    trial.equal(shop.reply(line), output, line)
+    trial.equal(trial.replay([MATERIAL, line.strip()]).out.split(b"\n")[1], output, line)
 
 
 STEEL = '[[material]]\ncode = "STEEL"\nkind = "bar"\nkerf = "0.3"\nmin_long = "2.0"\nmin_short = "0.1"\n'
@@ -70,7 +70,7 @@ STEEL = '[[material]]\ncode = "STEEL"\nkind = "bar"\nkerf = "0.3"\nmin_long = "2
 MATERIAL = '{"do":"material","kerf":3,"kind":"bar","material":"STEEL","min_long":20,"min_short":1,"number":1,"terminal":1}'
 
 
-@case("faults of order files", "Each field has a sentence of its own, at its row and place, and the first bad one is told.")
+@case("faults of order files", "Each field has a sentence of its own, at its row and place, and the first bad one is reported.")
 def faults(trial):
     bad = [
         ("", "x", "-1", "1.0", "12345678901", "4294967296", " 1"),
@@ -149,7 +149,7 @@ def judged(trial):
 
 @case(
     "the first bad field of an order file",
-    "Of several bad fields the first of the first bad row is told; what can't be read stands before what is judged, in whichever row.",
+    "Of several bad fields the first of the first bad row is reported; what can't be read stands before what is judged, in whichever row.",
 )
 def first_bad(trial):
     refused(trial, HEADER + "0,A,0,0,no,0,0\n", 1, 0, JUDGED[0])
@@ -203,7 +203,7 @@ def judged_by_shop(trial):
 
 @case(
     "faults of a shop file beside an order file",
-    "A shop file that can't be read, is no TOML or has a bad entry is told behind a field that can't be read and before one that is "
+    "A shop file that can't be read, is no TOML or has a bad entry is reported behind a field that can't be read and before one that is "
     "judged; the second line names it.",
 )
 def shop_faults(trial):
@@ -267,15 +267,15 @@ def words(trial):
 
 @case(
     "the version",
-    "`--version` and `-V` print `cutshop` and the version on one line, with status 0: the one that the documents tell of it, and "
+    "`--version` and `-V` print `cutshop` and the version on one line, with status 0: the one that the documents report of it, and "
     "` (unproved)` behind it where the program was built without proofs.",
 )
 def version(trial):
-    told = set()
+    output = set()
     for path in glob.glob(f"{TOP}/*.md") + glob.glob(f"{TOP}/docs/*.md"):
         with open(path, encoding="utf-8") as file:
-            told |= set(re.findall(r"\b(?:cutshop|[Vv]ersion) (\d+\.\d+\.\d+)\b", file.read()))
-    trial.equal(told, {VERSION}, "the documents")
+            output |= set(re.findall(r"\b(?:cutshop|[Vv]ersion) (\d+\.\d+\.\d+)\b", file.read()))
+    trial.equal(output, {VERSION}, "the documents")
     for word in ("--version", "-V"):
         trial.ended(trial.run(word), 0, f"cutshop {version_told()}\n", sent=word)
 

@@ -1,7 +1,7 @@
 """Problem files at both sides of each range, what stands behind the last number, and cells that went back."""
 
 from kit.case import case
-from kit.commands import planned, told
+from kit.commands import planned, plan_output
 from kit.lines import added, material, refused
 
 # The numbers of a problem of one piece, each with the greatest that it may be.
@@ -14,7 +14,7 @@ GREATEST = [200, 200000, 60000, 200000, 60000, 1000000, 1000000000]
     "its first digit, before the text is found short.",
 )
 def ends(trial):
-    planned(trial, "1 200000 60000 200000 60000 1000000 1000000000", told(10**9, 10**9, 0, "p1"), step="500")
+    planned(trial, "1 200000 60000 200000 60000 1000000 1000000000", plan_output(10**9, 10**9, 0, "p1"), step="500")
     for place, greatest in enumerate(GREATEST):
         good = ["1"] * place
         offset = 2 * place
@@ -30,7 +30,7 @@ def ends(trial):
 @case(
     "what stands behind a problem text",
     "A number behind the last one that belongs to the problem is `Long` at its first digit, whatever it is; where the first "
-    "number is bad or missing only three count, and the first bad one of them is told; another byte comes before all numbers.",
+    "number is bad or missing only three count, and the first bad one of them is reported; another byte comes before all numbers.",
 )
 def behind(trial):
     for more in ("0", "7", "000", "9" * 25, "0 0", "7\r\n8"):

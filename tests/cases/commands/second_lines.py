@@ -1,4 +1,4 @@
-"""The second line of a fault: which file, entry or port it was, and why; and what a server tells of itself."""
+"""The second line of a fault: which file, entry or port it was, and why; and what a server reports of itself."""
 
 import errno
 import os
@@ -24,7 +24,7 @@ FOLDER = "it is a folder; name a file"
 NOT_ALLOWED = "this account may not read it"
 
 
-@case("why a file can't be read", "A file that isn't there and a folder are told by their names, as problem, order, shop file and page.")
+@case("why a file can't be read", "A file that isn't there and a folder are reported by their names, as problem, order, shop file and page.")
 def files(trial):
     trial.write("shop.toml", STEEL)
     for name, why in (("no.txt", MISSING), ("no/such.txt", MISSING), ("shop.toml/such.txt", MISSING), (".", FOLDER)):
@@ -38,7 +38,7 @@ def files(trial):
     trial.ended(ran, 1, err="fault file\n", why="long.html: it is over 1048576 bytes long")
 
 
-@case("a name of two lines", "A file whose name has a line feed is told by other words, so that one line stands behind the fault's.")
+@case("a name of two lines", "A file whose name has a line feed is reported by other words, so that one line stands behind the fault's.")
 def two_lines(trial):
     for name in ("a\nb", "no\n", "\n"):
         ran = trial.run("plan", name, "--kerf", "0", "--step", "1")
@@ -47,7 +47,7 @@ def two_lines(trial):
 
 @case(
     "long names and far places of faults",
-    "A name of 255 characters, a path of 3000 and one of other letters are told whole; so are the last byte of a long problem's text, "
+    "A name of 255 characters, a path of 3000 and one of other letters are reported whole; so are the last byte of a long problem's text, "
     "and the last of many materials by its line, or by its number where all stand in one line.",
 )
 def far(trial):
@@ -72,7 +72,7 @@ def far(trial):
         trial.ended(serving(trial, 1, ".", "shop.toml"), 1, err=f"fault shop entry {entry}\n", why=why)
 
 
-@case("why a problem has no plan", "The byte of a text's fault and the planner's refusal are told in words.")
+@case("why a problem has no plan", "The byte of a text's fault and the planner's refusal are reported in words.")
 def problems(trial):
     wanted = [
         ("2 10 8 4 3 2 66.0 5 8 1 40", "0", "1", "fault text 15 Byte", "p.txt, byte 15: only digits, spaces, tabs and line ends may stand here"),
@@ -121,7 +121,7 @@ SHOPS = [
 ]
 
 
-@case("why a shop file is bad", "The line of a shop file's fault is told, where it is found, and what to write there.")
+@case("why a shop file is bad", "The line of a shop file's fault is reported, where it is found, and what to write there.")
 def shops(trial):
     for text, line, why in SHOPS:
         trial.write("shop.toml", text)
@@ -130,11 +130,11 @@ def shops(trial):
     # (a key in quotes stands in the lines of its material, whatever stands in those of the next one)
     trial.write("shop.toml", STEEL.replace("kerf", '"kerff"') + GLASS.replace("kerf", "kerff"))
     ran = serving(trial, 1, ".", "shop.toml")
-    told = re.fullmatch(rb"fault shop entry 1\n  shop.toml, (?:material 1|line [1-6]): no key is named kerff\n", ran.err)
-    trial.holds(told, ran.err)
+    output = re.fullmatch(rb"fault shop entry 1\n  shop.toml, (?:material 1|line [1-6]): no key is named kerff\n", ran.err)
+    trial.holds(output, ran.err)
 
 
-@case("why an entry is refused", "An entry of the shop file that the shop refuses is told by its number, with the refusal in words.")
+@case("why an entry is refused", "An entry of the shop file that the shop refuses is reported by its number, with the refusal in words.")
 def entries(trial):
     changed = "another entry was read here before; put it back, and write new ones behind the last"
     other = "the store has this material with another kind, kerf or limits"
@@ -162,7 +162,7 @@ def entries(trial):
 @case(
     "why a store can't be opened",
     "A folder that isn't there, a folder, another program that has it open, no database, a hard link, a rollback journal and a "
-    "damaged file are told, each by its words.",
+    "damaged file are reported, each by its words.",
 )
 def stores(trial):
     shop = trial.shop("used.db")
@@ -194,7 +194,7 @@ def stores(trial):
     trial.ended(ran, 1, err="fault store\n", why="junk.db: it is no SQLite database; name another file")
 
 
-# What is told of a store and of a folder of backups where the system says this.
+# What is reported of a store and of a folder of backups where the system says this.
 ALLOWED = "this account may not read and write it, or may not write in its folder"
 OTHER = "it or its log can't be read and written; look at the permissions of both and of their folder, and at the room on their disk"
 SYSTEM = {
@@ -226,11 +226,11 @@ def system_errors(trial):
 
 @case(
     "a disk that gets full while a store is made",
-    "Of the calls on its files from which on the disk is full some are told as a full disk, and none as damage. What the others are told "
+    "Of the calls on its files from which on the disk is full some are reported as a full disk, and none as damage. What the others are reported "
     "this doesn't say.",
 )
 def full_at_start(trial):
-    def told(at):
+    def output(at):
         full = Faults(trial, "files", at=at, on=True, error=errno.ENOSPC)
         store = trial.path(f"{at}.db")
         return store, trial.run("ticket", "--store", store, "1", environment=full.environment)
@@ -239,7 +239,7 @@ def full_at_start(trial):
     trial.run("ticket", "--store", trial.path("whole.db"), "1", environment=counted.environment)
     count, said = counted.calls(), 0
     for at in trial.places(count, 13):
-        store, ran = told(at + 1)
+        store, ran = output(at + 1)
         said += ran.err == f"fault store\n  {store}: the disk is full; make room\n".encode()
         trial.holds(b"damaged" not in ran.err, f"call {at + 1}: {ran.err}")
     trial.holds(said > 1, f"{said} of {count} calls are told as a full disk")
@@ -303,7 +303,7 @@ def versions(trial):
 
 @case(
     "what a store hasn't, and one that is made",
-    "`ticket` and `yield` tell that the store has no such job or material, and of one that wasn't there that it was made.",
+    "`ticket` and `yield` report that the store has no such job or material, and of one that wasn't there that it was made.",
 )
 def and_made(trial):
     for words, line, why in (
@@ -334,7 +334,7 @@ def streams(trial):
 
 @case(
     "what a server tells of itself",
-    "It tells its version, its store and how many messages it keeps when it begins, those of the shop file among them, and that it "
+    "It reports its version, its store and how many messages it keeps when it begins, those of the shop file among them, and that it "
     "ended. What is accepted is kept once; what is refused and what is asked isn't.",
 )
 def log(trial):
@@ -353,7 +353,7 @@ FULL = b"cutshop: answered 99 StoreFault; the disk is full; make room, and messa
 
 @case(
     "a disk that gets full",
-    "A store that can't be made since the disk is full is told so; where it gets full while it is served messages are refused 99, "
+    "A store that can't be made since the disk is full is reported so; where it gets full while it is served messages are refused 99, "
     "with a line on standard error (once a minute), and questions are answered.",
 )
 def full_disk(trial):
@@ -372,8 +372,8 @@ def full_disk(trial):
         trial.equal(shop.reply(MATERIAL), b'{"name":"StoreFault","refused":99}')
         trial.equal(shop.get("/materials"), answer(200, '{"materials":[],"ok":"materials"}'))
     shop.process.terminate()
-    _, told = shop.process.communicate()
-    trial.equal(told, begin_line(shop.store) + FULL)
+    _, output = shop.process.communicate()
+    trial.equal(output, begin_line(shop.store) + FULL)
 
 
 WANTING = b"cutshop: answered 98 NoMemory; end other programs, or give this one more memory\n"
@@ -381,7 +381,7 @@ WANTING = b"cutshop: answered 98 NoMemory; end other programs, or give this one 
 
 @case(
     "answers for which memory was wanting",
-    "Each answer 98, to a message, a question, a question for plans, also while it is thought about, and a backup, is told on standard "
+    "Each answer 98, to a message, a question, a question for plans, also while it is thought about, and a backup, is reported on standard "
     "error, once.",
 )
 def wanting(trial):
@@ -406,20 +406,20 @@ def wanting(trial):
     lines = (MATERIAL.replace('"terminal":1', '"terminal":2'), '{"ask":"materials"}', asked, None)
     for number, line in enumerate(lines):
         request = request_of(line) if line else b"POST /backup HTTP/1.1\r\nHost: shop\r\nContent-Length: 0\r\n\r\n"
-        first, last, got, told = answered(number, 0, request)
-        trial.equal((got.split(b"\r\n")[0], told), (b"HTTP/1.1 200 OK", 0), line)
+        first, last, got, output = answered(number, 0, request)
+        trial.equal((got.split(b"\r\n")[0], output), (b"HTTP/1.1 200 OK", 0), line)
         refused = []
         for at in trial.places(last - first, max((last - first) // 8, 1)):
-            _, _, got, told = answered(number, first + at + 1, request)
+            _, _, got, output = answered(number, first + at + 1, request)
             if got == answer(503, REFUSED):
                 refused.append(at)
-            trial.equal(told, got == answer(503, REFUSED), f"{line}, request {first + at + 1}: {got}")
+            trial.equal(output, got == answer(503, REFUSED), f"{line}, request {first + at + 1}: {got}")
         trial.holds(refused and (line != asked or refused[-1] > (last - first) // 2), f"{line}: 98 at {refused} of {last - first}")
 
 
 @case(
     "files of others",
-    "A problem, an order file, a shop file and a page that this account may not read, or in whose folder it may not look, are told so, "
+    "A problem, an order file, a shop file and a page that this account may not read, or in whose folder it may not look, are reported so, "
     "and so is a store.",
 )
 def not_allowed(trial):

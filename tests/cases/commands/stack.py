@@ -147,11 +147,11 @@ def strips(trial):
 
 def answered(trial, ran, count):
     """So many lines were answered, none of them by a refusal."""
-    told = [json.loads(it) for it in ran.out.split(b"\n")[:-1]]
+    output = [json.loads(it) for it in ran.out.split(b"\n")[:-1]]
     trial.equal((ran.status, ran.err), (0, b""))
-    trial.equal(len(told), count)
-    trial.equal([it for it in told if "ok" not in it], [])
-    return told
+    trial.equal(len(output), count)
+    trial.equal([it for it in output if "ok" not in it], [])
+    return output
 
 
 def least():
@@ -198,8 +198,8 @@ def deep(trial):
     lines = [*yard.lines, *map(compact, plans)]
     answered(trial, trial.replay(lines, prepare=least), len(lines))
     plan = compact({"ask": "plan", "demands": [demand], "part": sheet, "step": 1})
-    told = trial.replay([*yard.lines, plan], prepare=least)
-    trial.equal((told.status, json.loads(told.out.split(b"\n")[-2])["refused"]), (0, 91))
+    output = trial.replay([*yard.lines, plan], prepare=least)
+    trial.equal((output.status, json.loads(output.out.split(b"\n")[-2])["refused"]), (0, 91))
 
 
 @case(

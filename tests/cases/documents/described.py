@@ -107,10 +107,10 @@ def words_of(begin, end):
 
 def routes_shown():
     """The routes that queries name, and those of the table of routes, whose rows name a method and then paths."""
-    told = re.findall(r"\b(GET|POST) `(/[^`]*)`", passage("## Queries", "## Trees"))
+    output = re.findall(r"\b(GET|POST) `(/[^`]*)`", passage("## Queries", "## Trees"))
     for row in re.findall(r"^\|((?:GET|POST) `[^|]*)\|", passage("## HTTP", "### Errors of a request"), re.MULTILINE):
-        told += [(row.split()[0], path) for path in re.findall(r"`(/[^`]*)`", row)]
-    return sorted({f"{method.lower()} {path}" for method, path in told})
+        output += [(row.split()[0], path) for path in re.findall(r"`(/[^`]*)`", row)]
+    return sorted({f"{method.lower()} {path}" for method, path in output})
 
 
 @case(
@@ -120,8 +120,8 @@ def routes_shown():
 def is_whole(trial):
     trial.equal(sorted(name for name, _ in operations()), routes_shown(), "routes")
     statuses = re.findall(r"^\|`([0-9]{3}) [A-Z]", passage("### Answers", "### Connections"), re.MULTILINE)
-    told = {status for _, operation in operations() for status in operation["responses"]} | {"405"}
-    trial.equal(sorted(told), sorted(statuses), "statuses")
+    output = {status for _, operation in operations() for status in operation["responses"]} | {"405"}
+    trial.equal(sorted(output), sorted(statuses), "statuses")
     schemas = document()["components"]["schemas"]
     for kind, words in (("Message", words_of("## Messages", "## Queries")), ("Query", words_of("## Queries", "## Trees"))):
         trial.equal(sorted(schemas[kind]["discriminator"]["mapping"]), sorted(words), kind)
@@ -249,7 +249,7 @@ def found_wrong(trial):
     needs_checker()
     good, bad = samples()
     for name, values in sorted(good.items()):
-        chosen = telling([it for it, _ in values])
+        chosen = distinct([it for it, _ in values])
         for what, whole in changed(name):
             judge = described.checker({"$ref": f"#/components/schemas/{name}"}, whole)
             trial.holds(any(not judge.is_valid(it) for it in chosen), f"{what} isn't found")
@@ -257,7 +257,7 @@ def found_wrong(trial):
     trial.equal(loose, [], "schemas that may take further keys")
 
 
-def telling(values):
+def distinct(values):
     """Values of which each has keys with types of their values, at any depth, that stand together in none before it."""
     chosen, seen = [], set()
     for value in values:

@@ -44,9 +44,9 @@ def is_there(name):
 )
 def names(trial):
     rows = re.findall(r"^\| (.+?) \| (.+) \|$", "\n".join(__main__.table(CASES)), re.MULTILINE)
-    told = [it for it in rows if it != ("Name", "What it shows")]
-    trial.equal(told, [(it.name, it.says.replace("|", "\\|")) for it in CASES])
-    trial.equal(len({name for name, _ in told}), len(told))
+    output = [it for it in rows if it != ("Name", "What it shows")]
+    trial.equal(output, [(it.name, it.says.replace("|", "\\|")) for it in CASES])
+    trial.equal(len({name for name, _ in output}), len(output))
 
 
 def cited_cases(text):
@@ -59,7 +59,7 @@ def cited_cases(text):
 def cases(trial):
     there = [it.name for it in CASES]
     named = [(it, cited) for it in documents() for cited in cited_cases(text_of(it))]
-    words = [(it, cited) for it in documents() for cited in re.findall(r"tests/run ([a-z][a-z' ]*[a-z])", text_of(it))]
+    words = [(it, cited) for it in documents() for cited in re.findall(r"tests/run ([a-z][a-z' ]*[a-z])(?![/a-z])", text_of(it))]
     trial.holds(len(named) > 30 and len(words) > 2, f"{len(named)} cases and {len(words)} words are cited")
     trial.equal([it for it in named if it[1] not in there], [])
     trial.equal([it for it in words if not any(it[1] in name for name in there)], [])
@@ -80,7 +80,7 @@ def files(trial):
 
 @case(
     "cited edits are there",
-    "Each edit that docs/PROMISES.md tells as refused is in must-fail/ or more-edits/, and each of must-fail/ is told there.",
+    "Each edit that docs/PROMISES.md reports as refused is in must-fail/ or more-edits/, and each of must-fail/ is reported there.",
 )
 def edits(trial):
     cited = set()
@@ -99,16 +99,16 @@ def edited(path):
     texts, name = {}, None
     with open(path, encoding="utf-8") as file:
         lines = [it.rstrip("\n").partition(": ") for it in file]
-    for (kind, _, told), (_, _, new) in zip(lines, [*lines[1:], ("", "", "")]):
+    for (kind, _, output), (_, _, new) in zip(lines, [*lines[1:], ("", "", "")]):
         if kind == "file":
-            name = os.path.join(os.path.dirname(path), "..", told)
+            name = os.path.join(os.path.dirname(path), "..", output)
             if not os.path.exists(name):
-                return told
+                return output
             texts.setdefault(name, text_of(name))
         elif kind == "old":
-            if texts[name].count(told) != 1:
-                return told
-            texts[name] = texts[name].replace(told, new)
+            if texts[name].count(output) != 1:
+                return output
+            texts[name] = texts[name].replace(output, new)
     return None
 
 
@@ -163,8 +163,8 @@ def crates_of_names(trial):
     lost = []
     for document in documents():
         for names, crate in re.findall(r"((?:`[\w:]+`(?:, | and | or )?)+) \(`(\w+)`\)", text_of(document)):
-            told = set(re.findall(r"(\w+)`", names))
-            lost += [f"{document}: {it} in {crate}" for it in sorted(told - there.get(crate, told))]
+            output = set(re.findall(r"(\w+)`", names))
+            lost += [f"{document}: {it} in {crate}" for it in sorted(output - there.get(crate, output))]
     trial.equal(lost, [])
 
 
@@ -185,16 +185,16 @@ def definitions(trial):
 
 def contracts_of(crates):
     """What the crates declare: each name of a function, a type or a trait with the names of the clauses under it."""
-    told = {}
+    output = {}
     for crate in crates:
         parts = re.split(r"\b(?:fn|struct|enum|trait|type) (\w+)", code_of(crate, "src"))
         for name, text in zip(parts[1::2], parts[2::2]):
-            told.setdefault(name, set()).update(re.findall(r"^ *(?:ensures|requires) (\w+) ", text, re.MULTILINE))
-    return told
+            output.setdefault(name, set()).update(re.findall(r"^ *(?:ensures|requires) (\w+) ", text, re.MULTILINE))
+    return output
 
 
 def promises():
-    """The items of docs/PROMISES.md that tell of calls: a section's crates, the calls, and their contract."""
+    """The items of docs/PROMISES.md that report of calls: a section's crates, the calls, and their contract."""
     for head, body in re.findall(r"(?ms)^## ([^\n]*)\n(.*?)(?=^## |\Z)", text_of("docs/PROMISES.md")):
         own = re.findall(r"`(\w+)`", head)
         for first, second in re.findall(r"^- ((?:laws? )?`.*?): (.*)$", body if own else "", re.MULTILINE):
@@ -208,11 +208,11 @@ def promises():
 )
 def contracts(trial):
     crates = set(os.listdir(f"{TOP}/crates"))
-    told = {}
+    output = {}
     lost = []
     for own, first, second in promises():
         named = [it for it in re.findall(r"\(`(\w+)`\)", first) if it in crates] or own
-        there = told.setdefault(tuple(named), contracts_of(named))
+        there = output.setdefault(tuple(named), contracts_of(named))
         calls = set(re.findall(r"`(?:\w+::)?(\w+)`", re.sub(r"\([^)]*\)", "", first))) - OF_STD
         lost += [f"{first}: {it} in {named}" for it in sorted(calls - there.keys())]
         clauses = re.findall(r"(?:^|[;.] )`([a-z_]+)`(?: \([^)]*\))?:", second)
@@ -250,6 +250,6 @@ def error_texts(trial):
     paths = [it for kind in ("src/**/*.rt", "specs/**/*.antt") for it in glob.glob(f"{TOP}/crates/*/{kind}", recursive=True)]
     code = "\n".join(text_of(it) for it in paths).replace('\\"', '"')
     lines = [it.strip() for it in text_of("docs/errors.txt").split("\n") if it.startswith("    ")]
-    told = [text for it in lines for text in (re.findall(r"`([^`]{12,})`", it) or ([] if "`" in it else [it]))]
-    trial.holds(len(told) > 100, f"{len(told)} texts")
-    trial.equal([it for it in told if it.strip() not in code and not it.startswith(FILLED_IN)], [])
+    output = [text for it in lines for text in (re.findall(r"`([^`]{12,})`", it) or ([] if "`" in it else [it]))]
+    trial.holds(len(output) > 100, f"{len(output)} texts")
+    trial.equal([it for it in output if it.strip() not in code and not it.startswith(FILLED_IN)], [])

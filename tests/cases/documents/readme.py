@@ -40,22 +40,36 @@ def exchanged(shown):
     return sent, [line for _, behind in pairs for line in behind]
 
 
-@case("the tour as typed", "The lines of a day and of the week behind it in docs/SHOP.md get the replies that stand behind them.")
+@case("the tour as typed", "The lines of a week in docs/SHOP.md get the replies that stand behind them.")
 def tour(trial):
-    sent, wanted = exchanged(blocks("docs/SHOP.md", "\n## A day in lines\n", "\n## A plan of a sheet\n"))
+    sent, wanted = exchanged(blocks("docs/SHOP.md", "\n## A week in lines\n", "\n## A plan of a sheet\n"))
     ran = trial.replay(sent)
     trial.equal(ran.out.decode().split("\n")[:-1], wanted, "\n".join(sent))
 
 
 @case(
     "the order file as typed",
-    "The import of docs/FORMATS.md and the messages behind it get the replies that stand there, where STEEL is known.",
+    "The order file of docs/FORMATS.md can be read, and is imported where STEEL is known; the same import again gets the same reply, also after "
+    "its pieces were cut.",
 )
 def order_file(trial):
-    sent, wanted = exchanged(blocks("docs/FORMATS.md", "\n(`read_orders`)", "\n### Shop files\n"))
-    steel = '{"do":"material","kerf":3,"kind":"bar","material":"STEEL","min_long":20,"min_short":1,"number":1,"terminal":1}'
-    ran = trial.replay([steel, *sent])
-    trial.equal(ran.out.decode().split("\n")[1:-1], wanted, "\n".join(sent))
+    (shown,) = blocks("docs/FORMATS.md", "\n(`read_orders`)", "\n### Shop files\n")
+    text = "".join(f"{line}\n" for line in shown)
+    ran = trial.run("orders", trial.write("order.csv", text))
+    trial.ended(ran, 0, f"{len(shown) - 1} lines\n")
+    sent = [
+        '{"do":"material","kerf":3,"kind":"bar","material":"STEEL","min_long":20,"min_short":1,"number":1,"terminal":1}',
+        json.dumps({"do": "import", "form": "csv", "number": 2, "order": "A-1", "terminal": 1, "text": text}),
+        '{"batch":"B-1","count":1,"do":"receive","h":1,"material":"STEEL","number":3,"terminal":1,"w":100}',
+        '{"do":"reserve","number":4,"part":"1/0","terminal":1,"tree":"x30 p1 x30 p1 x30 p1 r"}',
+        '{"do":"done","job":2,"number":5,"terminal":1}',
+        json.dumps({"do": "import", "form": "csv", "number": 6, "order": "A-1", "terminal": 1, "text": text}),
+        '{"ask":"demand","demand":1}',
+    ]
+    replies = trial.replay(sent).out.decode().split("\n")[:-1]
+    imported = '{"act":0,"count":1,"first":1,"ok":"import","order":"A-1"}'
+    demand = '{"demand":1,"line":1,"made":3,"material":"STEEL","ok":"demand","order":"A-1","reserved":0,"wanted":3}'
+    trial.equal([replies[1], *replies[5:]], [imported, imported, demand], "\n".join(sent))
 
 
 @case(
@@ -88,8 +102,7 @@ def commands(trial):
     "`cutshop plan docs/sheet.txt` prints the lines of docs/SHOP.md at steps 1 and 2, but for the tree, which is any best one.",
 )
 def plans(trial):
-    problem, first, second = blocks("docs/SHOP.md", "\n## A plan of a sheet\n", "\n## All pieces of an order\n")
-    trial.equal("\n".join(problem), open(os.path.join(TOP, "docs/sheet.txt"), encoding="utf-8").read().strip())
+    first, second = blocks("docs/SHOP.md", "\n## A plan of a sheet\n", "\n## All pieces of an order\n")
     for step, wanted in (("1", first), ("2", second)):
         ran = trial.run("plan", os.path.join(TOP, "docs/sheet.txt"), "--kerf", "1", "--step", step)
         trial.equal((ran.status, ran.out.decode().split("\n")[:3]), (0, wanted[:3]), f"step {step}")
@@ -100,14 +113,13 @@ def plans(trial):
     "`cutshop plan docs/bars.txt --whole` prints the four lines of docs/SHOP.md, which README has in words, and plans that cut all pieces.",
 )
 def whole_plans(trial):
-    problem, wanted = blocks("docs/SHOP.md", "\n## All pieces of an order\n")
+    (wanted,) = blocks("docs/SHOP.md", "\n## All pieces of an order\n")
     file = os.path.join(TOP, "docs/bars.txt")
-    trial.equal("\n".join(problem), open(file, encoding="utf-8").read().strip())
     ran = trial.run("plan", file, "--whole", "--kerf", "30")
     trial.equal((ran.status, ran.out.decode().split("\n")[:4]), (0, wanted[:4]), "--whole")
     with open(os.path.join(TOP, "README.md"), encoding="utf-8") as readme:
-        told = re.search(r"`cutshop plan docs/bars.txt [^`]*`.*? prints ((?:`[a-z]+ \w+`, )+`[a-z]+ \w+`)", readme.read())
-    trial.equal(re.findall(r"`([^`]+)`", told[1]), wanted[:4], "README's words")
+        output = re.search(r"`cutshop plan docs/bars.txt [^`]*`.*? prints ((?:`[a-z]+ \w+`, )+`[a-z]+ \w+`)", readme.read())
+    trial.equal(re.findall(r"`([^`]+)`", output[1]), wanted[:4], "README's words")
     numbers = list(map(int, open(file, encoding="utf-8").read().split()))
     kinds = [tuple(numbers[at : at + 4]) for at in range(3, len(numbers), 4)]
     checked(Problem(numbers[1], numbers[2], kinds), 30, ran.out.decode())
@@ -165,8 +177,8 @@ class Typist:
             stderr=subprocess.PIPE,
             preexec_fn=lambda: signal.signal(signal.SIGINT, signal.SIG_DFL),
         )
-        told = self.served.stdout.readline().decode()
-        self.trial.equal(told, f"listening on 127.0.0.1:{self.port}\n", line)
+        output = self.served.stdout.readline().decode()
+        self.trial.equal(output, f"listening on 127.0.0.1:{self.port}\n", line)
 
     def close(self):
         """Ctrl-C in the window of the shop."""
@@ -183,9 +195,9 @@ class Typist:
 def day(trial):
     if not shutil.which("curl"):
         raise Skipped("no curl is installed (apt-get install curl)")
-    shown = blocks("docs/SHOP.md", "\n## A day over HTTP\n", "\n## A day in lines\n")
+    shown = blocks("docs/SHOP.md", "\n## A day over HTTP\n", "\n## A week in lines\n")
     opened, copied = [at for at, it in enumerate(shown) if "cutshop serve " in it[-1] or it[0].startswith("mkdir")]
-    closing = passages("docs/SHOP.md", "\n## A day over HTTP\n", "\n## A day in lines\n")[copied]
+    closing = passages("docs/SHOP.md", "\n## A day over HTTP\n", "\n## A week in lines\n")[copied]
     trial.holds("Press ctrl-C in the first window." in closing, closing)
     with Typist(trial) as typist:
         for at, (block, behind) in enumerate(zip(shown, [*shown[1:], ["cutshop"]])):
@@ -196,8 +208,8 @@ def day(trial):
             printed = [typist.type(line, 1 if at == opened else 2).rstrip("\n") for line in block]
             wanted = [] if behind[0].split()[0] in TYPED else behind
             # (the time of the last message is the day's own)
-            told, shown = [UNTIL.sub("until", "\n".join(it for it in lines if it)) for lines in (printed, wanted)]
-            trial.equal(told, shown, "\n".join(block))
+            output, shown = [UNTIL.sub("until", "\n".join(it for it in lines if it)) for lines in (printed, wanted)]
+            trial.equal(output, shown, "\n".join(block))
         with open(trial.path("ticket.txt"), encoding="utf-8") as file:
             trial.equal(file.readline(), "job 2 done\n")
 

@@ -1,4 +1,4 @@
-"""What the source itself shows: where a want of memory and a failed store are told, and which constants a law names."""
+"""What the source itself shows: where a want of memory and a failed store are reported, and which constants a law names."""
 
 import glob
 import re
@@ -14,7 +14,7 @@ NAMED = re.compile(r"\b(?:NoMemory|AllocError|OutOfMemory|is_memory)\b")
 # Calls of std and of ported crates whose only Err is a want of memory.
 OF_STD = {"push", "extend_from_slice", "Vec::with_capacity", "Vec::from_slice", "Box::new"}
 
-# Places that tell a want of memory otherwise than as the Err of a call that has no other, or as what another value names;
+# Places that report a want of memory otherwise than as the Err of a call that has no other, or as what another value names;
 # and why there is one behind it.
 LISTED = {
     "cut_order/src/answer.rt want_of_memory": "the check of units that are a plan of the order, whose only fault then is this one, by its contract",
@@ -32,7 +32,8 @@ LISTED = {
     "shop_rows/src/part_rows.rt reserve": "a number of origins of 32 bits: acts end at 2147483647, and each begins one at most",
     "shop_serve/src/answers.rt note_want": "what the watch told of a backup is asked for, to be noted",
     "shop_serve/src/clients.rt ask": "there is no answer where memory is wanting for it",
-    "shop_store/src/entries.rt find_ends": "more steps than there are entries",
+    "shop_store/src/entries.rt find_trail": "more steps than there are entries",
+    "shop_store/src/uses.rt list_uses": "more steps than there are rows",
     "shop_store/src/ledger_book.rt out_of_range": "a number, a sum or two lines of an order that no history makes, over a storage whose only fault is want of memory, by its contract",
     "shop_store/src/stories.rt scan": "more steps than there are entries",
     "shop_store/src/loading_parts.rt stopped": "the loader of parts says whether it stopped for want of memory",
@@ -110,7 +111,7 @@ def is_alone(expression):
 
 
 def is_behind(body, at, crate):
-    """Whether what is told at a place is the want of memory of something else: that of a pattern or a condition around it, or
+    """Whether what is reported at a place is the want of memory of something else: that of a pattern or a condition around it, or
     the Err of a call that has no other; and of nothing beside it."""
     for before, within in around(body, at):
         matched, arms = re.search(r"\bmatch\b(.*)", before, re.DOTALL), within.rpartition("=>")
@@ -130,8 +131,8 @@ def is_behind(body, at, crate):
     return False
 
 
-def tellings():
-    """The places that tell a want of memory: the file with the function, and whether there is another one behind it."""
+def reports():
+    """The places that report a want of memory: the file with the function, and whether there is another one behind it."""
     for path, code in sources().items():
         if re.search(r"\b(?:const|static)\s+\w+\s*:[^;{]*=[^;{]*\b(?:NoMemory|AllocError)\b|\b(?:NoMemory|AllocError)\s+as\b", code):
             yield f"{path}, by another name", False
@@ -148,17 +149,17 @@ def tellings():
 
 @case(
     "want of memory is never made",
-    "In the source of the crates a want of memory is told where another one is named, or where a call fails that fails for "
+    "In the source of the crates a want of memory is reported where another one is named, or where a call fails that fails for "
     "nothing else, and nothing else stands in the condition or the pattern; other places are those of a list, with their reasons, "
     "and each of these is there.",
 )
 def never_made(trial):
-    told = list(tellings())
-    trial.holds(len(told) > 50, f"{len(told)} places")
-    trial.equal(sorted(place for place, is_behind in told if not is_behind), sorted(LISTED))
+    output = list(reports())
+    trial.holds(len(output) > 50, f"{len(output)} places")
+    trial.equal(sorted(place for place, is_behind in output if not is_behind), sorted(LISTED))
 
 
-# Bodies that tell a want of memory, and whether there is one behind it.
+# Bodies that report a want of memory, and whether there is one behind it.
 TELLING = (
     ("if list.push(row).is_err() { return Err(F::NoMemory); }", True),
     ("if is_full || list.push(row).is_err() { return Err(F::NoMemory); }", False),
@@ -190,19 +191,19 @@ TELLING = (
     "The rule over the source takes a want of memory behind a condition, a pattern or a call that is one alone, and refuses it where "
     "more stands in the condition or the pattern, or the call fails for something else, in bodies made by hand.",
 )
-def wrong_tellings(trial):
+def wrong_reports(trial):
     for body, is_right in TELLING:
-        told = "G::NoMemory" if "G::NoMemory" in body else "F::NoMemory"
-        trial.equal(is_behind(body, body.index(told), "shop_files"), is_right, body)
+        output = "G::NoMemory" if "G::NoMemory" in body else "F::NoMemory"
+        trial.equal(is_behind(body, body.index(output), "shop_files"), is_right, body)
 
 
-# Takers whose stop is told as a want of memory, by the file in which each stands.
+# Takers whose stop is reported as a want of memory, by the file in which each stands.
 TAKERS = ("shop_desk/src/racks.rt", "shop_text/src/yields.rt")
 
 
 @case(
     "takers stop for want of memory alone",
-    "A taker of parts whose stop is told as a want of memory stops where a call fails that fails for nothing else, and an answer "
+    "A taker of parts whose stop is reported as a want of memory stops where a call fails that fails for nothing else, and an answer "
     "that isn't made is one whose making failed.",
 )
 def takers(trial):
@@ -219,14 +220,12 @@ def takers(trial):
 # A failed store, or tables of another version, by any name of the tables, of a book or of a refusal.
 FAILED = re.compile(r"\b(?:TableFault|AdoptFault|BookFault|Refusal)::(Store|StoreFault|WrongVersion)\b")
 
-# The places that tell one where none is handed on, how many each function has, and what is so there.
+# The places that report one where none is handed on, how many each function has, and what is so there.
 FAULTED = {
     "shop_book/src/books.rt from StoreFault": (2, "hands on a book's fault"),
     "shop_desk/src/desk_calls.rt answer_again StoreFault": (1, "the kept reply is none"),
     "shop_machine/src/ending.rt work_of StoreFault": (3, "a job without its part or its material, or rows that don't bear its end, by its contract"),
     "shop_machine/src/importing.rt decide_again StoreFault": (1, "the reply of an import is none, by its contract"),
-    "shop_machine/src/undoing.rt decide_undo StoreFault": (2, "totals below the cells that go, or demands with fewer made, by its contract"),
-    "shop_machine/src/undoing.rt find_over StoreFault": (3, "a job without its part or its material, or a part that doesn't fit it, by its contract"),
     "shop_machine/src/receiving.rt decide_receive StoreFault": (1, "more cells in stock than were received, by its contract"),
     "shop_machine/src/reserving.rt decide_reserve StoreFault": (1, "a part without its material, by its contract"),
     "shop_machine/src/retiring.rt decide_give_back StoreFault": (1, "totals below the part's cells, by its contract"),
@@ -284,8 +283,8 @@ FAULTED = {
 
 
 def failures():
-    """The places that tell a failed store or another version where none is handed on by its name: the file with the function and
-    the fault, and whether an Err of any kind is told so that may be a want of memory."""
+    """The places that report a failed store or another version where none is handed on by its name: the file with the function and
+    the fault, and whether an Err of any kind is reported so that may be a want of memory."""
     for path, code in sources().items():
         if re.search(r"\b(?:TableFault|AdoptFault|BookFault|Refusal|Store|StoreFault|WrongVersion)\s+as\b", code):
             yield f"{path}, by another name", False
@@ -304,13 +303,13 @@ def failures():
 
 @case(
     "a failed store is never made",
-    "In the source of the crates a failed store, or tables of another version, is told where one is handed on, and at the places of "
+    "In the source of the crates a failed store, or tables of another version, is reported where one is handed on, and at the places of "
     "a list, each so often as it says; none of them takes any Err for it that may be a want of memory.",
 )
 def never_failed(trial):
-    told = list(failures())
-    trial.equal([place for place, is_memory in told if is_memory], [])
-    trial.equal(Counter(place for place, _ in told), {place: count for place, (count, _) in FAULTED.items()})
+    output = list(failures())
+    trial.equal([place for place, is_memory in output if is_memory], [])
+    trial.equal(Counter(place for place, _ in output), {place: count for place, (count, _) in FAULTED.items()})
 
 
 def read(path):
@@ -399,6 +398,7 @@ LAWLESS = {
     "cut_classes choice MOST_NARROW": ("500", "points_along", "a side that an axis has room for more often, and more often than it has points, is not counted: that lowers a bound of costs"),
     "cut_classes pairs MOST_POINTS": ("65536", "is_usable_grid pairs_of usable_points", "the definition `IsUsableGrid` has the number"),
     "cut_tree read MOST_WORDS": ("512", "words_of", "one word more than a tree of 255 cuts has: the contract has the first fault at one of these"),
+    "shop_book entry_index LAST_NUMBER": ("4294967295", "filed_number next_about", "the definition `filed_number` has the number"),
     "shop_backup backing MOST_BACKUPS": ("1000000", "begin_behind number_of", "the greatest number of a backup, as the formats have it"),
     "shop_backup backing BUFFER_SIZE": ("65536", "copy_piece", "how much of a file is in memory at once"),
     "shop_backup folders MOST_TRIES": ("1000", "try_in write", "how often an interrupted call is made again, and how many names are tried"),
@@ -435,8 +435,9 @@ LAWLESS = {
     "shop_store loading_parts PARTS_AT_ONCE": ("4096", "flush_many", "how many parts that were read wait before they are put into a ledger"),
     "shop_store numbered MOST_CHUNKS": ("4294967296", "load_numbered", "more times than a table has rows of different numbers of 32 bits"),
     "shop_store numbered ROWS_AT_ONCE": ("1000", "load_numbered", "how many rows of jobs or demands are in memory at once while a ledger is loaded"),
-    "shop_store stories ENTRIES_AT_ONCE": ("1000", "step step", "how many entries are in memory at once while a story, or the end of a job, is looked for"),
-    "shop_store stories MOST_STEPS": ("18446744073709551615", "find_ends scan", "more times than there are entries"),
+    "shop_store entries ENTRIES_AT_ONCE": ("1000", "step", "how many entries are in memory at once while a store is opened"),
+    "shop_store stories MOST_STEPS": ("18446744073709551615", "find_trail list_uses scan", "more times than there are entries, or rows of orders of jobs"),
+    "shop_store uses ROWS_AT_ONCE": ("1000", "push_rows", "how many rows of orders of jobs an audit reads at once, as its query has it"),
     "shop_tables entries MOST_ENTRIES": ("9223372036854775807", "counted", "more entries than a table has, as its numbers have 63 bits"),
     "shop_streams counted MOST_TRIES": ("1000", "read write", "how often an interrupted call is made again"),
 }
@@ -467,3 +468,94 @@ def lawless(trial):
                 number = value.replace("_", "") if value[0].isdigit() else value
                 found[f"{crate} {module} {name}"] = (number, " ".join(sorted(used_in(crate, module, name))))
     trial.equal(found, {name: listed[:2] for name, listed in LAWLESS.items()})
+
+
+# The crates above a book by which a shop changes it, and those of each whose functions it may call.
+ABOVE = {
+    "shop_desk": (),
+    "shop_wire": ("shop_desk",),
+    "shop_opening": ("shop_desk",),
+    "shop_serve": ("shop_wire", "shop_desk"),
+    "shop_commands": ("shop_serve", "shop_opening", "shop_wire", "shop_desk"),
+}
+
+# The functions there that change a book: by `commit`, or by a call of one that does. What each calls for it, it calls at one place.
+CHANGING = {
+    "shop_desk handle_new": "commit",
+    "shop_desk handle_message": "handle_new",
+    "shop_desk handle_with_text_at": "handle_message",
+    "shop_desk handle_with_text": "handle_with_text_at",
+    "shop_desk handle_at": "handle_with_text_at",
+    "shop_desk handle": "handle_at",
+    "shop_desk run_at": "handle_at",
+    "shop_desk run": "run_at",
+    "shop_wire value_told": "handle_with_text",
+    "shop_wire answer": "value_told",
+    "shop_wire hold_answer": "answer",
+    "shop_wire answer_lines": "hold_answer",
+    "shop_wire replay": "answer_lines",
+    "shop_wire message_reply": "handle_with_text_at",
+    "shop_wire message_told": "message_reply",
+    "shop_wire respond": "message_told",
+    "shop_wire answer_request": "respond",
+    "shop_wire answer_inbound": "answer_request",
+    "shop_wire begin_inbound": "answer_inbound",
+    "shop_wire begin_request": "begin_inbound",
+    "shop_wire serve_request": "answer_inbound",
+    "shop_wire serve_one": "serve_request",
+    "shop_opening add_shop": "run_at",
+    "shop_serve routed_answer": "begin_inbound",
+    "shop_serve answer_of": "routed_answer",
+    "shop_serve made_of": "answer_of",
+    "shop_serve ask": "made_of",
+    "shop_serve attend": "ask",
+    "shop_serve attend_once": "attend",
+    "shop_serve attend_at": "attend_once",
+    "shop_serve attend_reported": "attend_at",
+    "shop_serve think": "attend_at",
+    "shop_serve turn": "attend_reported think",
+    "shop_serve serve_port": "turn",
+    "shop_serve serve_on": "serve_port",
+    "shop_commands replay_fresh": "replay",
+    "shop_commands add_entries": "add_shop",
+    "shop_commands serve_connections": "serve_on",
+    "shop_commands serve_book": "add_entries serve_connections",
+    "shop_commands serve": "serve_book",
+    "shop_commands do_request": "replay_fresh serve",
+    "shop_commands perform": "do_request",
+    "shop_commands run": "perform",
+}
+
+# The crates that write tables, and the calls by which they do.
+WRITING, WRITES = {"shop_statements", "shop_tables"}, r"\.(?:execute|execute_batch|transaction)\("
+
+
+def calls_above():
+    """What each function of these crates calls of theirs, or of a book to change it, as often as it does."""
+    bodies = {}
+    for path, code in sources().items():
+        crate = path.partition("/")[0]
+        for name, _, body in functions(code) if crate in ABOVE else ():
+            bodies.setdefault((crate, name), []).append(body)
+    for crate, name in bodies:
+        calls = []
+        for body in bodies[crate, name]:
+            calls += [("", "commit")] * body.count(".commit(")
+            for called in re.findall(r"(?<![\w.])(?:\w+::)*(\w+)(?:::<[^()]*>)?\(", body):
+                calls += [(it, called) for it in (crate, *ABOVE[crate]) if (it, called) in bodies][:1]
+        yield (crate, name), calls
+
+
+@case(
+    "what changes a book",
+    "In the source of the crates that handle messages and serve them a book is changed by one `commit`, and by the calls that lead to it: "
+    "each function with such a call stands in a list, and makes each of them at one place. Statements that write run in the crates of "
+    "tables alone.",
+)
+def changing(trial):
+    calls, changing = dict(calls_above()), {("", "commit")}
+    while more := {it for it, called in calls.items() if changing.intersection(called)} - changing:
+        changing |= more
+    found = {" ".join(it): " ".join(sorted(name for of, name in called if (of, name) in changing)) for it, called in calls.items()}
+    trial.equal({it: called for it, called in found.items() if called}, CHANGING)
+    trial.equal({path.partition("/")[0] for path, code in sources().items() if re.search(WRITES, code)}, WRITING)

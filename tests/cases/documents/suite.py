@@ -26,16 +26,18 @@ def imports(trial):
 
 @case(
     "how far the suite is",
-    "On a terminal `tests/run` tells below its other lines how many cases of how many are done, and the minutes so far; elsewhere it prints its lines "
-    "alone, and its last line is the same.",
+    "On a terminal `tests/run` shows below its other lines how many cases of how many have ended, the seconds so far and the name of one that runs; "
+    "elsewhere it prints its lines alone. The last line is the same.",
 )
 def how_far(trial):
     words = [sys.executable, RUN, "--program", trial.program, WORDS[0]]
     ran = subprocess.run(words, capture_output=True, text=True, cwd=trial.folder, timeout=SECONDS)
     lines = [it for it in ran.stdout.splitlines(keepends=True) if not it.startswith("passed: ")]
     trial.equal((ran.returncode, "".join(lines), ran.stderr), (0, WORDS[1], ""), "no terminal")
-    status, errors, told, _ = at_terminal(words, "stdout", trial.folder)
-    text = told.decode().replace("\r\n", "\n")
+    status, errors, output, _ = at_terminal(words, "stdout", trial.folder)
+    text = output.decode().replace("\r\n", "\n")
     trial.equal((status, errors, text.rpartition("\x1b[K")[2]), (0, b"", WORDS[1]), text)
-    shown = re.findall(r"\r\x1b\[K([01]) of 1 cases, [0-9]+\.[0-9] min", text)
+    shown = re.findall(rf"\r\x1b\[K([01]) of 1, [0-9]+ s, {WORDS[0]}", text)
     trial.equal(shown[:1], ["0"], text)
+    ended = [it for it in text.split("\r\x1b[K") if it.startswith("1 of 1")]
+    trial.equal(ended, [], "nothing is drawn after the last case")

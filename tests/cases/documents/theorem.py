@@ -7,14 +7,14 @@ from kit.case import TOP, case
 
 QUOTE = re.compile(r"^From `([^`]+)`:\n\n```\n(.*?)\n```\n", re.M | re.S)
 # A reader has ten minutes.
-MOST_WORDS = 1500
+MAX_WORDS = 1500
 
 
 @case("the theorem's quotations", "Each definition that docs/THEOREM.md quotes stands in the file that it names, line for line; the page has at most 1500 words.")
 def quotations(trial):
     with open(os.path.join(TOP, "docs", "THEOREM.md"), encoding="utf-8") as file:
         page = file.read()
-    trial.equal(len(page.split()) <= MOST_WORDS, True, f"{len(page.split())} words")
+    trial.equal(len(page.split()) <= MAX_WORDS, True, f"{len(page.split())} words")
     quotes = QUOTE.findall(page)
     trial.equal(len(quotes), page.count("```") // 2, "each block names its file")
     for path, text in quotes:

@@ -87,8 +87,8 @@ def exact(trial):
     shop = trial.shop(limit=5)
     wanted = [(b"", b""), (request_of(TOTALS)[:9], answer(400)), (b"GET /nowhere HTTP/1.1\r\nHost: x\r\n\r\n", answer(404))]
     wanted += [(request_of(GLASS), answer(200, '{"material":"GLASS","ok":"material"}'))]
-    for request, told in wanted:
-        trial.equal(shop.exchange(request), told, request)
+    for request, output in wanted:
+        trial.equal(shop.exchange(request), output, request)
         trial.equal(shop.has_ended(), False, request)
     trial.equal(shop.exchange(request_of(TOTALS)), answer(200, totals(0, 0, 0, 0).replace(b":80,", b":0,")))
     trial.equal(shop.end()[0], 0)

@@ -5,7 +5,7 @@ import threading
 
 from kit import owners, tables
 from kit.case import case
-from kit.floor import GLASS, day, line, message, numbered, received, told
+from kit.floor import GLASS, day, line, message, numbered, received, answers
 from kit.full_day import all_entries
 from kit.owners import Owners
 from kit.paper import Paper
@@ -63,8 +63,8 @@ def filled(trial, count):
 
 @case(
     "eight terminals begin a job at once",
-    "Each of eight terminals that begin the same job at once is accepted, and its reply tells the one before it in the history, the "
-    "first one's 0; the lists tell the last one as that which has begun it.",
+    "Each of eight terminals that begin the same job at once is accepted, and its reply reports the one before it in the history, the "
+    "first one's 0; the lists report the last one as that which has begun it.",
 )
 def begin(trial):
     shop = filled(trial, 1)
@@ -117,7 +117,7 @@ def undo(trial):
 
 @case(
     "eight terminals note and extend an order at once",
-    "Of eight terminals that note an order at once the last one's day and text are told; of eight that add the same line to it "
+    "Of eight terminals that note an order at once the last one's day and text are reported; of eight that add the same line to it "
     "one is accepted and the others are refused 41, and lines that "
     "rise are added in some order, each as a demand of its own.",
 )
@@ -164,4 +164,4 @@ def prefixes(trial):
             trial.equal(shop.exchange(request[:end]), answer(400) if end else b"", request[:end])
         trial.holds(shop.exchange(request).startswith(b"HTTP/1.1 200 OK"), path)
     for asked in ({"ask": "steps", "job": 2}, {"after": 0, "ask": "jobs"}, {"ask": "lines", "order": "A-1"}):
-        told(trial, shop, asked, paper.reply(compact(asked)))
+        answers(trial, shop, asked, paper.reply(compact(asked)))

@@ -95,10 +95,10 @@ def proxy_of(port):
             fields |= {"Host": self.headers["Host"].partition(":")[0], "Connection": "close"}
             shop = http.client.HTTPConnection("127.0.0.1", port, timeout=30)
             shop.request(self.command, self.path, body=body or None, headers=fields)
-            told = shop.getresponse()
-            text = told.read()
-            self.send_response_only(told.status)
-            for name, value in told.getheaders():
+            output = shop.getresponse()
+            text = output.read()
+            self.send_response_only(output.status)
+            for name, value in output.getheaders():
                 self.send_header(name, value)
             self.end_headers()
             self.wfile.write(text)
@@ -124,10 +124,10 @@ def proxied(port):
 
 def sent(port, request):
     """The status and the body that a proxy answers."""
-    told = http.client.HTTPConnection("127.0.0.1", port, timeout=30)
+    output = http.client.HTTPConnection("127.0.0.1", port, timeout=30)
     method, path, fields, body = request
-    told.request(method, path, body=body, headers=fields)
-    got = told.getresponse()
+    output.request(method, path, body=body, headers=fields)
+    got = output.getresponse()
     return got.status, got.read()
 
 

@@ -25,7 +25,7 @@ def listening(port):
 
 @case(
     "why a port can't be listened to",
-    "Where the port's socket can't be made, had or listened to, that is `fault port`, and nothing is told on standard output: in use, "
+    "Where the port's socket can't be made, had or listened to, that is `fault port`, and nothing is reported on standard output: in use, "
     "not for this account, or refused by the system.",
 )
 def not_listened_to(trial):
@@ -54,8 +54,8 @@ def not_watched(trial):
         port, faults = free_port(), Faults(trial, of, at=at, on=on, error=errno.EBADF)
         store = f"{of}-{at}.db"
         ran = serving(trial, port, store, shop_file, environment=faults.environment)
-        told = begin_line(store) + f"fault port\n  port {port}: {REFUSES}\n".encode()
-        trial.equal((ran.status, ran.out, ran.err), (1, listening(port), told), f"{of} {at}")
+        output = begin_line(store) + f"fault port\n  port {port}: {REFUSES}\n".encode()
+        trial.equal((ran.status, ran.out, ran.err), (1, listening(port), output), f"{of} {at}")
 
 
 @case(
@@ -66,8 +66,8 @@ def not_watched(trial):
 def no_clock(trial):
     shop_file, port, store = trial.write("shop.toml", ""), free_port(), "first.db"
     ran = serving(trial, port, store, shop_file, environment=Faults(trial, "clock", at=1, on=True).environment)
-    told = begin_line(store) + f"fault port\n  port {port}: {REFUSES}\n".encode()
-    trial.equal((ran.status, ran.out, ran.err), (1, listening(port), told))
+    output = begin_line(store) + f"fault port\n  port {port}: {REFUSES}\n".encode()
+    trial.equal((ran.status, ran.out, ran.err), (1, listening(port), output))
     request, counted = request_of(TOTALS), Faults(trial, "clock")
     trial.equal(trial.shop("counted.db", environment=counted.environment).reply(TOTALS), NONE_YET)
     # (a start that takes longer reads it some times more)
@@ -105,7 +105,7 @@ def unwatched(trial):
 
 @case(
     "an accept that fails for good",
-    "Where the listener itself is no listener any more the shop ends with `fault port`, and doesn't tell that it ended by its limit.",
+    "Where the listener itself is no listener any more the shop ends with `fault port`, and doesn't report that it ended by its limit.",
 )
 def gone(trial):
     shop_file = trial.write("shop.toml", "")
@@ -113,8 +113,8 @@ def gone(trial):
         port, faults = free_port(), Faults(trial, "accept", at=1, error=error)
         store = f"{error}.db"
         ran = serving(trial, port, store, shop_file, environment=faults.environment)
-        told = begin_line(store) + f"fault port\n  port {port}: {REFUSES}\n".encode()
-        trial.equal((ran.status, ran.out, ran.err), (1, listening(port), told), errno.errorcode[error])
+        output = begin_line(store) + f"fault port\n  port {port}: {REFUSES}\n".encode()
+        trial.equal((ran.status, ran.out, ran.err), (1, listening(port), output), errno.errorcode[error])
 
 
 @case(

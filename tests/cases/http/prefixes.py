@@ -51,14 +51,14 @@ def fault_of_shop(text):
 
 @case(
     "prefixes of a shop file",
-    "Each first part of a shop file is read, has its first bad entry told, or is `fault shop text`.",
+    "Each first part of a shop file is read, has its first bad entry reported, or is `fault shop text`.",
 )
 def shop_files(trial):
     text = '[[material]]\ncode = "STEEL"\nkind = "bar"\nkerf = "0.3"\nmin_long = "2.0"\nmin_short = "0.1"\n'
     text += text.replace("STEEL", "GLASS").replace("bar", "sheet")
     for end in trial.places(len(text) + 1, 3):
         trial.write("shop.toml", text[:end])
-        # (a folder is no store, which is told where the shop file is read)
+        # (a folder is no store, which is reported where the shop file is read)
         ran = trial.run("serve", "--port", "1", "--store", ".", "--shop", "shop.toml")
         trial.ended(ran, 1, err=f"fault {fault_of_shop(text[:end])}\n", sent=text[:end])
 

@@ -1,4 +1,4 @@
-"""The run of a server: what tells it, requests that are for another one, and what tells how its store is."""
+"""The run of a server: what reports it, requests that are for another one, and what reports how its store is."""
 
 import errno
 import json
@@ -18,23 +18,23 @@ FAULT = '{"name":"StoreFault","refused":99}'
 ONLY_GET = answer(405, allow="GET")
 
 
-def body_of(told):
-    return told.partition(b"\r\n\r\n")[2].decode()
+def body_of(output):
+    return output.partition(b"\r\n\r\n")[2].decode()
 
 
 def run_of(trial, shop, entries=0):
-    """The run that a server tells, and the whole answer, as the formats have it, where there are so many entries."""
-    told = shop.get("/health")
+    """The run that a server reports, and the whole answer, as the formats have it, where there are so many entries."""
+    output = shop.get("/health")
     version = trial.run("--version").out.decode().removeprefix("cutshop ").rstrip("\n")
-    run = json.loads(body_of(told))["run"]
-    trial.equal(told, answer(200, f'{{"entries":{entries},"ok":"health","run":"{run}","version":"{version}"}}'))
+    run = json.loads(body_of(output))["run"]
+    trial.equal(output, answer(200, f'{{"entries":{entries},"ok":"health","run":"{run}","version":"{version}"}}'))
     trial.holds(re.fullmatch("[0-9a-f]{16}", run), run)
     return run
 
 
 @case(
     "the run of a server",
-    "Each start has another run, of 16 hexadecimal digits, which stays while it serves; `/health` tells it beside the version, by GET "
+    "Each start has another run, of 16 hexadecimal digits, which stays while it serves; `/health` reports it beside the version, by GET "
     "alone, with a page and without.",
 )
 def runs(trial):
@@ -43,10 +43,10 @@ def runs(trial):
     for words in ((), (), page):
         shop = trial.shop(words=words)
         host = "localhost" if words else "shop"
-        told = shop.exchange(asked("/health", host=host))
-        seen.append(json.loads(body_of(told))["run"])
+        output = shop.exchange(asked("/health", host=host))
+        seen.append(json.loads(body_of(output))["run"])
         for request in (asked("/health?x", host=host), asked("/health", host=host)):
-            trial.equal(shop.exchange(request), told, request)
+            trial.equal(shop.exchange(request), output, request)
         if not words:
             trial.equal(run_of(trial, shop), seen[-1])
         for method in ("POST", "PUT", "HEAD"):
@@ -61,7 +61,7 @@ def runs(trial):
 
 @case(
     "entries that health tells",
-    "`/health` tells how many entries there are: one more behind each accepted message, none more behind a repeat, a refused message and a query, also "
+    "`/health` reports how many entries there are: one more behind each accepted message, none more behind a repeat, a refused message and a query, also "
     "behind a stop; of a store of an earlier version those since it was taken over.",
 )
 def entries(trial):

@@ -86,7 +86,7 @@ def good_forms(trial):
     steps = []
     for number, (name, form) in enumerate(DOES.items(), 1):
         steps.append((written({"do": f'"{name}"', **goods({**form, **PAIR}), "number": str(number)}), nothing[name]))
-    told = {
+    output = {
         "rack": '{"material":"A","ok":"rack","parts":[]}',
         "trace": refused(50, "NoPart"),
         "job": refused(70, "NoJob"),
@@ -99,5 +99,5 @@ def good_forms(trial):
         "terminal": '{"last":11,"ok":"terminal","terminal":1}',
     }
     # (the import was refused, and the amend is the last that was kept)
-    steps += [(written({"ask": f'"{name}"', **goods(ASKS[name])}), reply) for name, reply in told.items()]
+    steps += [(written({"ask": f'"{name}"', **goods(ASKS[name])}), reply) for name, reply in output.items()]
     over_both(trial, steps)

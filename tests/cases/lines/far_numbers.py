@@ -1,4 +1,4 @@
-"""Numbers, lengths and lists on the far side of what programs keep in 8 and 16 bits, or read at once: each is told by a plain
+"""Numbers, lengths and lists on the far side of what programs keep in 8 and 16 bits, or read at once: each is reported by a plain
 exchange. There is memory enough in each."""
 
 import json
@@ -61,11 +61,11 @@ def listed_cuts(trial):
         job, number = node + 2, 10 * node + 10
         reserve = {"do": "reserve", "number": number, "part": f"1/{node}", "terminal": 1, "tree": LONGEST}
         steps.append((compact(reserve), compact({"cuts": 255, "job": job, "ok": "reserve"})))
-        told = {"job": job, "kerf": 0, "ok": "break", "pieces": count, "rack": 0, "scrap": 0}
-        told["rack" if lost is False else "scrap"] = 256 - count
+        output = {"job": job, "kerf": 0, "ok": "break", "pieces": count, "rack": 0, "scrap": 0}
+        output["rack" if lost is False else "scrap"] = 256 - count
         made += count
         steps.append((halted(job, number + 1, list(range(255))), refused(72, "BadCut")))
-        steps += [(halted(job, number + 2, list(range(count)), lost), compact(told))] * 2
+        steps += [(halted(job, number + 2, list(range(count)), lost), compact(output))] * 2
         steps.append((halted(job, number + 2, list(range(count - 1)), lost and count - 1), refused(11, "NumberReused")))
         wanted = {"demand": 1, "line": 1, "made": made, "material": "B", "ok": "demand", "order": "A", "reserved": 0}
         steps.append(('{"ask":"demand","demand":1}', compact(wanted | {"wanted": 1024})))
@@ -145,29 +145,29 @@ def wide_plan():
     """The tree of 20 by 12 pieces of 1000.0 by 500.0 mm, and the lines of its ticket."""
     words, lines = [], []
 
-    def tell(text):
+    def add(text):
         lines.append(f"{len(lines):4} {text}")
 
     for column in range(COLUMNS):
         x, wide = f"{column * 1000}.0", f"{(COLUMNS - column) * 1000}.0"
         if column < COLUMNS - 1:
             words.append("x10000")
-            tell(f"cut x 1000.0 at {x} 0.0 of {wide} x 6000.0")
+            add(f"cut x 1000.0 at {x} 0.0 of {wide} x 6000.0")
         for row in range(ACROSS):
             y, high = f"{row * 500}.0", f"{(ACROSS - row) * 500}.0"
             if row < ACROSS - 1:
                 words.append("y5000")
-                tell(f"cut y 500.0 at {x} {y} of 1000.0 x {high}")
+                add(f"cut y 500.0 at {x} {y} of 1000.0 x {high}")
             number = column * ACROSS + row
             words.append(f"p{FIRST + number}")
             order = f"A-{number // 200 + 1} line {number % 200 + 1}"
-            tell(f"piece at {x} {y} of 1000.0 x 500.0 demand {FIRST + number} {order}")
+            add(f"piece at {x} {y} of 1000.0 x 500.0 demand {FIRST + number} {order}")
     return " ".join(words), lines
 
 
 @case(
     "a plan of 239 cuts and over 4000 bytes",
-    "A sheet in 240 pieces of demands of ten digits, up to 2147483640, is reserved, told as a job and as a ticket, opened again, "
+    "A sheet in 240 pieces of demands of ten digits, up to 2147483640, is reserved, reported as a job and as a ticket, opened again, "
     "and cut.",
 )
 def wide(trial):
@@ -180,8 +180,8 @@ def wide(trial):
     for number, count in ((1, 200), (2, 40)):
         wanted = [line | {"line": it} for it in range(1, count + 1)]
         order = compact({"do": "order", "lines": wanted, "number": 10 + number, "order": f"A-{number}", "terminal": 1})
-        told = {"count": count, "first": FIRST + 200 * (number - 1), "ok": "order", "order": f"A-{number}"}
-        trial.equal(shop.reply(order).decode(), compact(told))
+        output = {"count": count, "first": FIRST + 200 * (number - 1), "ok": "order", "order": f"A-{number}"}
+        trial.equal(shop.reply(order).decode(), compact(output))
     sheet = {"batch": "B-1", "count": 1, "do": "receive", "h": 60000, "material": "GLASS", "number": 20, "terminal": 1}
     trial.equal(shop.reply(compact(sheet | {"w": 200000})), b'{"act":1,"count":1,"ok":"receive"}')
     reserve = compact({"do": "reserve", "number": 21, "part": "1/0", "terminal": 1, "tree": tree})
@@ -199,7 +199,7 @@ def wide(trial):
 
 
 def listed(shop, path):
-    """What a list tells over HTTP: the numbers of its rows, and whether others follow."""
+    """What a list reports over HTTP: the numbers of its rows, and whether others follow."""
     value = json.loads(shop.get(path).partition(b"\r\n\r\n")[2])
     name = next(it for it in ("jobs", "demands", "materials") if it in value)
     key = {"jobs": "job", "demands": "demand", "materials": "material"}[name]
@@ -211,7 +211,7 @@ JOBS = 5000
 
 @case(
     "5000 jobs and 5000 demands of a file",
-    "Of 5000 waiting jobs and 5000 open demands in a file each list tells the hundred behind its number and whether others "
+    "Of 5000 waiting jobs and 5000 open demands in a file each list reports the hundred behind its number and whether others "
     "follow; the last job is done, and the lists end before it.",
 )
 def many_jobs(trial):
@@ -233,7 +233,7 @@ def many_jobs(trial):
 
 @case(
     "5000 jobs and 5000 demands in memory",
-    "`replay` tells the first and the last hundred of 5000 waiting jobs and of 5000 open demands, and of 2000 materials all.",
+    "`replay` reports the first and the last hundred of 5000 waiting jobs and of 5000 open demands, and of 2000 materials all.",
 )
 def many_in_memory(trial):
     codes = ["S", *[f"M-{it}" for it in range(1999)]]
@@ -250,15 +250,15 @@ def many_in_memory(trial):
     asked += [f'{{"after":{it},"ask":"demands"}}' for it in (0, 4899, 4900)] + ['{"ask":"materials"}']
     got = trial.replay([*lines, *asked]).out.decode().split("\n")
     trial.equal([it for it in got[: len(lines)] if '"ok"' not in it], [])
-    told = [json.loads(it) for it in got[len(lines) : -1]]
-    jobs = [([row["job"] for row in it["jobs"]], it["more"]) for it in told[:3]]
+    output = [json.loads(it) for it in got[len(lines) : -1]]
+    jobs = [([row["job"] for row in it["jobs"]], it["more"]) for it in output[:3]]
     trial.equal(jobs, [(list(range(it + 1, it + 101)), more) for it, more in ((50, True), (4949, True), (4950, False))])
-    demands = [([row["demand"] for row in it["demands"]], it["more"]) for it in told[3:6]]
+    demands = [([row["demand"] for row in it["demands"]], it["more"]) for it in output[3:6]]
     trial.equal(demands, [(list(range(it + 1, it + 101)), more) for it, more in ((0, True), (4899, True), (4900, False))])
-    trial.equal([it["material"] for it in told[6]["materials"]], sorted(codes))
+    trial.equal([it["material"] for it in output[6]["materials"]], sorted(codes))
 
 
-@case("2000 materials of a file", "2000 materials of a file are all listed, by rising code, and each is told alone.")
+@case("2000 materials of a file", "2000 materials of a file are all listed, by rising code, and each is reported alone.")
 def many_materials(trial):
     codes = sorted(f"M-{it}" for it in range(2000))
     rows = {it: [] for it in ROWS} | {"meta": [("act", 0), ("demand", 0), ("version", 3)]}
@@ -273,7 +273,7 @@ def many_materials(trial):
 
 @case(
     "a ticket behind a million acts",
-    "In a file whose acts and demands have numbers over 1000000 and over 2000000000 tickets, jobs and traces are told, and the "
+    "In a file whose acts and demands have numbers over 1000000 and over 2000000000 tickets, jobs and traces are reported, and the "
     "next act is one more.",
 )
 def late_acts(trial):
@@ -307,7 +307,7 @@ ACTS = 1000000
 @case(
     "a file of a million acts",
     "Behind a file of 1000000 acts, a unit and jobs that were released, the ticket of the last job and of the one before are "
-    "told, the lists tell that job alone, and it is done.",
+    "reported, the lists report that job alone, and it is done.",
 )
 def million_acts(trial):
     released = [(it, 1, 0, "p1", 3) for it in range(2, ACTS)]

@@ -27,8 +27,8 @@ def contradicts(trial, shop, line, why):
 
 @case(
     "a demand that is gone",
-    "Where the demand of a job's piece is gone, done, break, release and both tickets are told as 99; the job, its "
-    "part and other demands are told, and the demand is unknown, 42.",
+    "Where the demand of a job's piece is gone, done, break, release and both tickets are reported as 99; the job, its "
+    "part and other demands are reported, and the demand is unknown, 42.",
 )
 def gone(trial):
     path = filled(trial, exchanges=DAY[:4])
@@ -59,8 +59,8 @@ def thousand(trial):
     rows = [{"kerf": 0, "kind": "sheet", "material": it, "min_long": 10, "min_short": 10} for it in sorted(codes)]
     entries = ",".join(ENTRY.format(it) for it in codes[:1000])
     shop = trial.shop(shop_file=trial.write("shop.toml", f"material=[{entries}]"))
-    told = compact({"materials": [it for it in rows if it["material"] != codes[1000]], "ok": "materials"})
-    trial.equal(shop.get("/materials"), answer(200, told))
+    output = compact({"materials": [it for it in rows if it["material"] != codes[1000]], "ok": "materials"})
+    trial.equal(shop.get("/materials"), answer(200, output))
     lines = [material(it, number, "sheet", 0, 10, 10) for number, it in enumerate(codes)]
     ran = trial.replay([*lines, '{"ask":"materials"}'])
     trial.equal(ran.out.decode().split("\n")[1001], compact({"materials": rows, "ok": "materials"}))
@@ -78,7 +78,7 @@ def longest_ticket():
 
 @case(
     "a job of 255 cuts is told",
-    "A job of 255 cuts is listed and told with its whole plan, over both books, and its ticket has all 511 nodes.",
+    "A job of 255 cuts is listed and reported with its whole plan, over both books, and its ticket has all 511 nodes.",
 )
 def longest_job(trial):
     line = {"count": 256, "h": 1, "line": 1, "material": "B", "turn": False, "w": 1, "worth": 1}
@@ -104,7 +104,7 @@ def longest_job(trial):
 
 @case(
     "the greatest number of a terminal",
-    "A message of the number 4294967295 is kept, and that number is told as its terminal's last, over both books.",
+    "A message of the number 4294967295 is kept, and that number is reported as its terminal's last, over both books.",
 )
 def greatest_number(trial):
     asked = '{"ask":"terminal","terminal":4294967295}'
@@ -172,7 +172,7 @@ def not_utf8(trial):
 
 @case(
     "the last row of an order file",
-    "A bad field of the 200th row is told as what it is, and not as a row too many.",
+    "A bad field of the 200th row is reported as what it is, and not as a row too many.",
 )
 def last_row(trial):
     path = trial.write("orders.csv", HEADER + ROW * 199 + ROW.replace("STEEL", "steel"))
@@ -192,13 +192,13 @@ def longest_orders(trial):
     trial.ended(trial.run("orders", path), 0, "200 lines\n")
     ran = trial.run("orders", path, *MESSAGE)
     trial.equal((ran.status, ran.err, json.loads(ran.out)["text"] == text), (0, b"", True))
-    told = compact({"act": 0, "count": 200, "first": 1, "ok": "import", "order": "A-1"})
-    over_both(trial, [(material("ABCDEFGHIJ-01234", 1), added("ABCDEFGHIJ-01234")), (ran.out.rstrip(b"\n"), told)])
+    output = compact({"act": 0, "count": 200, "first": 1, "ok": "import", "order": "A-1"})
+    over_both(trial, [(material("ABCDEFGHIJ-01234", 1), added("ABCDEFGHIJ-01234")), (ran.out.rstrip(b"\n"), output)])
 
 
 @case(
     "over a thousand rows in memory",
-    "`replay` keeps 1100 units, 1200 demands and 1050 waiting jobs, and tells the rack's totals and the last of each list.",
+    "`replay` keeps 1100 units, 1200 demands and 1050 waiting jobs, and reports the rack's totals and the last of each list.",
 )
 def many_in_memory(trial):
     lines = [material("S", 1)]
@@ -222,8 +222,8 @@ def many_in_memory(trial):
     trial.equal([it for it in got[: len(lines)] if '"ok"' not in it], [])
     listed, demands, jobs, totals, rack = [json.loads(it) for it in got[len(lines) : -1]]
     trial.equal([(it["part"], it["state"], it["of"]) for it in listed["parts"]], [("11/99", "standing", 0)])
-    told = [(it["demand"], it["order"], it["line"], it["reserved"]) for it in demands["demands"]]
-    trial.equal(told, [(1200, "A-6", 200, 0)])
+    output = [(it["demand"], it["order"], it["line"], it["reserved"]) for it in demands["demands"]]
+    trial.equal(output, [(1200, "A-6", 200, 0)])
     trial.equal([(it["job"], it["part"]) for it in jobs["jobs"]], [(1061, "11/49")])
     trial.equal((totals["stock"], totals["rack"], rack["parts"]), (22000, 0, []))
 

@@ -1,4 +1,4 @@
-"""What the questions and commands of the floor cost in shops that did much before: what they tell, and a look at an order's jobs, a batch's units or a unit.
+"""What the questions and commands of the floor cost in shops that did much before: what they report, and a look at an order's jobs, a batch's units or a unit.
 
 The specification says what a cost may depend on; the factor lies between what was measured of other questions and what a wrong body is reckoned to take."""
 
@@ -49,11 +49,11 @@ def made(trial, count):
 @case(
     "questions of the floor in an old shop",
     "Behind 100000 of history the pieces of an order, of a batch and of a unit, also behind a name, the steps of a job and a "
-    "ticket, and the lists that tell days and who began a job take at most three times the processor time "
+    "ticket, and the lists that report days and who began a job take at most three times the processor time "
     "that they take behind 1000, also where the shop is opened again.",
 )
 def questions(trial):
-    told, again = [], []
+    output, again = [], []
     for count in HISTORIES:
         shop, _, act, _, job = made(trial, count)
         asked = {
@@ -69,12 +69,12 @@ def questions(trial):
         }
         trial.equal(len(json.loads(ask(trial, shop, asked["pieces of an order"]))["pieces"]), 30)
         trial.equal(len(json.loads(ask(trial, shop, asked["pieces of a unit"]))["pieces"]), 3)
-        told.append(asked_costs(trial, shop, asked))
+        output.append(asked_costs(trial, shop, asked))
         shop.kill()
         shop = trial.shop(shop.store)
         again.append(asked_costs(trial, shop, asked))
         shop.kill()
-    at_most_thrice(trial, *told, HISTORIES)
+    at_most_thrice(trial, *output, HISTORIES)
     at_most_thrice(trial, *again, HISTORIES)
 
 
@@ -84,7 +84,7 @@ def questions(trial):
     "and undone take at most three times the processor time that they take behind 1000.",
 )
 def commands(trial):
-    told = []
+    output = []
     for count in HISTORIES:
         shop, floor, act, first, _ = made(trial, count)
         waiting = floor.send(do="reserve", part=f"{act}/18", tree=f"x30 p{first} r")["job"]
@@ -110,6 +110,6 @@ def commands(trial):
             "done and undone": lambda undone=undone: undone({"do": "done"}),
             "broken and undone": lambda undone=undone: undone({"do": "break", "cuts": 1, "lost": True, "rest": 900}),
         }
-        told.append(measured(shop, deeds))
+        output.append(measured(shop, deeds))
         shop.kill()
-    at_most_thrice(trial, *told, HISTORIES)
+    at_most_thrice(trial, *output, HISTORIES)

@@ -4,7 +4,7 @@ import json
 
 from kit.case import case
 from kit.days import Replay
-from kit.floor import line, message, numbered, refused, told
+from kit.floor import line, message, numbered, refused, answers
 from kit.lines import added, material
 from kit.stores import filled, numbers
 
@@ -22,34 +22,34 @@ def extended(count, first, order="A-1"):
 @case(
     "an order of 200 lines",
     "An order is extended up to 200 lines in all, at once or one by one; one more is refused 41, before any of its lines is "
-    "judged. Its lines are told as one list.",
+    "judged. Its lines are reported as one list.",
 )
 def most_lines(trial):
     shop = Replay(trial, {})
-    told(trial, shop, material(CODE, 1), added(CODE))
+    answers(trial, shop, material(CODE, 1), added(CODE))
     for number, (order, has) in enumerate((("A-1", 1), ("A-2", 199), ("A-3", 200)), 2):
         first = {2: 1, 3: 2, 4: 201}[number]
         reply = {"count": has, "first": first, "ok": "order", "order": order}
-        told(trial, shop, message(number, do="order", order=order, lines=lines(1, has)), reply)
+        answers(trial, shop, message(number, do="order", order=order, lines=lines(1, has)), reply)
     for order, more in (("A-1", (2, 201)), ("A-2", (200, 201)), ("A-3", (201, 201))):
         # (also where a line's material isn't there, or its number isn't above the last one)
         for wrong in (lines(*more), [{**it, "material": "IRON"} for it in lines(*more)], lines(1, 1 + more[1] - more[0])):
-            told(trial, shop, message(5, do="extend", order=order, lines=wrong), refused(41, "BadLine"))
-    told(trial, shop, message(5, do="extend", order="A-1", lines=lines(2, 200)), extended(199, 401))
-    told(trial, shop, message(6, do="extend", order="A-2", lines=lines(200, 200)), extended(1, 600, "A-2"))
+            answers(trial, shop, message(5, do="extend", order=order, lines=wrong), refused(41, "BadLine"))
+    answers(trial, shop, message(5, do="extend", order="A-1", lines=lines(2, 200)), extended(199, 401))
+    answers(trial, shop, message(6, do="extend", order="A-2", lines=lines(200, 200)), extended(1, 600, "A-2"))
     for order in ("A-1", "A-2", "A-3"):
-        told(trial, shop, message(7, do="extend", order=order, lines=lines(201, 201)), refused(41, "BadLine"))
+        answers(trial, shop, message(7, do="extend", order=order, lines=lines(201, 201)), refused(41, "BadLine"))
         found = json.loads(shop.reply(f'{{"ask":"lines","order":"{order}"}}'))["lines"]
         trial.equal([it["line"] for it in found], list(range(1, 201)), order)
     demands = [it["demand"] for it in json.loads(shop.reply('{"ask":"lines","order":"A-2"}'))["lines"]]
     trial.equal(demands, [*range(2, 201), 600])
-    told(trial, shop, {"after": 599, "ask": "demands"}, json.dumps({"demands": [row(600, "A-2", 200)], "more": False, "ok": "demands"}, separators=(",", ":")))
+    answers(trial, shop, {"after": 599, "ask": "demands"}, json.dumps({"demands": [row(600, "A-2", 200)], "more": False, "ok": "demands"}, separators=(",", ":")))
     trial.equal(shop.end(), (0, b""))
 
 
 def row(demand, order, number):
-    told = {"demand": demand, "due": 0, "h": 2, "line": number, "made": 0, "material": CODE, "order": order, "reserved": 0}
-    return {**told, "turn": False, "w": 2, "wanted": 1, "worth": 1}
+    output = {"demand": demand, "due": 0, "h": 2, "line": number, "made": 0, "material": CODE, "order": order, "reserved": 0}
+    return {**output, "turn": False, "w": 2, "wanted": 1, "worth": 1}
 
 
 @case(
@@ -62,7 +62,7 @@ def line_by_line(trial):
     for number in range(2, 102):
         commands += [{"do": "order", "order": f"B-{number}", "lines": lines(1, 1)}, {"do": "extend", "order": "A-1", "lines": lines(number, number)}]
     shop = Replay(trial, {})
-    told(trial, shop, material(CODE, 1), added(CODE))
+    answers(trial, shop, material(CODE, 1), added(CODE))
     for at, it in enumerate(numbered(commands, 2), 1):
         reply = json.loads(shop.reply(it))
         trial.equal((reply.get("ok"), reply.get("first"), reply.get("count")), (json.loads(it)["do"], at, 1), it)
@@ -84,11 +84,11 @@ def last_demands(trial):
     path = filled(trial, exchanges=exchanges)
     numbers(path, "demand", 2147483646)
     shop = trial.shop()
-    told(trial, shop, message(3, do="extend", order="A-1", lines=lines(2, 3)), refused(33, "NumbersSpent"))
-    told(trial, shop, message(3, do="extend", order="A-1", lines=[*lines(2, 2), line(3, 2, 2, 1, "IRON")]), refused(20, "NoMaterial"))
-    told(trial, shop, message(3, do="extend", order="A-1", lines=[*lines(2, 2), *lines(2, 2)]), refused(41, "BadLine"))
-    told(trial, shop, message(3, do="extend", order="A-9", lines=lines(2, 3)), refused(43, "NoOrder"))
-    told(trial, shop, message(3, do="extend", order="A-1", lines=lines(2, 2)), extended(1, 2147483647))
-    told(trial, shop, message(4, do="extend", order="A-1", lines=lines(3, 3)), refused(33, "NumbersSpent"))
-    told(trial, shop, message(4, do="extend", order="A-1", lines=[]), refused(41, "BadLine"))
-    told(trial, shop, message(4, do="order", order="A-2", lines=lines(1, 1)), refused(33, "NumbersSpent"))
+    answers(trial, shop, message(3, do="extend", order="A-1", lines=lines(2, 3)), refused(33, "NumbersSpent"))
+    answers(trial, shop, message(3, do="extend", order="A-1", lines=[*lines(2, 2), line(3, 2, 2, 1, "IRON")]), refused(20, "NoMaterial"))
+    answers(trial, shop, message(3, do="extend", order="A-1", lines=[*lines(2, 2), *lines(2, 2)]), refused(41, "BadLine"))
+    answers(trial, shop, message(3, do="extend", order="A-9", lines=lines(2, 3)), refused(43, "NoOrder"))
+    answers(trial, shop, message(3, do="extend", order="A-1", lines=lines(2, 2)), extended(1, 2147483647))
+    answers(trial, shop, message(4, do="extend", order="A-1", lines=lines(3, 3)), refused(33, "NumbersSpent"))
+    answers(trial, shop, message(4, do="extend", order="A-1", lines=[]), refused(41, "BadLine"))
+    answers(trial, shop, message(4, do="order", order="A-2", lines=lines(1, 1)), refused(33, "NumbersSpent"))

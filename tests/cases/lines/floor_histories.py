@@ -7,7 +7,7 @@ from kit.audits import printed
 from kit.case import case
 from kit.days import Replay
 from kit.faults import Faults
-from kit.floor import GLASS, day, line, message, numbered, over_each, received, told
+from kit.floor import GLASS, day, line, message, numbered, over_each, received, answers
 from kit.journals import Journal, journal_of
 from kit.paper import Paper
 from kit.questions import compact
@@ -45,8 +45,8 @@ def story(after=0, **about):
     return compact({"after": after, "ask": "story", **about})
 
 
-def told_of(numbers, word="story"):
-    """What `story` or `history` tells of these entries of the day, at 0."""
+def answer_of(numbers, word="story"):
+    """What `story` or `history` reports of these entries of the day, at 0."""
     found = [{"at": 0, "entry": it, "message": json.loads(day()[it - 1][0]), "reply": json.loads(day()[it - 1][1])} for it in numbers]
     return {"entries": found, "more": False, "ok": word}
 
@@ -59,13 +59,13 @@ def told_of(numbers, word="story"):
 )
 def subjects(trial):
     def check(shop):
-        told(trial, shop, '{"ask":"shop"}', {"began": 0, "entries": 18, "last": 0, "ok": "shop"})
-        told(trial, shop, {"after": 0, "ask": "history"}, told_of(range(1, 19), "history"))
+        answers(trial, shop, '{"ask":"shop"}', {"began": 0, "entries": 18, "last": 0, "ok": "shop"})
+        answers(trial, shop, {"after": 0, "ask": "history"}, answer_of(range(1, 19), "history"))
         for about, numbers in ABOUT:
             for after in (0, numbers[0] - 1, numbers[0], numbers[-1] - 1, numbers[-1]):
-                told(trial, shop, story(after, **about), told_of([it for it in numbers if it > after]))
+                answers(trial, shop, story(after, **about), answer_of([it for it in numbers if it > after]))
         for about, (number, name) in NOT_THERE:
-            told(trial, shop, story(**about), {"name": name, "refused": number})
+            answers(trial, shop, story(**about), {"name": name, "refused": number})
 
     path = over_each(trial, day(), check)
     # (the kit reckons the same entries, by rules of its own, for other cases)
@@ -129,7 +129,7 @@ def no_entry(trial):
 @case(
     "texts of entries on the floor",
     "An entry has its message as its canonical text has it: a note's text with its letters, a break with `rest` only where one "
-    "was told, and keys in their order.",
+    "was reported, and keys in their order.",
 )
 def texts(trial):
     sent = [message(number, **it) for number, it in enumerate([GLASS, received(3), {"do": "order", "order": "A-1", "lines": [line(1, 4, 8, 9)]}], 1)]
@@ -151,7 +151,7 @@ def texts(trial):
     for it, reply in zip(sent, replies):
         journal.accept(it, reply)
     trial.equal([it.command for it in journal.entries if it.number in (4, 8, 9, 10)], wanted, "the case's own texts")
-    told(trial, shop, '{"after":0,"ask":"history"}', journal.history())
+    answers(trial, shop, '{"after":0,"ask":"history"}', journal.history())
     trial.equal(shop.end(), (0, b""))
     served = trial.shop(environment=Faults(trial, date=0).environment)
     trial.equal([served.reply(it).decode() for it in sent], replies)
@@ -173,7 +173,7 @@ def times_decide_nothing(trial):
         shop = trial.shop(f"{name}.db", environment=clock.environment)
         for at, (_, it, reply) in enumerate(week.sent):
             clock.set_date(max(0, (1000000 if step < 0 else 0) + at * step))
-            told(trial, shop, it, reply)
+            answers(trial, shop, it, reply)
         shop.kill()
         found.append(tables.rows(shop.store))
     trial.equal(found[1:], found[:1] * 2)

@@ -73,8 +73,8 @@ def good_forms(trial):
     steps = [(written({"do": f'"{name}"', **goods({**form, **PAIR})}), refused(43 if name in ("note", "extend") else 70, "NoOrder" if name in ("note", "extend") else "NoJob")) for name, form in DOES.items()]
     steps += [(written({"do": '"break"', **goods({**form, **PAIR})}), refused(70, "NoJob")) for form in RESTS]
     none = '{"more":false,"ok":"pieces","pieces":[]}'
-    told = [refused(43, "NoOrder"), none, refused(50, "NoPart"), refused(70, "NoJob")]
-    steps += [(written({"ask": f'"{name}"', **goods(form)}), reply) for (name, form), reply in zip(ASKS, told)]
+    output = [refused(43, "NoOrder"), none, refused(50, "NoPart"), refused(70, "NoJob")]
+    steps += [(written({"ask": f'"{name}"', **goods(form)}), reply) for (name, form), reply in zip(ASKS, output)]
     steps += [('{"after":"1","after":"","ask":"pieces","batch":"a","batch":"A"}', none)]
     steps += [('{"do":"begin","job":"1","job":1,"number":1,"terminal":1}', refused(70, "NoJob"))]
     steps += [('{"do":"break","cuts":1,"job":1,"lost":true,"rest":null,"rest":4294967295,"number":1,"terminal":1}', refused(70, "NoJob"))]

@@ -6,7 +6,7 @@ from kit.case import case
 from kit.days import Replay
 from kit.earlier import made
 from kit.faults import Faults
-from kit.floor import GLASS, line, message, numbered, over_each, received, refused, told
+from kit.floor import GLASS, line, message, numbered, over_each, received, refused, answers
 from kit.lines import LONGEST
 from kit.questions import compact
 
@@ -20,17 +20,17 @@ def strips(count, demand):
 
 
 def piece(part, demand, order, number, root, batch="B-1", w=1, h=2, at=0, material=CODE):
-    told = {"at": at, "batch": batch, "demand": demand, "h": h, "line": number, "material": material, "order": order}
-    return {**told, "part": part, "root": root, "w": w}
+    output = {"at": at, "batch": batch, "demand": demand, "h": h, "line": number, "material": material, "order": order}
+    return {**output, "part": part, "root": root, "w": w}
 
 
 def asked(trial, shop, wanted, after="", more=False, **of):
-    told(trial, shop, {"after": after, "ask": "pieces", **of}, {"more": more, "ok": "pieces", "pieces": wanted})
+    answers(trial, shop, {"after": after, "ask": "pieces", **of}, {"more": more, "ok": "pieces", "pieces": wanted})
 
 
 @case(
     "pages of 100 pieces",
-    "Of 100 pieces of an order, of a batch and of a unit all are told, and of 101 the first 100 and that more follow; behind "
+    "Of 100 pieces of an order, of a batch and of a unit all are reported, and of 101 the first 100 and that more follow; behind "
     "any name those with greater "
     "names, of the job's and of the next, by number and not by letters.",
 )
@@ -67,14 +67,14 @@ def pages(trial):
     # (without the last job there are 100 of the order)
     shop = Replay(trial, {})
     for it, reply in zip(sent[:-2], replies):
-        told(trial, shop, it, reply)
+        answers(trial, shop, it, reply)
     asked(trial, shop, of_order[:100], order="A-1")
     trial.equal(shop.end(), (0, b""))
 
 
 @case(
     "a batch of two materials",
-    "A batch's code may stand on units of several receipts and materials: the pieces of all of them are told, by rising act and "
+    "A batch's code may stand on units of several receipts and materials: the pieces of all of them are reported, by rising act and "
     "then node, and no other batch's.",
 )
 def of_several(trial):
@@ -131,16 +131,16 @@ def times(trial):
         for of in ({"order": "A-1"}, {"batch": "B-1"}, {"unit": "1/0"}):
             asked(trial, shop, glass, **of)
         # (what is cut behind has a time)
-        told(trial, shop, message(8, do="extend", order="A-1", lines=[line(4, 5, 4, 1)]), {"count": 1, "first": 4, "ok": "extend", "order": "A-1"})
-        told(trial, shop, message(9, do="reserve", part="3/2", tree="p4"), {"cuts": 0, "job": 4, "ok": "reserve"})
-        told(trial, shop, message(10, do="done", job=4), {"job": 4, "kerf": 0, "ok": "done", "pieces": 20, "rack": 0, "scrap": 0})
+        answers(trial, shop, message(8, do="extend", order="A-1", lines=[line(4, 5, 4, 1)]), {"count": 1, "first": 4, "ok": "extend", "order": "A-1"})
+        answers(trial, shop, message(9, do="reserve", part="3/2", tree="p4"), {"cuts": 0, "job": 4, "ok": "reserve"})
+        answers(trial, shop, message(10, do="done", job=4), {"job": 4, "kerf": 0, "ok": "done", "pieces": 20, "rack": 0, "scrap": 0})
         asked(trial, shop, [*glass, piece("4/0", 4, "A-1", 4, "1/0", w=5, h=4, at=50)], order="A-1")
         shop.kill()
 
 
 @case(
     "steps of 511 nodes",
-    "A plan of 255 cuts has 511 nodes: all are told at once, in order, each with its part where it has one; with a saw of no "
+    "A plan of 255 cuts has 511 nodes: all are reported at once, in order, each with its part where it has one; with a saw of no "
     "width no kerf strip is there.",
 )
 def longest(trial):

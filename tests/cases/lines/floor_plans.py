@@ -80,7 +80,7 @@ def due_first(trial):
 @case(
     "missing pieces of what is due first",
     "Of 100 demands that are taken by their days, of which no stock holds a piece, all are missing, by rising demand; the "
-    "others aren't told.",
+    "others aren't reported.",
 )
 def missing(trial):
     yard = Dated()

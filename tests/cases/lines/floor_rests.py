@@ -2,7 +2,7 @@
 
 from kit.case import case
 from kit.days import Replay
-from kit.floor import line, message, received, refused, told
+from kit.floor import line, message, received, refused, answers
 from kit.lines import material
 
 # Rests of a lost cut on a whole sheet, of whose material sides of 9 and 4 are kept: the sheet's sides, and the least rest that is kept of a
@@ -36,27 +36,27 @@ def reply_of(job, lost, rest, is_kept):
 def at_limits(trial):
     for axis in ("x", "y"):
         shop, number, act, orders = Replay(trial, {}), 1, 0, 0
-        told(trial, shop, material("GLASS", number, "sheet", 1, LONG, SHORT), {"material": "GLASS", "ok": "material"})
+        answers(trial, shop, material("GLASS", number, "sheet", 1, LONG, SHORT), {"material": "GLASS", "ok": "material"})
         for sides, least in SHEETS:
             w, h = sides if axis == "x" else sides[::-1]
             number, orders = number + 1, orders + 1
             lines = [line(1, *((1, h) if axis == "x" else (w, 1)), 99)]
             reply = {"count": 1, "first": orders, "ok": "order", "order": f"A-{orders}"}
-            told(trial, shop, message(number, do="order", order=f"A-{orders}", lines=lines), reply)
+            answers(trial, shop, message(number, do="order", order=f"A-{orders}", lines=lines), reply)
             for rest in (1, SHORT - 1, SHORT, SHORT + 1, LONG - 1, LONG, LONG + 1, sides[0] - 1):
                 number, act = number + 1, act + 1
-                told(trial, shop, message(number, **received(1, w, h)), {"act": act, "count": 1, "ok": "receive"})
+                answers(trial, shop, message(number, **received(1, w, h)), {"act": act, "count": 1, "ok": "receive"})
                 reserve = message(number + 1, do="reserve", part=f"{act}/0", tree=f"{axis}1 p{orders} r")
-                told(trial, shop, reserve, {"cuts": 1, "job": act + 1, "ok": "reserve"})
+                answers(trial, shop, reserve, {"cuts": 1, "job": act + 1, "ok": "reserve"})
                 number, act = number + 2, act + 1
                 is_kept, lost = least is not None and rest >= least, sides[0] - rest
                 broken = message(number, cuts=0, do="break", job=act, lost=True, rest=rest)
-                told(trial, shop, broken, reply_of(act, lost * sides[1], rest * sides[1], is_kept))
+                answers(trial, shop, broken, reply_of(act, lost * sides[1], rest * sides[1], is_kept))
                 kept = {"batch": "B-1", "of": 0, "ok": "trace", "part": f"{act}/1", "root": f"{act - 1}/0"}
                 kept |= {"h": h, "w": rest, "x": lost, "y": 0} if axis == "x" else {"h": rest, "w": w, "x": 0, "y": lost}
-                told(trial, shop, {"ask": "trace", "part": f"{act}/1"}, {**kept, "state": "standing" if is_kept else "scrap"})
+                answers(trial, shop, {"ask": "trace", "part": f"{act}/1"}, {**kept, "state": "standing" if is_kept else "scrap"})
                 gone = {**kept, "part": f"{act}/0", "x": 0, "y": 0, **({"w": lost} if axis == "x" else {"h": lost})}
-                told(trial, shop, {"ask": "trace", "part": f"{act}/0"}, {**gone, "state": "scrap"})
+                answers(trial, shop, {"ask": "trace", "part": f"{act}/0"}, {**gone, "state": "scrap"})
         trial.equal(shop.end(), (0, b""))
 
 
@@ -69,24 +69,24 @@ def at_limits(trial):
 def none_at_limits(trial):
     for axis in ("x", "y"):
         shop = Replay(trial, {})
-        told(trial, shop, material("GLASS", 1, "sheet", 1, 1, 1), {"material": "GLASS", "ok": "material"})
-        told(trial, shop, message(2, **received(1, 20, 20)), {"act": 1, "count": 1, "ok": "receive"})
+        answers(trial, shop, material("GLASS", 1, "sheet", 1, 1, 1), {"material": "GLASS", "ok": "material"})
+        answers(trial, shop, message(2, **received(1, 20, 20)), {"act": 1, "count": 1, "ok": "receive"})
         sides = (2, 20) if axis == "x" else (20, 2)
         order = message(3, do="order", order="A-1", lines=[line(1, *sides, 9)])
-        told(trial, shop, order, {"count": 1, "first": 1, "ok": "order", "order": "A-1"})
+        answers(trial, shop, order, {"count": 1, "first": 1, "ok": "order", "order": "A-1"})
         # Cut 0 divides 20, cut 1 the 17 behind a piece and a kerf, cut 2 the first 12 of these, and cut 3 the 9 behind a piece of them.
-        told(trial, shop, message(4, do="reserve", part="1/0", tree=f"{axis}2 p1 {axis}12 {axis}2 p1 {axis}2 p1 r r"), {"cuts": 4, "job": 2, "ok": "reserve"})
+        answers(trial, shop, message(4, do="reserve", part="1/0", tree=f"{axis}2 p1 {axis}12 {axis}2 p1 {axis}2 p1 r r"), {"cuts": 4, "job": 2, "ok": "reserve"})
         wrong = [({"cuts": 0, "lost": True}, 20), ({"cuts": 1, "lost": True}, 17), ({"cuts": 2, "lost": True}, 12), ({"cuts": 3, "lost": True}, 9)]
         wrong += [({"cuts": [], "lost": 0}, 20), ({"cuts": [0], "lost": 1}, 17), ({"cuts": [0, 1], "lost": 2}, 12), ({"cuts": [0, 1, 2], "lost": 3}, 9)]
         number, job, part = 5, 2, "1/0"
         for halt, side in wrong:
             for rest in (0, side, side + 1, 4294967295):
-                told(trial, shop, message(number, do="break", job=job, rest=rest, **halt), refused(72, "BadCut"))
+                answers(trial, shop, message(number, do="break", job=job, rest=rest, **halt), refused(72, "BadCut"))
             for rest in (1, side - 1):
                 reply = shop.reply(message(number, do="break", job=job, rest=rest, **halt)).decode()
                 trial.holds('"ok":"break"' in reply, f"{halt} {rest}: {reply}")
-                told(trial, shop, message(number + 1, do="undo", job=job), {"job": job, "ok": "undo", "part": part})
+                answers(trial, shop, message(number + 1, do="undo", job=job), {"job": job, "ok": "undo", "part": part})
                 again = message(number + 2, do="reserve", part=part, tree=f"{axis}2 p1 {axis}12 {axis}2 p1 {axis}2 p1 r r")
-                told(trial, shop, again, {"cuts": 4, "job": job + 1, "ok": "reserve"})
+                answers(trial, shop, again, {"cuts": 4, "job": job + 1, "ok": "reserve"})
                 number, job = number + 3, job + 1
         trial.equal(shop.end(), (0, b""))

@@ -5,7 +5,7 @@ import json
 from kit import owners, tables
 from kit.case import case
 from kit.days import Replay
-from kit.floor import GLASS, line, message, numbered, over_each, received, refused, told
+from kit.floor import GLASS, line, message, numbered, over_each, received, refused, answers
 from kit.lines import LONGEST
 from kit.owners import Owners
 from kit.paper import Paper
@@ -42,20 +42,20 @@ def ten_times(trial):
 
     shop = Replay(trial, {})
     for at, (it, reply) in enumerate(zip(lines, replies)):
-        told(trial, shop, it, reply)
+        answers(trial, shop, it, reply)
         word = json.loads(it)["do"]
         if word in ("done", "undo"):
-            told(trial, shop, {"ask": "totals", "material": "GLASS"}, CUT if word == "done" else WHOLE)
-            told(trial, shop, {"ask": "demand", "demand": 3}, made(int(word == "done")))
+            answers(trial, shop, {"ask": "totals", "material": "GLASS"}, CUT if word == "done" else WHOLE)
+            answers(trial, shop, {"ask": "demand", "demand": 3}, made(int(word == "done")))
         if word == "undo":
             job = json.loads(it)["job"]
-            told(trial, shop, message(99, do="done", job=job), refused(71, "JobOver"))
-            told(trial, shop, message(99, do="undo", job=job), refused(73, "NotOver"))
-            told(trial, shop, lines[at - 1], replies[at - 1])
+            answers(trial, shop, message(99, do="done", job=job), refused(71, "JobOver"))
+            answers(trial, shop, message(99, do="undo", job=job), refused(73, "NotOver"))
+            answers(trial, shop, lines[at - 1], replies[at - 1])
     trial.equal(shop.end(), (0, b""))
 
     def check(shop):
-        told(trial, shop, {"ask": "totals", "material": "GLASS"}, CUT)
+        answers(trial, shop, {"ask": "totals", "material": "GLASS"}, CUT)
         for job in range(2, 13):
             found = json.loads(shop.reply(f'{{"ask":"steps","job":{job}}}'))
             states = ["kerf", "kerf", "piece", "piece", "kerf", "piece", "standing"] if job == 12 else ["undone"] * 7
@@ -88,7 +88,7 @@ def all_the_way(trial):
     paper, shop, owned, number, before = Paper(), trial.shop(), Owners(), 1, []
     for it in commands:
         sent = message(number, **it)
-        told(trial, shop, sent, paper.reply(sent))
+        answers(trial, shop, sent, paper.reply(sent))
         owned.accept(sent, paper.reply(sent))
         number += 1
         if it["do"] in ("receive", "done"):
@@ -97,9 +97,9 @@ def all_the_way(trial):
     parts = ["1/0", *[f"{it}/2" for it in range(first, last)]]
     for job in range(last, first - 1, -1):
         for it in range(first, job):
-            told(trial, shop, message(number, do="undo", job=it), refused(74, "PartsMoved"))
+            answers(trial, shop, message(number, do="undo", job=it), refused(74, "PartsMoved"))
         sent, reply = message(number, do="undo", job=job), f'{{"job":{job},"ok":"undo","part":"{parts[job - first]}"}}'
-        told(trial, shop, sent, reply)
+        answers(trial, shop, sent, reply)
         owned.accept(sent, reply)
         number += 1
         cells, wanted = before[job - first]
@@ -133,7 +133,7 @@ def longest(trial):
 
     def check(shop):
         totals = {"kerf": 255, "material": "B", "ok": "totals", "pieces": 256, "rack": 0, "received": length, "returned": 0, "scrap": 0, "stock": 0}
-        told(trial, shop, {"ask": "totals", "material": "B"}, totals)
+        answers(trial, shop, {"ask": "totals", "material": "B"}, totals)
         for job, left, state in ((2, 511, "undone"), (3, 510, "undone"), (4, 511, "")):
             steps = json.loads(shop.reply(f'{{"ask":"steps","job":{job}}}'))["steps"]
             states = [it["state"] for it in steps if it["state"]]

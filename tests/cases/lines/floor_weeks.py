@@ -7,7 +7,7 @@ from kit.audits import audited
 from kit.case import case
 from kit.days import Replay
 from kit.faults import Faults
-from kit.floor import told
+from kit.floor import answers
 from kit.owners import Owners
 from kit.paper import key_of
 from kit.weeks import MATERIALS, Week, questions
@@ -24,7 +24,7 @@ def weeks(trial):
     "a week by chance, in memory",
     "Messages of four terminals by chance, accepted and refused, with orders that are noted and extended, jobs that are begun, "
     "broken with and without rests, and undone: each reply, and "
-    "in the end each list, trace, story, step and piece is what a shop on paper tells.",
+    "in the end each list, trace, story, step and piece is what a shop on paper reports.",
 )
 def in_memory(trial):
     for week in weeks(trial):
@@ -32,9 +32,9 @@ def in_memory(trial):
         # (`replay` gives no time)
         timeless = Week(week.seed).work(A_DAY, 0)
         for _, line, reply in timeless.sent:
-            told(trial, shop, line, reply)
+            answers(trial, shop, line, reply)
         for line in questions(timeless.paper):
-            told(trial, shop, line, timeless.paper.reply(line))
+            answers(trial, shop, line, timeless.paper.reply(line))
         trial.equal(shop.end(), (0, b""))
 
 
@@ -52,7 +52,7 @@ def cell_by_cell(trial):
         for at in sorted({it[0] for it in week.sent}):
             clock.set_date(at)
             for line, reply in [it[1:] for it in week.sent if it[0] == at]:
-                told(trial, shop, line, reply)
+                answers(trial, shop, line, reply)
                 # (one that came again isn't done again)
                 if '"ok"' in reply and not owned_already(owned, line):
                     owned.accept(line, reply)
@@ -81,7 +81,7 @@ def owned_already(owned, line):
 
 @case(
     "a week by chance over HTTP",
-    "Behind a week by chance each question of a line and each ticket over HTTP is what a shop on paper tells, also when the "
+    "Behind a week by chance each question of a line and each ticket over HTTP is what a shop on paper reports, also when the "
     "shop is opened again.",
 )
 def over_http(trial):
@@ -90,10 +90,10 @@ def over_http(trial):
     shop = trial.shop(environment=clock.environment)
     for at, line, reply in week.sent:
         clock.set_date(at)
-        told(trial, shop, line, reply)
+        answers(trial, shop, line, reply)
     for _ in range(2):
         for line in questions(week.paper):
-            told(trial, shop, line, week.paper.reply(line))
+            answers(trial, shop, line, week.paper.reply(line))
         for job in week.paper.jobs:
             text = shop.get(f"/ticket/{job}").partition(b"\r\n\r\n")[2].decode()
             trial.equal(text, week.paper.ticket(job), job)

@@ -1,11 +1,11 @@
-"""The history of a shop: what makes an entry, what an entry is about, and what `shop`, `history` and `story` tell of them."""
+"""The history of a shop: what makes an entry, what an entry is about, and what `shop`, `history` and `story` report of them."""
 
 import json
 import time
 
 from kit import tables
 from kit.backups import REQUEST, open_shop, posting
-from kit.backups import told as told_backup
+from kit.backups import backup_answer
 from kit.case import case
 from kit.days import Replay
 from kit.earlier import made
@@ -51,8 +51,8 @@ NOT_THERE += [({"job": it}, (70, "NoJob")) for it in (1, 6, 7, 9)]
 NOT_THERE += [({"part": it}, (50, "NoPart")) for it in ("1/2", "2/5", "4/0", "8/0", "9/0", "3/3")]
 
 
-def told_of(numbers):
-    """The entries of these numbers of the day, as they are told, at 0."""
+def answer_of(numbers):
+    """The entries of these numbers of the day, as they are reported, at 0."""
     found = []
     for it in numbers:
         line, reply = EXCHANGES[it - 1]
@@ -60,8 +60,8 @@ def told_of(numbers):
     return found
 
 
-def told(word, numbers):
-    return compact({"entries": told_of(numbers), "more": False, "ok": word})
+def output(word, numbers):
+    return compact({"entries": answer_of(numbers), "more": False, "ok": word})
 
 
 def asked(trial, shop, line, wanted):
@@ -98,11 +98,11 @@ def over_each(trial, exchanges, check):
 def subjects(trial):
     def check(shop):
         asked(trial, shop, SHOP, compact({"began": 0, "entries": len(DAY), "last": 0, "ok": "shop"}))
-        asked(trial, shop, history(), told("history", range(1, len(DAY) + 1)))
+        asked(trial, shop, history(), output("history", range(1, len(DAY) + 1)))
         for about, numbers in ABOUT:
-            asked(trial, shop, story(**about), told("story", numbers))
+            asked(trial, shop, story(**about), output("story", numbers))
             for after in (numbers[0] - 1, numbers[0], numbers[-1] - 1, numbers[-1], len(DAY)):
-                asked(trial, shop, story(after, **about), told("story", [it for it in numbers if it > after]))
+                asked(trial, shop, story(after, **about), output("story", [it for it in numbers if it > after]))
         for about, (number, name) in NOT_THERE:
             for after in (0, 5):
                 asked(trial, shop, story(after, **about), compact({"name": name, "refused": number}))
@@ -165,7 +165,7 @@ def no_entry(trial):
 
     def check(shop):
         before = [shop.reply(it) for it in (SHOP, history())]
-        trial.equal(before[1].decode(), told("history", range(1, 8)))
+        trial.equal(before[1].decode(), output("history", range(1, 8)))
         for line in (*lines, *others, *lines[::-1]):
             shop.reply(line)
             trial.equal([shop.reply(it) for it in (SHOP, history())], before, line)
@@ -192,7 +192,7 @@ AFTERS = (0, 1, 2, 99, 100, 101, 102, 199, 200, 201, 202, 1000, 2147483647)
 
 @case(
     "pages of 100 entries",
-    "100 entries are told at once, and of 101 the first 100 and that more follow, of the whole history and of an order's story; behind any "
+    "100 entries are reported at once, and of 101 the first 100 and that more follow, of the whole history and of an order's story; behind any "
     "number those with greater ones; behind the last and beyond none.",
 )
 def pages(trial):
@@ -244,7 +244,7 @@ def of_bytes(whole):
 
 @case(
     "pages of 1000000 bytes",
-    "Texts and replies of nine entries that have 999999 bytes are told with the next, and none behind it; of nine that have 1000000 none "
+    "Texts and replies of nine entries that have 999999 bytes are reported with the next, and none behind it; of nine that have 1000000 none "
     "behind; of the whole history and of a part's, in memory and in a file.",
 )
 def bytes_told(trial):
@@ -275,7 +275,7 @@ def imported_again(number, count):
 
 @case(
     "a story of 1000000 bytes",
-    "Of an order whose import came again and again, nine times with texts and replies of 1000000 bytes, none behind the ninth is told in its "
+    "Of an order whose import came again and again, nine times with texts and replies of 1000000 bytes, none behind the ninth is reported in its "
     "story; with 999999 the tenth, too.",
 )
 def bytes_of_story(trial):
@@ -301,7 +301,7 @@ def bytes_of_story(trial):
 @case(
     "entries of all terminals in one order",
     "Eight terminals post at once: entries are numbered over all of them, each accepted message once, and in their order `replay` gives "
-    "each message the same reply; `shop` tells how many there are, also behind a stop.",
+    "each message the same reply; `shop` reports how many there are, also behind a stop.",
 )
 def one_order(trial):
     count, terminals = 13, [Terminal(it) for it in range(1, 9)]
@@ -310,7 +310,7 @@ def one_order(trial):
     entries = all_entries(trial, shop)
     trial.equal([it["entry"] for it in entries], list(range(1, 8 * count + 1)))
     lines = [(compact(it["message"]), compact(it["reply"])) for it in entries]
-    trial.equal(sorted(lines), sorted(exchange for it in terminals for exchange in it.told))
+    trial.equal(sorted(lines), sorted(exchange for it in terminals for exchange in it.exchanges))
     times = [it["at"] for it in entries]
     trial.equal(times, sorted(times))
     again = trial.replay([line for line, _ in lines])
@@ -338,11 +338,11 @@ def backups(trial):
     with posting(shop, terminals) as faults:
         for number in range(1, 7):
             limit, last = time.monotonic() + 30, bounds[-1][1] if bounds else 0
-            while sum(len(it.told) for it in terminals) < last + 4 and time.monotonic() < limit:
+            while sum(len(it.exchanges) for it in terminals) < last + 4 and time.monotonic() < limit:
                 time.sleep(0.001)
-            before = sum(len(it.told) for it in terminals)
-            trial.equal(shop.exchange(REQUEST), told_backup(number))
-            bounds.append((before, sum(len(it.told) for it in terminals) + len(terminals)))
+            before = sum(len(it.exchanges) for it in terminals)
+            trial.equal(shop.exchange(REQUEST), backup_answer(number))
+            bounds.append((before, sum(len(it.exchanges) for it in terminals) + len(terminals)))
     trial.equal(faults, [])
     entries = all_entries(trial, shop)
     shop.kill()
@@ -364,7 +364,7 @@ def restored(trial):
     clock, terminal = Faults(trial, date=2000), Terminal(1)
     shop = open_shop(trial, environment=clock.environment)
     trial.equal(terminal.send_all(shop, 5), None)
-    trial.equal(shop.exchange(REQUEST), told_backup(1))
+    trial.equal(shop.exchange(REQUEST), backup_answer(1))
     trial.equal(terminal.send_all(shop, 9), None)
     shop.kill()
     trial.equal(trial.run("restore", "--store", "shop.db", "--from", "backups/1").status, 0)
@@ -378,7 +378,7 @@ def restored(trial):
 def check_stories(trial, shop, journal, terminals):
     """The stories of the orders, jobs and units of some terminals have the entries that their messages make."""
     for it in terminals[:3]:
-        replies = [json.loads(reply) for _, reply in it.told]
+        replies = [json.loads(reply) for _, reply in it.exchanges]
         for reply in replies:
             about = [{"order": reply["order"]}] if reply["ok"] == "order" else []
             about += [{"part": f"{reply['act']}/0"}] if reply["ok"] == "receive" else []
@@ -536,8 +536,8 @@ BEHIND = b"cutshop: the clock is behind the last entry by over an hour\n"
 
 @case(
     "a clock that is behind",
-    "A start whose clock is behind the last entry by 3601 seconds tells that in one line on standard error, once; by 3600 seconds, before the "
-    "first entry and with a clock that goes right it tells nothing.",
+    "A start whose clock is behind the last entry by 3601 seconds reports that in one line on standard error, once; by 3600 seconds, before the "
+    "first entry and with a clock that goes right it reports nothing.",
 )
 def clock_behind(trial):
     def lines(date, store="shop.db", messages=()):
@@ -557,7 +557,7 @@ def clock_behind(trial):
 
 @case(
     "materials of a shop file in the history",
-    "The materials of a shop file are entries of terminal 0, with the time of the start that added them, and are told so; one that is there "
+    "The materials of a shop file are entries of terminal 0, with the time of the start that added them, and are reported so; one that is there "
     "already makes none.",
 )
 def shop_file(trial):

@@ -1,4 +1,4 @@
-"""What `shop` and `history` cost in shops of few and of many entries: what they tell and a search for where to begin.
+"""What `shop` and `history` cost in shops of few and of many entries: what they report and a search for where to begin.
 
 The specification says what a cost may depend on; the factors lie between what was measured and what a wrong body is reckoned to take."""
 
@@ -35,7 +35,7 @@ def pages(count):
     "1000 takes, and so do the last page and `shop`.",
 )
 def reads(trial):
-    told = []
+    output = []
     for count in HISTORIES:
         shop = old_store(trial, count)
         entries = entries_of(shop)
@@ -53,7 +53,7 @@ def reads(trial):
             trial.holds(b'"ok"' in again.reply(line), line)
             found[name] = counted.calls() - before - beside
             again.kill()
-        told.append(found)
-    few, many = told
+        output.append(found)
+    few, many = output
     for name in few:
         trial.holds(many[name] <= 2 * few[name] + 10, f"{name}: {few[name]} reads behind {HISTORIES[0]}, {many[name]} behind {HISTORIES[1]}")

@@ -51,21 +51,21 @@ def check_demands(trial, shop, wanted):
 
 
 def lines_of(shop, order):
-    """The lines that are told of an order, as what is wanted, reserved and made of each."""
-    told = json.loads(shop.reply(compact({"ask": "lines", "order": order})))
-    return [tuple(it[key] for key in ("demand", "line", "wanted", "reserved", "made")) for it in told["lines"]]
+    """The lines that are reported of an order, as what is wanted, reserved and made of each."""
+    output = json.loads(shop.reply(compact({"ask": "lines", "order": order})))
+    return [tuple(it[key] for key in ("demand", "line", "wanted", "reserved", "made")) for it in output["lines"]]
 
 
 def orders_of(shop, after=""):
-    """The orders that are told behind a code, as tuples of all that is told of each, and whether others follow."""
-    told = json.loads(shop.reply(compact({"after": after, "ask": "orders"})))
+    """The orders that are reported behind a code, as tuples of all that is reported of each, and whether others follow."""
+    output = json.loads(shop.reply(compact({"after": after, "ask": "orders"})))
     keys = ("order", "lines", "wanted", "reserved", "made")
-    return [tuple(it[key] for key in keys) for it in told["orders"]], told["more"]
+    return [tuple(it[key] for key in keys) for it in output["orders"]], output["more"]
 
 
 @case(
     "an order of 200 lines that are amended",
-    "All 200 lines of an order are told, whatever becomes of them: each is amended, some are reserved and made, and the sums of "
+    "All 200 lines of an order are reported, whatever becomes of them: each is amended, some are reserved and made, and the sums of "
     "the order are those of its lines, also when the shop is opened again.",
 )
 def amended_lines(trial):
@@ -101,7 +101,7 @@ def check_order(trial, shop, order, rows, sums, open_rows):
 
 @case(
     "lists of 100 and of 101 orders",
-    "100 orders are told at once, and of 101 the first 100 and that others follow; page by page all are told once, with the sums "
+    "100 orders are reported at once, and of 101 the first 100 and that others follow; page by page all are reported once, with the sums "
     "of their lines, and behind any code those that are greater.",
 )
 def many_orders(trial):
@@ -216,16 +216,16 @@ def many_receipts(trial):
     yard.send(do="return", part=f"{count}/0")
     asked = [compact({"ask": "trace", "part": f"{it}/0"}) for it in (1, 65535, 65536, 65537, count)]
     asked.append(compact({"ask": "parts", "after": f"{count - 3}/0", "material": "STEEL"}))
-    told = [json.loads(it) for it in trial.replay([*yard.lines, *asked]).out.split(b"\n")[:-1]]
-    trial.equal([it for it in told if "ok" not in it], [])
-    for it in told[-6:-1]:
+    output = [json.loads(it) for it in trial.replay([*yard.lines, *asked]).out.split(b"\n")[:-1]]
+    trial.equal([it for it in output if "ok" not in it], [])
+    for it in output[-6:-1]:
         act = it["w"]
         state = "returned" if act == count else "standing"
         wanted = {"batch": f"B-{act}", "part": f"{act}/0", "root": f"{act}/0", "state": state}
         trial.equal({key: it[key] for key in wanted}, wanted)
-    trial.equal([it["w"] for it in told[-6:-1]], [1, 65535, 65536, 65537, count])
+    trial.equal([it["w"] for it in output[-6:-1]], [1, 65535, 65536, 65537, count])
     last = [(f"{it}/0", f"B-{it}") for it in (count - 2, count - 1)]
-    trial.equal([(it["part"], it["batch"]) for it in told[-1]["parts"]], last)
+    trial.equal([(it["part"], it["batch"]) for it in output[-1]["parts"]], last)
 
 
 @case(
@@ -253,9 +253,9 @@ def long_repeats(trial):
         trial.equal(shop.reply(line).decode(), reply, line[:200])
     for count in (13, 40):
         asked = {"ask": "plan", "demands": list(range(1, count + 1)), "part": "1/0", "step": 0}
-        told = json.loads(shop.reply(compact(asked)))
-        pieces = cut_from(400, 1, 0, {it: (10, 1, False) for it in range(1, count + 1)}, told["tree"])
-        trial.equal((told["worth"], pieces), (count, Counter(range(1, count + 1))))
+        output = json.loads(shop.reply(compact(asked)))
+        pieces = cut_from(400, 1, 0, {it: (10, 1, False) for it in range(1, count + 1)}, output["tree"])
+        trial.equal((output["worth"], pieces), (count, Counter(range(1, count + 1))))
 
 
 # A shop that is old.
@@ -339,13 +339,13 @@ def old_shop(trial):
         "yield": "/yield/STEEL",
         "repeat": repeat,
     }
-    told = []
+    output = []
     for count in HISTORIES:
         shop = old_store(trial, count)
         trial.equal(shop.reply(repeat).decode(), reply)
         trial.equal(json.loads(shop.reply(asked["terminal of many"]))["last"], count - 1)
-        told.append(costs(trial, shop, asked))
-    at_most_thrice(trial, *told, HISTORIES)
+        output.append(costs(trial, shop, asked))
+    at_most_thrice(trial, *output, HISTORIES)
 
 
 @case(
@@ -353,7 +353,7 @@ def old_shop(trial):
     "The same of `replay`, behind 100000 parts that were cut, 20000 orders and 20000 jobs, and behind a hundredth of that.",
 )
 def old_in_memory(trial):
-    told = []
+    output = []
     for count in HISTORIES:
         shop, cut, undone = old_memory(trial, count)
         asked = ASKED | {
@@ -366,9 +366,9 @@ def old_in_memory(trial):
             "lines of an old order": compact({"ask": "lines", "order": json.loads(undone.lines[-4])["order"]}),
             "repeat": undone.lines[100],
         }
-        told.append(costs(trial, shop, asked))
+        output.append(costs(trial, shop, asked))
         trial.equal(shop.end(), (0, b""))
-    at_most_thrice(trial, *told, HISTORIES)
+    at_most_thrice(trial, *output, HISTORIES)
 
 
 @case(
@@ -377,7 +377,7 @@ def old_in_memory(trial):
     "the processor time that they take behind 1000.",
 )
 def much_work(trial):
-    told, more = [], 5000
+    output, more = [], 5000
     first = aged.WORK + more // 100
     asked = {
         "jobs": '{"after":0,"ask":"jobs"}',
@@ -391,5 +391,5 @@ def much_work(trial):
         shop = old_store(trial, count, more)
         behind = json.loads(shop.reply(asked["jobs in between"]))["jobs"]
         trial.equal([it["job"] for it in behind], [first + more // 2 + it for it in range(1, 101)])
-        told.append(costs(trial, shop, asked))
-    at_most_thrice(trial, *told, HISTORIES)
+        output.append(costs(trial, shop, asked))
+    at_most_thrice(trial, *output, HISTORIES)

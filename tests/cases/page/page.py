@@ -405,7 +405,9 @@ def hundreds(trial):
         it.begin(7)
         it.until(f"{by_id('jobCount')}.textContent === '100+'")
         it.choose("document.querySelector('#tocut .materials select')", "STEEL")
-        it.until(f"{by_id('wanted')}.textContent.includes('Order A-1')")
+        it.until("document.querySelectorAll('#wanted .order').length === 2 && !document.querySelector('#wanted .demand')")
+        for code in ("A-1", "A-2"):
+            it.click(f"document.querySelector('#wanted [data-key=\"fold{code}\"]')")
         it.until("document.querySelectorAll('#wanted .demand').length === 135")
         trial.holds("Of 104 other kinds of pieces all" in it.text("wanted"), it.text("wanted")[-200:])
         it.until("document.querySelector('#cutFrom .row .tag').textContent === 'remnant'")
@@ -657,3 +659,36 @@ def german(trial):
         it.until("document.querySelector('#report table')")
         is_german(it, "yield")
         is_quiet(it)
+
+
+# What German calls things, by the page's law, and the words that it doesn't have.
+GERMAN_WORDS = (
+    ("kerf", "Schnittbreite"),
+    ("demand", "Position"),
+    ("there is no such part", "dieses Teil gibt es nicht"),
+    ("Give back", "Auflösen"),
+    ("standing", "verfügbar"),
+    ("scrap", "Ausschuss"),
+    ("Take back", "Zurücknehmen"),
+    ("Done", "Erledigt"),
+    ("Broken off…", "Abbruch…"),
+    ("broken off", "Abbruch"),
+    ("{0}: proved best", "{0}: nachweislich optimal"),
+    ("Any order", "Auftrag suchen"),
+    ("yes", "ja"),
+    ("no", "nein"),
+    ("What happened", "Verlauf"),
+)
+NO_GERMAN = r"\bFuge|Bedarf|[Ff]reigeb|\b[Dd]er Teil\b|\b[Dd]erselbe|Betrieb (lehnt|verweigert|weist)|Betrieb hat .*abgelehnt"
+
+
+@case(
+    "the German words of the page",
+    "German calls kerf, demands, parts and what is done as the page's law has it, and has none of the words that mean something else.",
+)
+def german_words(trial):
+    with open(os.path.join(os.path.dirname(PAGE), "src", "words.js"), encoding="utf-8") as file:
+        rows = dict(json.loads(f"[{row}]") for row in re.findall(r'(?m)^  ("(?:[^"\\]|\\.)*": "(?:[^"\\]|\\.)*"),?$', file.read()) for row in [row.replace('": "', '", "', 1)])
+    trial.holds(len(rows) > 500, f"{len(rows)} texts")
+    trial.equal([(text, rows.get(text)) for text, _ in GERMAN_WORDS], list(GERMAN_WORDS))
+    trial.equal([german for german in rows.values() if re.search(NO_GERMAN, german)], [])

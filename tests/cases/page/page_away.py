@@ -2,6 +2,7 @@
 
 import http.server
 import json
+import re
 import threading
 from contextlib import contextmanager
 
@@ -9,7 +10,7 @@ from browser.terminal import Terminal, by_id, open_shop
 from kit.case import case
 from kit.page import is_german, is_quiet
 from kit.page_away import begun_again, copied, restored
-from kit.page_saw import sender
+from kit.page_saw import LINES, sender
 
 RECEIVED = "Receive 3 × STEEL 6000.0\u00a0mm"
 
@@ -354,3 +355,37 @@ def other_run(trial):
         shop.kill()
         restored(shop)
         order_and_job(shop, "MUELLER-1")
+
+
+@case(
+    "the page while its shop is away",
+    "Since when there is no connection is told, with how many messages wait, and that what is shown is as it was then: it stays. Forms are "
+    "emptied as ever, a message that wasn't sent can be dropped, and planning says why it can't.",
+)
+def away(trial):
+    shop = open_shop(trial)
+    send = sender(shop)
+    send(do="receive", material="STEEL", batch="S-1", w=60000, h=1, count=2)
+    send(do="order", order="A-1", lines=[LINES[0]])
+    with Terminal(trial, shop) as it:
+        it.begin(7)
+        it.view("tocut")
+        it.material("tocut", "STEEL")
+        it.until(f"!{by_id('planAll')}.disabled")
+        shop.kill()
+        since = r"No connection since \d+:\d\d(\s[AP]M)?"
+        it.until(f"{by_id('keptNotice')}.textContent.startsWith('No connection since ')")
+        trial.holds(re.fullmatch(f"{since}\\. What is shown is as it was then\\.", it.text("keptNotice")), it.text("keptNotice"))
+        trial.holds("A-1" in it.text("wanted") and "2 units" in it.text("cutFrom"), "what is known goes")
+        it.click(by_id("planAll"))
+        it.until(f"{by_id('planFault')}.textContent === 'No plan came: no answer came.'")
+        for batch in ("S-2", "S-3"):
+            it.receive("STEEL", batch, "6000", None, 1)
+            it.until(f"!{by_id('receiveBatch')}.value")
+        it.until(f"{by_id('keptNotice')}.textContent.includes('; 2 messages wait.')")
+        it.click(f"[...{by_id('keptNotice')}.querySelectorAll('button')].at(-1)")
+        it.until("terminal.kept().length === 1")
+        begun_again(shop)
+        it.says(": 1 unit received")
+        it.until(f"{by_id('link')}.textContent === 'connected' && !{by_id('keptNotice')}.textContent")
+        trial.equal(sorted(row["batch"] for row in it.ask("/parts/STEEL")["parts"]), ["S-1", "S-1", "S-2"])

@@ -210,7 +210,7 @@ def rush(trial):
         trial.holds(it.clicks - before <= 4, f"{it.clicks - before} clicks")
         trial.equal(it.ask(f"/demand/{orders}")["reserved"], 3)
         trial.equal(it.value("toCut.leftOut.size"), 0, "something has to be put back")
-        it.until("document.querySelectorAll('#wanted .demand').length === " + str(orders - 1))
+        it.until("document.querySelectorAll('#wanted .order').length === " + str(orders - 1))
         trial.equal(it.value("[...document.querySelectorAll('#wanted input')].every(e => e.checked)"), True)
         is_quiet(it)
 
@@ -239,6 +239,8 @@ def hundreds(trial):
         it.begin(7)
         it.view("tocut")
         it.material("tocut", "STEEL")
+        for code in ("A-1", "A-2"):
+            it.click(f"document.querySelector('#wanted [data-key=\"fold{code}\"]')")
         it.until("document.querySelectorAll('#wanted .demand').length === 121")
         with answering(it, "/plans", answer):
             it.click(by_id("planAll"))
@@ -271,4 +273,137 @@ def waiting(trial):
         os.kill(shop.process.pid, signal.SIGCONT)
         it.until(ALL_ANSWERED)
         it.until(f"{by_id('wanted')}.textContent.includes('all that aren\\'t made are reserved')")
+        is_quiet(it)
+
+
+@case(
+    "orders at the page that are folded",
+    "An order in To cut tells its code, its day, its text and how much is left; its lines are shown where it is unfolded, as few are at "
+    "first, and stay so when another material is looked at.",
+)
+def folded(trial):
+    shop = open_shop(trial)
+    send = sender(shop)
+    send(**BARS, count=1)
+    send(do="order", order="A-1", lines=[{**PIECES, "line": line, "count": 1} for line in range(1, 8)])
+    send(do="order", order="B-1", lines=[{**PIECES, "line": line, "count": 2} for line in range(1, 6)])
+    send(do="note", order="B-1", due=20261203, text="edges ground")
+    heads = "[...document.querySelectorAll('#wanted .orderhead')].map(e => [e.querySelector('.unfold').textContent, e.querySelector('.quiet').textContent])"
+    lines = "document.querySelectorAll('#wanted .demand').length"
+    fold = "document.querySelector('#wanted [data-key=\"fold{}\"]')"
+    with Terminal(trial, shop) as it:
+        it.begin(7)
+        it.view("tocut")
+        it.material("tocut", "STEEL")
+        it.until(f"{lines} === 12")
+        it.until(f"JSON.stringify({heads}).includes('edges ground')")
+        trial.equal(it.value(heads), [["B-1", "due Dec 03, 2026, edges ground, 10 left"], ["A-1", "7 left"]])
+        it.click(fold.format("B-1"))
+        it.until(f"{lines} === 7")
+        trial.equal(it.value(f"[{fold.format('B-1')}.getAttribute('aria-expanded'), document.activeElement.dataset.key]"), ["false", "foldB-1"])
+        it.material("tocut", "GLASS")
+        it.material("tocut", "STEEL")
+        trial.equal(it.value(lines), 7)
+        send(do="order", order="C-1", lines=[PIECES])
+        it.until(f"{lines} === 0")
+        it.click(fold.format("A-1"))
+        it.until(f"{lines} === 7")
+        it.click("document.querySelector('#wanted [data-key=\"oB-1\"]')")
+        it.until(f"{by_id('wanted')}.textContent.startsWith('5 kinds of pieces left out')")
+        is_quiet(it)
+
+
+@case(
+    "bounds and buying under all materials",
+    "Under all materials each tells what its plans come to, with the bound and how to search longer, what isn't planned, and what has to "
+    "be bought of it, which is planned and received by its own size. A material without stock is told. What is left out drops the plans of "
+    "its own material alone.",
+)
+def of_all(trial):
+    shop = open_shop(trial)
+    send = sender(shop)
+    send(**BARS, count=1)
+    send(do="order", order="A-1", lines=[PIECES, {**PIECES, "line": 2, "material": "GLASS", "w": 3000, "h": 2000, "count": 1}])
+    asked = []
+
+    def answer(question):
+        asked.append(question)
+        if question["material"] == "GLASS":
+            return 200, plans([(["2/0"], 0, "x3000 y2000 p2 r r", 32100, 22500)], 32100 * 22500 * 100, 32100 * 22500 * 100, proved=True)
+        if "buy" in question:
+            return 200, plans([(["1/0"], 0, bar_of(5), 60000, 1), ([], 2, bar_of(5), 60000, 1)], 3 * COST, 3 * COST, proved=True)
+        return 200, plans([(["1/0"], 0, bar_of(5), 60000, 1)], COST, COST, missing=7) | {"short": True}
+
+    shown = "planList.innerText"
+    with Terminal(trial, shop) as it:
+        it.begin(7)
+        it.value("void (location.hash = 'cut')")
+        it.until(f"{shown}.startsWith('No stock of GLASS.')")
+        it.click("planList.querySelector('button')")
+        it.until("location.hash === '#stock/GLASS'")
+        send(**SHEETS, count=1)
+        it.value("void (location.hash = 'cut')")
+        it.until(f"!{shown}.includes('No stock') && !{by_id('planAll')}.disabled")
+        with answering(it, "/plans", answer):
+            it.click(by_id("planAll"))
+            it.until("!toCut.all && [...plansByMaterial.values()].filter(of => of.found && !of.planning).length === 2")
+            told = it.value(shown)
+            for words in ("GLASS · 1 sheet: proved best", "No plan takes fewer.", "STEEL · 1 bar, 7 pieces missing", "The stock doesn't suffice: no plan cuts all of it.", "Not planned", "7 × 1000.0\u00a0mm", "largest rest", "987.5\u00a0mm", "kerf and scrap", "pieces"):
+                trial.holds(words in told, f"{words} isn't in {told}")
+            trial.equal(it.value("[...planList.querySelectorAll('.buy')].map(e => e.open)"), [False, True])
+            trial.equal(it.value("[...planList.querySelectorAll('button')].map(e => e.textContent)"), ["Plan with such to buy", "Search longer", "Plan with such to buy"])
+            it.at_widths("to-cut-all-missing")
+            it.type(by_id("buyWSTEEL"), "6000")
+            it.key("Enter")
+            it.until(f"{shown}.includes('2 bars of 6000.0\u00a0mm have to be bought.')")
+            trial.equal(asked[-1]["buy"], [{"h": 1, "w": 60000}])
+            trial.holds("GLASS · 1 sheet: proved best" in it.value(shown), "GLASS is planned anew")
+            # (a line of STEEL that is left out drops the plans of STEEL alone)
+            it.click("document.querySelector('#wanted [data-key=d1]')")
+            it.until(f"!{shown}.includes('STEEL') && {shown}.includes('GLASS · ')")
+            it.click("document.querySelector('#wanted [data-key=d1]')")
+            it.click(by_id("planAll"))
+            it.until(f"!toCut.all && {shown}.includes('7 pieces missing')")
+            it.click("[...planList.querySelectorAll('button')].at(-1)")
+            it.until(f"{shown}.includes('have to be bought')")
+        it.click("[...planList.querySelectorAll('button')].find(e => e.textContent === 'Receive them')")
+        it.until("location.hash === '#stock/STEEL'")
+        trial.equal(it.value("['receiveMaterial', 'receiveW', 'receiveCount'].map(id => document.getElementById(id).value)"), ["STEEL", "6000.0", "2"])
+        is_quiet(it)
+
+
+@case(
+    "plans of several questions at the page",
+    "Plans of several questions count together only where nothing happened in the shop from before the first until behind the last: else "
+    "the first one's stand alone, and that is told.",
+)
+def happened_meanwhile(trial):
+    shop = open_shop(trial)
+    send = sender(shop)
+    send(**BARS, count=3)
+    for number, lines in enumerate((20, 20, 20, 20, 20, 1)):
+        send(do="order", order=f"A-{number}", lines=[{**PIECES, "line": line, "w": 1000, "count": 1} for line in range(1, lines + 1)])
+    happens = []
+
+    def answer(question):
+        (part, *_), names = question["parts"], question["demands"][:1]
+        if happens and len(question["demands"]) == 1:
+            send(**happens.pop())
+        return 200, plans([([part], 0, f"x1000 p{names[0]} r", 60000, 1)], COST, COST, proved=True)
+
+    with Terminal(trial, shop) as it:
+        it.begin(7)
+        it.view("tocut")
+        it.material("tocut", "STEEL")
+        it.until("shop.demands.length === 101")
+        for act, found, note in (
+            (None, [["1/0"], ["1/1"]], ""),
+            ({**BARS, "batch": "S-9", "count": 1}, [["1/0"]], "Something happened meanwhile: these are the most urgent 100 kinds alone."),
+        ):
+            happens[:] = [act] if act else []
+            with answering(it, "/plans", answer):
+                it.click(by_id("planAll"))
+                it.planned()
+            trial.equal(it.value("toCut.found.plans.map(plan => plan.parts)"), found)
+            trial.holds(note in it.text("planWords") and bool(note) == ("happened" in it.text("planWords")), it.text("planWords"))
         is_quiet(it)

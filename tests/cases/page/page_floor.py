@@ -261,7 +261,7 @@ def extended(trial):
         it.click(by_id("sendOrder"))
         it.says("Add lines to order A-1: 1 line added, pieces wanted from no. 201 on")
         it.until("foundOrder.textContent.includes('line 6')")
-        trial.equal(it.text("handTitle"), "Order by hand")
+        trial.equal(it.text("handTitle"), "New order by hand")
         it.order_file("a-1", "more.csv", "material,length,count\nSTEEL,100,2\nSTEEL,120,1\n")
         it.until(by_id("extendCsv"))
         it.click(by_id("extendCsv"))
@@ -346,9 +346,10 @@ def all_at_once(trial):
     with Terminal(trial, shop) as it:
         it.begin(7)
         it.value("(window.print = () => { window.asked = (window.asked || 0) + 1; }, window.asked = 0)")
-        it.value("void (location.hash = 'orders')")
+        it.value("void (location.hash = 'yield')")
         it.until("shop.isKnown")
         before = it.clicks
+        it.view("orders")
         it.pick(by_id("csvFile"), trial.write("Huber 1.csv", FILE))
         it.until("document.getElementById('planCsv')")
         trial.equal(it.value("[document.getElementById('csv-due').value, document.getElementById('csv-text').value]"), ["2026-12-01", "Huber GmbH"])

@@ -7,6 +7,7 @@ from browser.terminal import Terminal, by_id, exchange, open_shop
 from kit import sheets
 from kit.case import Skipped, case
 from kit.page import is_german, is_quiet
+from kit.page_answers import answering
 from kit.page_plans import is_slow
 
 # Of a file's name, its bytes and what was said of it: what is asked first, and then what is ordered.
@@ -389,6 +390,45 @@ def bad_files(trial):
         it.until(f"{LEFT}.length === 1")
         trial.equal(it.value(LEFT), [f"line 1, title: “{sheets.MARKUP}”"])
         trial.equal(it.value("document.querySelectorAll('#csvPreview img').length"), 0)
+        is_quiet(it)
+
+
+@case(
+    "what is said of a file's order at the page lasts",
+    "The day and the text of a file are kept with its order, and are noted though the tab is closed before the order is answered; where the "
+    "order was there before nothing is noted, which is told, of several orders too.",
+)
+def said_lasts(trial):
+    text = "Material;Länge;Anzahl;Kunde;Liefertermin\nSTEEL;100;3;Huber GmbH;3.12.2026\n"
+    with Terminal(trial, open_shop(trial)) as it:
+        begun(it)
+        said = lambda: {row["order"]: (row["due"], row["text"]) for row in it.ask("/orders")["orders"]}
+        with answering(it, "/message", lambda _: None):
+            picked(it, "Huber 1.csv", text)
+            it.click(by_id("sendCsv"))
+            it.until("terminal.kept().length === 1 && terminal.kept()[0].number")
+            it.go("about:blank")
+        trial.equal(it.ask("/orders")["orders"], [])
+        it.go(it.address)
+        it.until("shop.isKnown && !terminal.kept().length && terminal.answered().length === 2")
+        trial.equal(said(), {"HUBER-1": (20261203, "Huber GmbH")})
+        it.view("orders")
+        picked(it, "Huber 1.csv", text.replace("Huber GmbH", "Meier"))
+        it.click(by_id("sendCsv"))
+        it.says("terminal 7: nothing done")
+        it.until("!terminal.kept().length")
+        trial.equal(said(), {"HUBER-1": (20261203, "Huber GmbH")})
+        for number, code in ((1, "K-1"), (2, "K-2")):
+            exchange(it.shop, "/message", {"do": "import", "form": "csv", "number": number, "order": code, "terminal": 8, "text": sheets.HEADER + "1,STEEL,10.0,0.1,no,1,10\n"})
+        commands = [{"do": "import", "form": "csv", "order": code, "text": sheets.HEADER + "1,STEEL,10.0,0.1,no,1,10\n"} for code in ("K-1", "K-2", "K-3")]
+        given = ", ".join(f"['{it['order']}', {json.dumps(it)}]" for it in commands)
+        it.value(f"void sendMany('Order K from a file', [{given}], () => {{}}, () => {{}}, '', {{due: 20261204, text: 'Huber'}})")
+        it.says("Order K from a file: 3 of 3 done; K-1 was ordered at ")
+        it.until("!terminal.kept().length")
+        trial.holds("by terminal 8: nothing done; K-2 was ordered at " in it.told() and "K-3 was" not in it.told(), it.told())
+        trial.equal(said(), {"HUBER-1": (20261203, "Huber GmbH"), "K-1": (0, ""), "K-2": (0, ""), "K-3": (20261204, "Huber")})
+        picked(it, "blank.csv", "\n\nLänge;Anzahl;Material\n\n600;1;STEEL\n;;\n700;1;STEEL\n\n\n")
+        trial.holds("4 empty rows left out." in it.text("csvPreview"), it.text("csvPreview")[:200])
         is_quiet(it)
 
 

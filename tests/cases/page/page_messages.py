@@ -574,7 +574,7 @@ def in_words(trial):
             (
                 "/plan",
                 plan(demands=[]),
-                "there is nothing to plan: choose kinds of pieces of which some are left, at most 40 for a grid and 100 for all (93 "
+                "there is nothing to plan: choose kinds of pieces of which some are left, at most 100 (93 "
                 "BadWant)",
             ),
         )

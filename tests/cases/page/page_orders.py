@@ -6,6 +6,8 @@ import json
 from browser.terminal import Terminal, by_id, exchange, open_shop
 from kit.case import case
 from kit.page import is_german, is_quiet, saved
+from kit.page_answers import answering
+from kit.page_saw import LINES, sender
 
 LINE = {"line": 7, "material": "STEEL", "w": 10000, "h": 1, "turn": False, "count": 1, "worth": 1}
 
@@ -414,4 +416,28 @@ def typed(trial):
         it.says("Cancel order A-1: 2 of 2 done")
         trial.equal(lines_of(it, "A-1"), [[2, 0, 2], [4, 3, 1], [2, 2, 0]])
         it.until(f"{field}.value === '4'", 10)
+        is_quiet(it)
+
+
+@case(
+    "an amend at the page that is refused",
+    "The number that was typed comes back into its field, and the notice says why it was refused.",
+)
+def amend_refused(trial):
+    shop = open_shop(trial)
+    sender(shop)(do="order", order="A-1", lines=LINES[:1])
+    field, change = (f"orderList.querySelector('[data-key={key}]')" for key in ("w1", "a1"))
+    refusal = {"name": "TooMany", "refused": 63}
+    with Terminal(trial, shop) as it:
+        it.begin(7)
+        it.view("orders")
+        it.until(field)
+        it.type(field, "50")
+        with answering(it, "/message", lambda asked: (409, refusal)):
+            it.click(change)
+            it.says("Refused: Order A-1, line 1: 50 wanted in place of 40")
+        it.until(f"{field}.value === '50'")
+        it.click(change)
+        it.says(": 50 wanted in place of 40: done")
+        trial.equal(it.ask("/demand/1")["wanted"], 50)
         is_quiet(it)

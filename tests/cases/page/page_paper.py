@@ -1,5 +1,7 @@
 """What the page prints, counted in sheets of A4, by the page's law."""
 
+import re
+
 from browser.terminal import Terminal, by_id, open_shop
 from kit.case import case
 from kit.page import is_quiet
@@ -19,7 +21,7 @@ def asked_to_print(it, button):
     "69 bars with 25 patterns on paper",
     "At the saw *Print all* prints 69 bars with 25 patterns on two sheets: one list, a row a pattern, with how often, the cuts with order "
     "and line, the rests' names, the jobs and a box for each; on each page stand the shop's name, the day and the material. Labels are "
-    "three by eight on a sheet.",
+    "three by eight on a sheet, or a list of order, line, size, number of how many, job and text, each page with the same words.",
 )
 def bars_on_paper(trial):
     shop = open_shop(trial)
@@ -41,11 +43,23 @@ def bars_on_paper(trial):
         trial.equal([len(row[4].split()) for row in rows], [int(row[0].split()[0]) for row in rows])
         trial.equal(it.sheets("69-bars"), 2)
         head = it.value("document.querySelector('#sheets .pagehead').textContent")
-        trial.holds(all(words in head for words in ("Metallbau Huber", "STEEL", "2026")) or "20" in head, head)
+        is_head = lambda text: bool(re.fullmatch(r"Metallbau Huber · .*\d.* · STEEL", text))
+        trial.holds(is_head(head), head)
         it.until("!document.body.classList.contains('sheets')")
         asked_to_print(it, "labelWaiting")
         trial.equal(it.value("document.querySelectorAll('#sheets .label').length"), 138)
         trial.equal(it.sheets("138-labels"), 6)
+        heads = it.value("[...document.querySelectorAll('#sheets .labels .pagehead')].map(e => e.textContent)")
+        trial.holds(len(heads) == 6 and all(map(is_head, heads)), heads)
+        it.until("!document.body.classList.contains('sheets')")
+        send(do="note", order="HUBER-12", due=0, text="edges ground")
+        it.until("shop.said.get('HUBER-12')?.text === 'edges ground'")
+        asked_to_print(it, "listWaiting")
+        rows = it.value("[...document.querySelectorAll('#sheets tr')].map(e => [...e.cells].map(cell => cell.textContent))")
+        trial.equal((len(rows), is_head(*rows[0]), rows[1]), (140, True, ["Order", "Line", "Size in mm", "Piece", "Job", "Text"]))
+        job = it.ask("/jobs/0")["jobs"][0]["job"]
+        trial.equal(rows[2], ["HUBER-12", "1", "550.0\u00a0mm", "piece 1 of 999", str(job), "edges ground"])
+        trial.holds(it.sheets("138-labels-listed") <= 4, "the list takes more than four sheets")
         is_quiet(it)
 
 
@@ -77,4 +91,32 @@ def few_on_paper(trial):
         it.until("shop.jobs.length === 8")
         asked_to_print(it, "printWaiting")
         trial.equal(it.sheets("few-and-a-large"), 3)
+        is_quiet(it)
+
+
+@case(
+    "one ticket and a report on paper",
+    "The ticket that is shown, and a material's report, are printed with the shop's name, the day and the material.",
+)
+def one_on_paper(trial):
+    shop = open_shop(trial)
+    send = sender(shop)
+    send(do="receive", material="STEEL", batch="S-1", w=60000, h=1, count=3)
+    send(do="order", order="A-1", lines=[LINE])
+    send(do="reserve", part="1/0", tree="x1000 p1 r")
+    head = "[...document.querySelectorAll('main .pagehead')].filter(e => e.getClientRects().length).map(e => e.textContent)"
+    with Terminal(trial, shop) as it:
+        it.begin(7)
+        it.value("storage.write('cutshop.name', 'Metallbau Huber')")
+        it.view("saw")
+        it.until("atSaw.told")
+        it.call("Emulation.setEmulatedMedia", media="print")
+        trial.holds(re.fullmatch(r"Metallbau Huber · .*\d.* · STEEL", " ".join(it.value(head))), it.value(head))
+        trial.equal(it.sheets("one-ticket-named"), 1)
+        it.call("Emulation.setEmulatedMedia", media="")
+        it.view("yield")
+        it.click("document.querySelector('#yieldBars [data-key=ySTEEL]')")
+        it.until("document.querySelector('#report table')")
+        it.call("Emulation.setEmulatedMedia", media="print")
+        trial.holds(re.fullmatch(r"Metallbau Huber · .*\d.* · STEEL", " ".join(it.value(head))), it.value(head))
         is_quiet(it)

@@ -7,7 +7,9 @@ import subprocess
 
 from browser.terminal import SHOP_FILE, Terminal, by_id, open_shop
 from kit.case import case
-from kit.page_saw import BAR, LINES, sender
+from kit.page import is_quiet
+from kit.page_answers import answering
+from kit.page_saw import BAR, LINES, sender, shop_with_jobs
 
 SHEET = "x4000 y3000 p2 r r"
 
@@ -514,3 +516,79 @@ def of_one_material(trial):
         trial.equal([ticket[1].strip() for ticket in tickets], [f"Job {jobs[1]} (2/0), 2 cuts  ☐"])
         trial.equal(rows, [["B-1", "line 1", "400.0 × 300.0\u00a0mm", "piece 1 of 9", f"job {jobs[1]}"]])
         trial.equal(it.faults, [])
+
+
+@case(
+    "a break at the page that is marked over a reload",
+    "The panel of a break, its wrong cut and the rest that was typed stay over a reload, another job and another view, until the job is "
+    "broken off or the panel is left. Where the shop refuses it they come back.",
+)
+def break_kept(trial):
+    shop, send, jobs = shop_with_jobs(trial)
+    panel = f"[!{by_id('breakPanel')}.hidden, atSaw.lost, {by_id('breakRest')}.value]"
+    with Terminal(trial, shop) as it:
+        it.begin(7)
+        it.value(f"void (location.hash = 'saw/{jobs[0]}')")
+        it.until(f"atSaw.told?.job === {jobs[0]}")
+        it.click("document.querySelectorAll('#cutList .cut')[0]")
+        it.click(by_id("startBreak"))
+        it.click("document.querySelector('[name=breakMode][value=lost]')")
+        it.click("document.querySelectorAll('#cutList .cut')[2]")
+        it.type(by_id("breakRest"), "150,5")
+        trial.equal(it.value(panel), [True, 2, "150,5"])
+        it.call("Page.reload")
+        it.until(f"document.readyState === 'complete' && atSaw.told?.job === {jobs[0]} && !{by_id('breakPanel')}.hidden && !refresh.running")
+        trial.equal(it.value(panel), [True, 2, "150,5"])
+        trial.equal(it.value(f"[...ticks.of({jobs[0]})]"), [0, 1])
+        it.value(f"openJob({jobs[1]})")
+        it.until(f"atSaw.told.job === {jobs[1]} && {by_id('breakPanel')}.hidden")
+        it.view("yield")
+        it.value(f"void (location.hash = 'saw/{jobs[0]}')")
+        it.until(f"atSaw.told.job === {jobs[0]} && !{by_id('breakPanel')}.hidden")
+        trial.equal(it.value(panel), [True, 2, "150,5"])
+        # (a refusal, as the shop never gives one of what the page calls good)
+        refusal = {"name": "BadCut", "refused": 72}
+        with answering(it, "/message", lambda asked: (409, refusal)):
+            it.click(by_id("sendBreak"))
+            it.says("(72 BadCut)")
+        it.until(f"!{by_id('breakPanel')}.hidden")
+        trial.equal(it.value(panel), [True, 2, "150,5"])
+        it.click(by_id("sendBreak"))
+        it.until("atSaw.told.state === 'broken'")
+        trial.equal(it.value(f"{by_id('breakPanel')}.hidden"), True)
+        halted = next(row["message"] for row in it.ask(f"/story/job/{jobs[0]}/0")["entries"] if row["message"]["do"] == "break")
+        trial.equal((halted["cuts"], halted["lost"], halted["rest"]), ([0, 1], 2, 1505))
+        it.value(f"openJob({jobs[1]})")
+        it.until(f"atSaw.told.job === {jobs[1]}")
+        it.click(by_id("startBreak"))
+        it.click(by_id("stopBreak"))
+        it.call("Page.reload")
+        it.until(f"document.readyState === 'complete' && atSaw.told?.job === {jobs[1]} && !refresh.running")
+        trial.equal(it.value(f"{by_id('breakPanel')}.hidden"), True)
+        is_quiet(it)
+
+
+@case(
+    "the last ten that ended at the saw",
+    "The last ten jobs that ended are listed, the last one first, however much happened behind them; one that is taken back is among them.",
+)
+def last_ten(trial):
+    shop, send, jobs = shop_with_jobs(trial, 12, "x1000 p1 r")
+    for job in jobs[:11]:
+        send(do="done", job=job)
+    for number in range(310):
+        send(do="note", order="A-1", due=0, text=str(number))
+    rows = "[...endedJobs.querySelectorAll('.row')].map(e => Number(e.value))"
+    with Terminal(trial, shop) as it:
+        it.begin(7)
+        it.view("saw")
+        it.until(f"{rows}.length === 10")
+        trial.equal(it.value(rows), list(reversed(jobs[1:11])))
+        send(do="done", job=jobs[11])
+        it.until(f"{rows}[0] === {jobs[11]}")
+        trial.equal(it.value(rows), list(reversed(jobs[2:12])))
+        send(do="undo", job=jobs[4])
+        it.until(f"{rows}[0] === {jobs[4]}")
+        trial.holds("taken back" in it.text("endedJobs"), it.text("endedJobs"))
+        trial.equal(len(it.value(rows)), 10)
+        is_quiet(it)

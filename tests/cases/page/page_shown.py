@@ -5,6 +5,7 @@ import time
 from browser.chromium import Failed
 from browser.terminal import Terminal, by_id, open_shop
 from kit.case import case
+from kit.gate import gate
 from kit.page import is_quiet
 from kit.page_answers import answering, plans
 from kit.page_saw import BAR, LINES, sender, shop_with_jobs
@@ -320,13 +321,13 @@ def settled(it):
     raise Failed("\n  the page asks on and on")
 
 
-def asked_by(it, act):
-    """How many requests the page makes from here on until it asks nothing for a moment, beside those that look whether anything
+def asked_by(it, way, act):
+    """How many requests reach the shop from here on until the page asks nothing for a moment, beside those that look whether anything
     happened."""
-    before = len(it.requests)
+    before = len(way.asked)
     act()
     settled(it)
-    return sum(not address.endswith("/shop") for address in it.requests[before:])
+    return len(way.since(before))
 
 
 @case(
@@ -344,7 +345,7 @@ def requests(trial):
     for number in range(60):
         send(do="order", order=f"HUBER-{number}", lines=[line])
     reply = plans([([f"1/{place}" for place in range(69)], 0, "x10000 p1 r", 60000, 1)], 69, 69, proved=True)
-    with Terminal(trial, shop) as it:
+    with Terminal(trial, shop) as it, gate(it) as way:
         it.begin(7)
         it.view("yield")
         settled(it)
@@ -361,7 +362,7 @@ def requests(trial):
             it.view("saw")
             it.until("atSaw.told && jobList.textContent.includes('69 ×')")
 
-        asked = asked_by(it, orders)
+        asked = asked_by(it, way, orders)
         trial.holds(asked <= 6, f"orders with 61 open: {asked} requests")
         trial.equal(it.value("orderList.querySelector('.ordered').textContent.includes('69 left of 69')"), True)
         it.view("tocut")
@@ -370,35 +371,173 @@ def requests(trial):
             it.click(by_id("planAll"))
             it.planned()
         settled(it)
-        asked = asked_by(it, reserve)
+        asked = asked_by(it, way, reserve)
         trial.holds(asked <= 75, f"69 parts: {asked} requests")
         trial.equal(it.ask("/demand/1")["reserved"], 69)
-        asked = asked_by(it, saw)
+        asked = asked_by(it, way, saw)
         trial.holds(asked <= 8, f"the saw with 69 jobs: {asked} requests")
         it.value("void (location.hash = 'yield')")
         settled(it)
         it.call("Page.reload")
         it.until("document.readyState === 'complete' && shop.isKnown")
         settled(it)
-        asked = asked_by(it, saw)
+        asked = asked_by(it, way, saw)
         trial.holds(asked <= 8, f"the saw with 69 jobs that another reserved: {asked} requests")
         is_quiet(it)
 
 
 @case(
     "how often the page asks",
-    "Seen and left alone each view asks at most 30 times a minute.",
+    "Seen and left alone each view asks the shop at most 30 times a minute.",
 )
 def left_alone(trial):
     shop, _, _ = shop_with_jobs(trial)
-    with Terminal(trial, shop) as it:
+    with Terminal(trial, shop) as it, gate(it) as way:
         it.begin(7)
         for view in ("tocut", "saw", "orders", "stock", "yield", "happened"):
             it.view(view)
             settled(it)
-            before, begin = it.value("[queue.sent, performance.now()]")
+            before, begin = len(way.asked), time.monotonic()
             time.sleep(20)
-            asked, end = it.value("[queue.sent, performance.now()]")
-            most = (end - begin) / 2000 + 1
-            trial.holds(asked - before <= most, f"{view}: {asked - before} requests in {(end - begin) / 1000:.1f} seconds")
+            asked, took = way.asked[before:], time.monotonic() - begin
+            trial.holds(len(asked) <= took / 2 + 1, f"{view}: {len(asked)} requests in {took:.1f} seconds")
+        is_quiet(it)
+
+
+# Of each line of text in sight its contrast against what lies behind it, where that is under 4.5. (A picture's words have a rim of the
+# paper's colour; what can't be pressed is no text to be read.)
+FAINT = """(() => {
+  const parse = text => (text.match(/[0-9.]+/g) || []).map(Number);
+  const light = c => { const f = v => (v /= 255) <= 0.03928 ? v / 12.92 : ((v + 0.055) / 1.055) ** 2.4; return 0.2126 * f(c[0]) + 0.7152 * f(c[1]) + 0.0722 * f(c[2]); };
+  const ground = e => { for (; e; e = e.parentElement) { const c = parse(getComputedStyle(e).backgroundColor); if (c.length === 3 || c[3] > 0) return c; } return [255, 255, 255]; };
+  const faint = [], walker = document.createTreeWalker(document.body, NodeFilter.SHOW_TEXT);
+  for (let node; node = walker.nextNode();) {
+    const e = node.parentElement;
+    if (!node.data.trim() || e.closest('script, svg, option') || !e.checkVisibility({visibilityProperty: true}) || e.closest(':disabled')) continue;
+    const [a, b] = [light(parse(getComputedStyle(e).color)), light(ground(e))], contrast = (Math.max(a, b) + 0.05) / (Math.min(a, b) + 0.05);
+    if (contrast < 4.5) faint.push(`${node.data.trim().slice(0, 30)}: ${contrast.toFixed(2)}`);
+  }
+  return faint;
+})()"""
+VIEWS = ("cut", "cut/STEEL", "saw/5", "orders", "order/A-1", "stock/STEEL", "part/2/1", "batch/G-1", "yield", "happened")
+
+
+@case(
+    "the page for all eyes",
+    "In each view, light and dark, text has a contrast of at least 4.5; at 200 % of 1280 pixels nothing is scrolled sideways; below 1000 "
+    "pixels panels stand in one column. No heading holds a button, and each picture has its text.",
+)
+def for_all_eyes(trial):
+    shop, send, jobs = shop_with_jobs(trial)
+    send(do="done", job=jobs[0])
+    with Terminal(trial, shop) as it:
+        it.begin(7)
+        it.plan_all("STEEL")
+        for theme in ("light", "dark"):
+            it.call("Emulation.setEmulatedMedia", features=[{"name": "prefers-color-scheme", "value": theme}])
+            for address in VIEWS:
+                it.value(f"(tell('one', 'good'), tell('two', 'refused'), void (location.hash = '{address}'))")
+                it.until("!refresh.running")
+                trial.equal(it.value(FAINT), [], f"{address} {theme}")
+        it.size(640, 400)
+        for address in VIEWS:
+            it.value(f"void (location.hash = '{address}')")
+            it.until("!refresh.running")
+            trial.equal(it.value("document.documentElement.scrollWidth - innerWidth <= 0"), True, f"{address} at 200 %")
+            heads = it.value("document.querySelectorAll('h1 button, h2 button, h3 button, th button, :is(h1, h2, h3, th) input').length")
+            trial.equal(heads, 0, f"{address}: a heading holds a button")
+            bare = "[...document.querySelectorAll('svg')].filter(e => e.getAttribute('aria-hidden') !== 'true' && !e.getAttribute('aria-label')).length"
+            trial.equal(it.value(bare), 0, f"{address}: a picture has no text")
+        it.size(999, 800)
+        for address in VIEWS:
+            it.value(f"void (location.hash = '{address}')")
+            it.until("!refresh.running")
+            panels = "[...document.querySelectorAll('main .panel')].filter(e => e.getClientRects().length).map(e => e.getBoundingClientRect().left)"
+            trial.equal(len(set(it.value(panels))), 1, f"{address} at 999 pixels")
+        is_quiet(it)
+
+
+@case(
+    "a link past each list",
+    "A link before a view's list, which is seen where it has the focus, leads to what stands behind the list.",
+)
+def past_lists(trial):
+    shop, _, _ = shop_with_jobs(trial)
+    with Terminal(trial, shop) as it:
+        it.begin(7)
+        for address, behind in (
+            ("cut/STEEL", "planTitle"),
+            ("saw/4", "jobTitle"),
+            ("orders", "behindOrders"),
+            ("stock/STEEL", "tracePart"),
+            ("happened", "happenedPages"),
+        ):
+            it.value(f"void (location.hash = '{address}')")
+            it.until("!refresh.running && !refresh.again")
+            link = "[...document.querySelectorAll('[data-past]')].find(e => e.getClientRects().length)"
+            trial.equal(it.value(f"getComputedStyle({link}).clipPath === 'none'"), False, f"{address}: it is seen")
+            it.value(f"{link}.focus()")
+            trial.equal(it.value(f"[{link}.textContent, getComputedStyle({link}).clipPath]"), ["Past the list", "none"], address)
+            it.key("Enter")
+            it.until(f"document.activeElement.id === '{behind}'")
+            trial.equal(it.value(HASH), f"#{address}")
+        is_quiet(it)
+
+
+@case(
+    "what is at hand at the page while it is drawn anew",
+    "Where another terminal changes what is shown, the focus, the caret in what is typed, the scrolling of a table and the choice of a "
+    "list stay where they were.",
+)
+def at_hand(trial):
+    shop, send, _ = shop_with_jobs(trial)
+    with Terminal(trial, shop) as it:
+        it.begin(7)
+        it.view("orders")
+        text = "orderList.querySelector('[data-key=textA-1]')"
+        it.until(text)
+        it.type(text, "edges ground")
+        it.value(f"{text}.setSelectionRange(3, 7)")
+        send(do="amend", demand=1, wanted=41)
+        it.until("orderList.textContent.includes('left of 41')")
+        trial.equal(it.value(f"[{text} === document.activeElement, {text}.value, {text}.selectionStart, {text}.selectionEnd]"), [True, "edges ground", 3, 7])
+        rows = "material,length,width,count\n" + "GLASS,600,400,x\n" * 60
+        it.order_file("f-1", "file.csv", rows)
+        scroll = "csvPreview.querySelector('.scroll')"
+        it.value(f"void ({scroll}.scrollTop = 900)")
+        field = "csvPreview.querySelector('[data-key=\"csv 40 count\"]')"
+        it.type(field, "3")
+        place = it.value(f"{scroll}.scrollTop")
+        it.key("Enter")
+        it.until(f"{field}.getAttribute('aria-invalid') === 'false'")
+        trial.holds(place > 0 and it.value(f"{scroll}.scrollTop") == place, f"{place} became {it.value(scroll + '.scrollTop')}")
+        is_quiet(it)
+
+
+@case(
+    "empty views of the page",
+    "Where nothing is to cut, no job waits, nothing stands, no order is open, and where something has no entry, each view says so, with a "
+    "button that leads on.",
+)
+def empty_views(trial):
+    button = "[...{}.querySelectorAll('button')].find(e => e.textContent === '{}')"
+    shop = open_shop(trial)
+    with Terminal(trial, shop) as it:
+        it.begin(7)
+        for address, holder, words, text, leads in (
+            ("cut", "wanted", "Nothing to cut.", "New order", f"{HASH} === '#orders'"),
+            ("cut/STEEL", "cutFrom", "No stock of STEEL.", "Receive", f"{HASH} === '#stock/STEEL'"),
+            ("saw", "jobList", "No job waits.", "Plan", "viewName() === 'tocut'"),
+            ("stock/STEEL", "stockList", "Nothing stands.", "Receive", "document.activeElement.id === 'receiveBatch'"),
+            ("orders", "orderList", "No order is open.", None, None),
+        ):
+            it.value(f"void (location.hash = '{address}')")
+            it.until(f"{by_id(holder)}.textContent.includes('{words}')")
+            if text:
+                it.click(button.format(by_id(holder), text))
+                it.until(leads)
+        sender(shop)(do="order", order="A-1", lines=LINES[:1])
+        with answering(it, "/story/order/A-1/0", lambda _: (200, {"entries": [], "more": False, "ok": "story"})):
+            it.value("void (location.hash = 'happened/order/A-1')")
+            it.until("happenedList.textContent === 'Before records began.'")
         is_quiet(it)

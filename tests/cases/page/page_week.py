@@ -1,10 +1,13 @@
 """A week at four pages of one shop: office, foreman and two technicians, each with its own storage, in one process of Chromium."""
 
-from browser.terminal import Terminal, by_id, open_shop
+import os
+
+from browser.terminal import Terminal, by_id, exchange, open_shop
+from kit.audits import audited
 from kit.case import case
 from kit.page import is_quiet, reach
 from kit.page_answers import answering, plans
-from kit.page_away import begun_again, copied, restored
+from kit.page_away import begun_again
 from kit.page_plans import is_slow
 from kit.page_saw import sender
 
@@ -80,10 +83,11 @@ def demand_pages(it):
     "a week at four pages",
     "Office, foreman and two technicians in one Chromium: an order of 200 lines, plans of all, jobs that two want to end, a reload, a lost "
     "connection, a start of the program anew and a restored backup. Each message is done once, and at the end what each page shows is what "
-    "the shop says.",
+    "the shop says, and an audit calls the store whole.",
 )
 def week(trial):
-    shop = open_shop(trial)
+    os.mkdir(trial.path("backups"))
+    shop = open_shop(trial, words=("--backup", trial.path("backups")))
     lines = 60 if is_slow(shop) else 200
     with Terminal(trial, shop) as it:
         pages = Pages(it)
@@ -140,8 +144,7 @@ def week(trial):
         trial.equal((it.ask(f"/job/{jobs[1]}")["state"], it.ask("/totals/GLASS")["received"]), ("done", 2 * 12000 * 8000))
         shows_what_is(trial, pages, shop)
         # (Friday: a backup is put in the place of the shop behind what another device did)
-        copied(shop)
-        begun_again(shop)
+        trial.equal(exchange(shop, "/backup", {})["backup"], 1)
         pages.at("office").until(f"{by_id('link')}.textContent === 'connected' && !refresh.lost")
         it.receive("STEEL", "S-2", "5000", None, 1)
         it.says(": 1 unit received")
@@ -149,9 +152,13 @@ def week(trial):
         for name in pages.sessions:
             pages.at(name).until("facts.last?.entry === %d && !refresh.running" % it.ask("/shop")["entries"])
         shop.kill()
-        restored(shop)
+        trial.equal(trial.run("restore", "--store", "shop.db", "--from", "backups/1").status, 0)
+        begun_again(shop)
         for name in pages.sessions:
             pages.at(name).says("What was shown is dropped and read anew.")
             trial.equal("It doesn't have: Receive 1 × STEEL" in it.told(), name == "office", name)
         shows_what_is(trial, pages, shop)
         is_quiet(it)
+        entries = it.ask("/shop")["entries"]
+    shop.kill()
+    audited(trial, "shop.db", entries)

@@ -1,4 +1,4 @@
-"""Whole orders whose best plan is known, since the bound that is told with it is its cost: the search has to come to it, by so
+"""Whole orders whose best plan is known, since the bound that is reported with it is its cost: the search has to come to it, by so
 many tables at most. Most were made by cutting units without waste. Without this a search that finds worse plans, or needs more
 tables, would pass, as no contract says how good a plan is. Nothing specifies how many calls that takes: the numbers here are what
 the search was measured to need, and a quarter more, so they keep it from getting worse and don't say that it is good."""
@@ -55,7 +55,7 @@ MIXED = """
 1 1 44 | 67x24 44x38 32x31 | 24x13t*4 24x11*4 11x12*4 12x12t*4 19x19t*4 19x18t*4 11x10*3 11x13t*3 22x24t*3 24x12t*3 19x13*3 19x10t*3 44x38*3
 1 1 139 | 67x24*3 44x38*8 32x31*1 | 24x13t*4 24x11*4 11x12*4 12x12t*4 19x19t*4 19x18t*4 11x10*3 11x13t*3 22x24t*3 24x12t*3 19x13*3 19x10t*3 44x38*3
 """
-LEAST_OF_MIXED = 1652800
+MIN_OF_MIXED = 1652800
 
 
 @dataclass
@@ -101,8 +101,8 @@ def best(trial, lines):
     for line in lines.strip().split("\n"):
         order = Order.of(line)
         shop = order.yard().replay(trial)
-        told = answered(trial, shop, order.question(order.calls))
-        trial.equal((told["missing"], told["cost"], told["proved"]), ([], told["bound"], True), line)
+        output = answered(trial, shop, order.question(order.calls))
+        trial.equal((output["missing"], output["cost"], output["proved"]), ([], output["bound"], True), line)
         trial.equal(answered(trial, shop, order.question(1))["proved"], False, line)
         if order.is_plain():
             kinds = [(w, h, number) for w, h, _, number in order.pieces]
@@ -138,9 +138,9 @@ def sheets(trial):
 def several_sizes(trial):
     for line in MIXED.strip().split("\n"):
         order = Order.of(line)
-        told = answered(trial, order.yard().replay(trial), order.question(order.calls))
-        trial.equal((told["missing"], told["bound"] <= LEAST_OF_MIXED), ([], True), line)
-        trial.holds(LEAST_OF_MIXED <= told["cost"] <= 1.07 * LEAST_OF_MIXED, f"{told['cost']}: {line}")
+        output = answered(trial, order.yard().replay(trial), order.question(order.calls))
+        trial.equal((output["missing"], output["bound"] <= MIN_OF_MIXED), ([], True), line)
+        trial.holds(MIN_OF_MIXED <= output["cost"] <= 1.07 * MIN_OF_MIXED, f"{output['cost']}: {line}")
 
 
 def seconds_of(trial, problem, calls, *step):

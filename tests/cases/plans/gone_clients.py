@@ -62,7 +62,7 @@ def gone_at_once(trial):
 
 @case(
     "a ninth question behind eight clients that never read",
-    "Eight clients ask for what takes minutes and are silent: once each had 200 calls it is told what was found, and the ninth "
+    "Eight clients ask for what takes minutes and are silent: once each had 200 calls it is reported what was found, and the ninth "
     "question is answered. Without a ninth the eight go on.",
 )
 def silent_ones(trial):

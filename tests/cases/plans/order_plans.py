@@ -11,7 +11,7 @@ from kit.case import case
 from kit.commands import all_mistaken, mistaken, over
 from kit.faults import Faults
 from kit.order_files import HEADER, JUDGED, NO_ROW, OF_FIELD, SHOP
-from kit.plans import MOST_UNITS, NUMBER, Problem, cut_from, wrong
+from kit.plans import MAX_UNITS, NUMBER, Problem, cut_from, wrong
 
 LENGTH = r"[0-9]+\.[0-9]"
 
@@ -87,7 +87,7 @@ def fits(line, sides):
 
 
 def head_of(text, sizes):
-    """The units, the bound, whether it is proved, the pieces missing and the cost that a text tells, and its other lines."""
+    """The units, the bound, whether it is proved, the pieces missing and the cost that a text reports, and its other lines."""
     cost = "" if len(sizes) == 1 else r"\ncost ([0-9]+)"
     said = re.match(rf"units ([0-9]+)\nbound ([0-9]+)\nproved (yes|no)\nmissing ([0-9]+){cost}\n", text)
     if not said or not text.endswith("\n"):
@@ -100,7 +100,7 @@ def head_of(text, sizes):
 
 
 def planned(trial, lines, material, sizes, *words):
-    """What is told of a plan, of which everything holds that the formats say, whatever was found: its units, its cost, its bound
+    """What is reported of a plan, of which everything holds that the formats say, whatever was found: its units, its cost, its bound
     and how many pieces are missing; and its plans."""
     ran = asked(trial, lines, material, sizes, *words)
     trial.equal((ran.status, ran.err), (0, b""), f"{lines} {sizes} {words}")
@@ -121,13 +121,13 @@ def planned(trial, lines, material, sizes, *words):
     trial.equal(units, sum(times for _, times, _ in plans), "units")
     trial.equal(cost, sum(times * costs[place] for place, times, _ in plans), "cost")
     trial.equal(sum(counts.values()) + missing, sum(it.count for it in own), "pieces")
-    trial.holds(missing == unfit or units == MOST_UNITS, f"{missing} pieces are missing, {unfit} don't fit")
+    trial.holds(missing == unfit or units == MAX_UNITS, f"{missing} pieces are missing, {unfit} don't fit")
     trial.holds(missing or bound <= cost, f"the bound {bound} is over {cost}")
     trial.equal(proved, not missing and bound == cost, f"proved, of {cost}, bound {bound}, missing {missing}")
     return (units, cost, bound, missing), plans
 
 
-def told(trial, lines, material, sizes, wanted, *words):
+def prints(trial, lines, material, sizes, wanted, *words):
     """Wants these units, this cost, this bound and this number of pieces missing."""
     numbers, plans = planned(trial, lines, material, sizes, *words)
     trial.equal(numbers, wanted, f"{lines} {sizes}")
@@ -140,7 +140,7 @@ def refused(trial, lines, material, sizes, line, why=None):
 
 @case(
     "order files planned from one size",
-    "The lines of an order file from units of one size are told as the plans of the same pieces in a problem file are, to the byte, "
+    "The lines of an order file from units of one size are reported as the plans of the same pieces in a problem file are, to the byte, "
     "with the kerf of the material; a piece as large as its unit is `1 p1`, and turned `1 p1t`.",
 )
 def one_size(trial):
@@ -159,13 +159,13 @@ def one_size(trial):
     trial.ended(asked(trial, [Line(4, 3, 1)], "GLASS", [(4, 3)]), 0, whole.format("p1"))
     trial.ended(asked(trial, [Line(3, 4, 1, True)], "GLASS", [(4, 3)]), 0, whole.format("p1t"))
     refused(trial, [Line(3, 4, 1)], "GLASS", [(4, 3)], "refused 90 NothingFits")
-    told(trial, bars((30, 10)), "STEEL", [(100, 1)], (4, 4, 4, 0))
-    told(trial, bars((30, 3), (101, 2)), "STEEL", [(98, 1)], (1, 1, 1, 2), "--calls", 9)
+    prints(trial, bars((30, 10)), "STEEL", [(100, 1)], (4, 4, 4, 0))
+    prints(trial, bars((30, 3), (101, 2)), "STEEL", [(98, 1)], (1, 1, 1, 2), "--calls", 9)
 
 
 @case(
     "order files planned from several sizes",
-    "From several sizes bound and cost are in cells, a line tells the cost, and each plan has its size before it, by the place at which "
+    "From several sizes bound and cost are in cells, a line reports the cost, and each plan has its size before it, by the place at which "
     "that was given. Pieces that one size holds alone take units of it, and what no size holds is missing.",
 )
 def several_sizes(trial):
@@ -337,8 +337,8 @@ def streams(trial):
 
 @case(
     "what helps where a plan is too large or its step bad",
-    "A rectangle of height 1 is planned with `--whole`; where a step between two numbers serves these are told; where none does, or none "
-    "was given, `--whole` without a step; a bar that is too long is told so.",
+    "A rectangle of height 1 is planned with `--whole`; where a step between two numbers serves these are reported; where none does, or none "
+    "was given, `--whole` without a step; a bar that is too long is reported so.",
 )
 def what_helps(trial):
     whole, longest = "plan it with --whole, and without --step", "a bar is at most 15000.0 mm long"

@@ -1,4 +1,4 @@
-"""Plans of sheets, of which any best one may be told: what it is worth, that it is reserved, and that its cells add up."""
+"""Plans of sheets, of which any best one may be reported: what it is worth, that it is reserved, and that its cells add up."""
 
 import json
 
@@ -30,11 +30,11 @@ def planned(trial, lines, wanted, **question):
     reserve = compact({"do": "reserve", "number": 4, "part": "1/0", "terminal": 1, "tree": plan["tree"]})
     done = compact({"do": "done", "job": 2, "number": 5, "terminal": 1})
     out = trial.replay([*lines, reserve, done, compact({"ask": "totals", "material": "S"})]).out.split(b"\n")[-4:-1]
-    told, ended, totals = (json.loads(it) for it in out)
+    output, ended, totals = (json.loads(it) for it in out)
     if plan["worth"] == 0:
         trial.equal(out[0].decode(), refused(60, "BadTree"), reserve)
         return
-    trial.equal((told.get("job"), ended.get("ok")), (2, "done"), reserve)
+    trial.equal((output.get("job"), ended.get("ok")), (2, "done"), reserve)
     cells = sum(totals[it] for it in ("stock", "rack", "pieces", "kerf", "scrap", "returned"))
     trial.equal((cells, totals["stock"]), (totals["received"], 0), reserve)
 

@@ -5,14 +5,14 @@
 import random
 
 from kit.case import Failed, case
-from kit.plans import MOST_UNITS
+from kit.plans import MAX_UNITS
 from kit.questions import Content, Demand, Part, checked_answer, compact, content_of
 from kit.yards import Yard, answered, question, reservations
 
-LONGEST_BAR = 150000
+MAX_BAR_LEN = 150000
 
 
-def told(trial, shop, asked, cost, bound, proved, missing=(), short=False):
+def answers(trial, shop, asked, cost, bound, proved, missing=(), short=False):
     """Wants this cost and bound, whether they are proved equal, and of which demands how many pieces are missing."""
     answer = answered(trial, shop, asked)
     got = (answer["cost"], answer["bound"], answer["proved"], answer["short"])
@@ -39,12 +39,12 @@ def at_sight(trial):
     yard.receive("GLASS", 10, 8, 5)
     four, more = yard.order("GLASS", (4, 3, 4, False)), yard.order("GLASS", (3, 4, 10, True))
     shop, bars, sheets = yard.replay(trial), [{"h": 1, "w": 100}], [{"h": 8, "w": 10}]
-    told(trial, shop, question("STEEL", demands=[three]), 10000, 10000, True)
-    told(trial, shop, question("STEEL", demands=[ten]), 40000, 40000, True)
-    told(trial, shop, question("STEEL", demands=[ten], parts=[], buy=bars), 40000, 40000, True)
-    told(trial, shop, question("GLASS", demands=[four]), 8000, 8000, True)
-    told(trial, shop, question("GLASS", demands=[more]), 24000, 24000, True)
-    told(trial, shop, question("GLASS", demands=[more], parts=[], buy=sheets), 24000, 24000, True)
+    answers(trial, shop, question("STEEL", demands=[three]), 10000, 10000, True)
+    answers(trial, shop, question("STEEL", demands=[ten]), 40000, 40000, True)
+    answers(trial, shop, question("STEEL", demands=[ten], parts=[], buy=bars), 40000, 40000, True)
+    answers(trial, shop, question("GLASS", demands=[four]), 8000, 8000, True)
+    answers(trial, shop, question("GLASS", demands=[more]), 24000, 24000, True)
+    answers(trial, shop, question("GLASS", demands=[more], parts=[], buy=sheets), 24000, 24000, True)
 
 
 @case(
@@ -61,18 +61,18 @@ def remnants(trial):
     one, two = yard.bars("STEEL", (60, 1)), yard.bars("STEEL", (100, 2))
     shop = yard.replay(trial)
     for keys, cost in (({}, 5400), ({"remnant": 100}, 6000), ({"remnant": 1}, 60)):
-        answer = told(trial, shop, question("STEEL", demands=[one], **keys), cost, cost, True)
+        answer = answers(trial, shop, question("STEEL", demands=[one], **keys), cost, cost, True)
         trial.equal(answer["plans"], [entry(f"p{one}", 60, parts=[short])])
     entries = [entry(f"p{two}", 100, parts=[it]) for it in (rest, unit)]
-    trial.equal(told(trial, shop, question("STEEL", demands=[two]), 19000, 19000, True)["plans"], entries)
-    answer = told(trial, shop, question("STEEL", demands=[two], parts=[unit, rest]), 19000, 19000, True)
+    trial.equal(answers(trial, shop, question("STEEL", demands=[two]), 19000, 19000, True)["plans"], entries)
+    answer = answers(trial, shop, question("STEEL", demands=[two], parts=[unit, rest]), 19000, 19000, True)
     trial.equal(answer["plans"], entries[::-1])
 
 
 @case(
     "bought units of plans",
     "Bought units stand behind parts, by the place of their size in the question, then by the text of the tree, p10 before p2; "
-    "how many are cut so is told, and parts that serve as well are told with them, rising.",
+    "how many are cut so is reported, and parts that serve as well are reported with them, rising.",
 )
 def bought(trial):
     yard = Yard()
@@ -82,12 +82,12 @@ def bought(trial):
     shop, sizes = yard.replay(trial), [{"h": 1, "w": 100}, {"h": 1, "w": 60}]
     trees = sorted(f"p{it}" for it in range(1, 12))
     for buy in (sizes, sizes[::-1]):
-        answer = told(trial, shop, question("STEEL", parts=[], buy=buy), 238000, 238000, True)
+        answer = answers(trial, shop, question("STEEL", parts=[], buy=buy), 238000, 238000, True)
         wanted = {100: [entry(it, 100, buy=2) for it in trees], 60: [entry("p12", 60, buy=3)]}
         trial.equal(answer["plans"], [it for size in buy for it in wanted[size["w"]]])
-    answer = told(trial, shop, question("STEEL", demands=[1], parts=names[:1], buy=sizes), 20000, 20000, True)
+    answer = answers(trial, shop, question("STEEL", demands=[1], parts=names[:1], buy=sizes), 20000, 20000, True)
     trial.equal(answer["plans"], [entry("p1", 100, parts=names[:1]), entry("p1", 100, buy=1)])
-    answer = told(trial, shop, question("STEEL", demands=[2], parts=["11/0", "9/0"]), 20000, 20000, True)
+    answer = answers(trial, shop, question("STEEL", demands=[2], parts=["11/0", "9/0"]), 20000, 20000, True)
     trial.equal(answer["plans"], [entry("p2", 100, parts=["9/0", "11/0"])])
 
 
@@ -102,9 +102,9 @@ def too_little(trial):
     yard.receive("STEEL", 100, 1, 2)
     full, long = yard.bars("STEEL", (100, 3)), yard.bars("STEEL", (101, 2))
     shop = yard.replay(trial)
-    answer = told(trial, shop, question("STEEL", demands=[full]), 20000, 30000, False, [(full, 1)], True)
+    answer = answers(trial, shop, question("STEEL", demands=[full]), 20000, 30000, False, [(full, 1)], True)
     trial.equal(answer["plans"], [entry(f"p{full}", 100, parts=["1/0", "1/1"])])
-    told(trial, shop, question("STEEL", demands=[full], buy=[{"h": 1, "w": 100}]), 30000, 30000, True)
+    answers(trial, shop, question("STEEL", demands=[full], buy=[{"h": 1, "w": 100}]), 30000, 30000, True)
     answer = answered(trial, shop, question("STEEL", demands=[long, full], buy=[{"h": 1, "w": 100}]))
     trial.equal((answer["missing"], answer["cost"], answer["short"]), ([{"demand": long, "pieces": 2}], 30000, False))
     answer = answered(trial, shop, question("STEEL", demands=[full], buy=[{"h": 1, "w": 99}]))
@@ -113,7 +113,7 @@ def too_little(trial):
 
 @case(
     "plans of a million pieces",
-    "Of a million bars 100000 are planned, the others are missing, and the bound is that of all. Over 10^18 a bound is told as "
+    "Of a million bars 100000 are planned, the others are missing, and the bound is that of all. Over 10^18 a bound is reported as "
     "10^18.",
 )
 def million(trial):
@@ -123,11 +123,11 @@ def million(trial):
     yard.material("GLASS", 0, "sheet")
     yard.order("GLASS", (200000, 60000, 1000000, False))
     shop, bar, sheet = yard.replay(trial), {"h": 1, "w": 100}, {"h": 60000, "w": 200000}
-    left = 1000000 - MOST_UNITS
-    answer = told(trial, shop, question("STEEL", buy=[bar]), 10**9, 10**10, False, [(1, left)])
-    trial.equal(answer["plans"], [entry("p1", 100, buy=MOST_UNITS)])
-    cost = MOST_UNITS * 200000 * 60000 * 100
-    told(trial, shop, question("GLASS", buy=[sheet], step=60000), cost, 10**18, False, [(2, left)])
+    left = 1000000 - MAX_UNITS
+    answer = answers(trial, shop, question("STEEL", buy=[bar]), 10**9, 10**10, False, [(1, left)])
+    trial.equal(answer["plans"], [entry("p1", 100, buy=MAX_UNITS)])
+    cost = MAX_UNITS * 200000 * 60000 * 100
+    answers(trial, shop, question("GLASS", buy=[sheet], step=60000), cost, 10**18, False, [(2, left)])
 
 
 # Shops by chance.
@@ -178,7 +178,7 @@ def question_by_chance(dice, content):
 
 
 def by_chance(trial, kind, seed, count):
-    """Asks shops by chance, has each plan that is told for a part reserved, in an order by chance, and asks again."""
+    """Asks shops by chance, has each plan that is reported for a part reserved, in an order by chance, and asks again."""
     dice, answers = random.Random(seed), 0
     for _ in range(count):
         yard = shop_by_chance(dice, kind)
@@ -252,10 +252,10 @@ def first_demands(trial):
         part = yard.receive("STEEL", 100)
         (yard.cut if demand == 5 else yard.reserve)(part, f"p{demand}")
     shop, buy = yard.replay(trial), [{"h": 1, "w": 100}]
-    answer = told(trial, shop, question("STEEL", buy=buy), 1000000, 1000000, True)
+    answer = answers(trial, shop, question("STEEL", buy=buy), 1000000, 1000000, True)
     wanted = [it for it in range(1, 103) if it not in (5, 10)]
     trial.equal(sorted(it["tree"] for it in answer["plans"]), sorted(f"p{it}" for it in wanted))
-    answer = told(trial, shop, question("STEEL", buy=buy, demands=[10, 110, 5, 1]), 20000, 20000, True)
+    answer = answers(trial, shop, question("STEEL", buy=buy, demands=[10, 110, 5, 1]), 20000, 20000, True)
     trial.equal([it["tree"] for it in answer["plans"]], ["p1", "p110"])
     trial.equal([it for it in (it["demand"] for it in answer["prices"]) if it not in (110, 1)], [])
 
@@ -276,7 +276,7 @@ def first_parts(trial):
     yard.bars("STEEL", (100, 1008))
     yard.reserve("2/7", "p1")
     shop = yard.replay(trial)
-    answer = told(trial, shop, question("STEEL"), 10000000, 10070000, False, [(1, 7)], True)
+    answer = answers(trial, shop, question("STEEL"), 10000000, 10070000, False, [(1, 7)], True)
     names = [f"{act}/{node}" for act in range(2, 13) for node in range(100)]
     names.remove("2/7")
     trial.equal(answer["plans"], [entry("p1", 100, parts=names[:1000])])
@@ -290,22 +290,22 @@ def first_parts(trial):
 def long_bars(trial):
     yard = Yard()
     yard.material("STEEL")
-    yard.receive("STEEL", LONGEST_BAR + 1)
-    yard.receive("STEEL", LONGEST_BAR)
-    yard.bars("STEEL", (LONGEST_BAR, 2))
+    yard.receive("STEEL", MAX_BAR_LEN + 1)
+    yard.receive("STEEL", MAX_BAR_LEN)
+    yard.bars("STEEL", (MAX_BAR_LEN, 2))
     shop = yard.replay(trial)
-    cost = 100 * LONGEST_BAR
-    answer = told(trial, shop, question("STEEL"), cost, 2 * cost, False, [(1, 1)], True)
-    trial.equal(answer["plans"], [entry("p1", LONGEST_BAR, parts=["2/0"])])
-    told(trial, shop, question("STEEL", parts=["2/0"], buy=[{"h": 1, "w": LONGEST_BAR}]), 2 * cost, 2 * cost, True)
-    for keys in ({"parts": ["2/0", "1/0"]}, {"buy": [{"h": 1, "w": LONGEST_BAR + 1}]}, {"buy": [{"h": 1, "w": 200000}]}):
+    cost = 100 * MAX_BAR_LEN
+    answer = answers(trial, shop, question("STEEL"), cost, 2 * cost, False, [(1, 1)], True)
+    trial.equal(answer["plans"], [entry("p1", MAX_BAR_LEN, parts=["2/0"])])
+    answers(trial, shop, question("STEEL", parts=["2/0"], buy=[{"h": 1, "w": MAX_BAR_LEN}]), 2 * cost, 2 * cost, True)
+    for keys in ({"parts": ["2/0", "1/0"]}, {"buy": [{"h": 1, "w": MAX_BAR_LEN + 1}]}, {"buy": [{"h": 1, "w": 200000}]}):
         reply = shop.reply(compact(question("STEEL", **keys)))
         trial.equal(reply, b'{"name":"TableTooLarge","refused":91}', compact(keys))
 
 
 @case(
     "the step of plans",
-    "Without a step 0 is told, however large a side of the stock is, and with one that one; a bar tells 0 whatever it is given. "
+    "Without a step 0 is reported, however large a side of the stock is, and with one that one; a bar reports 0 whatever it is given. "
     "A step of 0 is refused 92 of a sheet, and a side of over 500 steps 91.",
 )
 def step_told(trial):
@@ -373,8 +373,8 @@ def stages(trial):
 
 @case(
     "the largest rest of plans",
-    "A rest is told where it is kept, at least as long and as wide as the material's limits, however it lies; a tenth less "
-    "and it is scrap, and 0 is told; so where no rest is left, and where nothing is planned.",
+    "A rest is reported where it is kept, at least as long and as wide as the material's limits, however it lies; a tenth less "
+    "and it is scrap, and 0 is reported; so where no rest is left, and where nothing is planned.",
 )
 def rests(trial):
     # a piece of 60 by 100 on a sheet of 100 by 100, the kerf 1: what is left is 39 by 100

@@ -33,8 +33,8 @@ def whole_orders(trial):
 
         def run(faults, words=words, text=text):
             ran = trial.run(*words, environment=faults.environment)
-            told = (ran.status, ran.out, fault_in(ran.err))
-            trial.equal(told in ((0, text, b""), (1, b"", b"fault memory\n")), True, f"{words}, request {faults.at}: {told}")
+            output = (ran.status, ran.out, fault_in(ran.err))
+            trial.equal(output in ((0, text, b""), (1, b"", b"fault memory\n")), True, f"{words}, request {faults.at}: {output}")
 
         spread(trial, run)
 

@@ -197,9 +197,9 @@ def routes(trial):
         return shop.exchange(f"POST {path} HTTP/1.1\r\nHost: shop\r\nContent-Length: {len(line)}\r\n\r\n{line}".encode())
 
     good = compact(question("GLASS", calls=5, demands=[OPEN], step=20))
-    told = posted("/plans", good)
-    trial.equal(told.partition(b"\r\n\r\n")[0], answer(200, told.partition(b"\r\n\r\n")[2]).partition(b"\r\n\r\n")[0], good)
-    trial.holds(told.partition(b"\r\n\r\n")[2].startswith(b'{"bound":'), told)
+    output = posted("/plans", good)
+    trial.equal(output.partition(b"\r\n\r\n")[0], answer(200, output.partition(b"\r\n\r\n")[2]).partition(b"\r\n\r\n")[0], good)
+    trial.holds(output.partition(b"\r\n\r\n")[2].startswith(b'{"bound":'), output)
     for path in ("/plan", "/bound", "/message"):
         trial.equal(posted(path, good), answer(400, BAD), path)
     plan = compact({"ask": "plan", "demands": [OPEN], "part": WHOLE, "step": 5})
@@ -209,9 +209,9 @@ def routes(trial):
     for path in ("/plans/", "/plans/GLASS"):
         trial.equal(posted(path, good), answer(404), path)
     trial.equal(shop.exchange(b"POST /plans HTTP/1.1\r\nHost: shop\r\n\r\n"), answer(411))
-    trial.equal(posted("/plans", good), told, "again")
+    trial.equal(posted("/plans", good), output, "again")
     long = good.ljust(131072)
-    trial.equal(posted("/plans", long), told, "a body of 131072")
+    trial.equal(posted("/plans", long), output, "a body of 131072")
     trial.equal(shop.exchange(b"POST /plans HTTP/1.1\r\nHost: shop\r\nContent-Length: 131073\r\n\r\n"), answer(413))
 
 
@@ -236,15 +236,15 @@ def limits(trial):
         ("demands", list(range(1, 102)), 100),
         ("buy", sizes(*[(150 + it, 1) for it in range(11)]), 10),
     ):
-        told = answered(trial, shop, question("STEEL", calls=2, **{key: values[:most]}), content)
-        trial.equal(told["missing"], [], key)
+        output = answered(trial, shop, question("STEEL", calls=2, **{key: values[:most]}), content)
+        trial.equal(output["missing"], [], key)
         reply = shop.reply(compact(question("STEEL", **{key: values})))
         trial.equal(reply.decode(), refused(93, "BadWant"), f"{most + 1} {key}")
     for calls in (1, 5000):
         answered(trial, shop, question("STEEL", calls=calls, demands=[1, 2], parts=["1/0", "1/1"]), content)
     for cost in (1, 100):
-        told = answered(trial, shop, question("STEEL", remnant=cost, demands=[101], parts=["1/0", rest]), content)
-        trial.equal((told["cost"], told["proved"], told["plans"][0]["parts"]), (140 * cost, True, [rest]), f"remnant {cost}")
+        output = answered(trial, shop, question("STEEL", remnant=cost, demands=[101], parts=["1/0", rest]), content)
+        trial.equal((output["cost"], output["proved"], output["plans"][0]["parts"]), (140 * cost, True, [rest]), f"remnant {cost}")
 
 
 @case(

@@ -137,7 +137,7 @@ def go_away(trial):
 
 @case(
     "a question whose sender ends later",
-    "A client that ends its sending side a second behind its question, or at once, is told what was found so far.",
+    "A client that ends its sending side a second behind its question, or at once, is reported what was found so far.",
 )
 def ends_later(trial):
     shop = crowds.large_yard().serve(trial)
@@ -211,14 +211,14 @@ def stops(trial):
         shop = trial.shop()
         trial.holds(shop.is_open, "the shop doesn't open again")
     trial.equal(at_once(shop, terminals, count), [])
-    trial.equal([len(it.told) for it in terminals], [count] * len(terminals))
+    trial.equal([len(it.exchanges) for it in terminals], [count] * len(terminals))
     shop.kill()
     alone = yard.serve(trial, "alone.db")
     work_alone(trial, alone, count)
     alone.kill()
     trial.equal(independent(shop.store), independent(alone.store))
     kept = {(it[0], it[1]): it[2:] for it in tables.rows(shop.store)["kept"] if it[0] != crowds.FILLER}
-    trial.equal(kept, {(it.number, index): step for it in terminals for index, step in enumerate(it.told, 1)})
+    trial.equal(kept, {(it.number, index): step for it in terminals for index, step in enumerate(it.exchanges, 1)})
 
 
 @case(

@@ -98,5 +98,5 @@ def scarce(trial):
     for number, (kerf, bars, pieces) in enumerate(questions):
         least, without = least_cost(kerf, bars, pieces), least_cost(kerf, [(it, None) for it, _ in bars], pieces)
         trial.holds(least is not None and without < least, f"{bars} {pieces}: {least}, {without}")
-        told = answered(trial, shop, question(f"M-{number}", calls=CALLS))
-        trial.equal((told["missing"], told["cost"]), ([], least), f"{kerf} {bars} {pieces}")
+        output = answered(trial, shop, question(f"M-{number}", calls=CALLS))
+        trial.equal((output["missing"], output["cost"]), ([], least), f"{kerf} {bars} {pieces}")

@@ -1,4 +1,4 @@
-"""Which steps the planner of sheets takes, as docs/SHOP.md tells them."""
+"""Which steps the planner of sheets takes, as docs/SHOP.md reports them."""
 
 import json
 

@@ -8,13 +8,13 @@ from functools import cache
 from kit.case import Failed, case
 from kit.commands import all_mistaken, over
 from kit.faults import Faults
-from kit.plans import MOST_UNITS, Problem, checked, stages_of
+from kit.plans import MAX_UNITS, Problem, checked, stages_of
 from kit.whole_orders import SMALL, asked, bar, planned, sheet
 
-LONGEST_BAR = 150000
+MAX_BAR_LEN = 150000
 
 
-def told(trial, problem, kerf, wanted, *words):
+def prints(trial, problem, kerf, wanted, *words):
     """Wants these units, this bound, whether they are equal, and this number of pieces missing."""
     _, answer = planned(trial, problem, kerf, *words)
     got = (answer.units, answer.bound, "yes" if answer.proved else "no", answer.missing)
@@ -33,14 +33,14 @@ def refused(trial, problem, kerf, line, *words):
 )
 def at_sight(trial):
     one = (1, 1, "yes", 0)
-    told(trial, bar(100, (30, 3)), 3, one)
-    told(trial, bar(98, (30, 3)), 3, one)
-    told(trial, bar(100, (60, 1), (37, 1)), 3, one)
-    told(trial, sheet(10, 8, (4, 3, 4)), 1, one)
-    told(trial, sheet(10, 8, (4, 8, 1), (5, 8, 1)), 1, one)
-    told(trial, bar(100, (30, 10)), 3, (4, 4, "yes", 0))
-    told(trial, bar(100, (50, 7)), 0, (4, 4, "yes", 0))
-    told(trial, sheet(10, 8, (4, 3, 10)), 1, (3, 3, "yes", 0), "--step", 1)
+    prints(trial, bar(100, (30, 3)), 3, one)
+    prints(trial, bar(98, (30, 3)), 3, one)
+    prints(trial, bar(100, (60, 1), (37, 1)), 3, one)
+    prints(trial, sheet(10, 8, (4, 3, 4)), 1, one)
+    prints(trial, sheet(10, 8, (4, 8, 1), (5, 8, 1)), 1, one)
+    prints(trial, bar(100, (30, 10)), 3, (4, 4, "yes", 0))
+    prints(trial, bar(100, (50, 7)), 0, (4, 4, "yes", 0))
+    prints(trial, sheet(10, 8, (4, 3, 10)), 1, (3, 3, "yes", 0), "--step", 1)
     for problem in (bar(100, (100, 1)), sheet(4, 3, (4, 3, 1))):
         for kerf in (0, 200):
             text, _ = planned(trial, problem, kerf)
@@ -55,9 +55,9 @@ def at_sight(trial):
     "cut most often first.",
 )
 def lines(trial):
-    answer = told(trial, bar(100, (100, 2), (100, 3)), 0, (5, 5, "yes", 0))
+    answer = prints(trial, bar(100, (100, 2), (100, 3)), 0, (5, 5, "yes", 0))
     trial.equal(answer.plans, [(3, "p2"), (2, "p1")])
-    answer = told(trial, bar(100, (100, 2), (100, 2), (100, 2)), 0, (6, 6, "yes", 0))
+    answer = prints(trial, bar(100, (100, 2), (100, 2), (100, 2)), 0, (6, 6, "yes", 0))
     trial.equal(answer.plans, [(2, "p1"), (2, "p2"), (2, "p3")])
     ten = bar(100, *[(100, 2)] * 10)
     trial.equal([tree for _, tree in planned(trial, ten)[1].plans], sorted(f"p{it}" for it in range(1, 11)))
@@ -105,7 +105,7 @@ def fewest(problem, kerf):
 
 
 def tried(trial, problem, kerf, *words):
-    """The bound of an order isn't over the fewest units, and what is told as proved takes no more."""
+    """The bound of an order isn't over the fewest units, and what is reported as proved takes no more."""
     _, answer = planned(trial, problem, kerf, *words)
     least = fewest(problem, kerf)
     why = f"{problem} kerf {kerf}: {answer}, and {least} units hold all"
@@ -189,7 +189,7 @@ def kinds(trial):
         refused(trial, problem, 4, "refused 93 BadWant")
     refused(trial, sheet(1000, 800, *sides), 4, "refused 93 BadWant", "--step", 0)
     refused(trial, sheet(1000, 800, *sides), 4, "refused 93 BadWant", "--step", 1)
-    refused(trial, bar(LONGEST_BAR + 1, *lengths), 4, "refused 93 BadWant")
+    refused(trial, bar(MAX_BAR_LEN + 1, *lengths), 4, "refused 93 BadWant")
 
 
 @case(
@@ -198,14 +198,14 @@ def kinds(trial):
     "other pieces are missing, and the bound says how many it takes.",
 )
 def million(trial):
-    full = (MOST_UNITS, MOST_UNITS, "yes", 0)
-    told(trial, bar(100, (10, 1000000)), 0, full)
-    told(trial, sheet(20, 10, (4, 5, 1000000)), 0, full, "--step", 1)
+    full = (MAX_UNITS, MAX_UNITS, "yes", 0)
+    prints(trial, bar(100, (10, 1000000)), 0, full)
+    prints(trial, sheet(20, 10, (4, 5, 1000000)), 0, full, "--step", 1)
     for problem in (bar(100, (100, 1000000)), sheet(4, 3, (4, 3, 1000000)), bar(1, (1, 1000000))):
-        answer = told(trial, problem, 200, (MOST_UNITS, 1000000, "no", 900000))
-        trial.equal(answer.plans, [(MOST_UNITS, "p1")])
-    told(trial, bar(100, (100, MOST_UNITS)), 3, full)
-    told(trial, bar(100, (100, MOST_UNITS + 1)), 3, (MOST_UNITS, MOST_UNITS + 1, "no", 1))
+        answer = prints(trial, problem, 200, (MAX_UNITS, 1000000, "no", 900000))
+        trial.equal(answer.plans, [(MAX_UNITS, "p1")])
+    prints(trial, bar(100, (100, MAX_UNITS)), 3, full)
+    prints(trial, bar(100, (100, MAX_UNITS + 1)), 3, (MAX_UNITS, MAX_UNITS + 1, "no", 1))
     over_all = bar(100, *[(it, 1000000, 1000000000) for it in (100, 99, 98, 51, 101)])
     _, answer = planned(trial, over_all, 0, "--calls", 5)
     trial.holds(answer.missing >= 4900000, answer)
@@ -245,9 +245,9 @@ def without_step(trial):
     # two by two pieces take a sheet exactly, and one a tenth wider or higher has no place beside another
     for (w, h), kerf in (((1003, 701), 3), ((701, 1003), 3), ((200000, 60000), 0), ((199999, 59999), 199)):
         side, high = (w - kerf) // 2, (h - kerf) // 2
-        told(trial, sheet(w, h, (side, high, 8)), kerf, (2, 2, "yes", 0))
-        told(trial, sheet(w, h, (side + 1, high, 4)), kerf, (2, 2, "yes", 0))
-        told(trial, sheet(w, h, (side + 1, high + 1, 4)), kerf, (4, 4, "yes", 0))
+        prints(trial, sheet(w, h, (side, high, 8)), kerf, (2, 2, "yes", 0))
+        prints(trial, sheet(w, h, (side + 1, high, 4)), kerf, (2, 2, "yes", 0))
+        prints(trial, sheet(w, h, (side + 1, high + 1, 4)), kerf, (4, 4, "yes", 0))
     small = sheet(3000, 20, (1, 1, 5))
     _, answer = planned(trial, small)
     trial.holds(answer.units == 1 and answer.bound <= 1, answer)
@@ -272,7 +272,7 @@ def stages(trial):
             trial.holds(stages_of(100, 100, 1, tree) <= most, f"stages {most}: {tree}")
         trial.holds(most < 255 or text == free, f"{text} and {free}")
     # one piece in the corner takes two stages, whatever its sides
-    told(trial, sheet(100, 100, (51, 51, 3)), 1, (3, 3, "yes", 0), "--stages", 2)
+    prints(trial, sheet(100, 100, (51, 51, 3)), 1, (3, 3, "yes", 0), "--stages", 2)
     text, _ = planned(trial, bar(501, (250, 5)), 1)
     for most in (2, 255):
         trial.equal(planned(trial, bar(501, (250, 5)), 1, "--stages", most)[0], text, f"stages {most}")
@@ -283,8 +283,8 @@ def stages(trial):
     "A piece that fits its sheet but not rounded up to steps is planned; so are pieces of which each takes a sheet of its own.",
 )
 def beside_steps(trial):
-    told(trial, sheet(5, 3, (5, 3, 1)), 0, (1, 1, "yes", 0), "--step", 2)
-    told(trial, sheet(4, 3, (4, 3, 2)), 0, (2, 2, "yes", 0), "--step", 3)
+    prints(trial, sheet(5, 3, (5, 3, 1)), 0, (1, 1, "yes", 0), "--step", 2)
+    prints(trial, sheet(4, 3, (4, 3, 2)), 0, (2, 2, "yes", 0), "--step", 3)
     planned(trial, sheet(100, 100, (99, 99, 3), (98, 7, 2)), 4, "--step", 7)
 
 
@@ -294,9 +294,9 @@ def beside_steps(trial):
     "height 2, or higher itself, it is a sheet.",
 )
 def long_bars(trial):
-    told(trial, bar(LONGEST_BAR, (LONGEST_BAR, 2), (50000, 3)), 0, (3, 3, "yes", 0))
-    planned(trial, bar(LONGEST_BAR, (149, 2000), (40001, 3)), 30, "--calls", 2)
-    for length in (LONGEST_BAR + 1, 200000):
+    prints(trial, bar(MAX_BAR_LEN, (MAX_BAR_LEN, 2), (50000, 3)), 0, (3, 3, "yes", 0))
+    planned(trial, bar(MAX_BAR_LEN, (149, 2000), (40001, 3)), 30, "--calls", 2)
+    for length in (MAX_BAR_LEN + 1, 200000):
         refused(trial, bar(length, (100, 1)), 0, "refused 91 TableTooLarge")
         refused(trial, bar(length, (length, 1)), 0, "refused 91 TableTooLarge", "--step", 0)
         planned(trial, sheet(length, 2, (length, 2, 1)))
@@ -314,14 +314,14 @@ def long_bars(trial):
     "sheet take two units or more, as no plan has over 255 cuts, and the bound isn't over two.",
 )
 def many(trial):
-    told(trial, bar(255, (1, 255)), 0, (1, 1, "yes", 0))
+    prints(trial, bar(255, (1, 255)), 0, (1, 1, "yes", 0))
     for problem in (bar(256, (1, 256)), sheet(16, 16, (1, 1, 256))):
         _, answer = planned(trial, problem)
         trial.holds(answer.bound == 1 <= answer.units <= 2 and not answer.missing, f"{problem}: {answer}")
     for problem in (bar(257, (1, 257)), bar(128500, (500, 257)), sheet(16, 17, (1, 1, 272))):
         _, answer = planned(trial, problem)
         trial.holds(answer.bound <= 2 <= answer.units and not answer.missing, f"{problem}: {answer}")
-    planned(trial, bar(LONGEST_BAR, (1, 1000000)), 0, "--calls", 3)
+    planned(trial, bar(MAX_BAR_LEN, (1, 1000000)), 0, "--calls", 3)
 
 
 @case(
@@ -336,8 +336,8 @@ def calls(trial):
     trial.equal(planned(trial, problem, 4)[0], text, "again")
     trial.equal(planned(trial, problem, 4, "--calls", 500)[0], text, "500 calls")
     planned(trial, sheet(100, 80, (33, 21, 9), (40, 40, 5)), 2, "--calls", 1, "--step", 5)
-    told(trial, bar(100, (30, 3)), 3, (1, 1, "yes", 0), "--calls", 5000)
-    told(trial, sheet(10, 8, (4, 3, 4)), 1, (1, 1, "yes", 0), "--calls", 5000)
+    prints(trial, bar(100, (30, 3)), 3, (1, 1, "yes", 0), "--calls", 5000)
+    prints(trial, sheet(10, 8, (4, 3, 4)), 1, (1, 1, "yes", 0), "--calls", 5000)
 
 
 # Mistakes, each with what its text names.

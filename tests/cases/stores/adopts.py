@@ -6,7 +6,7 @@ from kit.stores import DAY, filled, sent
 
 
 def opens(trial, store):
-    """Whether a store is taken over; if not, it has to be told as of another version."""
+    """Whether a store is taken over; if not, it has to be reported as of another version."""
     ran = trial.run("ticket", "--store", store, "2147483647")
     if fault_in(ran.err) == b"refused 70 NoJob\n":
         return True
@@ -15,7 +15,7 @@ def opens(trial, store):
 
 
 def refused_as_it_was(trial, path, why):
-    """A file that is told as of another version stays as it was."""
+    """A file that is reported as of another version stays as it was."""
     before = tables.dump(path)
     trial.equal((opens(trial, path), why), (False, why))
     trial.equal(tables.dump(path), before, why)

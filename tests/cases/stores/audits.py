@@ -80,7 +80,7 @@ def by_plain_sql(trial):
 
 @case(
     "an audit of a store that was taken over",
-    "A store of version 1 or 2 that was brought to version 3 has the entries of the messages since then, and those before are told.",
+    "A store of version 1 or 2 that was brought to version 3 has the entries of the messages since then, and those before are reported.",
 )
 def taken_over(trial):
     for version in (1, 2):
@@ -96,7 +96,7 @@ def taken_over(trial):
 
 # ---- rows that differ
 
-# Of each table that an audit compares, by falling name, a change of a row, and what is told of it.
+# Of each table that an audit compares, by falling name, a change of a row, and what is reported of it.
 CHANGES = [
     ("UPDATE parts SET batch = 'B-9' WHERE act = 7 AND node = 0", "parts: 7/0 differs"),
     ("UPDATE parts SET batch = 'B-9' WHERE act = 2 AND node = 4", "parts: 2/4 differs"),
@@ -119,7 +119,7 @@ CHANGES = [
 
 @case(
     "an audit of a changed row",
-    "A row that SQLite's own shell changed, added or took away is told with its table and its key, of each table in turn that a book is read from.",
+    "A row that SQLite's own shell changed, added or took away is reported with its table and its key, of each table in turn that a book is read from.",
 )
 def changed_rows(trial):
     path = day(trial)
@@ -127,9 +127,47 @@ def changed_rows(trial):
         audited(trial, changed(trial, path, "changed.db", change), COUNT, torn, sent=change)
 
 
+# What is told of a row of the orders of jobs that names none.
+NO_USE = "uses: a job or an order that isn't there differs"
+
+
+@case(
+    "an audit of the orders of jobs",
+    "A row that is missing in the table of the orders of jobs, or is there beside those of their plans, is told with its job and its order: "
+    "the first one, jobs as numbers; one whose job or order can't be one is told as such. Of a job with more rows than any plan has pieces, too.",
+)
+def changed_uses(trial):
+    path = day(trial)
+    rows = tables.rows(path)["uses"]
+    for job, order in rows:
+        audited(trial, changed(trial, path, "changed.db", f"DELETE FROM uses WHERE job = {job} AND ord = '{order}'"), COUNT, f"uses: {job}/{order} differs")
+    (first, code), (last, _) = rows[0], rows[-1]
+    for change, torn in (
+        (f"INSERT INTO uses VALUES ({last}, 'ZZ-9')", f"uses: {last}/ZZ-9 differs"),
+        (f"INSERT INTO uses VALUES ({first}, 'A')", f"uses: {first}/A differs"),
+        (f"UPDATE uses SET ord = 'A' WHERE job = {first} AND ord = '{code}'", f"uses: {first}/A differs"),
+        (f"UPDATE uses SET ord = 'ZZ-9' WHERE job = {first} AND ord = '{code}'", f"uses: {first}/{code} differs"),
+        ("DELETE FROM uses", f"uses: {first}/{code} differs"),
+        (f"INSERT INTO uses VALUES ({last + 7}, 'A-1')", f"uses: {last + 7}/A-1 differs"),
+        (f"INSERT INTO uses VALUES (0, 'A-1'), ({first}, 'A')", "uses: 0/A-1 differs"),
+        ("INSERT INTO uses VALUES (-1, 'A-1')", NO_USE),
+        ("INSERT INTO uses VALUES (1099511627776, 'A-1')", NO_USE),
+        (f"INSERT INTO uses VALUES ({first}, '')", NO_USE),
+        (many(first, 1500), f"uses: {first}/A0 differs"),
+        (many(last, 1500) + f"; DELETE FROM uses WHERE job = {first}", f"uses: {first}/{code} differs"),
+    ):
+        audited(trial, changed(trial, path, "changed.db", change), COUNT, torn, sent=change)
+
+
+def many(job, count):
+    """Adds so many orders to a job: A0, A1 and so on."""
+    numbers = f"WITH RECURSIVE n(i) AS (SELECT 0 UNION ALL SELECT i + 1 FROM n WHERE i < {count - 1})"
+    return f"{numbers} INSERT INTO uses SELECT {job}, 'A' || i FROM n"
+
+
 @case(
     "the first of several rows that differ",
-    "Of many rows that were changed the one is told whose table's name stands first, and in the table the one whose key does, numbers as numbers; a reply "
+    "Of many rows that were changed the one is reported whose table's name stands first, and in the table the one whose key does, numbers as numbers; a reply "
     "comes before rows, the first entry's before others, and messages without an entry before all.",
 )
 def first_of_several(trial):
@@ -184,14 +222,14 @@ def without_entry(trial):
         name = changed(trial, path, f"last-{count}.db", f"DELETE FROM journal WHERE entry > {COUNT - count}")
         audited(trial, name, COUNT - count, f"{count} messages were kept before entries began")
     name = changed(trial, path, "gap.db", "DELETE FROM journal WHERE entry = 4")
-    told = f"gap.db: {NO_ROW}journal {COUNT}"
-    trial.ended(audits.run(trial, "audit", name), 1, err="fault version\n", why=told)
+    output = f"gap.db: {NO_ROW}journal {COUNT}"
+    trial.ended(audits.run(trial, "audit", name), 1, err="fault version\n", why=output)
 
 
 @case(
     "times of entries that were changed",
     "An entry's time that is below the one before it, or above the one behind it, is found at the entry whose time falls; times that don't fall are taken as they "
-    "are, since nothing else tells them.",
+    "are, since nothing else reports them.",
 )
 def changed_times(trial):
     path = day(trial)

@@ -11,7 +11,7 @@ from concurrent.futures import ThreadPoolExecutor
 from functools import partial
 from itertools import product
 
-from kit.backups import FAILED, FAULT, REQUEST, content, day_of, is_whole, names, open_shop, posting, told
+from kit.backups import FAILED, FAULT, REQUEST, content, day_of, is_whole, names, open_shop, posting, backup_answer
 from kit.case import case, fault_in
 from kit.commands import STEEL
 from kit.copies import TOLD
@@ -33,7 +33,7 @@ def one_after_another(trial):
     shop, terminal = open_shop(trial), Terminal(1)
     for number in range(1, 4):
         trial.equal(terminal.send_all(shop, 3 * number), None)
-        trial.equal(shop.exchange(REQUEST), told(number))
+        trial.equal(shop.exchange(REQUEST), backup_answer(number))
         folder = trial.path(f"backups/{number}")
         trial.equal(sorted(os.listdir(folder)), ["shop.db", "shop.db-wal"])
         trial.equal(stat.S_IMODE(os.stat(folder).st_mode), 0o700)
@@ -49,12 +49,12 @@ def one_after_another(trial):
 
 @case(
     "backups of a shop that is new and one that was there",
-    "A store without a message is copied, too, and one that was opened again; each backup and the folder are told on standard error.",
+    "A store without a message is copied, too, and one that was opened again; each backup and the folder are reported on standard error.",
 )
 def noted(trial):
     for number, is_new in ((1, True), (2, False)):
         shop = open_shop(trial, limit=2)
-        trial.equal(shop.exchange(REQUEST), told(number))
+        trial.equal(shop.exchange(REQUEST), backup_answer(number))
         shop.get("/materials")
         status, _, errors = shop.end()
         trial.equal(status, 0)
@@ -77,9 +77,9 @@ def numbers(trial):
     for name in ("0.part", "007", "+9", "9.parts", "1000001", "x"):
         trial.write(f"backups/{name}", "")
     for number in (7, 8):
-        trial.equal(shop.exchange(REQUEST), told(number))
+        trial.equal(shop.exchange(REQUEST), backup_answer(number))
     os.rmdir(trial.path("backups/1"))
-    trial.equal(shop.exchange(REQUEST), told(9))
+    trial.equal(shop.exchange(REQUEST), backup_answer(9))
 
 
 @case(
@@ -92,8 +92,8 @@ def bodies(trial):
     for body in (b"", b"{}", b'{"do":"receive"}', b"\xff" * 131072):
         number += 1
         request = f"{head}Content-Length: {len(body)}\r\n\r\n".encode() + body
-        trial.equal(shop.exchange(request, pieces=4096), told(number), body[:20])
-    trial.equal(shop.exchange(b"\r\nPOST /backup?now HTTP/1.0\r\nContent-Length: 0\r\n\r\n"), told(number + 1))
+        trial.equal(shop.exchange(request, pieces=4096), backup_answer(number), body[:20])
+    trial.equal(shop.exchange(b"\r\nPOST /backup?now HTTP/1.0\r\nContent-Length: 0\r\n\r\n"), backup_answer(number + 1))
     wanted = [
         (f"GET /backup HTTP/1.1\r\nHost: shop\r\n\r\n", answer(405, allow="POST")),
         (f"{head}\r\n", answer(411)),
@@ -116,7 +116,7 @@ def bodies(trial):
 def ends(trial):
     shop = open_shop(trial)
     for number in (1, 2):
-        soon(trial, shop, REQUEST, told(number))
+        soon(trial, shop, REQUEST, backup_answer(number))
     os.rename(trial.path("backups"), trial.path("away"))
     soon(trial, shop, REQUEST, answer(503, FAULT))
 
@@ -141,11 +141,11 @@ def beside_posts(trial):
         for number in range(1, 101):
             limit, last = time.monotonic() + 30, bounds[-1][1] if bounds else [0]
             # (each has at least one message more)
-            while sum(len(it.told) for it in terminals) < sum(last) - len(last) + 1 and time.monotonic() < limit:
+            while sum(len(it.exchanges) for it in terminals) < sum(last) - len(last) + 1 and time.monotonic() < limit:
                 time.sleep(0.001)
-            before = [len(it.told) for it in terminals]
-            trial.equal(shop.exchange(REQUEST), told(number))
-            bounds.append((before, [len(it.told) + 1 for it in terminals]))
+            before = [len(it.exchanges) for it in terminals]
+            trial.equal(shop.exchange(REQUEST), backup_answer(number))
+            bounds.append((before, [len(it.exchanges) + 1 for it in terminals]))
     trial.equal(faults, [])
     shop.kill()
     trial.holds(all(first < last for first, last in zip(bounds[0][1], bounds[-1][0])), f"a terminal is silent: {bounds}")
@@ -170,7 +170,7 @@ def stays_in_use(trial):
     shop, terminal = open_shop(trial), Terminal(1)
     for number in (1, 2):
         trial.equal(terminal.send_all(shop, 4 * number), None)
-        trial.equal(shop.exchange(REQUEST), told(number))
+        trial.equal(shop.exchange(REQUEST), backup_answer(number))
         ran = trial.run("yield", "--store", shop.store, "M-1")
         trial.ended(ran, 1, err="fault store\n", why=f"{shop.store}: another program has it open")
     # (its own programs find it locked, too)
@@ -196,7 +196,7 @@ def linked(trial):
     trial.write("disk/real.db", "")
     shop, terminal = open_shop(trial), Terminal(1)
     trial.equal(terminal.send_all(shop, 5), None)
-    trial.equal(shop.exchange(REQUEST), told(1))
+    trial.equal(shop.exchange(REQUEST), backup_answer(1))
     trial.equal(names(trial, "backups/1"), ["real.db", "real.db-wal"])
     shop.kill()
     trial.equal(is_whole(trial, trial.path("backups/1/real.db"), [terminal]), [5])
@@ -223,7 +223,7 @@ def moved(trial):
     for number, (end, is_copied) in enumerate(product(("", "-wal"), (False, True))):
         where, folder = (end, is_copied), f"backups {number}"
         shop = open_shop(trial, f"{number}.db", folder)
-        trial.equal(shop.exchange(REQUEST), told(1), where)
+        trial.equal(shop.exchange(REQUEST), backup_answer(1), where)
         os.rename(shop.store + end, trial.path("away"))
         if is_copied:
             shutil.copy(trial.path("away"), shop.store + end)
@@ -270,11 +270,11 @@ def no_folder(trial):
 
 @case(
     "a folder that goes away",
-    "Where the folder is taken away, can't be written any more or becomes a file a backup is refused 99 and its cause told; the shop goes on.",
+    "Where the folder is taken away, can't be written any more or becomes a file a backup is refused 99 and its cause reported; the shop goes on.",
 )
 def goes_away(trial):
     shop, terminal = open_shop(trial, limit=9, prepare=judged_by_modes), Terminal(1)
-    trial.equal(shop.exchange(REQUEST), told(1))
+    trial.equal(shop.exchange(REQUEST), backup_answer(1))
     os.rename(trial.path("backups"), trial.path("else"))
     trial.equal(shop.exchange(REQUEST), answer(503, FAULT))
     trial.write("backups", "")
@@ -285,7 +285,7 @@ def goes_away(trial):
     trial.equal(shop.exchange(REQUEST), answer(503, FAULT))
     os.chmod(trial.path("backups"), 0o700)
     trial.equal(terminal.send_all(shop, 4), None)
-    trial.equal(shop.exchange(REQUEST), told(2))
+    trial.equal(shop.exchange(REQUEST), backup_answer(2))
     errors = shop.end()[2].decode()
     for why in ("it isn't there; make it first", "it is no folder; name one", "this account may not read it and make files in it"):
         trial.equal(errors.count(f"{FAILED}backups: {why}\n"), 1, errors)
@@ -307,7 +307,7 @@ def full(trial):
     trial.equal(shop.exchange(REQUEST), answer(503, FAULT))
     trial.equal(names(trial), [])
     trial.equal(terminal.send_all(shop, 3), None)
-    trial.equal(shop.exchange(REQUEST), told(1))
+    trial.equal(shop.exchange(REQUEST), backup_answer(1))
     shop.get("/materials")
     errors = shop.end()[2].decode()
     trial.equal(errors.count(f"{FAILED}{folder}: its disk is full; make room\n"), 1, errors)
@@ -319,7 +319,7 @@ def full(trial):
     "A write that is interrupted once is made again, and the backup is made; 1000 times in a row it is refused 99.",
 )
 def interrupted(trial):
-    for on, wanted in ((False, told(1)), (True, answer(503, FAULT))):
+    for on, wanted in ((False, backup_answer(1)), (True, answer(503, FAULT))):
         folder = os.path.realpath(trial.path(f"backups-{on}"))
         faults = Faults(trial, "files", at=FIRST_WRITE, on=on, error=errno.EINTR, under=folder)
         shop = open_shop(trial, f"{on}.db", folder=folder, environment=faults.environment)
@@ -336,12 +336,12 @@ def left_over(trial):
     os.makedirs(trial.path("backups/0.part"))
     shop = open_shop(trial)
     trial.equal(names(trial), [])
-    trial.equal(shop.exchange(REQUEST), told(1))
+    trial.equal(shop.exchange(REQUEST), backup_answer(1))
 
 
 @case(
     "a store that can't be read for a backup",
-    "Where a file of the store can't be opened for it a backup is refused 99 and that is told; the shop goes on, and then one is made.",
+    "Where a file of the store can't be opened for it a backup is refused 99 and that is reported; the shop goes on, and then one is made.",
 )
 def unread(trial):
     os.mkdir(trial.path("data"))
@@ -354,21 +354,21 @@ def unread(trial):
     shop = open_shop(trial, f"{under}/b.db", environment=faults.environment, limit=2)
     trial.equal(shop.exchange(REQUEST), answer(503, FAULT))
     trial.equal(names(trial), [])
-    trial.equal(shop.exchange(REQUEST), told(1))
+    trial.equal(shop.exchange(REQUEST), backup_answer(1))
     errors = shop.end()[2].decode()
     trial.equal(errors.count(f"{FAILED}backups: the store and its log can't be read\n"), 1, errors)
 
 
 @case(
     "a folder in which the last number of a backup is taken",
-    "Where 1000000 is taken a backup is refused 99 and that is told; a greater number is no backup's.",
+    "Where 1000000 is taken a backup is refused 99 and that is reported; a greater number is no backup's.",
 )
 def each_number(trial):
     folder = os.path.realpath(trial.path("backups"))
     os.makedirs(os.path.join(folder, "999999.part"), 0o700)
     os.mkdir(os.path.join(folder, "1000001"))
     shop = open_shop(trial, folder=folder, limit=2)
-    trial.equal(shop.exchange(REQUEST), told(1000000))
+    trial.equal(shop.exchange(REQUEST), backup_answer(1000000))
     trial.equal(shop.exchange(REQUEST), answer(503, FAULT))
     errors = shop.end()[2].decode()
     trial.equal(errors.count(f"{FAILED}{folder}: each number up to 1000000 is taken; name another folder\n"), 1, errors)
@@ -389,14 +389,14 @@ def unnamed(trial):
         return shop, terminal, shop.exchange(REQUEST), faults.calls()
 
     shop, _, got, calls = asked("a.db", 0)
-    trial.equal(got, told(1))
+    trial.equal(got, backup_answer(1))
     shop.kill()
     shutil.rmtree(folder)
     shop, terminal, got, last = asked("b.db", calls)
     # (behind the one that fails its name is taken back, and what was made of it is taken away)
     trial.equal((got, last > calls), (answer(503, FAULT), True))
     trial.equal(names(trial), [])
-    trial.equal(shop.exchange(REQUEST), told(1))
+    trial.equal(shop.exchange(REQUEST), backup_answer(1))
     shop.get("/materials")
     lines = f"{FAILED}{folder}: files can't be made in it\ncutshop: made backup 1 in {folder}\n".encode()
     trial.equal(shop.end()[2], begin_line(shop.store) + DISK + lines + end_line(shop.store))
@@ -425,7 +425,7 @@ def other_disk(trial):
 
 @case(
     "a store that can't be read to its end for a backup",
-    "Where a read of the store, or of its log, fails while it is copied a backup is refused 99, it is told that they can't be read, "
+    "Where a read of the store, or of its log, fails while it is copied a backup is refused 99, it is reported that they can't be read, "
     "and what was made of it is taken away; the shop goes on, and then one is made.",
 )
 def unread_to_its_end(trial):
@@ -440,7 +440,7 @@ def unread_to_its_end(trial):
         return first, last, got, again, shop.end()[2].decode()
 
     first, last, got, _, _ = asked(0)
-    trial.equal(got, told(1))
+    trial.equal(got, backup_answer(1))
     shutil.rmtree(trial.path("backups"))
     refused = 0
     for at in range(first + 1, last + 1):
@@ -448,10 +448,10 @@ def unread_to_its_end(trial):
         count = errors.count(f"{FAILED}backups: the store and its log can't be read\n")
         if got == answer(503, FAULT):
             refused += 1
-            trial.equal((count, again, names(trial)), (1, told(1), ["1"]), f"read {at}: {errors}")
+            trial.equal((count, again, names(trial)), (1, backup_answer(1), ["1"]), f"read {at}: {errors}")
         else:
             # (the read of a request, or the one behind it)
-            trial.holds(count == 0 and got in (b"", told(1)), f"read {at}: {got}, {errors}")
+            trial.holds(count == 0 and got in (b"", backup_answer(1)), f"read {at}: {got}, {errors}")
         shutil.rmtree(trial.path("backups"))
     # (of each file a read or more bring its bytes, and one its end)
     trial.holds(refused >= 4, f"{refused} of {last - first} reads are told")
@@ -483,27 +483,27 @@ def disturbed(trial, day, at, of, stop="", on=False, **named):
 
 
 def backed_up(trial, shop, day, stops, on):
-    """Sends a message and asks for a backup, three times. The numbers of those that were told, each with how many messages were
+    """Sends a message and asks for a backup, three times. The numbers of those that were reported, each with how many messages were
     answered before. Where the program doesn't stop each message is accepted."""
     found = []
     for count in range(1, 4):
         try:
-            reply = shop.reply(day.told[count - 1][0]).decode()
+            reply = shop.reply(day.exchanges[count - 1][0]).decode()
             got = shop.exchange(REQUEST)
         except OSError:
             reply, got = "", b""
         if not stops:
-            trial.equal(reply, day.told[count - 1][1])
+            trial.equal(reply, day.exchanges[count - 1][1])
             trial.holds(got == answer(503, FAULT) or got.startswith(b"HTTP/1.1 200 OK\r\n"), f"the answer {got}")
         if got.startswith(b"HTTP/1.1 200 OK\r\n"):
             number = json.loads(got.partition(b"\r\n\r\n")[2])["backup"]
-            trial.equal(got, told(number))
+            trial.equal(got, backup_answer(number))
             found.append((number, count))
     return found
 
 
 def check_folder(trial, folder, store, day, acknowledged):
-    """Each folder with the name of a backup is a whole one, those that were told are there with what was answered before, and a
+    """Each folder with the name of a backup is a whole one, those that were reported are there with what was answered before, and a
     start behind it makes more of them."""
     wholes = sorted(int(it) for it in os.listdir(folder) if it.isdigit() and it != "0")
     trial.equal([it for it, _ in acknowledged if it not in wholes], [], f"{folder}: {wholes}")
@@ -515,7 +515,7 @@ def check_folder(trial, folder, store, day, acknowledged):
     trial.holds(shop.is_open, f"{folder}: no start behind it: {getattr(shop, 'errors', b'')}")
     got = shop.exchange(REQUEST)
     number = json.loads(got.partition(b"\r\n\r\n")[2])["backup"]
-    trial.equal(got, told(number))
+    trial.equal(got, backup_answer(number))
     trial.holds(number not in wholes, f"{folder}: backup {number} was there")
     shop.kill()
     is_whole(trial, f"{folder}/{number}/{store}", [day])
@@ -529,7 +529,7 @@ def sweep_backups(trial, *faults):
 @case(
     "a call in the folder of backups fails",
     "Each call that changes the folder of backups fails in turn, once or from then on: `fault backup` at the start, else 99; the shop goes "
-    "on, each backup that was told is whole, and nothing else has the name of one.",
+    "on, each backup that was reported is whole, and nothing else has the name of one.",
 )
 def fails(trial):
     sweep_backups(trial, {"error": errno.EIO}, {"error": errno.ENOSPC, "on": True})
@@ -576,7 +576,7 @@ def memory(trial):
         shop = trial.shop(f"memory-{at}.db", words=("--backup", folder), environment=faults.environment)
         answers = []
         if shop.is_open:
-            shop.reply(day.told[0][0])
+            shop.reply(day.exchanges[0][0])
             begin = faults.calls()
             answers = [shop.exchange(REQUEST) for _ in range(2)]
             calls = (begin, faults.calls())
@@ -587,14 +587,14 @@ def memory(trial):
         return calls, answers
 
     (begin, end), answers = run(0)
-    trial.equal(answers, [told(1), told(2)])
+    trial.equal(answers, [backup_answer(1), backup_answer(2)])
     shutil.rmtree(folder)
     for at in trial.places(end - begin, 5):
         os.mkdir(folder)
         _, answers = run(begin + at + 1)
         good = [it for it in answers if it.startswith(b"HTTP/1.1 200 OK\r\n")]
         for it in answers:
-            known = (b"", answer(503, NO_MEMORY), *[told(number) for number in (1, 2)])
+            known = (b"", answer(503, NO_MEMORY), *[backup_answer(number) for number in (1, 2)])
             trial.holds(it in known, f"at request {begin + at + 1}: {it}")
         trial.holds(good, f"at request {begin + at + 1}: {answers}")
         wholes = [it for it in os.listdir(folder) if it.isdigit()]

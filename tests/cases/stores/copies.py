@@ -38,13 +38,13 @@ def refused(trial, name, why, sent="", words=()):
     trial.write("shop.toml", STEEL)
     path = trial.path(name)
     before, names = both(path) if os.path.exists(path) else None, sorted(os.listdir(trial.folder))
-    told = {"err": "fault store\n", "why": f"{name}: {why}", "sent": sent or name}
+    output = {"err": "fault store\n", "why": f"{name}: {why}", "sent": sent or name}
     with taken_port() as port:
         serve = ("serve", "--port", str(port), "--store", name, "--shop", "shop.toml")
-        trial.ended(trial.run(*serve, *words), 1, **told)
+        trial.ended(trial.run(*serve, *words), 1, **output)
     if not words:
-        trial.ended(trial.run("ticket", "--store", name, "1"), 1, **told)
-        trial.ended(trial.run("yield", "--store", name, "STEEL"), 1, **told)
+        trial.ended(trial.run("ticket", "--store", name, "1"), 1, **output)
+        trial.ended(trial.run("yield", "--store", name, "STEEL"), 1, **output)
     trial.equal((both(path) if os.path.exists(path) else None, sorted(os.listdir(trial.folder))), (before, names), name)
 
 
@@ -102,7 +102,7 @@ def dangling(trial):
 
 @case(
     "databases of another form",
-    "Databases with auto_vacuum, in UTF-16 and with reserved bytes are told as that, with a log beside them and without one; so is a file that "
+    "Databases with auto_vacuum, in UTF-16 and with reserved bytes are reported as that, with a log beside them and without one; so is a file that "
     "is no database.",
 )
 def forms(trial):
@@ -172,8 +172,8 @@ def damaged_for_all(trial):
     words = [trial.program, "yield", "--store", "copy.db", "STEEL"]
     for _ in range(4):
         started = [subprocess.Popen(words, stdout=subprocess.PIPE, stderr=subprocess.PIPE, cwd=trial.folder) for _ in range(8)]
-        told = [(it.communicate(timeout=SECONDS)[1].decode(), it.returncode) for it in started]
-        for errors, status in told:
+        output = [(it.communicate(timeout=SECONDS)[1].decode(), it.returncode) for it in started]
+        for errors, status in output:
             trial.equal(status, 1, errors)
             trial.holds(errors in [f"fault store\n  copy.db: {it}\n" for it in (DAMAGED, IN_USE)], errors)
         trial.equal(both(trial.path("copy.db")), [store, log])
@@ -223,7 +223,7 @@ def torn(trial):
 
 @case(
     "a start that makes no store",
-    "A start that ends for its port, for an entry of its shop file or for its output takes away the store that it made: the next one tells a "
+    "A start that ends for its port, for an entry of its shop file or for its output takes away the store that it made: the next one reports a "
     "new store; one that was there stays.",
 )
 def taken_away(trial):
@@ -298,6 +298,6 @@ def words_of_starts(trial):
         trial.ended(trial.run(*serve, *words), 1, err="fault file\n", sent=" ".join(words))
     for words in (("--keep", "0", "--backup", "b"), ("--keep", "10001", "--backup", "b"), ("--existing=no",), ("--keep",)):
         trial.equal(trial.run(*serve, *words).status, 2, " ".join(words))
-    told = b"error: '--keep <N>' may be given only with '--backup'\n\nFor more information, try '--help'.\n"
+    output = b"error: '--keep <N>' may be given only with '--backup'\n\nFor more information, try '--help'.\n"
     ran = trial.run(*serve, "--keep", "5")
-    trial.equal((ran.status, ran.out, ran.err), (2, b"", told))
+    trial.equal((ran.status, ran.out, ran.err), (2, b"", output))

@@ -185,8 +185,8 @@ def gaps(trial):
         path = made(trial, f"gap-{number}.db", 3, change)
         before = tables.dump(path)
         for words in (("ticket", "--store", path, "2"), ("yield", "--store", path, "GLASS")):
-            told = trial.run(*words)
-            trial.ended(told, 1, err="fault version\n", why=f"{path}: {NO_ROW}journal {named}", sent=f"{change}: {words[0]}")
+            output = trial.run(*words)
+            trial.ended(output, 1, err="fault version\n", why=f"{path}: {NO_ROW}journal {named}", sent=f"{change}: {words[0]}")
         trial.equal(tables.dump(path), before, change)
     made(trial, "fewer.db", 3, "DELETE FROM journal WHERE entry > 5")
     shop = trial.shop("fewer.db")

@@ -26,7 +26,7 @@ def whole(trial):
         audited(trial, "floor.db", COUNT, words=words)
 
 
-# Of each table of the floor, and of states 7 and 4, changes of a row, and what is told of it; by falling name of the table.
+# Of each table of the floor, and of states 7 and 4, changes of a row, and what is reported of it; by falling name of the table.
 CHANGES = [
     ("UPDATE parts SET state = 4, detail = 0 WHERE act = 2 AND node = 0; UPDATE totals2 SET kerf = kerf + 8", "parts: 2/0 differs"),
     ("UPDATE parts SET detail = 4 WHERE act = 2 AND node = 1", "parts: 2/1 differs"),
@@ -54,7 +54,7 @@ CHANGES = [
 @case(
     "an audit of a changed row of the floor",
     "A note, a begun job, a kept halt, an undone part or job, or a line that was added, that SQLite's own shell changed, added "
-    "or took away is told with its table and its key.",
+    "or took away is reported with its table and its key.",
 )
 def changed_rows(trial):
     path = floor(trial)
@@ -64,7 +64,7 @@ def changed_rows(trial):
 
 # Entries that are left out, and what is found then.
 WITHOUT = [
-    # (the first begin: the second tells another before; both notes; the break: its rest isn't there; the extend: its demand isn't)
+    # (the first begin: the second reports another before; both notes; the break: its rest isn't there; the extend: its demand isn't)
     (5, None),
     (6, "entry 6: another reply"),
     (7, "begun: 2 differs"),

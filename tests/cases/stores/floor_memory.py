@@ -1,13 +1,9 @@
 """Requests for memory that are refused while the commands and questions of the floor are handled."""
 
-import os
-
-from kit import tables
 from kit.case import case
 from kit.days import FLOOR, REFUSED, Replay, day_of
-from kit.floor import day, told
-from kit.memory import ended_for_memory, opened, replayed, sent, served, sweep
-from kit.shop import answer
+from kit.floor import day, answers
+from kit.memory import replayed, served, sweep, texts_refused
 
 
 @case(
@@ -47,7 +43,7 @@ def questions(trial):
     def filled():
         shop = Replay(trial, {})
         for line, reply in day():
-            told(trial, shop, line, reply)
+            answers(trial, shop, line, reply)
         return shop
 
     shop = filled()
@@ -76,27 +72,6 @@ def questions(trial):
 
     store = trial.shop("made.db")
     for line, reply in day():
-        told(trial, store, line, reply)
+        answers(trial, store, line, reply)
     store.kill()
-    shop = trial.shop(tables.copy(store.store, trial.path("asked.db")))
-    wanted_at = [shop.get(it) for it in PATHS]
-    trial.equal([it for it in wanted_at if not it.startswith(b"HTTP/1.1 200 OK")], [])
-    shop.kill()
-
-    def over_http(faults):
-        copy = tables.copy(store.store, trial.path(f"{faults.at:06}.db"))
-        again = opened(trial, copy, faults)
-        first = faults.calls()
-        for path, text in zip(PATHS, wanted_at):
-            got = sent(again.get, path)
-            trial.equal(got in (text, answer(503, REFUSED), b""), True, f"{path}, request {faults.at}: {got}")
-            if not got and again.has_ended():
-                ended_for_memory(trial, again, path)
-                break
-            if got != text:
-                trial.equal(again.get(path), text, f"{path}, request {faults.at}")
-        again.kill()
-        os.remove(copy)
-        return first
-
-    sweep(trial, over_http, 7)
+    texts_refused(trial, store.store, PATHS, 7)

@@ -8,7 +8,7 @@ from kit import tables
 from kit.case import Skipped, case, fault_in
 from kit.earlier import made
 from kit.faults import Faults
-from kit.floor import GLASS, day, line, message, numbered, received, refused, told
+from kit.floor import GLASS, day, line, message, numbered, received, refused, answers
 from kit.paper import Paper
 from kit.questions import compact
 from kit.weeks import questions
@@ -64,7 +64,7 @@ def filled(trial, name="shop.db", exchanges=None):
     """The path of a store in which these messages were handled, by a clock that stands at 0."""
     shop = trial.shop(name, environment=Faults(trial, date=0).environment)
     for sent, reply in day() if exchanges is None else exchanges:
-        told(trial, shop, sent, reply)
+        answers(trial, shop, sent, reply)
     shop.kill()
     return shop.store
 
@@ -78,25 +78,19 @@ def filled(trial, name="shop.db", exchanges=None):
 )
 def row_by_row(trial):
     path = filled(trial)
-    for name in tables.COLUMNS:
-        trial.equal(tables.columns_of(path, name), tables.wanted_columns(name), name)
-        ((statement,),) = tables.select(path, f"SELECT sql FROM sqlite_schema WHERE name = '{name}'")
-        trial.holds(statement.rstrip().endswith("STRICT"), statement)
+    tables.check(trial, path, ROWS)
     for name, column, to in (("notes", "ord", "orders"), ("begun", "job", "jobs"), ("halts", "job", "jobs")):
         keys = [(it[2], it[3]) for it in tables.select(path, f"PRAGMA foreign_key_list({name})")]
         trial.equal(keys, [(to, column)], f"what {name} references")
-    found = tables.rows(path)
-    for name, wanted in ROWS.items():
-        trial.equal(found[name], wanted, name)
     paper = Paper()
     for sent, reply in day():
         trial.equal(paper.reply(sent), reply, sent)
-    trial.equal(found, paper.rows())
+    trial.equal(tables.rows(path), paper.rows())
     trial.equal(tables.select(path, "PRAGMA integrity_check"), [("ok",)])
     trial.equal(tables.select(path, "PRAGMA foreign_key_check"), [])
 
 
-# What SQLite's shell tells of a copy, with its usual bars between columns.
+# What SQLite's shell reports of a copy, with its usual bars between columns.
 ASKED = [
     ("SELECT * FROM notes", "A-1|20261201|Müller"),
     ("SELECT * FROM begun ORDER BY job", "2|2\n5|3"),
@@ -112,7 +106,7 @@ ASKED = [
 
 @case(
     "SQLite's shell reads the tables of the floor",
-    "The shell `sqlite3` tells of a copy, while it is only read, the notes, who began which job, how jobs broke off, undone "
+    "The shell `sqlite3` reports of a copy, while it is only read, the notes, who began which job, how jobs broke off, undone "
     "jobs and parts, and the entries of the floor's words.",
 )
 def by_shell(trial):
@@ -136,14 +130,14 @@ def by_plain_sql(trial):
     path = tables.make(trial.path("shop.db"), paper.rows())
     shop = trial.shop(environment=Faults(trial, date=0).environment)
     for sent, reply in day():
-        told(trial, shop, sent, reply)
+        answers(trial, shop, sent, reply)
     for asked in questions(paper):
-        told(trial, shop, asked, paper.reply(asked))
+        answers(trial, shop, asked, paper.reply(asked))
     more = [{"do": "undo", "job": 4}, {"do": "undo", "job": 5}, {"do": "undo", "job": 4}, {"do": "begin", "job": 2}, {"do": "note", "order": "A-1", "due": 0, "text": ""}]
     more += [{"do": "reserve", "part": "1/0", "tree": TREE}, {"do": "begin", "job": 6}, {"do": "done", "job": 6}]
     for at, it in enumerate(more):
         sent = message(100 + at, **it)
-        told(trial, shop, sent, paper.reply(sent))
+        answers(trial, shop, sent, paper.reply(sent))
     shop.kill()
     trial.equal(tables.rows(path), paper.rows())
 
@@ -157,12 +151,12 @@ def opened_again(trial):
     paper = Paper()
     for sent, reply in day():
         shop = trial.shop(environment=Faults(trial, date=0).environment)
-        told(trial, shop, sent, reply)
+        answers(trial, shop, sent, reply)
         trial.equal(paper.reply(sent), reply, sent)
         shop.kill()
         shop = trial.shop(environment=Faults(trial, date=0).environment)
         for asked in questions(paper):
-            told(trial, shop, asked, paper.reply(asked))
+            answers(trial, shop, asked, paper.reply(asked))
         shop.kill()
 
 
@@ -240,18 +234,18 @@ WHERE number = 7;
 @case(
     "undo of jobs of an earlier version",
     "A job that was done in version 1 or 2 is undone as others are; one that was broken then has no kept halt, and is refused "
-    "73. Its ticket tells how many pieces it made, and its steps what became of them.",
+    "73. Its ticket reports how many pieces it made, and its steps what became of them.",
 )
 def undone_earlier(trial):
     for version, sums in ((1, "totals"), (2, "totals2")):
         made(trial, f"done-{version}.db", version)
         shop = trial.shop(f"done-{version}.db")
-        told(trial, shop, message(8, do="undo", job=2), refused(74, "PartsMoved"))
-        told(trial, shop, message(8, do="undo", job=3), '{"job":3,"ok":"undo","part":"2/4"}')
-        told(trial, shop, message(9, do="undo", job=2), '{"job":2,"ok":"undo","part":"1/0"}')
+        answers(trial, shop, message(8, do="undo", job=2), refused(74, "PartsMoved"))
+        answers(trial, shop, message(8, do="undo", job=3), '{"job":3,"ok":"undo","part":"2/4"}')
+        answers(trial, shop, message(9, do="undo", job=2), '{"job":2,"ok":"undo","part":"1/0"}')
         totals = {"kerf": 0, "material": "GLASS", "ok": "totals", "pieces": 0, "rack": 0, "received": 80, "returned": 0, "scrap": 0, "stock": 80}
-        told(trial, shop, {"ask": "totals", "material": "GLASS"}, totals)
-        told(trial, shop, {"ask": "demand", "demand": 3}, {"demand": 3, "line": 3, "made": 0, "material": "GLASS", "ok": "demand", "order": "A-1", "reserved": 0, "wanted": 1})
+        answers(trial, shop, {"ask": "totals", "material": "GLASS"}, totals)
+        answers(trial, shop, {"ask": "demand", "demand": 3}, {"demand": 3, "line": 3, "made": 0, "material": "GLASS", "ok": "demand", "order": "A-1", "reserved": 0, "wanted": 1})
         shop.kill()
         found = tables.rows(shop.store)
         states = {(it[0], it[1]): it[10:] for it in found["parts"]}
@@ -259,8 +253,8 @@ def undone_earlier(trial):
         trial.equal(([it[4] for it in found["jobs"]], found["halts"], [it[4] for it in found["journal"]]), ([4, 4], [], ["undo", "undo"]))
         made(trial, f"broken-{version}.db", version, BROKEN.format(sums))
         shop = trial.shop(f"broken-{version}.db")
-        told(trial, shop, message(8, do="undo", job=3), refused(73, "NotOver"))
-        told(trial, shop, message(8, do="undo", job=2), refused(74, "PartsMoved"))
+        answers(trial, shop, message(8, do="undo", job=3), refused(73, "NotOver"))
+        answers(trial, shop, message(8, do="undo", job=2), refused(74, "PartsMoved"))
         ticket = shop.get("/ticket/3").partition(b"\r\n\r\n")[2].decode()
         trial.equal(ticket.split("\n")[0], "job 3 broken")
         trial.equal(ticket.split("\n")[-3:], ["made 0 pieces", "cuts 1 pieces 1", ""])
@@ -282,18 +276,18 @@ def empty_tables(trial):
         path = made(trial, f"{version}.db", version, f"{waiting}; UPDATE {sums} SET rack = 40, pieces = 28, kerf = 12")
         shop = trial.shop(f"{version}.db")
         order = {"due": 0, "lines": 3, "made": 2, "order": "A-1", "reserved": 1, "text": "", "wanted": 3}
-        told(trial, shop, {"after": "", "ask": "orders"}, {"more": False, "ok": "orders", "orders": [order]})
+        answers(trial, shop, {"after": "", "ask": "orders"}, {"more": False, "ok": "orders", "orders": [order]})
         job = {"begun": 0, "cuts": 1, "due": 0, "h": 8, "job": 3, "material": "GLASS", "part": "2/4", "w": 5}
-        told(trial, shop, {"after": 0, "ask": "jobs"}, {"jobs": [job], "more": False, "ok": "jobs"})
+        answers(trial, shop, {"after": 0, "ask": "jobs"}, {"jobs": [job], "more": False, "ok": "jobs"})
         shop.kill()
         found = tables.rows(path)
         trial.equal([found[it] for it in ("notes", "begun", "halts", "journal", "uses")], [[]] * 5)
         # (what is said and done then is kept)
         shop = trial.shop(f"{version}.db")
-        told(trial, shop, message(8, do="note", order="A-1", due=20261203, text="x"), '{"ok":"note","order":"A-1"}')
-        told(trial, shop, message(1, 2, do="begin", job=3), '{"before":0,"job":3,"ok":"begin"}')
-        told(trial, shop, message(9, cuts=0, do="break", job=3, lost=True, rest=4), '{"job":3,"kerf":0,"ok":"break","pieces":0,"rack":20,"scrap":20}')
-        told(trial, shop, message(10, do="undo", job=3), '{"job":3,"ok":"undo","part":"2/4"}')
+        answers(trial, shop, message(8, do="note", order="A-1", due=20261203, text="x"), '{"ok":"note","order":"A-1"}')
+        answers(trial, shop, message(1, 2, do="begin", job=3), '{"before":0,"job":3,"ok":"begin"}')
+        answers(trial, shop, message(9, cuts=0, do="break", job=3, lost=True, rest=4), '{"job":3,"kerf":0,"ok":"break","pieces":0,"rack":20,"scrap":20}')
+        answers(trial, shop, message(10, do="undo", job=3), '{"job":3,"ok":"undo","part":"2/4"}')
         shop.kill()
         found = tables.rows(path)
         wanted = [[("A-1", 20261203, "x")], [(3, 2)], [(3, '{"cuts":0,"lost":true,"rest":4}')]]
@@ -342,6 +336,6 @@ def no_history(trial):
         before = tables.rows(copy, times=True)
         shop = trial.shop(f"{number}.db")
         trial.holds(shop.is_open, f"{change}: {getattr(shop, 'errors', b'')}")
-        told(trial, shop, message(50, do="undo", job=2), compact({"name": name, "refused": refusal}))
+        answers(trial, shop, message(50, do="undo", job=2), compact({"name": name, "refused": refusal}))
         shop.kill()
         trial.equal(tables.rows(copy, times=True), before, change)

@@ -2,7 +2,7 @@
 
 from kit.case import case
 from kit.faults import Faults
-from kit.floor import day, told
+from kit.floor import day, answers
 from kit.paper import JOB_STATES, Paper
 from kit.weeks import Week
 
@@ -13,7 +13,7 @@ REPORT += ["kerf                   17", "scrap                  20", "returned  
 
 @case(
     "tickets of each state by the command",
-    "`cutshop ticket` prints of waiting, begun, done, broken, released and undone jobs what the shop tells over HTTP, with "
+    "`cutshop ticket` prints of waiting, begun, done, broken, released and undone jobs what the shop reports over HTTP, with "
     "`--read-only` and without: those of broken and undone ones with how many "
     "pieces were made.",
 )
@@ -25,7 +25,7 @@ def of_each_state(trial):
     for name, exchanges, of in (("day.db", day(), paper), ("week.db", [it[1:] for it in week.sent], week.paper)):
         shop = trial.shop(name, environment=Faults(trial, date=0).environment)
         for sent, reply in exchanges:
-            told(trial, shop, sent, reply)
+            answers(trial, shop, sent, reply)
         # (of a week one job of each state will do)
         chosen = {it.state: number for number, it in of.jobs.items()}
         chosen |= {f"{it.state}, begun": number for number, it in of.jobs.items() if it.begun}
@@ -41,8 +41,8 @@ def of_each_state(trial):
 
 @case(
     "reports of the floor by the command",
-    "`cutshop yield` prints behind a day and a week with undone jobs and kept rests of lost cuts what the shop tells over HTTP: "
-    "undone parts count nowhere, and no such part is told.",
+    "`cutshop yield` prints behind a day and a week with undone jobs and kept rests of lost cuts what the shop reports over HTTP: "
+    "undone parts count nowhere, and no such part is reported.",
 )
 def reports(trial):
     paper = Paper()
@@ -53,7 +53,7 @@ def reports(trial):
     for name, exchanges, of in (("day.db", day(), paper), ("week.db", [it[1:] for it in week.sent], week.paper)):
         shop = trial.shop(name)
         for sent, reply in exchanges:
-            told(trial, shop, sent, reply)
+            answers(trial, shop, sent, reply)
         for code in of.materials:
             trial.equal(shop.get(f"/yield/{code}").partition(b"\r\n\r\n")[2].decode(), of.report(code), f"{name}, {code}")
         shop.kill()

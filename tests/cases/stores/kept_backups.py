@@ -8,7 +8,7 @@ import threading
 import time
 from functools import partial
 
-from kit.backups import FAILED, FAULT, REQUEST, day_of, fill, is_whole, names, open_shop, told, tree
+from kit.backups import FAILED, FAULT, REQUEST, day_of, fill, is_whole, names, open_shop, backup_answer, tree
 from kit.case import case
 from kit.faults import Faults, sweep
 from kit.shop import answer
@@ -16,7 +16,7 @@ from kit.terminals import Terminal
 
 
 def stays(number, folder="backups"):
-    """The line that tells of an old backup that couldn't be taken away."""
+    """The line that reports of an old backup that couldn't be taken away."""
     return f"cutshop: backup {number} in {folder} wasn't taken away; look what is in it\n".encode()
 
 
@@ -36,26 +36,26 @@ def newest(trial):
     shop, terminal = open_shop(trial), Terminal(1)
     for number in (1, 2, 3):
         trial.equal(terminal.send_all(shop, number), None)
-        trial.equal(shop.exchange(REQUEST), told(number))
+        trial.equal(shop.exchange(REQUEST), backup_answer(number))
     shop.kill()
     shop = keeping(trial, 2)
     trial.equal(names(trial), ["1", "2", "3"])
     for number in (4, 5):
         trial.equal(terminal.send_all(shop, number), None)
-        trial.equal(shop.exchange(REQUEST), told(number))
+        trial.equal(shop.exchange(REQUEST), backup_answer(number))
         trial.equal(names(trial), [str(number - 1), str(number)])
     shop.kill()
     for number in (4, 5):
         trial.equal(is_whole(trial, trial.path(f"backups/{number}/shop.db"), [terminal]), [number])
     shop = keeping(trial, 1)
-    trial.equal(shop.exchange(REQUEST), told(6))
+    trial.equal(shop.exchange(REQUEST), backup_answer(6))
     trial.equal([it for it in names(trial) if it.isdigit()], ["6"])
 
 
 @case(
     "what isn't an old backup stays",
     "With `--keep 1` a link, a file, a folder with a file more, with one less, with a folder or a link in the place of a file, with none, and "
-    "one whose name for a part is taken stay byte for byte, and where the links lead, too; each is told in a line. A part stays, and isn't told.",
+    "one whose name for a part is taken stay byte for byte, and where the links lead, too; each is reported in a line. A part stays, and isn't reported.",
 )
 def others_stay(trial):
     fill(trial, "else", **{"shop.db": b"s", "shop.db-wal": b"l"})
@@ -74,7 +74,7 @@ def others_stay(trial):
     os.chmod(trial.path("backups"), 0o700)
     before = {**tree(trial.path("backups")), **tree(trial.path("else"))}
     shop = keeping(trial, 1, limit=2)
-    trial.equal(shop.exchange(REQUEST), told(12))
+    trial.equal(shop.exchange(REQUEST), backup_answer(12))
     shop.get("/materials")
     errors = shop.end()[2]
     after = {**tree(trial.path("backups")), **tree(trial.path("else"))}
@@ -98,7 +98,7 @@ def store_within(trial):
         if folder == "linked":
             for end in ("", "-wal"):
                 os.link(trial.path(f"{store}{end}"), trial.path(f"{folder}/1/{store}{end}"))
-        trial.equal(shop.exchange(REQUEST), told(2))
+        trial.equal(shop.exchange(REQUEST), backup_answer(2))
         trial.equal(names(trial, folder), ["1", "2"])
         trial.equal(sorted(os.listdir(trial.path(f"{folder}/1"))), [os.path.basename(store), f"{os.path.basename(store)}-wal"])
         trial.equal(terminal.send_all(shop, 4), None)
@@ -112,7 +112,7 @@ def store_within(trial):
 )
 def refused(trial):
     shop = keeping(trial, 1, limit=3)
-    trial.equal(shop.exchange(REQUEST), told(1))
+    trial.equal(shop.exchange(REQUEST), backup_answer(1))
     os.rename(trial.path("shop.db"), trial.path("away.db"))
     # The shop may have seen already that its file is away, and have ended.
     try:
@@ -125,12 +125,12 @@ def refused(trial):
 
 @case(
     "another folder of backups than at the start",
-    "Where another folder has the name a backup is refused 99, that is told, and nothing is made in it or taken away; with the old one back "
+    "Where another folder has the name a backup is refused 99, that is reported, and nothing is made in it or taken away; with the old one back "
     "one is made. So where others may write in it meanwhile, and at the start.",
 )
 def another(trial):
     shop = keeping(trial, 1, limit=4)
-    trial.equal(shop.exchange(REQUEST), told(1))
+    trial.equal(shop.exchange(REQUEST), backup_answer(1))
     os.rename(trial.path("backups"), trial.path("else"))
     shutil.copytree(trial.path("else"), trial.path("backups"))
     os.chmod(trial.path("backups"), 0o700)
@@ -143,7 +143,7 @@ def another(trial):
     trial.equal(shop.exchange(REQUEST), answer(503, FAULT))
     trial.equal(names(trial), ["1"])
     os.chmod(trial.path("backups"), 0o700)
-    trial.equal(shop.exchange(REQUEST), told(2))
+    trial.equal(shop.exchange(REQUEST), backup_answer(2))
     errors = shop.end()[2].decode()
     for why in ("the folder is another than at the start; is its disk mounted?", "others may write in it"):
         trial.equal(errors.count(f"{FAILED}backups: {why}\n"), 1, errors)
@@ -167,7 +167,7 @@ def taken_name(trial):
     before = tree(trial.path("backups"))
     shop = open_shop(trial)
     trial.equal(tree(trial.path("backups")), before)
-    trial.equal(shop.exchange(REQUEST), told(1))
+    trial.equal(shop.exchange(REQUEST), backup_answer(1))
 
 
 # ---- a folder that is swapped
@@ -202,8 +202,8 @@ def swapped_at(trial, day, at, **named):
         os.makedirs(it, 0o700)
     faults = Faults(trial, "files", at=at, stop="halted", under=os.path.realpath(folder))
     shop = keeping(trial, 1, f"{store}/shop.db", folder, environment=faults.environment)
-    trial.equal(shop.reply(day.told[0][0]).decode(), day.told[0][1])
-    trial.equal(shop.exchange(REQUEST), told(1))
+    trial.equal(shop.reply(day.exchanges[0][0]).decode(), day.exchanges[0][1])
+    trial.equal(shop.exchange(REQUEST), backup_answer(1))
     begin, got = faults.calls(), []
     asking = threading.Thread(target=lambda: got.append(shop.exchange(REQUEST)))
     asking.start()
@@ -215,7 +215,7 @@ def swapped_at(trial, day, at, **named):
     asking.join(60)
     if at:
         trial.equal(tree(store), before, f"call {at}: {got}")
-    trial.equal(shop.reply(day.told[1][0]).decode(), day.told[1][1], f"call {at}")
+    trial.equal(shop.reply(day.exchanges[1][0]).decode(), day.exchanges[1][1], f"call {at}")
     end = faults.calls()
     shop.kill()
     faults.end()
@@ -248,13 +248,13 @@ def disturbed(trial, day, at, stop="", on=False, **named):
     last = 0
     for count in range(3 if shop.is_open else 0):
         try:
-            shop.reply(day.told[count][0])
+            shop.reply(day.exchanges[count][0])
             got = shop.exchange(REQUEST)
         except OSError:
             break
         if got.startswith(b"HTTP/1.1 200 OK\r\n"):
             last = int(got.rpartition(b"{")[2].partition(b":")[2].partition(b",")[0])
-            trial.equal(got, told(last), name)
+            trial.equal(got, backup_answer(last), name)
     shop.kill()
     found = sorted(int(it) for it in os.listdir(folder) if it.isdigit())
     trial.holds(last <= max(found, default=0), f"{name}: {last} was told, and there are {found}")
@@ -273,7 +273,7 @@ def sweep_kept(trial, *faults):
 @case(
     "a call in a folder of backups that are taken away fails",
     "Each call that changes the folder fails in turn, once or from then on: whatever has the name of a backup is whole, and one is "
-    "there that is no older than the last that was told.",
+    "there that is no older than the last that was reported.",
 )
 def fails(trial):
     sweep_kept(trial, {"error": errno.EIO}, {"error": errno.ENOSPC, "on": True})
@@ -282,7 +282,7 @@ def fails(trial):
 @case(
     "stopped while old backups are taken away",
     "Stopped at each call that changes the folder, with all that was written or only what was synced: whatever has the name of a backup is "
-    "whole, and one is there that is no older than the last that was told.",
+    "whole, and one is there that is no older than the last that was reported.",
 )
 def stopped(trial):
     sweep_kept(trial, {"stop": "kept"}, {"stop": "dropped"})

@@ -38,7 +38,7 @@ def listens(port):
 
 @contextmanager
 def held(trial, store):
-    """A start that has made its store and listens, and can't tell that yet. Given is what has it end: its output is closed."""
+    """A start that has made its store and listens, and can't report that yet. Given is what has it end: its output is closed."""
     trial.write("shop.toml", STEEL)
     reader, writer = full_pipe()
     port = free_port()
@@ -174,8 +174,8 @@ def two_starts(trial):
     with held(trial, store) as end:
         before = both(store)
         with taken_port() as port:
-            told = "new.db: another program has it open"
-            trial.ended(serving(trial, port, "new.db", "shop.toml"), 1, err="fault store\n", why=told)
+            output = "new.db: another program has it open"
+            trial.ended(serving(trial, port, "new.db", "shop.toml"), 1, err="fault store\n", why=output)
         trial.equal(trial.run("yield", "--store", "new.db", "STEEL").status, 1)
         trial.equal(both(store), before)
         end()

@@ -42,8 +42,8 @@ def ended(trial, shop, yard, words):
     status, _, errors = shop.end()
     trial.equal(status, 1, words)
     # (behind the two lines of its start)
-    told = errors.decode().splitlines(keepends=True)[2:]
-    trial.equal("".join(told), TOLD.format(shop.store), words)
+    output = errors.decode().splitlines(keepends=True)[2:]
+    trial.equal("".join(output), TOLD.format(shop.store), words)
 
 
 def moved_whole(store):

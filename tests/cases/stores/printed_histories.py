@@ -29,7 +29,7 @@ def day(trial, name="day.db"):
 
 @case(
     "a history as lines",
-    "`cutshop history` prints each entry of a store as the object that the query `history` tells, one a line, rising, with its number, its time, "
+    "`cutshop history` prints each entry of a store as the object that the query `history` reports, one a line, rising, with its number, its time, "
     "its message and its reply; with `--read-only`, too, and both files stay byte for byte.",
 )
 def lines(trial):
@@ -39,8 +39,8 @@ def lines(trial):
     for words in ((), ("--read-only",)):
         trial.equal(printed(trial, "day.db", *words), wanted, words)
     shop = trial.shop("day.db")
-    told = shop.reply(history()).decode()
-    trial.equal(told, '{"entries":[' + ",".join(wanted.splitlines()) + '],"more":false,"ok":"history"}', "what the query tells")
+    output = shop.reply(history()).decode()
+    trial.equal(output, '{"entries":[' + ",".join(wanted.splitlines()) + '],"more":false,"ok":"history"}', "what the query tells")
     shop.kill()
     trial.equal(printed(trial, "day.db"), wanted, path)
 
@@ -59,7 +59,7 @@ def after(trial):
         trial.equal((ran.status, ran.out, ran.err[:7]), (2, b"", b"error: "), word)
 
 
-# Entries that the query tells on several pages.
+# Entries that the query reports on several pages.
 MANY = 250
 LINE = {"count": 1, "h": 1, "line": 1, "material": "STEEL", "turn": False, "w": 30, "worth": 1}
 
@@ -89,7 +89,7 @@ def amended(trial, name, count):
 
 @case(
     "a long history as lines",
-    "Of 250 entries, which the query tells on three pages, `cutshop history` prints all at once, and those behind any number.",
+    "Of 250 entries, which the query reports on three pages, `cutshop history` prints all at once, and those behind any number.",
 )
 def long(trial):
     _, journal = amended(trial, "many.db", MANY)
@@ -97,14 +97,14 @@ def long(trial):
         trial.equal(printed(trial, "many.db", "--after", str(number)), journal.lines(number), number)
     audits.audited(trial, "many.db", MANY)
     shop = trial.shop("many.db")
-    told = "".join(f"{compact(it)}\n" for it in all_entries(trial, shop))
+    output = "".join(f"{compact(it)}\n" for it in all_entries(trial, shop))
     shop.kill()
-    trial.equal(told, journal.lines(), "what the query tells")
+    trial.equal(output, journal.lines(), "what the query tells")
 
 
 @case(
     "the histories of a shop file, of no message and of earlier versions",
-    "Materials of a shop file are told with terminal 0; of a store without a message nothing is printed; of one of version 1 or 2 nothing, with `--read-only` "
+    "Materials of a shop file are reported with terminal 0; of a store without a message nothing is printed; of one of version 1 or 2 nothing, with `--read-only` "
     "neither file changes, and what is accepted behind is its first entry.",
 )
 def others(trial):

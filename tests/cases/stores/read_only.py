@@ -44,8 +44,8 @@ def refused(trial, store, why, sent=""):
     """Wants each command, read only, refused by this second line, and all as it was."""
     before = names(trial), [both(trial.path(store))]
     for text in TEXTS:
-        told = {"err": "fault store\n", "why": f"{store}: {why}", "sent": sent or store}
-        trial.ended(ask(trial, store, text, "--read-only"), 1, **told)
+        output = {"err": "fault store\n", "why": f"{store}: {why}", "sent": sent or store}
+        trial.ended(ask(trial, store, text, "--read-only"), 1, **output)
     trial.equal((names(trial), [both(trial.path(store))]), before, sent or store)
 
 
@@ -131,8 +131,8 @@ def unreadable(trial):
     put(trial.path("empty.db"), b"", log)
     refused(trial, "empty.db", DAMAGED)
     os.symlink("nothere.db", trial.path("link.db"))
-    told = "link.db: it is a link to a file that isn't there"
-    trial.ended(ask(trial, "link.db", TEXTS[0], "--read-only"), 1, err="fault store\n", why=told)
+    output = "link.db: it is a link to a file that isn't there"
+    trial.ended(ask(trial, "link.db", TEXTS[0], "--read-only"), 1, err="fault store\n", why=output)
     tables.change(filled(trial, "bound.db"), TRIGGER)
     refused(trial, "bound.db", BOUND)
     tables.change(trial.path("vacuum.db"), "PRAGMA auto_vacuum = 1; CREATE TABLE a (b)")
@@ -141,6 +141,6 @@ def unreadable(trial):
     refused(trial, "junk.db", "it is no SQLite database; name another file")
     shop = trial.shop("day.db")
     trial.equal(shop.reply(DAY[0][0]).decode(), DAY[0][1])
-    told = "day.db: another program has it open"
-    trial.ended(ask(trial, "day.db", TEXTS[0], "--read-only"), 1, err="fault store\n", why=told)
+    output = "day.db: another program has it open"
+    trial.ended(ask(trial, "day.db", TEXTS[0], "--read-only"), 1, err="fault store\n", why=output)
     shop.kill()

@@ -7,14 +7,14 @@ import sqlite3
 from functools import partial
 
 from kit import tables
-from kit.backups import REQUEST, content, fill, is_whole, open_shop, told, tree
+from kit.backups import REQUEST, content, fill, is_whole, open_shop, backup_answer, tree
 from kit.case import case, fault_in
 from kit.earlier import made
 from kit.faults import Faults, sweep
 from kit.terminals import Terminal
 
 STORE, LOG = "shop.db", "shop.db-wal"
-# The time of the entries of a backup, and what a restore of its two tells.
+# The time of the entries of a backup, and what a restore of its two reports.
 DATE = 1795831213
 RESTORED = b"restored shop.db from backups/1\nentries 2\nuntil 2026-11-28 02:00:13 UTC\n"
 # What of a store may be lost.
@@ -25,7 +25,7 @@ def two_states(trial):
     """A stopped shop of four messages, with a backup of its first two, whose clock stands. Its terminal."""
     shop, terminal = open_shop(trial, environment=Faults(trial, date=DATE).environment), Terminal(1)
     trial.equal(terminal.send_all(shop, 2), None)
-    trial.equal(shop.exchange(REQUEST), told(1))
+    trial.equal(shop.exchange(REQUEST), backup_answer(1))
     trial.equal(terminal.send_all(shop, 4), None)
     shop.kill()
     return terminal
@@ -42,7 +42,7 @@ def held(trial, *names):
 
 @case(
     "a backup restored",
-    "Of a shop that lost its log, its store, both or nothing: `restore` tells what it did, the store is the backup's, byte for byte, opens with its "
+    "Of a shop that lost its log, its store, both or nothing: `restore` reports what it did, the store is the backup's, byte for byte, opens with its "
     "messages, and what was there lies beside it as FILE.before and FILE.before-wal, as it was.",
 )
 def restored(trial):
@@ -83,11 +83,11 @@ def linked(trial):
 
 @case(
     "a backup without entries restored",
-    "A backup of a shop without a message, and one of version 1 or 2, are restored as others are; no time is told of them.",
+    "A backup of a shop without a message, and one of version 1 or 2, are restored as others are; no time is reported of them.",
 )
 def without_entries(trial):
     shop = open_shop(trial)
-    trial.equal(shop.exchange(REQUEST), told(1))
+    trial.equal(shop.exchange(REQUEST), backup_answer(1))
     shop.kill()
     for number in (1, 2, 3):
         if number > 1:
@@ -120,7 +120,7 @@ TIMES = [
 
 @case(
     "until when a restored store goes",
-    "A restore tells how many entries the store has, and the time of the last one, in UTC: of days around the ends of months and years, of leap "
+    "A restore reports how many entries the store has, and the time of the last one, in UTC: of days around the ends of months and years, of leap "
     "days, and of times over 32 bits.",
 )
 def until(trial):

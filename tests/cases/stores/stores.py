@@ -15,13 +15,7 @@ from kit.stores import DAY, NO_ROW, ORDERS, PROBLEM, QUESTIONS, ROWS, TOTALS, fi
 )
 def row_by_row(trial):
     path = filled(trial)
-    for name in tables.COLUMNS:
-        trial.equal(tables.columns_of(path, name), tables.wanted_columns(name), name)
-        ((statement,),) = tables.select(path, f"SELECT sql FROM sqlite_schema WHERE name = '{name}'")
-        trial.holds(statement.rstrip().endswith("STRICT"), statement)
-    found = tables.rows(path)
-    for name, wanted in ROWS.items():
-        trial.equal(found[name], wanted, name)
+    tables.check(trial, path, ROWS)
     trial.equal(tables.select(path, "PRAGMA integrity_check"), [("ok",)])
     trial.equal(tables.select(path, "PRAGMA foreign_key_check"), [])
 
@@ -205,14 +199,14 @@ def last_numbers(trial):
 
 @case(
     "totals over 2^32 cells",
-    "Totals of more cells than 32 bits hold are told, of received units and after a shop was opened again.",
+    "Totals of more cells than 32 bits hold are reported, of received units and after a shop was opened again.",
 )
 def large_totals(trial):
     shop = trial.shop()
     sent(trial, shop, [DAY[0], received("GLASS", 200000, 60000, 1, 100)])
     for _ in range(2):
-        told = json.loads(shop.reply(TOTALS))
-        trial.equal((told["received"], told["stock"]), (1200000000000, 1200000000000))
+        output = json.loads(shop.reply(TOTALS))
+        trial.equal((output["received"], output["stock"]), (1200000000000, 1200000000000))
         trial.holds(b"received    1200000000000" in shop.get("/yield/GLASS"), "the report's first row")
         shop.kill()
         shop = trial.shop()
@@ -242,7 +236,7 @@ MANY = 65600
 
 @case(
     "racks and reports of many parts",
-    "A rack and a yield report of 65600 parts are told whole, in order, over HTTP and by `yield`.",
+    "A rack and a yield report of 65600 parts are reported whole, in order, over HTTP and by `yield`.",
 )
 def many(trial):
     path, count = filled(trial, exchanges=DAY[:2]), MANY
@@ -258,7 +252,7 @@ def many(trial):
     trial.ended(trial.run("yield", "--store", path, "GLASS"), 0, report)
 
 
-@case("a rack of 1000 parts", "A rack of 1000 parts is told, and so is one of 1001.")
+@case("a rack of 1000 parts", "A rack of 1000 parts is reported, and so is one of 1001.")
 def thousand(trial):
     for count in (1000, 1001):
         path = filled(trial, f"rack-{count}.db", exchanges=DAY[:2])
@@ -267,7 +261,7 @@ def thousand(trial):
         trial.equal(len(json.loads(shop.reply('{"ask":"rack","material":"GLASS"}'))["parts"]), count)
 
 
-# A row of each table that stands for nothing that a shop has, and what the second line tells of it.
+# A row of each table that stands for nothing that a shop has, and what the second line reports of it.
 SPOILS = [
     ("UPDATE jobs SET state = 9", "jobs 2"),
     ("UPDATE jobs SET tree = 'x4 y3 p1'", "jobs 2"),
@@ -306,7 +300,7 @@ def spoiled(trial):
 
 @case(
     "kept replies that are none",
-    "A kept reply that is none, and the last number of a terminal over 32 bits, are told as 99 where they are asked for; all else is "
+    "A kept reply that is none, and the last number of a terminal over 32 bits, are reported as 99 where they are asked for; all else is "
     "answered.",
 )
 def spoiled_texts(trial):
@@ -327,7 +321,7 @@ def spoiled_texts(trial):
 
 @case(
     "imports that are none",
-    "An import of form 7, or 0 beside a material, of no material, or without a kept reply is told as 99 where its "
+    "An import of form 7, or 0 beside a material, of no material, or without a kept reply is reported as 99 where its "
     "order comes again; all else is answered.",
 )
 def spoiled_imports(trial):

@@ -25,7 +25,7 @@ def stops(trial):
         trial.equal(shop.process.returncode, -number)
     shop = trial.shop()
     trial.equal(at_once(shop, terminals, count), [])
-    trial.equal([len(it.told) for it in terminals], [count] * len(terminals))
+    trial.equal([len(it.exchanges) for it in terminals], [count] * len(terminals))
     shop.kill()
     whole, others = trial.shop("whole.db"), [Terminal(it) for it in range(1, 9)]
     for it in others:
@@ -33,8 +33,8 @@ def stops(trial):
     whole.kill()
     trial.equal(independent(shop.store), independent(whole.store))
     kept = {(it[0], it[1]): it[2:] for it in tables.rows(shop.store)["kept"]}
-    told = {(it.number, index): step for it in terminals for index, step in enumerate(it.told, 1)}
-    trial.equal(kept, told)
+    output = {(it.number, index): step for it in terminals for index, step in enumerate(it.exchanges, 1)}
+    trial.equal(kept, output)
     trial.equal(tables.select(shop.store, "PRAGMA integrity_check"), [("ok",)])
 
 
@@ -46,7 +46,7 @@ def in_use(trial):
     shop = trial.shop()
     sent(trial, shop, DAY[:3])
     second = trial.shop()
-    trial.equal((second.is_open, second.status, second.told, fault_in(second.errors)), (False, 1, b"", b"fault store\n"))
+    trial.equal((second.is_open, second.status, second.output, fault_in(second.errors)), (False, 1, b"", b"fault store\n"))
     for words in (("ticket", "2"), ("yield", "GLASS")):
         trial.ended(trial.run(words[0], "--store", shop.store, words[1]), 1, err="fault store\n", sent=words[0])
     sent(trial, shop)
@@ -115,20 +115,20 @@ def full_disk(trial):
     terminal, shop = Terminal(1), trial.shop(prepare=small_files(400 * 1024))
     trial.holds(shop.is_open, "the shop doesn't open under the limit")
     refused = None
-    while refused is None and len(terminal.told) < 400:
-        line = terminal.message(len(terminal.told))
+    while refused is None and len(terminal.exchanges) < 400:
+        line = terminal.message(len(terminal.exchanges))
         head, _, body = shop.send(line).partition(b"\r\n\r\n")
         if b'"ok"' in body:
-            terminal.told.append((line, body.decode()))
+            terminal.exchanges.append((line, body.decode()))
         else:
             refused = line
             trial.equal(body, b'{"name":"StoreFault","refused":99}', line)
             trial.equal(head.split(b"\r\n")[0], b"HTTP/1.1 503 Service Unavailable", line)
     trial.holds(refused, "no message meets the limit")
     shop.kill()
-    trial.equal([it[2:] for it in tables.rows(shop.store)["kept"]], terminal.told)
+    trial.equal([it[2:] for it in tables.rows(shop.store)["kept"]], terminal.exchanges)
     again = trial.shop()
-    trial.equal(terminal.send_all(again, len(terminal.told) + 1), None)
-    trial.equal(terminal.told[-1][0], refused)
+    trial.equal(terminal.send_all(again, len(terminal.exchanges) + 1), None)
+    trial.equal(terminal.exchanges[-1][0], refused)
     again.kill()
     trial.equal(tables.select(shop.store, "PRAGMA integrity_check"), [("ok",)])

@@ -6,7 +6,8 @@ use Rattle.shop_records.specs.Lists.{is_after, is_from}
 use Rattle.shop_records.specs.declared.records.Part.{Part}
 use Rattle.shop_rows.specs.PartRows.{parts_in}
 use Rattle.shop_book.specs.Ledgers.{content_in}
-use Rattle.shop_book.specs.Pieces.{first_left, is_asked}
+use Rattle.shop_book.specs.Filing.{first_left}
+use Rattle.shop_book.specs.Pieces.{is_asked}
 use Rattle.shop_book.proofs.PiecesTold.{all_left, is_left, none_left, taken_few, taken_full, told_next}
 use Rattle.shop_book.proofs.ledger.Ledger.asked_pieces.Goals as goal
 

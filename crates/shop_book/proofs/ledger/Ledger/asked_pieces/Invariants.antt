@@ -2,7 +2,8 @@ use Rattle.std.proofs.Common.{◌≡◌, ◌+◌, ◌-◌, ◌≤◌, ◌++◌, 
 use Rattle.std.specs.Prelude.{filter}
 use Rattle.shop_rows.specs.PartRows.{parts_in}
 use Rattle.shop_book.specs.Ledgers.{content_in}
-use Rattle.shop_book.specs.Pieces.{first_left, is_asked}
+use Rattle.shop_book.specs.Filing.{first_left}
+use Rattle.shop_book.specs.Pieces.{is_asked}
 use Rattle.shop_book.proofs.PiecesTold.{is_left}
 use Rattle.shop_book.proofs.ledger.Ledger.asked_pieces.Given as goal
 

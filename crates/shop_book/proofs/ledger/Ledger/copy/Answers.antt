@@ -16,10 +16,12 @@ use Rattle.std.specs.List.{list_all}
 use Rattle.shop_book.specs.KeptUp.{known_key}
 use Rattle.shop_book.specs.Ledgers.{content_of_rows}
 use Rattle.shop_book.specs.Orders.{codes_in, is_placed}
+use Rattle.shop_book.specs.FiledJobs.{AreJobsFiled}
 use Rattle.shop_book.specs.Pieces.{AreFiled}
 use Rattle.shop_book.specs.Tallies.{Tallies}
 use Rattle.shop_book.specs.declared.known_orders.KnownOrder.{KnownOrder}
 use Rattle.shop_book.proofs.Filed.{filed_stay}
+use Rattle.shop_book.proofs.JobsFiled.{jobs_stay}
 use Rattle.shop_book.proofs.Tallied.{tally_same}
 use Rattle.shop_book.proofs.ledger.Ledger.copy.Goals as goal
 
@@ -59,6 +61,7 @@ invariant_of-result c =
             subst (λ (ds : List Demand). ListsNumbers is_open (λ number. row_at demand_key nat_cmp number ds) lists.demands.items) (sym demands)
             (λ number. subst (λ (ks : List ℕ). ListsNumbers is_open (λ n. row_at demand_key nat_cmp n old.demands.items) ks) (sym c.in_ok-lists.ensures.demands) was.open_demands number);
         filed = subst (AreFiled c.in_ok-pieces.pieces) (sym parts) (filed_stay old.pieces c.in_ok-pieces.pieces (parts_in old.parts) c.in_ok-pieces.ensures was.filed);
+        worked = subst (AreJobsFiled c.in_ok-works.works) (sym jobs) (jobs_stay old.works c.in_ok-works.works old.jobs.items c.in_ok-works.ensures was.worked);
       };
     }
 

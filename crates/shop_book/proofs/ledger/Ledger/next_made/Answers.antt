@@ -4,7 +4,8 @@ use Rattle.shop_records.specs.declared.pieces.PieceSource.{PieceSource}
 use Rattle.shop_records.specs.declared.pieces.PieceSource.TheVariants as source
 use Rattle.shop_rows.specs.PartRows.{parts_in}
 use Rattle.shop_book.specs.Ledgers.{content_in}
-use Rattle.shop_book.specs.Pieces.{is_filed_in, is_filed_of, HaveLinesOf, IsFiledForOrder, MadePiece, PassesNone}
+use Rattle.shop_book.specs.Filing.{is_filed_in, is_filed_of, PassesNone}
+use Rattle.shop_book.specs.Pieces.{HaveLinesOf, IsFiledForOrder, MadePiece}
 use Rattle.shop_book.proofs.Filed.{batch_made, order_made, passes_fewer, unit_made}
 use Rattle.shop_book.proofs.ledger.Ledger.next_made.Goals as goal
 
@@ -26,17 +27,17 @@ returns-in-Batch c =
     let book = c.args.self.now in
     let parts = parts_in book.parts in
     let batch = c.in-Batch.batch in
-    subst (λ (of : PieceSource). PassesNone (MadePiece (content_in book) parts of) c.args.last c.batch_act.result) (sym c.in-Batch.is)
-    (passes_fewer (λ act. IsTrue (is_filed_of book.pieces batch act)) (MadePiece (content_in book) parts (source.Batch batch)) c.args.last c.batch_act.result
+    subst (λ (of : PieceSource). PassesNone (MadePiece (content_in book) parts of) c.args.last c.next_of.result) (sym c.in-Batch.is)
+    (passes_fewer (λ act. IsTrue (is_filed_of book.pieces batch act)) (MadePiece (content_in book) parts (source.Batch batch)) c.args.last c.next_of.result
     (batch_made book.pieces (content_in book) parts book.kept_up.filed batch)
-    c.batch_act.ensures)
+    c.next_of.ensures)
 
 pub returns-in-Unit : goal.returns-in-Unit
 returns-in-Unit c =
     let book = c.args.self.now in
     let parts = parts_in book.parts in
     let unit = c.in-Unit.unit in
-    subst (λ (of : PieceSource). PassesNone (MadePiece (content_in book) parts of) c.args.last c.unit_act.result) (sym c.in-Unit.is)
-    (passes_fewer (λ act. IsTrue (is_filed_in book.pieces unit act)) (MadePiece (content_in book) parts (source.Unit unit)) c.args.last c.unit_act.result
+    subst (λ (of : PieceSource). PassesNone (MadePiece (content_in book) parts of) c.args.last c.next_in.result) (sym c.in-Unit.is)
+    (passes_fewer (λ act. IsTrue (is_filed_in book.pieces unit act)) (MadePiece (content_in book) parts (source.Unit unit)) c.args.last c.next_in.result
     (unit_made book.pieces (content_in book) parts book.kept_up.filed unit)
-    c.unit_act.ensures)
+    c.next_in.ensures)

@@ -11,6 +11,8 @@ use Rattle.std.specs.Ordering.{nat_cmp}
 use Rattle.shop_records.specs.declared.texts.Kept.{Kept}
 use Rattle.shop_rows.specs.Keys.{entry_key, halt_key, import_key}
 use Rattle.shop_rows.specs.Rows.{map_of, rise}
+use Rattle.shop_book.specs.FiledEntries.{AreEntriesFiled}
+use Rattle.shop_book.proofs.EntriesFiled.{entries_stay}
 use Rattle.shop_book.proofs.mem_storage.MemStorage.copy.Goals as goal
 
 pub invariant_of-result : goal.invariant_of-result
@@ -22,6 +24,7 @@ invariant_of-result c =
       imports_rise = subst (λ (rows : List ImportRow). IsTrue (rise import_key code_cmp rows)) (sym c.in_ok-imports.ensures) old.imports_rise;
       halts_rise = subst (λ (rows : List JobHalt). IsTrue (rise halt_key nat_cmp rows)) (sym (c.in_ok-halts.ensures ∙ c.deref.ensures.value)) old.halts_rise;
       entries_rise = subst (λ (rows : List Entry). IsTrue (rise entry_key nat_cmp rows)) (sym entries) old.entries_rise;
+      filed = subst (AreEntriesFiled c.in_ok-index.index) (sym entries) (entries_stay old.index c.in_ok-index.index old.entries.items c.in_ok-index.ensures old.filed);
     }
 
 pub returns-clause-kept : goal.returns-clause-kept

@@ -1,19 +1,41 @@
-use Rattle.std.proofs.Common.{refl, ap, ◌∙◌}
+use Rattle.std.proofs.Common.{List, refl, sym, ap, subst, ◌∙◌}
+use Rattle.std.specs.Prelude.{IsTrue}
+use Rattle.std.specs.FinMap.{is_sorted}
 use Rattle.std.specs.Option.{option_to_list}
 use Rattle.std.specs.Cmp.{nat_cmp_total}
 use Rattle.std.specs.Ordering.{nat_cmp}
 use Rattle.std.specs.Cmp.Lexicographic.{nat_list_cmp_total}
 use Rattle.cut_measure.specs.Codes.{code_cmp}
-use Rattle.shop_records.specs.Content.{with_entry, with_halt, with_kept, with_import}
+use Rattle.shop_records.specs.Content.{pair_cmp, with_entry, with_halt, with_kept, with_import}
+use Rattle.shop_records.specs.declared.imports.ImportRow.{ImportRow}
+use Rattle.shop_records.specs.declared.journal.Entry.{Entry}
+use Rattle.shop_records.specs.declared.records.JobHalt.{JobHalt}
+use Rattle.shop_records.specs.declared.texts.Kept.{Kept}
+use Rattle.shop_records.specs.declared.texts.Pair.{Pair}
 use Rattle.shop_rows.specs.Keys.{entry_key, halt_key, import_key}
-use Rattle.shop_rows.specs.Rows.{map_of}
+use Rattle.shop_rows.specs.Rows.{map_of, rise}
 use Rattle.shop_book.proofs.Held.{entry_after, halt_after, import_after, kept_after, kept_sorted, map_after}
+use Rattle.shop_records.specs.Elements.{IsIn}
+use Rattle.shop_book.specs.FiledEntries.{IsEntryFiled}
+use Rattle.shop_book.proofs.EntriesFiled.{entry_stays}
+use Rattle.shop_book.proofs.JobsFiled.{each_after}
 use Rattle.shop_book.proofs.mem_storing.MemStorageStorage.commit.Goals as goal
 
 pub invariant_of-self-2 : goal.invariant_of-self-2
 invariant_of-self-2 c =
     let old = c.args.self.now in
-    record { kept_rise = kept_sorted c.args.change.now.kept old.kept.entries c.keep_text.new.kept.entries old.kept_rise c.in_ok-keep_text.ensures.ok; imports_rise = c.put_some.ensures.rising; halts_rise = c.put_some-2.ensures.rising; entries_rise = c.put_copy.ensures.rising }
+    let index = c.file_new_entry.new.self in
+    let before = c.reserve_rows-3.new.rows.items in
+    record {
+      kept_rise = kept_sorted c.args.change.now.kept old.kept.entries c.keep_text.new.kept.entries old.kept_rise c.in_ok-keep_text.ensures.ok;
+      imports_rise = c.put_some.ensures.rising;
+      halts_rise = c.put_some-2.ensures.rising;
+      entries_rise = c.put_copy.ensures.rising;
+      filed =
+          each_after entry_key (IsEntryFiled index) before c.put_copy.new.rows.items c.put_copy.ensures.rising c.args.change.now.entry c.put_copy.ensures.put
+          (λ entry there. entry_stays old.index index entry c.file_new_entry.ensures.stays (old.filed entry (subst (IsIn entry) c.reserve_rows-3.ensures.items there)))
+          c.in_ok-file_new_entry.ensures.filed;
+    }
 
 pub returns-clause-any : goal.returns-clause-any
 returns-clause-any c never m was =
@@ -38,3 +60,36 @@ returns-clause-any c never m was =
 
 pub returns-clause-ok : goal.returns-clause-ok
 returns-clause-ok c clean m was fits = returns-clause-any c refl m was
+
+pub invariant_of-self-in-Break-branch-5 : goal.invariant_of-self-in-Break-branch-5
+invariant_of-self-in-Break-branch-5 c =
+    let old = c.args.self.now in
+    record {
+      kept_rise = old.kept_rise;
+      imports_rise = subst (λ (rows : List ImportRow). IsTrue (rise import_key code_cmp rows)) (sym c.reserve_rows-2.ensures.items) old.imports_rise;
+      halts_rise = subst (λ (rows : List JobHalt). IsTrue (rise halt_key nat_cmp rows)) (sym c.reserve_rows.ensures.items) old.halts_rise;
+      entries_rise = subst (λ (rows : List Entry). IsTrue (rise entry_key nat_cmp rows)) (sym c.reserve_rows-3.ensures.items) old.entries_rise;
+      filed = λ entry there. old.filed entry (subst (IsIn entry) c.reserve_rows-3.ensures.items there);
+    }
+
+pub invariant_of-self-in-Break-branch-6 : goal.invariant_of-self-in-Break-branch-6
+invariant_of-self-in-Break-branch-6 c =
+    let old = c.args.self.now in
+    record {
+      kept_rise = old.kept_rise;
+      imports_rise = subst (λ (rows : List ImportRow). IsTrue (rise import_key code_cmp rows)) (sym c.reserve_rows-2.ensures.items) old.imports_rise;
+      halts_rise = subst (λ (rows : List JobHalt). IsTrue (rise halt_key nat_cmp rows)) (sym c.reserve_rows.ensures.items) old.halts_rise;
+      entries_rise = subst (λ (rows : List Entry). IsTrue (rise entry_key nat_cmp rows)) (sym c.reserve_rows-3.ensures.items) old.entries_rise;
+      filed = λ entry there. entry_stays old.index c.file_new_entry.new.self entry c.file_new_entry.ensures.stays (old.filed entry (subst (IsIn entry) c.reserve_rows-3.ensures.items there));
+    }
+
+pub invariant_of-self-in-Break-branch-7 : goal.invariant_of-self-in-Break-branch-7
+invariant_of-self-in-Break-branch-7 c =
+    let old = c.args.self.now in
+    record {
+      kept_rise = subst (λ (es : List (Pair × Kept)). IsTrue (is_sorted pair_cmp es)) (sym c.in_err-keep_text.ensures.err) old.kept_rise;
+      imports_rise = subst (λ (rows : List ImportRow). IsTrue (rise import_key code_cmp rows)) (sym c.reserve_rows-2.ensures.items) old.imports_rise;
+      halts_rise = subst (λ (rows : List JobHalt). IsTrue (rise halt_key nat_cmp rows)) (sym c.reserve_rows.ensures.items) old.halts_rise;
+      entries_rise = subst (λ (rows : List Entry). IsTrue (rise entry_key nat_cmp rows)) (sym c.reserve_rows-3.ensures.items) old.entries_rise;
+      filed = λ entry there. entry_stays old.index c.file_new_entry.new.self entry c.file_new_entry.ensures.stays (old.filed entry (subst (IsIn entry) c.reserve_rows-3.ensures.items there));
+    }
