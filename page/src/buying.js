@@ -1,7 +1,7 @@
 // ---- What has to be bought: the same question, where units of one size may be bought besides.
 
 // A receipt is of at most so many units.
-const MOST_RECEIVED = 100;
+const MAX_RECEIVED = 100;
 
 // By material, what a person typed of the size to buy, by field.
 const buying = new Map();
@@ -36,7 +36,7 @@ function boughtRows({asked: {buy, code}, plans}) {
   const size = sizeText(kind, buy.w, buy.h), units = count(bought, ...unitWords(kind));
   if (!bought) return [el("p", {text: tr`None of ${size} has to be bought.`})];
   const words = bought === 1 ? tr`${units} of ${size} has to be bought.` : tr`${units} of ${size} have to be bought.`;
-  const receive = bought > MOST_RECEIVED ? tr`Receive ${MOST_RECEIVED} of them` : tr`Receive them`;
+  const receive = bought > MAX_RECEIVED ? tr`Receive ${MAX_RECEIVED} of them` : tr`Receive them`;
   return [
     el("p", {}, el("b", {text: words})),
     el("button", {class: "small", text: receive, "data-key": `receive ${code}`, on: {click: () => receiveBought(code, buy, bought)}})
@@ -65,7 +65,7 @@ function buyPanel(found) {
 // Opens the stock with what was bought filled in.
 function receiveBought(code, {w, h}, units) {
   $("receiveMaterial").value = code;
-  [$("receiveW").value, $("receiveH").value, $("receiveCount").value] = [mm(w), mm(h), String(Math.min(units, MOST_RECEIVED))];
+  [$("receiveW").value, $("receiveH").value, $("receiveCount").value] = [mm(w), mm(h), String(Math.min(units, MAX_RECEIVED))];
   go(`stock/${code}`);
   adaptReceive();
 }

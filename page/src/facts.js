@@ -10,7 +10,7 @@ const facts = {
 };
 
 // So many answers are kept, the latest ones.
-const MOST_FACTS = 3000;
+const MAX_FACTS = 3000;
 
 const OF_ORDERS = ["demands", "demand", "orders", "order"], OF_STOCK = ["parts", "trace", "totals"], OF_ALL = ["history", "story"];
 const OF_ENDS = [...OF_ORDERS, ...OF_STOCK, "jobs", "job", "steps", "pieces"];
@@ -60,7 +60,7 @@ function noteFact(path, reply, asOf = facts.last) {
   if (!asOf || asOf !== facts.last || !KEPT_FACTS.has(path.split("/")[1])) return;
   facts.by.delete(path);
   facts.by.set(path, {reply, asOf: asOf.entry});
-  if (facts.by.size > MOST_FACTS) facts.by.delete(facts.by.keys().next().value);
+  if (facts.by.size > MAX_FACTS) facts.by.delete(facts.by.keys().next().value);
 }
 
 function factOf(path) { return facts.by.get(path)?.reply; }

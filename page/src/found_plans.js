@@ -1,6 +1,6 @@
 // ---- What the plans of all look like: a list of pictures to one scale, and what they come to.
 
-const MOST_CARDS = 60;
+const MAX_CARDS = 60;
 
 function showPlans() {
   const plans = shownPlans(), {found, part} = toCut;
@@ -21,7 +21,7 @@ function canReserve(plans) {
 // What the bound says, and a button that searches longer, where that may find more.
 function boundRow(found) {
   const {asked: {code}, proved, sent, calls, goes} = found;
-  const isOver = plansOf(code).planning || proved || sent || calls >= MOST_CALLS || goes.length > 1;
+  const isOver = plansOf(code).planning || proved || sent || calls >= MAX_CALLS || goes.length > 1;
   const longer = {class: "small", text: tr`Search longer`, "data-key": `longer ${code}`, on: {click: () => searchOn(code)}};
   return el("p", {}, el("b", {text: boundSays(found)}), " ", isOver ? null : el("button", longer));
 }
@@ -31,9 +31,9 @@ function planCards(plans) {
   const largest = {w: Math.max(...plans.map(plan => plan.w)), h: Math.max(...plans.map(plan => plan.h))};
   const wide = $("planList").clientWidth - 22, isBeside = wide >= 460 && plans[0].material.kind !== "bar";
   const size = {room: Math.max(180, isBeside ? wide - 202 : wide), largest, isPlain: true};
-  const cards = plans.slice(0, MOST_CARDS).map(plan => planCard(plan, size, isBeside));
-  if (plans.length > MOST_CARDS) cards.push(quiet(tr`And ${count(plans.length - MOST_CARDS, "other plan")}.`));
-  const [{material}] = plans, boxes = plans.slice(0, MOST_CARDS).flatMap(plan => layPlan(plan.root, material));
+  const cards = plans.slice(0, MAX_CARDS).map(plan => planCard(plan, size, isBeside));
+  if (plans.length > MAX_CARDS) cards.push(quiet(tr`And ${count(plans.length - MAX_CARDS, "other plan")}.`));
+  const [{material}] = plans, boxes = plans.slice(0, MAX_CARDS).flatMap(plan => layPlan(plan.root, material));
   return [...cards, legendOf(boxes, material)];
 }
 

@@ -36,7 +36,7 @@ async function readHappened() {
 async function entriesTo(path, after, last) {
   const rows = [];
   let more = true;
-  for (let page = 0; more && after < last && page < MOST_PAGES; page++) {
+  for (let page = 0; more && after < last && page < MAX_PAGES; page++) {
     const told = await askCalmly(`${path}/${after}`), {entries} = told;
     rows.push(...entries.filter(({entry}) => entry <= last));
     more = told.more && entries.length > 0;

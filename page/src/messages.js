@@ -17,7 +17,7 @@ const storage = {
 
 // A message has a key of its own, so that no tab overwrites what another keeps: its mark, by which messages stand in the
 // order in which they were typed. With its answer it is kept on, for the tab that typed it and for the log.
-const MESSAGE = "cutshop.message.", MOST_ANSWERED = 60, MOST_LOGGED = 12;
+const MESSAGE = "cutshop.message.", MAX_ANSWERED = 60, MAX_LOGGED = 12;
 
 const terminal = {
   number: storage.read("cutshop.terminal", 0),
@@ -169,13 +169,13 @@ async function lastNumber(sender) {
 
 // The numbers under which this browser sent messages, as ranges [terminal, first, last], the latest ones. An entry of this terminal
 // under another one comes from another device.
-const SENT = "cutshop.sent", MOST_SENT = 200;
+const SENT = "cutshop.sent", MAX_SENT = 200;
 
 function noteSent({terminal: sender, number}) {
   const ranges = storage.read(SENT, []), [of, first, last] = ranges[ranges.length - 1] || [];
   const isNext = of === sender && last === number - 1;
   try {
-    storage.write(SENT, isNext ? [...ranges.slice(0, -1), [of, first, number]] : [...ranges, [sender, number, number]].slice(-MOST_SENT));
+    storage.write(SENT, isNext ? [...ranges.slice(0, -1), [of, first, number]] : [...ranges, [sender, number, number]].slice(-MAX_SENT));
   } catch { return; }  // (then the message itself can't be kept either)
 }
 
@@ -224,7 +224,7 @@ async function answered({mark, terminal: sender, number, what, command, end, man
       else told.done++;
       if (isOld) told.old = [...told.old || [], [what, old]];
     });
-  for (const {mark: old} of terminal.answered().slice(0, -MOST_ANSWERED)) terminal.forget(old);
+  for (const {mark: old} of terminal.answered().slice(0, -MAX_ANSWERED)) terminal.forget(old);
   tellAnswer({mark, words, reply, many, isSame: quicker?.isSame});
 }
 

@@ -77,7 +77,7 @@ async function readFound() {
   await readTexts([found]);
   const entries = await entriesTo(`/story/order/${found}`, 0, Infinity);
   if (inOrders.found === found) oneOrder.jobs = jobsOf(entries);
-  const [pieces, more] = await readPages(`/pieces/order/${found}`, "pieces", MOST_PAGES, row => `/pieces/order/${found}/${row.part}`);
+  const [pieces, more] = await readPages(`/pieces/order/${found}`, "pieces", MAX_PAGES, row => `/pieces/order/${found}/${row.part}`);
   if (inOrders.found === found) Object.assign(oneOrder, {pieces, more});
 }
 
@@ -103,7 +103,7 @@ function piecesBy(rows, kind) {
     const [row] = same, units = [...new Set(same.map(({root}) => root))], ofBatch = kind === "batch", name = row[kind];
     const link = ofBatch ? linkTo(`batch/${name}`, tr`Batch ${name}`) : linkTo(`order/${name}`, tr`Order ${name}`);
     const [size] = same.every(({w, h}) => w === row.w && h === row.h) ? [sizeText(kindOf(row.material), row.w, row.h)] : [""];
-    const shown = units.slice(0, MOST_OPEN).map(unit => linkTo(`part/${unit}`, unit, tr`Part ${unit}`));
+    const shown = units.slice(0, MAX_OPEN).map(unit => linkTo(`part/${unit}`, unit, tr`Part ${unit}`));
     const more = units.length - shown.length;
     return el("li", {}, link, el("span", {text: `${count(same.length, "piece")}${size ? ` ${size}` : ""}, ${row.material}:`}), ...shown,
       more ? el("span", {class: "quiet", text: tr`and ${more} more`}) : null);

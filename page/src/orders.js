@@ -34,7 +34,7 @@ async function readOrders() {
 
 // The open orders with their sums; of unfolded ones all lines.
 async function readOpenOrders() {
-  const [rows, more] = await readPages("/demands/0", "demands", MOST_PAGES, row => `/demands/${row.demand}`);
+  const [rows, more] = await readPages("/demands/0", "demands", MAX_PAGES, row => `/demands/${row.demand}`);
   learnLines(rows);
   const orders = groupsOf(rows, row => row.order).sort(([a], [b]) => byDay(a, b));
   inOrders.sums = await readSums(orders.map(([{order}]) => order));
@@ -50,7 +50,7 @@ async function readSums(codes) {
   const sums = new Map();
   let pages = 0;
   for (const code of [...codes].sort()) {
-    if (sums.has(code) || pages++ >= MOST_PAGES) continue;
+    if (sums.has(code) || pages++ >= MAX_PAGES) continue;
     const below = codeBelow(code), {orders} = await askCalmly(below ? `/orders/${below}` : "/orders");
     for (const row of orders) sums.set(row.order, row);
   }
@@ -101,7 +101,7 @@ function showOrders() {
 function ordersToShow() {
   const open = [...new Set(shop.orders.map(row => row.order))].filter(order => inOrders.sums.has(order));
   const rows = isFinishedToo() ? shop.allOrders : open.map(order => inOrders.sums.get(order));
-  const isFew = !isFinishedToo() && rows.reduce((all, row) => all + row.lines, 0) <= MOST_OPEN;
+  const isFew = !isFinishedToo() && rows.reduce((all, row) => all + row.lines, 0) <= MAX_OPEN;
   return rows.map(row => [row, inOrders.folds.get(row.order) ?? isFew]);
 }
 

@@ -77,12 +77,12 @@ async function readPlans() {
 }
 
 // Of many jobs the plans come from the entries that reserved them, back from the newest; the others are asked for one by one.
-const MANY_PLANS = 3, MOST_BACK = 20;
+const MANY_PLANS = 3, MAX_BACK = 20;
 
 async function learnPlans(rows) {
   const lacking = new Map(rows.map(row => [row.job, row]));
   let end = facts.last?.entry || 0;
-  for (let page = 0; page < MOST_BACK && end && lacking.size > MANY_PLANS; page++) {
+  for (let page = 0; page < MAX_BACK && end && lacking.size > MANY_PLANS; page++) {
     const after = Math.max(0, end - ENTRIES);
     for (const {message, reply} of (await askCalmly(`/history/${after}`)).entries) {
       if (message.do !== "reserve" || !lacking.has(reply.job)) continue;
@@ -153,12 +153,12 @@ function endedRow({at, message: {job, do: done, terminal: by}}) {
 }
 
 // The last jobs that ended, each by the entry that ended it last: what happened since they were read goes before them.
-const MOST_ENDED = 10;
+const MAX_ENDED = 10;
 
 async function readEnded() {
   const last = facts.last?.entry || 0, ended = new Map();
   let end = last;
-  for (let page = 0; page < MOST_BACK && end > atSaw.endedTo && ended.size < MOST_ENDED; page++) {
+  for (let page = 0; page < MAX_BACK && end > atSaw.endedTo && ended.size < MAX_ENDED; page++) {
     const after = Math.max(0, end - ENTRIES), {entries} = await askCalmly(`/history/${after}`);
     for (const row of entries.filter(({entry, message}) => entry <= end && Object.hasOwn(ENDS, message.do)).reverse())
       if (!ended.has(row.message.job)) ended.set(row.message.job, row);
@@ -166,7 +166,7 @@ async function readEnded() {
   }
   for (const row of atSaw.ended)
     if (!ended.has(row.message.job)) ended.set(row.message.job, row);
-  Object.assign(atSaw, {ended: [...ended.values()].slice(0, MOST_ENDED), endedTo: last});
+  Object.assign(atSaw, {ended: [...ended.values()].slice(0, MAX_ENDED), endedTo: last});
 }
 
 // Numbers that rise, those that follow one another as a range.

@@ -2,7 +2,7 @@
 // long as what it found isn't proved best, nobody stops it, and the time isn't over. Of sheets it makes its first plans only
 // when it has a bound.
 
-const ROUNDS = {bar: [20, 100, 500, 2000], sheet: [20, 200, 600, 2000]}, MOST_CALLS = 5000;
+const ROUNDS = {bar: [20, 100, 500, 2000], sheet: [20, 200, 600, 2000]}, MAX_CALLS = 5000;
 const PLAN_TIME = 18000, TIME_ALONE = 3000, CALLS_ALONE = 50;
 const MAX_KINDS = 100, MAX_PARTS = 1000, MAX_BAR = 150000;
 // A remnant costs so many hundredths of a unit of its size, so that what lies on the rack goes first.
@@ -125,7 +125,7 @@ async function searchOn(code = shop.material) {
   showToCut();
   await readLists(it.code);
   const demands = chosenDemands(it.code, asked.only).slice(0, MAX_KINDS).map(row => row.demand);
-  if (planning !== it.planning || !await searchGo(it, planning, {...asked, demands}, goes.slice(), 0, MOST_CALLS, Infinity)) return;
+  if (planning !== it.planning || !await searchGo(it, planning, {...asked, demands}, goes.slice(), 0, MAX_CALLS, Infinity)) return;
   searchOver(it);
 }
 

@@ -1,7 +1,7 @@
 // ---- What is known of the shop.
 
 // A list is read up to so many pages of a hundred.
-const MOST_PAGES = 20;
+const MAX_PAGES = 20;
 
 const shop = {
   materials: [],
@@ -130,7 +130,7 @@ function saidOf(order) {
 async function readDemands(code = shop.material) {
   const before = shop.changes;
   if (!code) return;
-  const [rows, more] = await readPages(`/demands/0/${code}`, "demands", MOST_PAGES, row => `/demands/${row.demand}/${code}`);
+  const [rows, more] = await readPages(`/demands/0/${code}`, "demands", MAX_PAGES, row => `/demands/${row.demand}/${code}`);
   if (before === shop.changes) takeDemands(code, rows, more);
 }
 
@@ -163,7 +163,7 @@ async function readJobs() {
 async function readParts(code = shop.material) {
   const before = shop.changes;
   if (!code) return;
-  const [parts, more] = await readPages(`/parts/${code}`, "parts", MOST_PAGES, row => `/parts/${code}/${row.part}`);
+  const [parts, more] = await readPages(`/parts/${code}`, "parts", MAX_PAGES, row => `/parts/${code}/${row.part}`);
   if (before === shop.changes) Object.assign(knownOf(code), {parts: parts.map(row => ({...row, material: code})), moreParts: more, isRead: true});
 }
 

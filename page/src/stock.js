@@ -34,7 +34,7 @@ function groupsOf(rows, keyOfRow) {
 }
 
 // Over so many rows each size is folded at first.
-const MOST_OPEN = 12;
+const MAX_OPEN = 12;
 
 // All remnants, then the units size by size, the largest first; standing ones of one batch and size are one row.
 function stockRows() {
@@ -43,7 +43,7 @@ function stockRows() {
   const remnants = large.filter(isRemnant), units = large.filter(part => !isRemnant(part));
   const sizes = groupsOf(units, part => `${part.w} ${part.h}`);
   const folds = [remnants, ...sizes].filter(parts => parts.length).map(parts => [parts, stockGroups(parts)]);
-  const isOpen = folds.reduce((sum, [, rows]) => sum + rows.length, 0) <= MOST_OPEN;
+  const isOpen = folds.reduce((sum, [, rows]) => sum + rows.length, 0) <= MAX_OPEN;
   return [...folds.map(([parts, rows]) => stockFold(parts, rows, isOpen)), andMore(shop.moreParts)];
 }
 
@@ -224,7 +224,7 @@ async function trace(name) {
     drawChain();
     if (window.innerWidth < NARROW) $("tracePanel").scrollIntoView({block: "nearest"});
     if (chain.length > 1) return;
-    const [pieces, more] = await readPages(`/pieces/unit/${name}`, "pieces", MOST_PAGES, row => `/pieces/unit/${name}/${row.part}`);
+    const [pieces, more] = await readPages(`/pieces/unit/${name}`, "pieces", MAX_PAGES, row => `/pieces/unit/${name}/${row.part}`);
     if (traced.name === name) $("traceWords").append(...pieceRows(tr`Pieces of orders`, pieces, "order", more).filter(Boolean));
   } catch (error) {
     const fault = el("p", {class: "fault", text: await faultWords(error)});
@@ -296,13 +296,13 @@ async function showBatch(batch) {
 async function partsOfBatch(batch) {
   const found = [];
   for (const {material} of shop.materials) {
-    const [parts] = await readPages(`/parts/${material}`, "parts", MOST_PAGES, row => `/parts/${material}/${row.part}`);
+    const [parts] = await readPages(`/parts/${material}`, "parts", MAX_PAGES, row => `/parts/${material}/${row.part}`);
     found.push(...parts.filter(part => part.batch === batch).map(part => ({...part, material})));
   }
   return found;
 }
 
-function piecesOfBatch(batch) { return readPages(`/pieces/batch/${batch}`, "pieces", MOST_PAGES, row => `/pieces/batch/${batch}/${row.part}`); }
+function piecesOfBatch(batch) { return readPages(`/pieces/batch/${batch}`, "pieces", MAX_PAGES, row => `/pieces/batch/${batch}/${row.part}`); }
 
 function batchRows(batch, parts) {
   const rows = groupsOf(parts, ({material, w, h, state, of, root, part}) => [material, w, h, state, of, root === part].join(" "));

@@ -5,7 +5,7 @@ async function chooseTerminal() {
   $("shopName").value = storage.read("cutshop.name", "");
   $("terminalWords").textContent = "";
   showFault("terminalFault", terminal.isSpent ? spentWords(terminal.number) : "");
-  const log = terminal.answered().slice(-MOST_LOGGED).reverse();
+  const log = terminal.answered().slice(-MAX_LOGGED).reverse();
   $("messageLog")
     .replaceChildren(log.length ? el("h3", {text: tr`Last messages of this browser`}) : "",
       ...log.map(({number, words, reply, isSame}) => el("div", {text: `${number}: ${isRefusal(reply, {isSame}) ? "✗" : "✓"} ${words}`})));

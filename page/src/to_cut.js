@@ -79,7 +79,7 @@ function wantedRows() {
 
 // The orders of which something is left, the earliest due first, and below those that are unfolded their lines: few are at first.
 function demandTable(rows) {
-  const isFew = rows.length <= MOST_OPEN, isOpen = ([{order}]) => toCut.folds.get(order) ?? isFew;
+  const isFew = rows.length <= MAX_OPEN, isOpen = ([{order}]) => toCut.folds.get(order) ?? isFew;
   const orders = groupsOf(rows, row => row.order).sort(([a], [b]) => byDay(a, b));
   const head = ["", tr`Line`, tr`Size in mm`, tr`Left`, tr`No.`].map(
     (text, i) => el("th", {text, scope: "col", class: i > 2 ? "right" : "", title: i === 4 ? tr`the number of these pieces wanted` : ""}));
@@ -267,11 +267,11 @@ function forgetPlans(code = shop.material) {
 
 // How often a sheet may be turned between cuts, which is kept by material: a glass table or a panel saw takes so many runs of
 // parallel cuts, 0 is any.
-const STAGES = [0, 2, 3, 4], USUAL_STAGES = 4;
+const STAGES = [0, 2, 3, 4], DEFAULT_STAGES = 4;
 
 function stagesOf(code) {
   const kept = storage.read("cutshop.stages", {})[code];
-  return STAGES.includes(kept) ? kept : USUAL_STAGES;
+  return STAGES.includes(kept) ? kept : DEFAULT_STAGES;
 }
 
 function chooseStages(code, stages) {

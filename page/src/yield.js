@@ -99,7 +99,7 @@ async function openReport(code) {
   try {
     await lookAtShop();
     const totals = await ask(`/totals/${code}`),
-          [parts, more] = await readPages(`/parts/${code}`, "parts", 2 * MOST_PAGES, row => `/parts/${code}/${row.part}`);
+          [parts, more] = await readPages(`/parts/${code}`, "parts", 2 * MAX_PAGES, row => `/parts/${code}/${row.part}`);
     owner.report = {...materialOf(code), totals, parts, more, at: timeText(Date.now())};
   } catch (error) { tell(tr`Report: ${await faultWords(error)}`, "refused"); }
   showYield();

@@ -12,13 +12,13 @@ ghost use Rattle.cut_bars.specs.Levels.{Has, IsLevel, IsBestRoomForFirst};
 use crate::divide::divide;
 use crate::level::{Level, offer_want};
 pub use crate::reach::Entry;
-use cut_measure::MOST_KERF;
+use cut_measure::MAX_KERF;
 use cut_wants::number::Number;
 use cut_wants::wants::Want;
 use std::alloc::{AllocError, Global};
 
 /// The longest bar that is planned, in tenths of a millimetre.
-pub const LONGEST_BAR: u32 = 150_000;
+pub const MAX_BAR_LENGTH: u32 = 150_000;
 
 /// What no counts at all reach.
 fn none_reached<T: Number>(alloc: Global) -> Result<Level<T>, AllocError>
@@ -38,7 +38,7 @@ fn reached_level<T: Number>(
 ) -> Result<Level<T>, AllocError>
     requires below { ArePricedBelow T.limit kerf whole wants.now }
     requires whole { whole ≤ 2 ^ 20 - 1 }
-    requires kerf { kerf ≤ MOST_KERF }
+    requires kerf { kerf ≤ MAX_KERF }
     ensures level { IfOk result (IsLevel whole) }
     ensures reached { IfOk result (λ level. AreReached kerf wants.now whole (Has T.value level)) }
 {
@@ -57,8 +57,8 @@ fn entries_of<T: Number>(
     kerf: u32,
 ) -> Result<Vec<Entry>, AllocError>
     requires below { ArePricedBelow T.limit kerf (size + kerf) wants.now }
-    requires size { size ≤ LONGEST_BAR }
-    requires kerf { kerf ≤ MOST_KERF }
+    requires size { size ≤ MAX_BAR_LENGTH }
+    requires kerf { kerf ≤ MAX_KERF }
     ensures rising { IfOk result (λ entries. AreRising entries.items) }
     ensures reached { IfOk result
         (λ entries. AreReached kerf wants.now (size + kerf) (Contains entries.items)) }
@@ -70,7 +70,7 @@ fn entries_of<T: Number>(
 /// The worth of a want for each unit of the room that a piece of it takes, rounded up.
 fn price(want: &Want, kerf: u32) -> u64
     requires worth { want.now.worth ≤ 2 ^ 30 }
-    requires kerf { kerf ≤ MOST_KERF }
+    requires kerf { kerf ≤ MAX_KERF }
     ensures enough { want.now.worth ≤ (want.now.size.w + kerf) * result }
     ensures small { result ≤ 2 ^ 30 }
 {
@@ -80,7 +80,7 @@ fn price(want: &Want, kerf: u32) -> u64
 /// The highest price of a want.
 fn highest_price(wants: &[Want], kerf: u32) -> u64
     requires modest { HaveBoundedWorthsAndLefts wants.now }
-    requires kerf { kerf ≤ MOST_KERF }
+    requires kerf { kerf ≤ MAX_KERF }
     ensures enough { (x : Want) → Contains wants.now x → x.worth ≤ (x.size.w + kerf) * result }
     ensures small { result ≤ 2 ^ 30 }
 {
@@ -94,7 +94,7 @@ fn highest_price(wants: &[Want], kerf: u32) -> u64
 /// Whether cells of 32 bits hold the worths within the whole; those of 64 bits do.
 fn is_narrow(wants: &[Want], kerf: u32, whole: u32) -> bool
     requires modest { HaveBoundedWorthsAndLefts wants.now }
-    requires kerf { kerf ≤ MOST_KERF }
+    requires kerf { kerf ≤ MAX_KERF }
     requires whole { whole ≤ 2 ^ 20 - 1 }
     ensures narrow { IsTrue result → ArePricedBelow (2 ^ 32) kerf whole wants.now }
     ensures wide { ArePricedBelow (2 ^ 64) kerf whole wants.now }
@@ -113,7 +113,7 @@ fn room_by<T: Number>(
     requires below_first { ArePricedBelow T.limit kerf whole first.now }
     requires below_others { ArePricedBelow T.limit kerf whole others.now }
     requires whole { whole ≤ 2 ^ 20 - 1 }
-    requires kerf { kerf ≤ MOST_KERF }
+    requires kerf { kerf ≤ MAX_KERF }
     ensures { IfOk result (IsBestRoomForFirst kerf first.now others.now whole) }
 {
     let prefix: Level<T> = reached_level(alloc, first, kerf, whole)?;
@@ -133,7 +133,7 @@ fn room_for_first(
     requires modest_first { HaveBoundedWorthsAndLefts first.now }
     requires modest_others { HaveBoundedWorthsAndLefts others.now }
     requires whole { whole ≤ 2 ^ 20 - 1 }
-    requires kerf { kerf ≤ MOST_KERF }
+    requires kerf { kerf ≤ MAX_KERF }
     ensures { IfOk result (IsBestRoomForFirst kerf first.now others.now whole) }
 {
     let first_narrow = is_narrow(first, kerf, whole);
@@ -147,7 +147,7 @@ fn room_for_first(
 
 /// As many of one want as are left and fit.
 fn count_one(want: &Want, kerf: u32, whole: u32) -> u32
-    requires kerf { kerf ≤ MOST_KERF }
+    requires kerf { kerf ≤ MAX_KERF }
     ensures some { 1 ≤ want.now.size.w }
     ensures best { AreBestCounts kerf (want.now ∷ []) whole (result ∷ []) }
 {
@@ -165,7 +165,7 @@ fn fill_counts(
     requires len { length counts.old ≡ length wants.now }
     requires modest { HaveBoundedWorthsAndLefts wants.now }
     requires whole { whole ≤ 2 ^ 20 - 1 }
-    requires kerf { kerf ≤ MOST_KERF }
+    requires kerf { kerf ≤ MAX_KERF }
     ensures some { IfOk result (λ _. HaveLength wants.now) }
     ensures best { IfOk result (λ _. AreBestCounts kerf wants.now whole counts.new) }
 {
@@ -195,8 +195,8 @@ pub fn best_counts(
     requires own { HaveOwnDemands wants.now }
     requires bar { AreUprightOfHeightOne wants.now }
     requires modest { HaveBoundedWorthsAndLefts wants.now }
-    requires size { size ≤ LONGEST_BAR }
-    requires kerf { kerf ≤ MOST_KERF }
+    requires size { size ≤ MAX_BAR_LENGTH }
+    requires kerf { kerf ≤ MAX_KERF }
     ensures some { IfOk result (λ _. HaveLength wants.now) }
     ensures counts { IfOk result
         (λ counts. AreBestCounts kerf wants.now (size + kerf) counts.items) }
@@ -211,8 +211,8 @@ pub fn best_counts(
 /// An entry for each room within a bar and a kerf that counts take, with the greatest worth of such counts.
 pub fn reach(alloc: Global, wants: &[Want], size: u32, kerf: u32) -> Result<Vec<Entry>, AllocError>
     requires modest { HaveBoundedWorthsAndLefts wants.now }
-    requires size { size ≤ LONGEST_BAR }
-    requires kerf { kerf ≤ MOST_KERF }
+    requires size { size ≤ MAX_BAR_LENGTH }
+    requires kerf { kerf ≤ MAX_KERF }
     ensures rising { IfOk result (λ entries. AreRising entries.items) }
     ensures reached { IfOk result
         (λ entries. AreReached kerf wants.now (size + kerf) (Contains entries.items)) }

@@ -7,7 +7,7 @@ ghost use Rattle.cut_bars.specs.Levels.{Has, HasCell, IsLevel};
 
 use crate::cells::{list_of, raise, raise_freely, table_of};
 use crate::reach::{Entry, offer_entries};
-use cut_measure::MOST_KERF;
+use cut_measure::MAX_KERF;
 use cut_wants::number::Number;
 use cut_wants::wants::Want;
 use std::alloc::{AllocError, Global};
@@ -181,7 +181,7 @@ pub fn offer_want<T: Number>(
     requires below { StayBelow T.limit whole (Has T.value base)
         (want.now.size.w + kerf) want.now.worth }
     requires whole { whole ≤ 2 ^ 20 - 1 }
-    requires kerf { kerf ≤ MOST_KERF }
+    requires kerf { kerf ≤ MAX_KERF }
     ensures level { IfOk result (IsLevel whole) }
     ensures offered { IfOk result
         (λ offered. AreOffered (want.now.size.w + kerf) want.now.worth want.now.left whole

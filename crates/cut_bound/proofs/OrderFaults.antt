@@ -22,7 +22,7 @@ use Rattle.cut_plan.proofs.Faultless as sound
 use Rattle.cut_classes.specs.Classes.{Classes}
 use Rattle.cut_classes.specs.Grids.{AreUsable}
 use Rattle.cut_classes.proofs.LegalTrees.{ceiling_bounds}
-use Rattle.cut_bound.specs.declared.limits.TheConstants.{MOST_ORDER_WANTS}
+use Rattle.cut_bound.specs.declared.limits.TheConstants.{MAX_ORDER_WANTS}
 use Rattle.cut_bound.specs.declared.stock.StockSize.{StockSize}
 use Rattle.cut_bound.specs.declared.stock.RatedSize.{RatedSize}
 use Rattle.cut_bound.specs.Cuttings.{IsCostBound}
@@ -40,7 +40,7 @@ use Rattle.cut_bound.proofs.PricedWants.{each_priced, is_price, priced_few, pric
 -- ---- no fault
 
 pub record IsFaultless (bad_step : Bool) (kind : Kind) (k : ℕ) (s : Option ℕ) (sizes : List StockSize) (wants : List Want) : Type 0 where
-  pub in_range : are_bad_wants MOST_ORDER_WANTS kind wants ≡ false
+  pub in_range : are_bad_wants MAX_ORDER_WANTS kind wants ≡ false
   pub stepped : bad_step ≡ false
   pub small : list_any (λ z. is_large kind z.size k s) sizes ≡ false
   pub fits : list_any (λ z. list_any (is_fitting z.size) wants) sizes ≡ true
@@ -56,7 +56,7 @@ chosen false e = absurd (cc)
 
 pub faultless : (bad_step : Bool) (kind : Kind) (k : ℕ) (s : Option ℕ) (sizes : List StockSize) (wants : List Want) → fault_by bad_step kind k s sizes wants ≡ None → IsFaultless bad_step kind k s sizes wants
 faultless bad_step kind k s sizes wants e =
-    let a = past (are_bad_wants MOST_ORDER_WANTS kind wants) _ _ e in
+    let a = past (are_bad_wants MAX_ORDER_WANTS kind wants) _ _ e in
     let b = past bad_step _ _ a.1 in
     let c = past (list_any (λ (z : StockSize). is_large kind z.size k s) sizes) _ _ b.1 in
     record { in_range = a.0; stepped = b.0; small = c.0; fits = chosen _ c.1 }
@@ -118,7 +118,7 @@ ratable kind k o sizes wants ns e =
     flat : (some : Kind) → kind ≡ some → some ≡ Bar → AreUprightOfHeightOne (priced kind k s wants ns)
     flat some same bar x has =
         let p = each_priced kind k s wants ns x has in
-        let all = sound.flat _ wants (subst (λ (q : Kind). are_bad_wants MOST_ORDER_WANTS q wants ≡ false) (same ∙ bar) f.in_range) in
+        let all = sound.flat _ wants (subst (λ (q : Kind). are_bad_wants MAX_ORDER_WANTS q wants ≡ false) (same ∙ bar) f.in_range) in
         let old = all p.picked.want p.picked.there in
         record { flat = ap (λ (z : Want). z.size.h) p.picked.same ∙ old.flat; upright = ap (λ (z : Want). z.may_turn) p.picked.same ∙ old.upright }
 

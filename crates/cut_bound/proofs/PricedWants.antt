@@ -3,7 +3,7 @@ use Rattle.std.proofs.Common.{◌≡◌, ℕ, ◌⊎◌, ◌+◌, ◌<◌, ◌�
 use Rattle.std.specs.Prelude.{Contains, ◌&&◌, not, nat_le, nat_lt, if◌then◌else◌}
 use Rattle.std.proofs.lemmas.Bool.{and_parts, leb-true, ltb-true, not-true}
 use Rattle.std.proofs.lemmas.List.{append-nil, drop_all, drop_more}
-use Rattle.cut_measure.specs.declared.ranges.TheConstants.{MOST_WORTH}
+use Rattle.cut_measure.specs.declared.ranges.TheConstants.{MAX_WORTH}
 use Rattle.cut_measure.specs.declared.sizes.Kind.{Kind}
 use Rattle.cut_wants.specs.declared.wants.Want.{Want}
 use Rattle.cut_wants.specs.Legal.{HaveOwnDemands}
@@ -65,15 +65,15 @@ priced_few kind k s (x ∷ xs) (n ∷ ns) = omega (arith, few_by x (priced kind 
 -- what it is that a number is a price
 pub record IsPrice (kind : Kind) (k s : ℕ) (x : Want) (n : ℕ) : Type 0 where
   pub some : 1 ≤ n
-  pub most : n ≤ MOST_WORTH
+  pub most : n ≤ MAX_WORTH
   pub stepped : is_below_step kind k s x ≡ false
 
 pub is_price : (kind : Kind) (k s : ℕ) (x : Want) (n : ℕ) → has_price kind k s x n ≡ true → IsPrice kind k s x n
 is_price kind k s x n e =
-    let a = and_parts (nat_lt 0 n && nat_le n MOST_WORTH) (not (is_below_step kind k s x)) e in
-    let b = and_parts (nat_lt 0 n) (nat_le n MOST_WORTH) a.0 in
+    let a = and_parts (nat_lt 0 n && nat_le n MAX_WORTH) (not (is_below_step kind k s x)) e in
+    let b = and_parts (nat_lt 0 n) (nat_le n MAX_WORTH) a.0 in
     let some : 0 < n = ltb-true 0 n b.0 in
-    let most : n ≤ MOST_WORTH = leb-true n MOST_WORTH b.1 in
+    let most : n ≤ MAX_WORTH = leb-true n MAX_WORTH b.1 in
     record { some = omega arith; most = most; stepped = not-true (is_below_step kind k s x) a.1 }
 
 -- ---- one more want

@@ -12,7 +12,7 @@ use Rattle.cut_classes.specs.Classes.{Classes}
 use Rattle.cut_classes.specs.Grids.{AreUsable}
 use Rattle.cut_plan.specs.Faults as plan
 use Rattle.cut_plan.specs.Faults.{are_bad_wants, is_fitting}
-use Rattle.cut_bound.specs.declared.limits.TheConstants.{MOST_BOUND, MOST_ORDER_WANTS}
+use Rattle.cut_bound.specs.declared.limits.TheConstants.{MAX_BOUND, MAX_ORDER_WANTS}
 use Rattle.cut_bound.specs.declared.stock.StockSize.{StockSize}
 use Rattle.cut_bound.specs.declared.stock.RatedSize.{RatedSize}
 use Rattle.cut_bound.specs.Cuttings.{IsCostBound}
@@ -34,7 +34,7 @@ is_bad_step kind k (Some s) wants = plan.is_bad_step kind k s wants
 -- the first fault of the wants, the step, or the sizes
 abbrev pub fault_by : (bad_step : Bool) → Kind → (kerf : ℕ) → (step : Option ℕ) → List StockSize → List Want → Option PlanFault
 fault_by bad_step kind k step sizes wants =
-    if are_bad_wants MOST_ORDER_WANTS kind wants then Some BadWant
+    if are_bad_wants MAX_ORDER_WANTS kind wants then Some BadWant
     else (if bad_step then Some BadStep
     else (if list_any (λ z. is_large kind z.size k step) sizes then Some TableTooLarge
     else (if list_any (λ z. list_any (is_fitting z.size) wants) sizes then None else Some NothingFits)))
@@ -54,7 +54,7 @@ pub record IsCommonDivisor (sizes : List StockSize) (divisor : ℕ) : Type 0 whe
 
 -- the least multiple that is no less, or 10^18 where that is less
 abbrev pub told_cost : (divisor cost : ℕ) → ℕ
-told_cost divisor cost = min (div_ceil cost divisor * divisor) MOST_BOUND
+told_cost divisor cost = min (div_ceil cost divisor * divisor) MAX_BOUND
 
 -- Each size with what a unit of it is worth at most at the wants' worths, and the greatest cost at the rate of a size that
 -- sets the price, as a multiple of what divides all costs. Without a step sheets are rated over some classes of widths and

@@ -1,7 +1,7 @@
 -- Planned units: when a list of them is a plan of an order, and what a check tells of it.
 use Rattle.std.specs.Prelude.{◌≡◌, ℕ, ◌+◌, ◌-◌, ◌<◌, ◌≤◌, ◌^◌, ◌↔◌, IsTrue, List, [], ◌∷◌, ◌++◌, All, IfSome, Some, length, map, replicate, slice_get}
 use Rattle.cut_measure.specs.Measures.{Extent}
-use Rattle.cut_tree.specs.declared.token.TheConstants.{MOST_CUTS}
+use Rattle.cut_tree.specs.declared.token.TheConstants.{MAX_CUTS}
 use Rattle.cut_tree.specs.declared.leaves.Leaf.{Leaf}
 use Rattle.cut_tree.specs.Tree.{Tree, count_of, cut_count}
 use Rattle.cut_tree.specs.Patterns.{Pattern}
@@ -40,7 +40,7 @@ pub record IsPlanFor (wants : List Want) (kerf : ℕ) (size : Extent) (plan : Pa
   pub sawn : plan.kerf ≡ kerf
   pub legal : Legal wants kerf plan.tree size.w size.h
   pub some_piece : 1 ≤ leaf_count plan.tree
-  pub few_cuts : cut_count plan.tree ≤ MOST_CUTS
+  pub few_cuts : cut_count plan.tree ≤ MAX_CUTS
 
 -- there is one at least, its place is that of one of the sizes, and its plan is one for that size
 pub record IsPlannedUnit (wants : List Want) (kerf : ℕ) (sizes : List StockSize) (unit : PlannedUnit) : Type 0 where

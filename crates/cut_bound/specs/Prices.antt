@@ -1,6 +1,6 @@
 -- Wants at prices, which are a list of numbers beside them.
 use Rattle.std.specs.Prelude.{◌≡◌, ℕ, ◌&&◌, not, nat_le, nat_lt, Bool, false, List, [], ◌∷◌, Contains, Option, if◌then◌else◌, unwrap_or}
-use Rattle.cut_measure.specs.declared.ranges.TheConstants.{MOST_WORTH}
+use Rattle.cut_measure.specs.declared.ranges.TheConstants.{MAX_WORTH}
 use Rattle.cut_measure.specs.declared.sizes.Kind.{Kind}
 use Rattle.cut_measure.specs.declared.sizes.Kind.TheVariants.{Bar, Sheet}
 use Rattle.cut_wants.specs.declared.wants.Want.{Want}
@@ -18,7 +18,7 @@ is_below_step Sheet k s x = is_short k s x
 
 -- the number is a price, 1 to 1000000000, and the want's sides are steps
 abbrev pub has_price : Kind → (kerf step : ℕ) → Want → ℕ → Bool
-has_price kind k s x number = nat_lt 0 number && nat_le number MOST_WORTH && not (is_below_step kind k s x)
+has_price kind k s x number = nat_lt 0 number && nat_le number MAX_WORTH && not (is_below_step kind k s x)
 
 -- the want, its price in place of its worth
 abbrev pub at_price : Want → ℕ → Want

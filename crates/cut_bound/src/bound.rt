@@ -12,13 +12,13 @@ ghost use Rattle.cut_bound.specs.Orders.{IsPricedBound, IsRatedBound};
 
 use crate::divisors::divisor_of;
 use crate::faults::cost_fault;
-use crate::limits::MOST_BOUND;
+use crate::limits::MAX_BOUND;
 use crate::price::greatest_cost;
 use crate::prices::priced;
 use crate::ratings::{rated_bars, rated_classes, rated_sheets, stock_grid};
 use crate::stock::{RatedSize, StockSize};
 use cut_classes::counted_wants;
-use cut_measure::{Kind, MOST_KERF};
+use cut_measure::{Kind, MAX_KERF};
 use cut_plan::{PlanFault, Want};
 use cut_sheets::bound::total_left;
 use std::alloc::{AllocError, Global};
@@ -27,11 +27,11 @@ use std::alloc::{AllocError, Global};
 fn told_cost(divisor: u64, cost: u128) -> u64
     ensures { result ≡ orders.told_cost divisor cost }
 {
-    let most = MOST_BOUND as u128;
+    let most = MAX_BOUND as u128;
     if divisor == 0 {
         0
     } else if most <= cost {
-        MOST_BOUND
+        MAX_BOUND
     } else {
         let by = divisor as u128;
         (cost.div_ceil(by) * by).min(most) as u64
@@ -45,7 +45,7 @@ fn bars_bound(
     sizes: &[StockSize],
     priced: &[Want],
 ) -> Result<u64, AllocError>
-    requires kerf { kerf ≤ MOST_KERF }
+    requires kerf { kerf ≤ MAX_KERF }
     requires ratable { (step : Option ℕ) × AreRatable Bar kerf step sizes.now priced.now }
     ensures { IfOk result (λ bound. (step : Option ℕ)
         → IsRatedBound Bar kerf step sizes.now priced.now bound) }
@@ -63,7 +63,7 @@ fn steps_bound(
     sizes: &[StockSize],
     priced: &[Want],
 ) -> Result<u64, AllocError>
-    requires kerf { kerf ≤ MOST_KERF }
+    requires kerf { kerf ≤ MAX_KERF }
     requires ratable { AreRatable Sheet kerf (Some step) sizes.now priced.now }
     ensures { IfOk result (IsRatedBound Sheet kerf (Some step) sizes.now priced.now) }
 {
@@ -80,7 +80,7 @@ fn classes_bound(
     sizes: &[StockSize],
     priced: &[Want],
 ) -> Result<u64, AllocError>
-    requires kerf { kerf ≤ MOST_KERF }
+    requires kerf { kerf ≤ MAX_KERF }
     requires total { worth_left priced.now < 2 ^ 64 }
     ensures { IfOk result (IsRatedBound Sheet kerf None sizes.now priced.now) }
 {
@@ -101,7 +101,7 @@ fn rated_bound(
     sizes: &[StockSize],
     priced: &[Want],
 ) -> Result<u64, AllocError>
-    requires kerf { kerf ≤ MOST_KERF }
+    requires kerf { kerf ≤ MAX_KERF }
     requires ratable { AreRatable kind kerf step sizes.now priced.now }
     ensures { IfOk result (IsRatedBound kind kerf step sizes.now priced.now) }
 {
@@ -133,7 +133,7 @@ pub fn priced_cost(
     wants: &[Want],
     numbers: &[u32],
 ) -> Result<u64, AllocError>
-    requires kerf { kerf ≤ MOST_KERF }
+    requires kerf { kerf ≤ MAX_KERF }
     requires flat { kind ≡ Bar → All (λ z. z.size.h ≡ 1) sizes.now }
     requires faultless { orders.order_fault kind kerf step sizes.now wants.now ≡ None }
     ensures { IfOk result (IsPricedBound kind kerf step sizes.now wants.now numbers.now) }
@@ -167,7 +167,7 @@ fn faultless_cost(
     sizes: &[StockSize],
     wants: &[Want],
 ) -> Result<u64, AllocError>
-    requires kerf { kerf ≤ MOST_KERF }
+    requires kerf { kerf ≤ MAX_KERF }
     requires flat { kind ≡ Bar → All (λ z. z.size.h ≡ 1) sizes.now }
     requires faultless { orders.cost_fault kind kerf (Some step) sizes.now wants.now ≡ None }
     ensures { IfOk result
@@ -190,7 +190,7 @@ pub fn least_cost(
     sizes: &[StockSize],
     wants: &[Want],
 ) -> Result<u64, PlanFault>
-    requires kerf { kerf ≤ MOST_KERF }
+    requires kerf { kerf ≤ MAX_KERF }
     requires flat { kind ≡ Bar → All (λ z. z.size.h ≡ 1) sizes.now }
     ensures ok { IfOk result
         (IsPricedBound kind kerf (Some step) sizes.now wants.now (map (λ x. x.worth) wants.now)) }

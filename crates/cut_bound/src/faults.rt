@@ -7,9 +7,9 @@ ghost use Rattle.cut_plan.specs.Faults as faults;
 ghost use Rattle.cut_bound.specs.Ratings as ratings;
 ghost use Rattle.cut_bound.specs.Orders as orders;
 
-use crate::limits::MOST_ORDER_WANTS;
+use crate::limits::MAX_ORDER_WANTS;
 use crate::stock::StockSize;
-use cut_measure::{Kind, MOST_KERF, Size};
+use cut_measure::{Kind, MAX_KERF, Size};
 use cut_plan::{PlanFault, Want, are_bad_wants, some_fits};
 
 // Whether a sheet's step is 0.
@@ -27,7 +27,7 @@ fn is_no_step(kind: Kind, step: Option<u32>) -> bool
 
 // Whether a sheet's step is 0, or longer than some want's side and a kerf.
 fn is_bad_step(kind: Kind, wants: &[Want], kerf: u32, step: Option<u32>) -> bool
-    requires { kerf ≤ MOST_KERF }
+    requires { kerf ≤ MAX_KERF }
     ensures { result ≡ orders.is_bad_step kind kerf step wants.now }
 {
     match step {
@@ -38,7 +38,7 @@ fn is_bad_step(kind: Kind, wants: &[Want], kerf: u32, step: Option<u32>) -> bool
 
 // Whether a size is too large to be rated. No sheet is without a step.
 fn is_large(kind: Kind, size: Size, kerf: u32, step: Option<u32>) -> bool
-    requires kerf { kerf ≤ MOST_KERF }
+    requires kerf { kerf ≤ MAX_KERF }
     requires step { kind ≡ Sheet → (s : ℕ) → step ≡ Some s → 1 ≤ s }
     ensures { result ≡ ratings.is_large kind size kerf step }
 {
@@ -53,7 +53,7 @@ fn is_large(kind: Kind, size: Size, kerf: u32, step: Option<u32>) -> bool
 
 // Whether some size is too large to be planned.
 fn has_large_size(kind: Kind, kerf: u32, step: Option<u32>, sizes: &[StockSize]) -> bool
-    requires kerf { kerf ≤ MOST_KERF }
+    requires kerf { kerf ≤ MAX_KERF }
     requires step { kind ≡ Sheet → (s : ℕ) → step ≡ Some s → 1 ≤ s }
     ensures { result ≡ list_any (λ z. ratings.is_large kind z.size kerf step) sizes.now }
 {
@@ -78,11 +78,11 @@ fn fault_by(
     sizes: &[StockSize],
     wants: &[Want],
 ) -> Option<PlanFault>
-    requires kerf { kerf ≤ MOST_KERF }
+    requires kerf { kerf ≤ MAX_KERF }
     requires step { bad_step ≡ false → kind ≡ Sheet → (s : ℕ) → step ≡ Some s → 1 ≤ s }
     ensures { result ≡ orders.fault_by bad_step kind kerf step sizes.now wants.now }
 {
-    if are_bad_wants(MOST_ORDER_WANTS, kind, wants) {
+    if are_bad_wants(MAX_ORDER_WANTS, kind, wants) {
         return Some(PlanFault::BadWant);
     }
     if bad_step {
@@ -108,7 +108,7 @@ pub fn order_fault(
     sizes: &[StockSize],
     wants: &[Want],
 ) -> Option<PlanFault>
-    requires { kerf ≤ MOST_KERF }
+    requires { kerf ≤ MAX_KERF }
     ensures { result ≡ orders.order_fault kind kerf step sizes.now wants.now }
 {
     fault_by(is_no_step(kind, step), kind, kerf, step, sizes, wants)
@@ -122,7 +122,7 @@ pub fn cost_fault(
     sizes: &[StockSize],
     wants: &[Want],
 ) -> Option<PlanFault>
-    requires { kerf ≤ MOST_KERF }
+    requires { kerf ≤ MAX_KERF }
     ensures { result ≡ orders.cost_fault kind kerf step sizes.now wants.now }
 {
     let bad_step = is_bad_step(kind, wants, kerf, step);

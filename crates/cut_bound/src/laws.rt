@@ -15,7 +15,7 @@ ghost use Rattle.cut_bound.specs.Bounds.{AreRated, IsGreatestCost, SetsPrice, co
 ghost use Rattle.cut_bound.specs.Prices.{ArePicked};
 ghost use Rattle.cut_bound.specs.Orders.{IsCommonDivisor, told_cost};
 ghost use Rattle.cut_bound.specs.Planned.{HoldsPiece};
-ghost use Rattle.cut_bound.specs.declared.limits.TheConstants.{MOST_BOUGHT_SIZES, MOST_BOUND, MOST_CALLS, MOST_ORDER_WANTS, MOST_PARTS, MOST_UNITS};
+ghost use Rattle.cut_bound.specs.declared.limits.TheConstants.{MAX_BOUGHT_SIZES, MAX_BOUND, MAX_CALLS, MAX_ORDER_WANTS, MAX_PARTS, MAX_ORDER_UNITS};
 
 /// Whatever the wants are worth, and whatever worths no legal plan of a unit of each size exceeds:
 /// whoever makes all that is left from the sizes at hand pays at least what its worth costs at the
@@ -52,12 +52,12 @@ pub fn bounds_are_multiples()
 
 /// The limits of an order, in numbers.
 pub fn order_limits()
-    ensures wants { MOST_ORDER_WANTS ≡ 100 }
-    ensures parts { MOST_PARTS ≡ 1000 }
-    ensures bought { MOST_BOUGHT_SIZES ≡ 10 }
-    ensures calls { MOST_CALLS ≡ 5000 }
-    ensures units { MOST_UNITS ≡ 100000 }
-    ensures bound { MOST_BOUND ≡ 10 ^ 18 }
+    ensures wants { MAX_ORDER_WANTS ≡ 100 }
+    ensures parts { MAX_PARTS ≡ 1000 }
+    ensures bought { MAX_BOUGHT_SIZES ≡ 10 }
+    ensures calls { MAX_CALLS ≡ 5000 }
+    ensures units { MAX_ORDER_UNITS ≡ 100000 }
+    ensures bound { MAX_BOUND ≡ 10 ^ 18 }
 {}
 
 /// Where each size is limited, and a bound is more than all units at hand cost, they don't suffice

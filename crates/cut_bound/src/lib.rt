@@ -26,7 +26,7 @@ pub use laws::{
     stock_falls_short,
 };
 pub use limits::{
-    MOST_BOUGHT_SIZES, MOST_BOUND, MOST_CALLS, MOST_ORDER_WANTS, MOST_PARTS, MOST_UNITS,
+    MAX_BOUGHT_SIZES, MAX_BOUND, MAX_CALLS, MAX_ORDER_UNITS, MAX_ORDER_WANTS, MAX_PARTS,
 };
 pub use planned::{PlannedUnit, are_planned, cost_of, pieces_of, units_at};
 pub use price::greatest_cost;

@@ -3,7 +3,7 @@
 ghost use Rattle.std.specs.Prelude.{◌≡◌, ◌≤◌, IfOk, map};
 ghost use Rattle.cut_bound.specs.Prices as prices;
 
-use cut_measure::{Kind, MOST_KERF, MOST_WORTH};
+use cut_measure::{Kind, MAX_KERF, MAX_WORTH};
 use cut_plan::{Want, is_short};
 use std::alloc::{AllocError, Global};
 
@@ -18,7 +18,7 @@ pub struct Price {
 
 // Whether a side of a sheet's want and a kerf are shorter than the step; than 0 none is.
 fn is_below_step(kind: Kind, kerf: u32, step: u32, want: &Want) -> bool
-    requires { kerf ≤ MOST_KERF }
+    requires { kerf ≤ MAX_KERF }
     ensures { result ≡ prices.is_below_step kind kerf step want.now }
 {
     match kind {
@@ -30,11 +30,11 @@ fn is_below_step(kind: Kind, kerf: u32, step: u32, want: &Want) -> bool
 /// Whether a number is a price of a want: 1 to 1000000000, where no side of a sheet's want and a
 /// kerf are shorter than the step, if there is one.
 pub fn has_price(kind: Kind, kerf: u32, step: Option<u32>, want: &Want, number: u32) -> bool
-    requires { kerf ≤ MOST_KERF }
+    requires { kerf ≤ MAX_KERF }
     ensures { result ≡ prices.has_price kind kerf (prices.step_of step) want.now number }
 {
     let step = step.unwrap_or(0);
-    0 < number && number <= MOST_WORTH && !is_below_step(kind, kerf, step, want)
+    0 < number && number <= MAX_WORTH && !is_below_step(kind, kerf, step, want)
 }
 
 /// The wants that have a price, each at its price in place of its worth.
@@ -46,7 +46,7 @@ pub fn priced(
     wants: &[Want],
     numbers: &[u32],
 ) -> Result<Vec<Want>, AllocError>
-    requires { kerf ≤ MOST_KERF }
+    requires { kerf ≤ MAX_KERF }
     ensures { IfOk result (λ priced. priced.items
         ≡ prices.priced kind kerf (prices.step_of step) wants.now numbers.now) }
 {

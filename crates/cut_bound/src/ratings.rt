@@ -13,12 +13,12 @@ ghost use Rattle.cut_classes.specs.Grids.{IsUsableGrid, across_of, counted, down
 ghost use Rattle.cut_bound.specs.Ratings.{IsBarRating, IsClassRating};
 
 use crate::stock::{RatedSize, StockSize};
-use cut_bars::bar::{Entry, LONGEST_BAR, reach};
+use cut_bars::bar::{Entry, MAX_BAR_LENGTH, reach};
 use cut_classes::{CeilingTable, Grid, ceiling_of, ceilings, counted_wants, grid_of};
-use cut_measure::{MOST_KERF, Size};
+use cut_measure::{MAX_KERF, Size};
 use cut_sheets::bound::all_down;
 use cut_sheets::read::worth_at;
-use cut_sheets::sheet::{MOST_STEPS, Table, best_table};
+use cut_sheets::sheet::{MAX_STEPS, Table, best_table};
 use cut_wants::wants::{Scaled, Want};
 use std::alloc::{AllocError, Global};
 
@@ -56,8 +56,8 @@ pub fn rated_bars(
     wants: &[Want],
 ) -> Result<Vec<RatedSize>, AllocError>
     requires modest { HaveBoundedWorthsAndLefts wants.now }
-    requires short { All (λ z. z.size.w ≤ LONGEST_BAR) sizes.now }
-    requires kerf { kerf ≤ MOST_KERF }
+    requires short { All (λ z. z.size.w ≤ MAX_BAR_LENGTH) sizes.now }
+    requires kerf { kerf ≤ MAX_KERF }
     ensures sizes { IfOk result (λ rated. sizes_of rated.items ≡ sizes.now) }
     ensures ratings { IfOk result
         (λ rated. All (λ r. IsBarRating wants.now kerf r.stock.size.w r.best) rated.items) }
@@ -78,7 +78,7 @@ pub fn rated_bars(
 
 // The most steps that a size has across.
 fn most_across(sizes: &[StockSize], kerf: u32, step: u32) -> u32
-    requires kerf { kerf ≤ MOST_KERF }
+    requires kerf { kerf ≤ MAX_KERF }
     requires step { 1 ≤ step }
     ensures most { All (λ z. steps_down kerf step z.size.w ≤ result) sizes.now }
     ensures least { (bound : ℕ) → All (λ z. steps_down kerf step z.size.w ≤ bound) sizes.now
@@ -93,7 +93,7 @@ fn most_across(sizes: &[StockSize], kerf: u32, step: u32) -> u32
 
 // The most steps that a size has down.
 fn most_down(sizes: &[StockSize], kerf: u32, step: u32) -> u32
-    requires kerf { kerf ≤ MOST_KERF }
+    requires kerf { kerf ≤ MAX_KERF }
     requires step { 1 ≤ step }
     ensures most { All (λ z. steps_down kerf step z.size.h ≤ result) sizes.now }
     ensures least { (bound : ℕ) → All (λ z. steps_down kerf step z.size.h ≤ bound) sizes.now
@@ -116,7 +116,7 @@ fn read_sheets(
     table: &Table,
     places: usize,
 ) -> Result<Vec<RatedSize>, AllocError>
-    requires kerf { kerf ≤ MOST_KERF }
+    requires kerf { kerf ≤ MAX_KERF }
     requires step { 1 ≤ step }
     requires table { IsTable rounded.now places table.now }
     requires wide { All (λ z. steps_down kerf step z.size.w < places) sizes.now }
@@ -151,10 +151,10 @@ pub fn rated_sheets(
 ) -> Result<Vec<RatedSize>, AllocError>
     requires own { HaveOwnDemands wants.now }
     requires worthy { HaveBoundedWorths wants.now }
-    requires kerf { kerf ≤ MOST_KERF }
+    requires kerf { kerf ≤ MAX_KERF }
     requires step { IsStep kerf step wants.now }
-    requires wide { All (λ z. steps_down kerf step z.size.w ≤ MOST_STEPS) sizes.now }
-    requires tall { All (λ z. steps_down kerf step z.size.h ≤ MOST_STEPS) sizes.now }
+    requires wide { All (λ z. steps_down kerf step z.size.w ≤ MAX_STEPS) sizes.now }
+    requires tall { All (λ z. steps_down kerf step z.size.h ≤ MAX_STEPS) sizes.now }
     ensures sizes { IfOk result (λ rated. sizes_of rated.items ≡ sizes.now) }
     ensures ratings { IfOk result (λ rated. All (λ r. IsBestOf (wants_down kerf step wants.now) 0
         (steps_down kerf step r.stock.size.w) (steps_down kerf step r.stock.size.h) r.best)
@@ -182,7 +182,7 @@ pub(crate) fn stock_grid(
     sizes: &[StockSize],
     wants: &[Want],
 ) -> Result<Grid, AllocError>
-    requires kerf { kerf ≤ MOST_KERF }
+    requires kerf { kerf ≤ MAX_KERF }
     ensures usable { IfOk result IsUsableGrid }
     ensures wide { IfOk result (λ grid. All (λ z. z.size.w + kerf ≤ grid.most_across) sizes.now) }
     ensures tall { IfOk result (λ grid. All (λ z. z.size.h + kerf ≤ grid.most_down) sizes.now) }
@@ -201,7 +201,7 @@ fn read_classes(
     wants: &[Want],
     table: &CeilingTable,
 ) -> Result<Vec<RatedSize>, AllocError>
-    requires kerf { kerf ≤ MOST_KERF }
+    requires kerf { kerf ≤ MAX_KERF }
     requires usable { IsUsableGrid grid.now }
     requires wide { All (λ z. z.size.w + kerf ≤ grid.now.most_across) sizes.now }
     requires tall { All (λ z. z.size.h + kerf ≤ grid.now.most_down) sizes.now }
@@ -231,7 +231,7 @@ pub(crate) fn rated_classes(
     sizes: &[StockSize],
     wants: &[Want],
 ) -> Result<Vec<RatedSize>, AllocError>
-    requires kerf { kerf ≤ MOST_KERF }
+    requires kerf { kerf ≤ MAX_KERF }
     requires usable { IsUsableGrid grid.now }
     requires wide { All (λ z. z.size.w + kerf ≤ grid.now.most_across) sizes.now }
     requires tall { All (λ z. z.size.h + kerf ≤ grid.now.most_down) sizes.now }

@@ -5,12 +5,12 @@ ghost use Rattle.std.specs.Prelude.{◌≡◌, ◌+◌, ◌≤◌, ◌<◌, ◌^
 ghost use Rattle.cut_measure.specs.declared.sizes.Axis.TheVariants.{X, Y};
 ghost use Rattle.cut_tree.specs.Nodes.{tree_of};
 ghost use Rattle.cut_tree.specs.Tree.{Tree, Piece, Rest, Trim, Cut, cut_count};
-ghost use Rattle.cut_tree.specs.declared.token.TheConstants.{MOST_CUTS};
+ghost use Rattle.cut_tree.specs.declared.token.TheConstants.{MAX_CUTS};
 ghost use Rattle.cut_bound.specs.Stages as stages;
 ghost use Rattle.cut_bound.specs.Stages.{IsStaged, stage_count};
 
 use cut_measure::Axis;
-use cut_tree::{MOST_CUTS, Node};
+use cut_tree::{MAX_CUTS, Node};
 
 // 1 if a cut along an axis begins a run behind one along another, or is the first; else 0.
 fn turn(last: Option<Axis>, axis: Axis) -> u32
@@ -47,16 +47,16 @@ fn stages_below(node: &Node, last: Option<Axis>, taken: u32) -> u32
 /// How many stages a plan's nodes take: the most runs of parallel cuts, trims among them, on a way
 /// from the root to a piece; 0 if no piece is cut. The nodes have at most 255 cuts.
 pub fn count_stages(node: &Node) -> u32
-    requires { cut_count (tree_of node.now) ≤ MOST_CUTS }
+    requires { cut_count (tree_of node.now) ≤ MAX_CUTS }
     ensures { result ≡ stage_count (tree_of node.now) }
 {
-    let _most = MOST_CUTS;
+    let _most = MAX_CUTS;
     stages_below(node, None, 0)
 }
 
 /// Whether a plan's nodes take at most so many stages, if there is a limit.
 pub fn is_staged(node: &Node, most: Option<u32>) -> bool
-    requires { cut_count (tree_of node.now) ≤ MOST_CUTS }
+    requires { cut_count (tree_of node.now) ≤ MAX_CUTS }
     ensures { IsTrue result ↔ IsStaged most (tree_of node.now) }
 {
     match most {

@@ -4,7 +4,7 @@ use Rattle.std.specs.Prelude.{Contains, Vec, slice_index, slice_index_or}
 use Rattle.std.specs.declared.alloc.Global.{Global}
 use Rattle.std.proofs.lemmas.Bool.{cases_lt}
 use Rattle.std.proofs.lemmas.List.{get_or_append_left, get_or_push, length_push, length-map, map-append}
-use Rattle.cut_measure.specs.declared.ranges.TheConstants.{MOST_WORTH}
+use Rattle.cut_measure.specs.declared.ranges.TheConstants.{MAX_WORTH}
 use Rattle.cut_wants.specs.declared.wants.Want.{Want}
 use Rattle.cut_classes.specs.Classes.{ArePartsOf, Classes, HasRoom, IsCeiling, IsInClass, IsLeastCeiling, count, high_of, low_of}
 use Rattle.cut_classes.specs.Grids.{AreCounted, AreUsable}
@@ -68,21 +68,21 @@ next_vec {T} value wants k xs ys rows pushed row here push before =
 
 module _ (wants : List Want) (k : ℕ) (xs ys : Classes) (rows : List (List ℕ)) (ux : AreUsable xs) (uy : AreUsable ys) (counted : AreCounted wants k ys xs) (len : length rows ≡ count ys)
     (r : AreFilledRows wants k xs ys rows) where
-  bound : IsCeiling wants k ys xs (scaled MOST_WORTH ys xs)
-  bound = scaled_ceiling wants k ys xs uy ux counted MOST_WORTH (worths_small wants k ys xs counted)
+  bound : IsCeiling wants k ys xs (scaled MAX_WORTH ys xs)
+  bound = scaled_ceiling wants k ys xs uy ux counted MAX_WORTH (worths_small wants k ys xs counted)
 
   none_left : (j : ℕ) → j < count ys → worth_at rows 0 j ≡ 0
   none_left j jl =
-      let most = (r j (omega (arith, len, jl))).pieces.below (scaled MOST_WORTH ys xs) bound 0 (omega (arith, ux.some)) in
-      none (worth_at rows 0 j) MOST_WORTH (width (low_of ys 1 - 1) ys j) (width (low_of xs 1 - 1) xs 0) (no_width (low_of xs 1 - 1) xs ux) most
+      let most = (r j (omega (arith, len, jl))).pieces.below (scaled MAX_WORTH ys xs) bound 0 (omega (arith, ux.some)) in
+      none (worth_at rows 0 j) MAX_WORTH (width (low_of ys 1 - 1) ys j) (width (low_of xs 1 - 1) xs 0) (no_width (low_of xs 1 - 1) xs ux) most
     where
       none : (v c n m : ℕ) → m ≡ 0 → v ≤ c * (n * m) → v ≡ 0
       none v c n m z le = let le' : v ≤ c * (n * 0) = subst (λ o. v ≤ c * (n * o)) z le in omega (arith, le')
 
   none_below : (i : ℕ) → i < count xs → worth_at rows i 0 ≡ 0
   none_below i il =
-      let most = (r 0 (omega (arith, len, uy.some))).pieces.below (scaled MOST_WORTH ys xs) bound i il in
-      none (worth_at rows i 0) MOST_WORTH (width (low_of ys 1 - 1) ys 0) (width (low_of xs 1 - 1) xs i) (no_width (low_of ys 1 - 1) ys uy) most
+      let most = (r 0 (omega (arith, len, uy.some))).pieces.below (scaled MAX_WORTH ys xs) bound i il in
+      none (worth_at rows i 0) MAX_WORTH (width (low_of ys 1 - 1) ys 0) (width (low_of xs 1 - 1) xs i) (no_width (low_of ys 1 - 1) ys uy) most
     where
       none : (v c n m : ℕ) → n ≡ 0 → v ≤ c * (n * m) → v ≡ 0
       none v c n m z le = let le' : v ≤ c * (0 * m) = subst (λ o. v ≤ c * (o * m)) z le in omega (arith, le')

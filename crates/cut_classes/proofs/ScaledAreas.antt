@@ -4,7 +4,7 @@ use Rattle.std.specs.Prelude.{◌&&◌, ◌||◌, not, nat_le, nat_lt, Contains,
 use Rattle.std.proofs.lemmas.Bool.{cases_lt, le-ltb, leb-true}
 use Rattle.std.proofs.lemmas.Nat.{mul-le}
 use Rattle.std.proofs.Math.Nat.{le_refl}
-use Rattle.cut_measure.specs.declared.ranges.TheConstants.{MOST_WORTH}
+use Rattle.cut_measure.specs.declared.ranges.TheConstants.{MAX_WORTH}
 use Rattle.cut_wants.specs.declared.wants.Want.{Want}
 use Rattle.cut_wants.proofs.LeafSums.{Contains-cases}
 use Rattle.cut_classes.specs.Classes.{ArePartsOf, Classes, HasRoom, IsCeiling, count, high_of, low_of}
@@ -96,25 +96,25 @@ no_side_below xs ys w h e wide high =
     last false true c e e' t = absurd (cc)
     last false false c e e' t = t
 
-worth_small : (k : ℕ) (xs ys : Classes) (x : Want) → IsTrue (is_counted k xs ys x) → x.worth ≤ MOST_WORTH
+worth_small : (k : ℕ) (xs ys : Classes) (x : Want) → IsTrue (is_counted k xs ys x) → x.worth ≤ MAX_WORTH
 worth_small k xs ys x e =
-    let a = both (nat_le x.worth MOST_WORTH && is_above xs ys (x.size.w + k) (x.size.h + k)) _ e in
-    let b = both (nat_le x.worth MOST_WORTH) _ a.0 in
-    leb-true x.worth MOST_WORTH b.0
+    let a = both (nat_le x.worth MAX_WORTH && is_above xs ys (x.size.w + k) (x.size.h + k)) _ e in
+    let b = both (nat_le x.worth MAX_WORTH) _ a.0 in
+    leb-true x.worth MAX_WORTH b.0
 
-pub worths_small : (wants : List Want) (k : ℕ) (xs ys : Classes) → AreCounted wants k xs ys → (x : Want) → Contains wants x → x.worth ≤ MOST_WORTH
+pub worths_small : (wants : List Want) (k : ℕ) (xs ys : Classes) → AreCounted wants k xs ys → (x : Want) → Contains wants x → x.worth ≤ MAX_WORTH
 worths_small wants k xs ys all x has = worth_small k xs ys x (all x has)
 
 -- a counted want has no side in a first class where it has room
 room_above : (k : ℕ) (xs ys : Classes) (x : Want) (turned : Bool) → IsTrue (is_counted k xs ys x) → HasRoom k x turned xs.most ys.most → (w h : ℕ) → HasRoom k x turned w h
     → (low_of xs 1 ≤ w) × (low_of ys 1 ≤ h)
 room_above k xs ys x false e room w h p =
-    let a = both (nat_le x.worth MOST_WORTH && is_above xs ys (x.size.w + k) (x.size.h + k)) _ e in
-    let b = both (nat_le x.worth MOST_WORTH) _ a.0 in
+    let a = both (nat_le x.worth MAX_WORTH && is_above xs ys (x.size.w + k) (x.size.h + k)) _ e in
+    let b = both (nat_le x.worth MAX_WORTH) _ a.0 in
     let n = no_side_below xs ys (x.size.w + k) (x.size.h + k) b.1 room.0 room.1 in
     (omega (arith, n.0, p.0), omega (arith, n.1, p.1))
 room_above k xs ys x true e room w h p =
-    let a = both (nat_le x.worth MOST_WORTH && is_above xs ys (x.size.w + k) (x.size.h + k)) _ e in
+    let a = both (nat_le x.worth MAX_WORTH && is_above xs ys (x.size.w + k) (x.size.h + k)) _ e in
     let n = no_side_below xs ys (x.size.h + k) (x.size.w + k) (turns x.may_turn (is_above xs ys (x.size.h + k) (x.size.w + k)) room.0 a.1) room.1 room.2 in
     (omega (arith, n.0, p.1), omega (arith, n.1, p.2))
   where

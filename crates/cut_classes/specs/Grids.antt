@@ -1,6 +1,6 @@
 -- Points of both axes of a sheet, and which wants a table over their classes counts.
 use Rattle.std.specs.Prelude.{◌≡◌, ℕ, ◌+◌, ◌-◌, ◌^◌, ◌≤◌, ◌<◌, ◌&&◌, ◌||◌, not, nat_le, nat_lt, Bool, IsTrue, List, [], ◌∷◌, Contains, if◌then◌else◌}
-use Rattle.cut_measure.specs.declared.ranges.TheConstants.{MOST_HEIGHT, MOST_KERF, MOST_WIDTH, MOST_WORTH}
+use Rattle.cut_measure.specs.declared.ranges.TheConstants.{MAX_HEIGHT, MAX_KERF, MAX_WIDTH, MAX_WORTH}
 use Rattle.cut_wants.specs.declared.wants.Want.{Want}
 use Rattle.cut_classes.specs.declared.grid.Grid.{Grid}
 use Rattle.cut_classes.specs.Classes.{Classes, count, high_of, low_of}
@@ -30,8 +30,8 @@ down_of grid = classes grid.down.items grid.most_down
 pub record IsUsableGrid (grid : Grid) : Type 0 where
   pub across : AreUsable (across_of grid)
   pub down : AreUsable (down_of grid)
-  pub wide : grid.most_across ≤ MOST_WIDTH + MOST_KERF
-  pub high : grid.most_down ≤ MOST_HEIGHT + MOST_KERF
+  pub wide : grid.most_across ≤ MAX_WIDTH + MAX_KERF
+  pub high : grid.most_down ≤ MAX_HEIGHT + MAX_KERF
   pub few : count (across_of grid) ≤ 2 ^ 16
   pub few_down : count (down_of grid) ≤ 2 ^ 16
 
@@ -42,7 +42,7 @@ is_above xs ys w h = nat_lt xs.most w || nat_lt ys.most h || (nat_le (low_of xs 
 -- A table counts a want unless it has room where a side of it is in a first class, as it stands or turned.
 abbrev pub is_counted : (kerf : ℕ) → (across down : Classes) → Want → Bool
 is_counted k xs ys x =
-    nat_le x.worth MOST_WORTH && is_above xs ys (x.size.w + k) (x.size.h + k) && (not x.may_turn || is_above xs ys (x.size.h + k) (x.size.w + k))
+    nat_le x.worth MAX_WORTH && is_above xs ys (x.size.w + k) (x.size.h + k) && (not x.may_turn || is_above xs ys (x.size.h + k) (x.size.w + k))
 
 abbrev pub counted : (kerf : ℕ) → (across down : Classes) → List Want → List Want
 counted k xs ys [] = []

@@ -11,7 +11,7 @@ use crate::narrow::is_narrow;
 use crate::pairs::class_of;
 use crate::table::filled_rows;
 use crate::usable::{counted_wants, is_usable_grid};
-use cut_measure::{MOST_KERF, Size};
+use cut_measure::{MAX_KERF, Size};
 use cut_wants::wants::Want;
 use std::alloc::{AllocError, Global};
 
@@ -56,7 +56,7 @@ fn narrow_ceilings(
     grid: &Grid,
     wants: &[Want],
 ) -> Result<CeilingTable, AllocError>
-    requires kerf { kerf ≤ MOST_KERF }
+    requires kerf { kerf ≤ MAX_KERF }
     requires usable { IsUsableGrid grid.now }
     requires counted { AreCounted wants.now kerf (across_of grid.now) (down_of grid.now) }
     requires fits { HasCeilingBelow (2 ^ 32) wants.now kerf (down_of grid.now) (across_of grid.now) }
@@ -74,7 +74,7 @@ fn wide_ceilings(
     grid: &Grid,
     wants: &[Want],
 ) -> Result<CeilingTable, AllocError>
-    requires kerf { kerf ≤ MOST_KERF }
+    requires kerf { kerf ≤ MAX_KERF }
     requires usable { IsUsableGrid grid.now }
     requires counted { AreCounted wants.now kerf (across_of grid.now) (down_of grid.now) }
     ensures { IfOk result (λ table. IsLeastCeiling wants.now kerf (across_of grid.now)
@@ -91,7 +91,7 @@ fn counted_ceilings(
     grid: &Grid,
     wants: &[Want],
 ) -> Result<CeilingTable, AllocError>
-    requires kerf { kerf ≤ MOST_KERF }
+    requires kerf { kerf ≤ MAX_KERF }
     requires usable { IsUsableGrid grid.now }
     requires counted { AreCounted wants.now kerf (across_of grid.now) (down_of grid.now) }
     ensures { IfOk result (λ table. IsLeastCeiling wants.now kerf (across_of grid.now)
@@ -113,7 +113,7 @@ pub fn ceilings(
     grid: &Grid,
     wants: &[Want],
 ) -> Result<CeilingTable, AllocError>
-    requires kerf { kerf ≤ MOST_KERF }
+    requires kerf { kerf ≤ MAX_KERF }
     ensures { IsUsableGrid grid.now → IfOk result (λ table. IsLeastCeiling
         (grids.counted kerf (across_of grid.now) (down_of grid.now) wants.now) kerf
         (across_of grid.now) (down_of grid.now) (worth_in table)) }
@@ -127,7 +127,7 @@ pub fn ceilings(
 
 /// The worth of a table at the classes of a sheet's sides, a kerf added to each.
 pub fn ceiling_of(table: &CeilingTable, grid: &Grid, kerf: u32, size: Size) -> u64
-    requires kerf { kerf ≤ MOST_KERF }
+    requires kerf { kerf ≤ MAX_KERF }
     ensures { IsUsableGrid grid.now → size.w + kerf ≤ grid.now.most_across
         → size.h + kerf ≤ grid.now.most_down → IsCeilingOf kerf (across_of grid.now)
         (down_of grid.now) (worth_in table.now) size.w size.h result }

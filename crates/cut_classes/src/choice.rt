@@ -5,11 +5,11 @@ use cut_wants::wants::Want;
 use std::alloc::{AllocError, Global};
 
 // The least points that are asked for.
-const LEAST_POINTS: usize = 4;
+const MIN_POINTS: usize = 4;
 
 // A side that an axis has room for so many times has classes of its own, however few points are
 // asked for.
-const MOST_NARROW: usize = 500;
+const MAX_NARROW: usize = 500;
 
 // A size's side along an axis, a kerf added.
 fn added_side(size: Size, axis: Axis, kerf: u32) -> u32 {
@@ -151,9 +151,9 @@ pub(crate) fn points_along(
     most: u32,
     limit: usize,
 ) -> Result<Vec<u32>, AllocError> {
-    let limit = limit.max(LEAST_POINTS);
+    let limit = limit.max(MIN_POINTS);
     let mut sides = sides_along(alloc, axis, kerf, sizes, wants)?;
-    let narrow = (most as usize).div_ceil(limit.max(MOST_NARROW));
+    let narrow = (most as usize).div_ceil(limit.max(MAX_NARROW));
     sides.retain(|side| narrow <= *side as usize);
     let Some(least) = sides.first().copied() else {
         return Ok(Vec::new(alloc));

@@ -4,9 +4,9 @@ ghost use Rattle.std.specs.Prelude.{◌+◌, ◌≤◌, All, IfOk, length};
 ghost use Rattle.cut_classes.specs.Grids.{AreUsable, IsUsableGrid, classes};
 
 use crate::choice::points_along;
-use crate::pairs::MOST_POINTS;
+use crate::pairs::MAX_POINTS;
 use crate::usable::is_usable;
-use cut_measure::{Axis, MOST_HEIGHT, MOST_KERF, MOST_WIDTH, Size};
+use cut_measure::{Axis, MAX_HEIGHT, MAX_KERF, MAX_WIDTH, Size};
 use cut_wants::wants::Want;
 use std::alloc::{AllocError, Global};
 
@@ -26,10 +26,10 @@ pub struct Grid {
 
 // The greatest width of the sizes, a kerf added, or 1.
 fn most_across(sizes: &[Size], kerf: u32) -> u32
-    requires { kerf ≤ MOST_KERF }
+    requires { kerf ≤ MAX_KERF }
     ensures most { All (λ z. z.w + kerf ≤ result) sizes.now }
     ensures some { 1 ≤ result }
-    ensures small { result ≤ MOST_WIDTH + MOST_KERF }
+    ensures small { result ≤ MAX_WIDTH + MAX_KERF }
 {
     let mut most = 1;
     for size in sizes {
@@ -40,10 +40,10 @@ fn most_across(sizes: &[Size], kerf: u32) -> u32
 
 // The greatest height of the sizes, a kerf added, or 1.
 fn most_down(sizes: &[Size], kerf: u32) -> u32
-    requires { kerf ≤ MOST_KERF }
+    requires { kerf ≤ MAX_KERF }
     ensures most { All (λ z. z.h + kerf ≤ result) sizes.now }
     ensures some { 1 ≤ result }
-    ensures small { result ≤ MOST_HEIGHT + MOST_KERF }
+    ensures small { result ≤ MAX_HEIGHT + MAX_KERF }
 {
     let mut most = 1;
     for size in sizes {
@@ -56,7 +56,7 @@ fn most_down(sizes: &[Size], kerf: u32) -> u32
 fn two_points(alloc: Global, most: u32) -> Result<Vec<u32>, AllocError>
     requires { 1 ≤ most }
     ensures usable { IfOk result (λ points. AreUsable (classes points.items most)) }
-    ensures few { IfOk result (λ points. length points.items ≤ MOST_POINTS) }
+    ensures few { IfOk result (λ points. length points.items ≤ MAX_POINTS) }
 {
     let mut points = Vec::new(alloc);
     points.push(0)?;
@@ -68,9 +68,9 @@ fn two_points(alloc: Global, most: u32) -> Result<Vec<u32>, AllocError>
 fn usable_points(alloc: Global, points: Vec<u32>, most: u32) -> Result<Vec<u32>, AllocError>
     requires { 1 ≤ most }
     ensures usable { IfOk result (λ points. AreUsable (classes points.items most)) }
-    ensures few { IfOk result (λ points. length points.items ≤ MOST_POINTS) }
+    ensures few { IfOk result (λ points. length points.items ≤ MAX_POINTS) }
 {
-    if points.len() <= MOST_POINTS && is_usable(&points, most) {
+    if points.len() <= MAX_POINTS && is_usable(&points, most) {
         Ok(points)
     } else {
         two_points(alloc, most)
@@ -90,7 +90,7 @@ pub fn grid_of(
     wants: &[Want],
     most: usize,
 ) -> Result<Grid, AllocError>
-    requires { kerf ≤ MOST_KERF }
+    requires { kerf ≤ MAX_KERF }
     ensures usable { IfOk result IsUsableGrid }
     ensures wide { IfOk result (λ grid. All (λ z. z.w + kerf ≤ grid.most_across) sizes.now) }
     ensures tall { IfOk result (λ grid. All (λ z. z.h + kerf ≤ grid.most_down) sizes.now) }

@@ -8,7 +8,7 @@ ghost use Rattle.cut_classes.specs.Rates.{IsRatedAt, IsRatedWant, IsRoomAt, IsSl
 
 use crate::grid::Grid;
 use crate::pairs::{class_of, high_of};
-use cut_measure::MOST_KERF;
+use cut_measure::MAX_KERF;
 use cut_wants::wants::Want;
 
 // How much longer the longest length of a class is than its shortest, in any but the first.
@@ -76,7 +76,7 @@ fn rate_at(
 
 // The rate of a want, as it stands or turned.
 fn want_rate(grid: &Grid, slack_across: u32, slack_down: u32, kerf: u32, want: &Want) -> Option<u64>
-    requires kerf { kerf ≤ MOST_KERF }
+    requires kerf { kerf ≤ MAX_KERF }
     requires usable { IsUsableGrid grid.now }
     ensures { IfSome result (λ rate. (turned : Bool) → IsRatedWant slack_across slack_down
         (across_of grid.now) (down_of grid.now) kerf want.now turned rate) }
@@ -99,7 +99,7 @@ fn highest_rate(
     kerf: u32,
     wants: &[Want],
 ) -> Option<u64>
-    requires kerf { kerf ≤ MOST_KERF }
+    requires kerf { kerf ≤ MAX_KERF }
     requires usable { IsUsableGrid grid.now }
     ensures { IfSome result (λ rate. (x : Want) (turned : Bool) → Contains wants.now x
         → IsRatedWant slack_across slack_down (across_of grid.now) (down_of grid.now) kerf x turned
@@ -115,7 +115,7 @@ fn highest_rate(
 
 // Whether no worth of a table has more than 32 bits, by the areas of its classes.
 pub(crate) fn is_narrow(kerf: u32, grid: &Grid, wants: &[Want]) -> bool
-    requires kerf { kerf ≤ MOST_KERF }
+    requires kerf { kerf ≤ MAX_KERF }
     requires usable { IsUsableGrid grid.now }
     requires counted { AreCounted wants.now kerf (across_of grid.now) (down_of grid.now) }
     ensures { IsTrue result → HasCeilingBelow (2 ^ 32) wants.now kerf (down_of grid.now)

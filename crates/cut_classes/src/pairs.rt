@@ -11,7 +11,7 @@ use crate::usable::is_usable;
 use std::alloc::{AllocError, Global};
 
 /// The most points of an axis, so that a class has 16 bits.
-pub(crate) const MOST_POINTS: usize = 65_536;
+pub(crate) const MAX_POINTS: usize = 65_536;
 
 /// Two classes whose lengths are parts of one of a third class; the first is the longer.
 #[derive(Clone, Copy, Debug, PartialEq, Eq)]
@@ -64,8 +64,8 @@ fn add_pair(
     beaten: usize,
     beside: usize,
 ) -> Result<(), AllocError>
-    requires first { first < MOST_POINTS }
-    requires beside { beside ≤ MOST_POINTS }
+    requires first { first < MAX_POINTS }
+    requires beside { beside ≤ MAX_POINTS }
     ensures { OnOk result (pairs.new.items ≡ (if nat_lt beaten beside
         then pairs.old.items ++ record { first = first; second = beside - 1 } ∷ []
         else pairs.old.items)) }
@@ -88,7 +88,7 @@ pub(crate) fn covering_pairs(
     class: usize,
 ) -> Result<Vec<Pair>, AllocError>
     requires usable { AreUsable (classes points.now most) }
-    requires few { length points.now ≤ MOST_POINTS }
+    requires few { length points.now ≤ MAX_POINTS }
     requires class { class < length points.now }
     ensures { IfOk result (λ pairs. CoversParts (classes points.now most) class pairs.items) }
 {
@@ -112,7 +112,7 @@ pub(crate) fn all_pairs(
     most: u32,
 ) -> Result<Vec<Vec<Pair>>, AllocError>
     requires usable { AreUsable (classes points.now most) }
-    requires few { length points.now ≤ MOST_POINTS }
+    requires few { length points.now ≤ MAX_POINTS }
     ensures len { IfOk result (λ lists. length lists.items ≡ length points.now) }
     ensures each { IfOk result (λ lists. CoverParts (classes points.now most) lists.items) }
 {
@@ -133,11 +133,11 @@ pub fn pairs_of(
     most: u32,
     class: usize,
 ) -> Result<Vec<Pair>, AllocError>
-    ensures { AreUsable (classes points.now most) → length points.now ≤ MOST_POINTS
+    ensures { AreUsable (classes points.now most) → length points.now ≤ MAX_POINTS
         → class < length points.now
         → IfOk result (λ pairs. CoversParts (classes points.now most) class pairs.items) }
 {
-    if points.len() <= MOST_POINTS && class < points.len() && is_usable(points, most) {
+    if points.len() <= MAX_POINTS && class < points.len() && is_usable(points, most) {
         covering_pairs(alloc, points, most, class)
     } else {
         Ok(Vec::new(alloc))

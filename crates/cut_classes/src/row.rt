@@ -10,7 +10,7 @@ ghost use Rattle.cut_classes.specs.Filling.{AreFilledRows, CoverParts, CoversPar
 
 use crate::grid::Grid;
 use crate::pairs::{Pair, class_of, high_of};
-use cut_measure::MOST_KERF;
+use cut_measure::MAX_KERF;
 use cut_wants::number::Number;
 use cut_wants::wants::Want;
 
@@ -40,7 +40,7 @@ fn is_in_row(grid: &Grid, class: usize, w: u32, h: u32) -> bool
 
 // The worth of a want at the class of its height, where its width is in the row's class.
 fn offer_upright<T: Number>(row: &mut [T], grid: &Grid, class: usize, kerf: u32, want: &Want)
-    requires kerf { kerf ≤ MOST_KERF }
+    requires kerf { kerf ≤ MAX_KERF }
     requires usable { IsUsableGrid grid.now }
     requires class { class < length grid.now.across.items }
     requires len { length row.old ≡ length grid.now.down.items }
@@ -58,7 +58,7 @@ fn offer_upright<T: Number>(row: &mut [T], grid: &Grid, class: usize, kerf: u32,
 // The worth of a want at the class of its width, where it may be turned and its height is in the
 // row's class.
 fn offer_turned<T: Number>(row: &mut [T], grid: &Grid, class: usize, kerf: u32, want: &Want)
-    requires kerf { kerf ≤ MOST_KERF }
+    requires kerf { kerf ≤ MAX_KERF }
     requires usable { IsUsableGrid grid.now }
     requires class { class < length grid.now.across.items }
     requires len { length row.old ≡ length grid.now.down.items }
@@ -75,7 +75,7 @@ fn offer_turned<T: Number>(row: &mut [T], grid: &Grid, class: usize, kerf: u32, 
 
 // The worths of the wants that have a side in the row's class, each at the class of its other side.
 fn offer_wants<T: Number>(row: &mut [T], grid: &Grid, class: usize, kerf: u32, wants: &[Want])
-    requires kerf { kerf ≤ MOST_KERF }
+    requires kerf { kerf ≤ MAX_KERF }
     requires usable { IsUsableGrid grid.now }
     requires class { class < length grid.now.across.items }
     requires len { length row.old ≡ length grid.now.down.items }
@@ -235,7 +235,7 @@ pub(crate) fn fill_row<T: Number>(
     pairs: &[Pair],
     lists: &[Vec<Pair>],
 )
-    requires kerf { kerf ≤ MOST_KERF }
+    requires kerf { kerf ≤ MAX_KERF }
     requires usable { IsUsableGrid grid.now }
     requires class { length rows.now < length grid.now.across.items }
     requires fits { HasCeilingBelow T.limit wants.now kerf (down_of grid.now) (across_of grid.now) }

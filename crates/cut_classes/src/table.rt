@@ -7,7 +7,7 @@ ghost use Rattle.cut_classes.specs.Filling.{AreFilledRows, CoverParts, CoversPar
 use crate::grid::Grid;
 use crate::pairs::{Pair, all_pairs, covering_pairs};
 use crate::row::fill_row;
-use cut_measure::MOST_KERF;
+use cut_measure::MAX_KERF;
 use cut_wants::number::Number;
 use cut_wants::wants::Want;
 use std::alloc::{AllocError, Global};
@@ -22,7 +22,7 @@ fn next_row<T: Number>(
     pairs: &[Pair],
     lists: &[Vec<Pair>],
 ) -> Result<Vec<T>, AllocError>
-    requires kerf { kerf ≤ MOST_KERF }
+    requires kerf { kerf ≤ MAX_KERF }
     requires usable { IsUsableGrid grid.now }
     requires class { length rows.now < length grid.now.across.items }
     requires fits { HasCeilingBelow T.limit wants.now kerf (down_of grid.now) (across_of grid.now) }
@@ -47,7 +47,7 @@ pub(crate) fn filled_rows<T: Number>(
     kerf: u32,
     wants: &[Want],
 ) -> Result<Vec<Vec<T>>, AllocError>
-    requires kerf { kerf ≤ MOST_KERF }
+    requires kerf { kerf ≤ MAX_KERF }
     requires usable { IsUsableGrid grid.now }
     requires fits { HasCeilingBelow T.limit wants.now kerf (down_of grid.now) (across_of grid.now) }
     ensures len { IfOk result (λ rows. length rows.items ≡ length grid.now.across.items) }

@@ -6,8 +6,8 @@ ghost use Rattle.cut_classes.specs.Grids as grids;
 ghost use Rattle.cut_classes.specs.Grids.{AreUsable, IsUsableGrid, across_of, classes, down_of};
 
 use crate::grid::Grid;
-use crate::pairs::{MOST_POINTS, high_of};
-use cut_measure::{MOST_HEIGHT, MOST_KERF, MOST_WIDTH, MOST_WORTH};
+use crate::pairs::{MAX_POINTS, high_of};
+use cut_measure::{MAX_HEIGHT, MAX_KERF, MAX_WIDTH, MAX_WORTH};
 use cut_wants::wants::Want;
 use std::alloc::{AllocError, Global};
 
@@ -55,10 +55,10 @@ pub(crate) fn is_usable(points: &[u32], most: u32) -> bool
 pub(crate) fn is_usable_grid(grid: &Grid) -> bool
     ensures { IsTrue result ↔ IsUsableGrid grid.now }
 {
-    grid.most_across <= MOST_WIDTH + MOST_KERF
-        && grid.most_down <= MOST_HEIGHT + MOST_KERF
-        && grid.across.len() <= MOST_POINTS
-        && grid.down.len() <= MOST_POINTS
+    grid.most_across <= MAX_WIDTH + MAX_KERF
+        && grid.most_down <= MAX_HEIGHT + MAX_KERF
+        && grid.across.len() <= MAX_POINTS
+        && grid.down.len() <= MAX_POINTS
         && is_usable(&grid.across, grid.most_across)
         && is_usable(&grid.down, grid.most_down)
 }
@@ -85,12 +85,12 @@ fn is_above(grid: &Grid, w: u32, h: u32) -> bool
 /// Whether a table over the classes of a grid counts a want: it is worth at most 1000000000, and
 /// where it has room, as it stands or turned, no side of it is in a first class.
 pub fn is_counted(kerf: u32, grid: &Grid, want: &Want) -> bool
-    requires { kerf ≤ MOST_KERF }
+    requires { kerf ≤ MAX_KERF }
     ensures { result ≡ grids.is_counted kerf (across_of grid.now) (down_of grid.now) want.now }
 {
     let w = want.size.w() + kerf;
     let h = want.size.h() + kerf;
-    want.worth <= MOST_WORTH && is_above(grid, w, h) && (!want.may_turn || is_above(grid, h, w))
+    want.worth <= MAX_WORTH && is_above(grid, w, h) && (!want.may_turn || is_above(grid, h, w))
 }
 
 /// The wants that a table over the classes of a grid counts.
@@ -100,7 +100,7 @@ pub fn counted_wants(
     grid: &Grid,
     wants: &[Want],
 ) -> Result<Vec<Want>, AllocError>
-    requires { kerf ≤ MOST_KERF }
+    requires { kerf ≤ MAX_KERF }
     ensures { IfOk result (λ counted. counted.items
         ≡ grids.counted kerf (across_of grid.now) (down_of grid.now) wants.now) }
 {

@@ -4,7 +4,7 @@ ghost use Rattle.std.specs.Prelude.{◌≤◌, ◌↔◌, All, IfOk, IsTrue};
 ghost use Rattle.cut_tree.specs.Bars.{IsBarPiece};
 
 use anyhow::{Context, Error, Result};
-use cut_measure::{Kind, MOST_KERF, Size};
+use cut_measure::{Kind, MAX_KERF, Size};
 use cut_tree::{BarFault, CutList, Halt, Plan, Row, SpellFault, Stop, bar_plan};
 use std::alloc::Global;
 
@@ -18,9 +18,9 @@ pub struct Unit {
 
 /// The size of a unit under a kerf that a saw may have.
 pub fn size_of(kind: Kind, unit: Unit) -> Result<Size>
-    ensures { IfOk result (λ _. unit.kerf ≤ MOST_KERF) }
+    ensures { IfOk result (λ _. unit.kerf ≤ MAX_KERF) }
 {
-    if unit.kerf > MOST_KERF {
+    if unit.kerf > MAX_KERF {
         return Err(Error::msg("no kerf"));
     }
     Size::new(kind, unit.w, unit.h).context("no size")

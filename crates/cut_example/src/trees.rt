@@ -7,13 +7,13 @@ ghost use Rattle.cut_tree.specs.Laying.{IsLaid};
 ghost use Rattle.cut_tree.specs.Spelling.{IsSpelling};
 
 use anyhow::{Context, Result};
-use cut_measure::{Kind, MOST_KERF, Size};
+use cut_measure::{Kind, MAX_KERF, Size};
 use cut_tree::{Plan, Row, Stop};
 use std::alloc::Global;
 
 /// The rectangles into which the cuts that a text spells part a unit.
 fn rows_of(alloc: Global, text: &str, size: Size, kerf: u32) -> Result<Vec<Row>>
-    requires { kerf ≤ MOST_KERF }
+    requires { kerf ≤ MAX_KERF }
     ensures { IfOk result (λ rows. (t : Tree) × IsSpelling text.now t size.w size.h kerf
         × IsLaid t size.w size.h kerf all_made rows.items) }
 {

@@ -3,13 +3,13 @@
 
 use crate::knapsack::{Item, Table};
 use cut_measure::{Axis, Size};
-use cut_tree::{MOST_CUTS, Node};
+use cut_tree::{MAX_CUTS, Node};
 use cut_wants::wants::Want;
 use std::alloc::{AllocError, Global};
 
 /// So many cells of rows are kept at most: 4 bytes each. The rows of wants that are more are made
 /// again where they are read.
-const MOST_CELLS: usize = 7_000_000;
+const MAX_CELLS: usize = 7_000_000;
 
 /// What a unit of a size is worth at most, and the counts of pieces of a plan.
 #[derive(Drop)]
@@ -237,7 +237,7 @@ impl Bars {
     /// Makes the table, part after part, and keeps the first row of each.
     fn make(&mut self, alloc: Global) -> Result<(), AllocError> {
         let cells = (self.asked.whole as usize).saturating_add(1);
-        let rows = MOST_CELLS.checked_div(cells).unwrap_or(1);
+        let rows = MAX_CELLS.checked_div(cells).unwrap_or(1);
         self.entries = self.entries_of(alloc)?;
         self.part = rows.max(4);
         self.starts = Vec::new(alloc);
@@ -410,7 +410,7 @@ impl Bars {
         let mut pieces = Vec::new(alloc);
         let mut rest = bar;
         for (length, demand, count) in order.iter().rev() {
-            for _ in 0..(*count).min(MOST_CUTS) {
+            for _ in 0..(*count).min(MAX_CUTS) {
                 if *length > rest {
                     break;
                 }
@@ -433,7 +433,7 @@ impl Bars {
             return Ok(None);
         };
         let pieces = self.pieces_of(alloc, *bar, counts)?;
-        if pieces.len() > MOST_CUTS as usize {
+        if pieces.len() > MAX_CUTS as usize {
             return Ok(None);
         }
         let mut node = Node::Rest;
@@ -468,7 +468,7 @@ fn cut_off(
 /// The counts without what is more than the pieces that a plan may have.
 fn few(counts: Vec<u32>) -> Vec<u32> {
     let mut few = counts;
-    let mut rest = MOST_CUTS;
+    let mut rest = MAX_CUTS;
     for count in few.iter_mut() {
         *count = (*count).min(rest);
         rest -= *count;

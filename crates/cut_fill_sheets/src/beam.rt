@@ -11,14 +11,14 @@ use std::alloc::{AllocError, Global};
 use std::mem;
 
 /// A beam has so many states at most.
-const MOST_BEAM: usize = 100;
+const MAX_BEAM: usize = 100;
 
 /// So many times the states of a beam are tried, as some are alike.
 const TRIED: usize = 3;
 
 /// A search looks at about so many ways and blocks at most. Once it has looked at half of them, the beam grows narrower, down to
 /// one state.
-const MOST_LOOKED: u64 = 2_000_000;
+const MAX_LOOKED: u64 = 2_000_000;
 
 /// A space that a block is placed in. Each of the trails leads to a block's own rectangle, and the tables are those of what is over.
 #[derive(Clone, Copy)]
@@ -79,8 +79,8 @@ pub(crate) struct Found {
 
 /// A beam that is narrower, the more was looked at.
 fn narrowed(beam: usize, looked: u64) -> usize {
-    let half = MOST_LOOKED / 2;
-    let left = MOST_LOOKED.saturating_sub(looked).min(half);
+    let half = MAX_LOOKED / 2;
+    let left = MAX_LOOKED.saturating_sub(looked).min(half);
     let states = (beam as u64).saturating_mul(left) / half;
     usize::try_from(states).unwrap_or(beam).max(1)
 }
@@ -447,7 +447,7 @@ pub(crate) fn best_found(
         least_w: blocks.ways.iter().map(|way| way.w).min().unwrap_or(0),
         least_h: blocks.ways.iter().map(|way| way.h).min().unwrap_or(0),
     };
-    let mut search = Search::new(alloc, beam.clamp(1, MOST_BEAM));
+    let mut search = Search::new(alloc, beam.clamp(1, MAX_BEAM));
     search.begin(&rules, left, whole)?;
     search.run(&rules)?;
     search.record.found(alloc)

@@ -5,16 +5,16 @@ use crate::piece::{Piece, Stock};
 use std::alloc::{AllocError, Global};
 
 /// A plan has so many pieces at most, as it has one cut less at most.
-const MOST_PIECES: u32 = 255;
+const MAX_PIECES: u32 = 255;
 
 /// A grid of several rows and several columns has so many pieces at most.
-const MOST_IN_GRID: u32 = 12;
+const MAX_IN_GRID: u32 = 12;
 
 /// There are about so many rows and columns at most. Of more, lengths are left out evenly.
-const MOST_BLOCKS: u32 = 6000;
+const MAX_BLOCKS: u32 = 6000;
 
 /// Where rows of fewer lengths than these are taken, no grids are: there are so many ways.
-const FEWEST_LENGTHS: u32 = 8;
+const MIN_LENGTHS: u32 = 8;
 
 /// One way of laying pieces of a kind, turned or not, and where its blocks stand in the list.
 #[derive(Clone, Copy)]
@@ -106,7 +106,7 @@ impl Way {
             }
             (own_w, own_h) = (own_h, own_w);
         }
-        let left = stock.left.min(MOST_PIECES);
+        let left = stock.left.min(MAX_PIECES);
         let most = Extent {
             across: w.checked_div(own_w)?.min(left),
             down: h.checked_div(own_h)?.min(left),
@@ -187,11 +187,11 @@ impl Blocks {
                 .saturating_add(way.most.across)
                 .saturating_add(way.most.down);
         }
-        if all <= MOST_BLOCKS {
-            return MOST_PIECES;
+        if all <= MAX_BLOCKS {
+            return MAX_PIECES;
         }
         let ways = u32::try_from(self.ways.len()).unwrap_or(u32::MAX);
-        let most = MOST_BLOCKS.checked_div(ways).unwrap_or(0);
+        let most = MAX_BLOCKS.checked_div(ways).unwrap_or(0);
         (most / 2).max(2)
     }
 
@@ -215,9 +215,9 @@ impl Blocks {
 
     // Adds grids of a way.
     fn push_grids(&mut self, place: usize, way: &Way, left: u32) -> Result<(), AllocError> {
-        let most = left.min(MOST_IN_GRID);
-        for across in 2..way.most.across.min(MOST_IN_GRID).saturating_add(1) {
-            for down in 2..way.most.down.min(MOST_IN_GRID).saturating_add(1) {
+        let most = left.min(MAX_IN_GRID);
+        for across in 2..way.most.across.min(MAX_IN_GRID).saturating_add(1) {
+            for down in 2..way.most.down.min(MAX_IN_GRID).saturating_add(1) {
                 let block = way.block(place, across, down);
                 if block.pieces <= most {
                     self.blocks.push(block)?;
@@ -238,7 +238,7 @@ impl Blocks {
         let columns = self.blocks.len();
         self.push_columns(place, &way, lengths)?;
         let grids = self.blocks.len();
-        if lengths >= FEWEST_LENGTHS {
+        if lengths >= MIN_LENGTHS {
             self.push_grids(place, &way, left)?;
         }
         let end = self.blocks.len();

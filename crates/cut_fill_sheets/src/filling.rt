@@ -12,7 +12,7 @@ use cut_measure::Axis;
 use std::alloc::{AllocError, Global};
 
 /// Of a rectangle with a longer side, in tenths of a millimetre, nothing is filled: no unit has one.
-const LONGEST_SIDE: u32 = 262_144;
+const MAX_SIDE: u32 = 262_144;
 
 /// How hard a filling is looked for.
 #[derive(Clone, Copy)]
@@ -237,7 +237,7 @@ pub fn fill(
     h: u32,
     effort: Effort,
 ) -> Result<Filling, AllocError> {
-    if w.max(h) > LONGEST_SIDE {
+    if w.max(h) > MAX_SIDE {
         return empty(alloc, pieces);
     }
     let stocks = stocks_of(alloc, pieces, left, values)?;

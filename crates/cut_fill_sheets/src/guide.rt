@@ -8,13 +8,13 @@ use cut_measure::Axis;
 use std::alloc::{AllocError, Global};
 
 /// With more stages to come than these, a rectangle is guided as without a limit.
-const MOST_STAGED: u32 = 2;
+const MAX_STAGED: u32 = 2;
 
 /// Fewer points of a side than these aren't taken.
-const FEWEST_POINTS: usize = 16;
+const MIN_POINTS: usize = 16;
 
 /// More points of a side than these aren't taken.
-const MOST_POINTS: usize = 254;
+const MAX_GUIDE_POINTS: usize = 254;
 
 /// Worths by the places of both sides, those of a width in a row.
 type Worths = Vec<u32>;
@@ -160,7 +160,7 @@ fn lengths(alloc: Global, ways: &[Way], axis: Axis) -> Result<Vec<u32>, AllocErr
 
 impl Grid {
     fn new(alloc: Global, ways: &[Way], w: u32, h: u32, most: usize) -> Result<Grid, AllocError> {
-        let most = most.clamp(FEWEST_POINTS, MOST_POINTS);
+        let most = most.clamp(MIN_POINTS, MAX_GUIDE_POINTS);
         let widths = lengths(alloc, ways, Axis::X)?;
         let heights = lengths(alloc, ways, Axis::Y)?;
         let across = Places::new(alloc, &widths, w, most)?;
@@ -252,7 +252,7 @@ impl Grid {
     ) -> Result<Vec<Staged>, AllocError> {
         let mut staged = Vec::new(alloc);
         let mut stage = self.last_stage(alloc, pieces)?;
-        for _ in 0..stages.min(MOST_STAGED) {
+        for _ in 0..stages.min(MAX_STAGED) {
             let next = self.next_stage(alloc, &stage)?;
             staged.push(stage)?;
             stage = next;

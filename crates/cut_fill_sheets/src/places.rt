@@ -3,10 +3,10 @@
 use std::alloc::{AllocError, Global};
 
 /// A side has so many points at most, so that a point's place is a byte.
-const MOST_POINTS: usize = 255;
+const MAX_POINTS: usize = 255;
 
 /// So many even points at least stand behind the least sums.
-const FEWEST_EVEN: usize = 8;
+const MIN_EVEN: usize = 8;
 
 /// The points of a side, which begin with 0, and the place of each length among them.
 #[derive(Drop)]
@@ -85,7 +85,7 @@ fn least_sums(
 
 /// Adds even points from a first one on, up to the whole.
 fn push_even(points: &mut Vec<u32>, first: u32, whole: u32, most: usize) -> Result<(), AllocError> {
-    let count = most.saturating_sub(points.len()).max(FEWEST_EVEN);
+    let count = most.saturating_sub(points.len()).max(MIN_EVEN);
     let over = u64::from(whole.saturating_sub(first));
     for place in 0..count {
         let behind = over.saturating_mul(place as u64) / (count as u64).max(1);
@@ -118,8 +118,8 @@ fn points_of(
     points.push(whole)?;
     points.sort_unstable();
     points.dedup();
-    if points.len() > MOST_POINTS {
-        points.truncate(MOST_POINTS - 1);
+    if points.len() > MAX_POINTS {
+        points.truncate(MAX_POINTS - 1);
         points.push(whole)?;
     }
     Ok(points)

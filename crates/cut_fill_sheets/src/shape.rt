@@ -1,7 +1,7 @@
 //! Trees of cuts as flat lists. All sides have the kerf added, so that the parts of a rectangle tile it.
 
 use cut_measure::Axis;
-use cut_tree::{MOST_CUTS, Node};
+use cut_tree::{MAX_CUTS, Node};
 use cut_wants::wants::Want;
 use std::alloc::{AllocError, Global};
 
@@ -298,7 +298,7 @@ impl Shape {
         h: u32,
         kerf: u32,
     ) -> Result<Option<Node>, AllocError> {
-        if self.cuts() > MOST_CUTS {
+        if self.cuts() > MAX_CUTS {
             return Ok(None);
         }
         let parts = self.parts(alloc, Part { w, h })?;

@@ -12,7 +12,7 @@ use std::alloc::{AllocError, Global};
 const PIVOTS: usize = 64;
 
 /// What a plan has to gain, so that it is taken: 2^-20.
-pub const LEAST_GAIN: i128 = 1_048_576;
+pub const MIN_GAIN: i128 = 1_048_576;
 
 /// A size of which units may be cut.
 #[derive(Clone, Copy, Debug, PartialEq, Eq)]
@@ -207,7 +207,7 @@ impl Master {
     /// The plan that gains most, if it gains enough.
     fn best_plan(&self) -> Option<Column> {
         let mut best = None;
-        let mut most = LEAST_GAIN;
+        let mut most = MIN_GAIN;
         for (place, plan) in self.choice.plans.iter().enumerate() {
             let gain = self.gain(plan).unwrap_or(0);
             if gain > most {
@@ -259,7 +259,7 @@ impl Master {
         for (column, row) in self.basis.iter().zip(&self.rows) {
             let amount = row.last().copied().unwrap_or(0);
             if let Some(plan) = self.plan_of(*column) {
-                if amount > LEAST_GAIN {
+                if amount > MIN_GAIN {
                     taken.push(Taken {
                         plan: plan.copy(alloc)?,
                         amount,

@@ -8,21 +8,21 @@ use Rattle.std.specs.List.{list_all}
 use Rattle.std.specs.Str.{IsUtf8}
 use Rattle.std.proofs.lemmas.Str.{IsUtf8-from_ascii}
 use Rattle.std.proofs.lemmas.Bool.{and_parts}
-use Rattle.cut_measure.specs.declared.ranges.TheConstants.{LONGEST_CODE}
+use Rattle.cut_measure.specs.declared.ranges.TheConstants.{MAX_CODE_LEN}
 use Rattle.cut_measure.specs.Codes.{is_code, is_code_byte}
 
-module _ (text : List ℕ) (short : length text ≤ LONGEST_CODE) where
-  pub all_kept : length (text ++ drop (length text) (replicate LONGEST_CODE 0)) ≡ LONGEST_CODE
-  all_kept = omega (arith, length-append text (drop (length text) (replicate LONGEST_CODE 0)), length-drop {A = ℕ} (length text) (replicate LONGEST_CODE 0), length-replicate {A = ℕ} LONGEST_CODE 0)
+module _ (text : List ℕ) (short : length text ≤ MAX_CODE_LEN) where
+  pub all_kept : length (text ++ drop (length text) (replicate MAX_CODE_LEN 0)) ≡ MAX_CODE_LEN
+  all_kept = omega (arith, length-append text (drop (length text) (replicate MAX_CODE_LEN 0)), length-drop {A = ℕ} (length text) (replicate MAX_CODE_LEN 0), length-replicate {A = ℕ} MAX_CODE_LEN 0)
 
-  pub zeros_after : drop (length text) (text ++ drop (length text) (replicate LONGEST_CODE 0)) ≡ replicate (LONGEST_CODE - length text) 0
-  zeros_after = drop-append_seam text _ ∙ drop-replicate (length text) LONGEST_CODE 0
+  pub zeros_after : drop (length text) (text ++ drop (length text) (replicate MAX_CODE_LEN 0)) ≡ replicate (MAX_CODE_LEN - length text) 0
+  zeros_after = drop-append_seam text _ ∙ drop-replicate (length text) MAX_CODE_LEN 0
 
-  pub text_before : take (length text) (text ++ drop (length text) (replicate LONGEST_CODE 0)) ≡ text
+  pub text_before : take (length text) (text ++ drop (length text) (replicate MAX_CODE_LEN 0)) ≡ text
   text_before = take-append_seam text _
 
-pub code_short : (text : List ℕ) → is_code text ≡ true → length text ≤ LONGEST_CODE
-code_short text e = let t : nat_le (length text) LONGEST_CODE ≡ true = (and_parts (nat_le 1 (length text)) _ (and_parts _ _ e).0).1 in grind (arith, nat_tests)
+pub code_short : (text : List ℕ) → is_code text ≡ true → length text ≤ MAX_CODE_LEN
+code_short text e = let t : nat_le (length text) MAX_CODE_LEN ≡ true = (and_parts (nat_le 1 (length text)) _ (and_parts _ _ e).0).1 in grind (arith, nat_tests)
 
 small_byte : (b : ℕ) → is_code_byte b ≡ true → b < 128
 small_byte b e = grind (arith, nat_tests)

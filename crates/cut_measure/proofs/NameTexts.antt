@@ -8,7 +8,7 @@ use Rattle.std.proofs.Math.Seq.{take-append_seam, drop-append-add}
 use Rattle.std.proofs.lemmas.Bool.{ne_eqb, and_parts, leb-true, ltb-true}
 use Rattle.std.proofs.lemmas.Slice.Eq.{bytes_eq-Decides}
 use Rattle.std.proofs.lemmas.Fmt.{decimal_injective, digits_value-decimal}
-use Rattle.cut_measure.specs.declared.ranges.TheConstants.{MOST_NUMBERS}
+use Rattle.cut_measure.specs.declared.ranges.TheConstants.{MAX_NUMBERS}
 use Rattle.cut_measure.specs.Names.{Name, IsName, IsNameOf, is_name, name_in, spelled_name, name_text}
 use Rattle.cut_measure.proofs.Digits.{own}
 use Rattle.cut_measure.proofs.Splits.{Lacks, decimal_lacks, has_it, lacks_rest, one_split}
@@ -46,13 +46,13 @@ name_in_text n is =
     (ap (digits_value 10) there.1 ∙ digits_value-decimal own n.node (omega (arith, is.2)))
 
 is_name_there : (n : Name) → IsName n → is_name n ≡ true
-is_name_there n is = rw (le-leb 1 n.act is.0, le-leb n.act MOST_NUMBERS is.1, lt-ltb n.node (2 ^ 32) is.2) refl
+is_name_there n is = rw (le-leb 1 n.act is.0, le-leb n.act MAX_NUMBERS is.1, lt-ltb n.node (2 ^ 32) is.2) refl
 
 is_name_only : (n : Name) → is_name n ≡ true → IsName n
 is_name_only n is =
     let p = and_parts _ (nat_lt n.node (2 ^ 32)) is in
-    let q = and_parts (nat_le 1 n.act) (nat_le n.act MOST_NUMBERS) p.0 in
-    (leb-true 1 n.act q.0, leb-true n.act MOST_NUMBERS q.1, ltb-true n.node (2 ^ 32) p.1)
+    let q = and_parts (nat_le 1 n.act) (nat_le n.act MAX_NUMBERS) p.0 in
+    (leb-true 1 n.act q.0, leb-true n.act MAX_NUMBERS q.1, ltb-true n.node (2 ^ 32) p.1)
 
 same_text : (s t : List ℕ) → s ≡ t → bytes_eq s t ≡ true
 same_text s t same = (bytes_eq-Decides s t).1 same

@@ -1,7 +1,7 @@
 -- Sizes in tenths of a millimetre, the cells of a rectangle, and what a cut may leave as a remnant.
 use Rattle.std.specs.Prelude.{ℕ, suc, zero, ◌&&◌, ◌==◌, ◌++◌, Bool, nat_le, List, [], ◌∷◌, map, if◌then◌else◌, min, max, Option, Some, None}
 use Rattle.std.specs.List.{flat_map}
-use Rattle.cut_measure.specs.declared.ranges.TheConstants.{MOST_HEIGHT, MOST_KERF, MOST_WIDTH}
+use Rattle.cut_measure.specs.declared.ranges.TheConstants.{MAX_HEIGHT, MAX_KERF, MAX_WIDTH}
 use Rattle.cut_measure.specs.declared.sizes.Kind.{Kind}
 use Rattle.cut_measure.specs.declared.sizes.Kind.TheVariants.{Bar, Sheet}
 
@@ -12,8 +12,8 @@ pub record Extent : Type 0 where
 
 -- which sides a unit of this kind may have
 abbrev pub is_size : Kind → ℕ → ℕ → Bool
-is_size Bar w h = nat_le 1 w && nat_le w MOST_WIDTH && h == 1
-is_size Sheet w h = nat_le 1 w && nat_le w MOST_WIDTH && nat_le 1 h && nat_le h MOST_HEIGHT
+is_size Bar w h = nat_le 1 w && nat_le w MAX_WIDTH && h == 1
+is_size Sheet w h = nat_le 1 w && nat_le w MAX_WIDTH && nat_le 1 h && nat_le h MAX_HEIGHT
 
 -- the size of these sides, where they are those of a unit of the kind
 abbrev pub size_of : Kind → ℕ → ℕ → Option Extent
@@ -35,8 +35,8 @@ pub record Rule : Type 0 where
   pub min_short : ℕ
 
 abbrev pub is_rule : Kind → ℕ → ℕ → ℕ → Bool
-is_rule Bar kerf min_long min_short = nat_le kerf MOST_KERF && min_short == 1 && nat_le 1 min_long && nat_le min_long MOST_WIDTH
-is_rule Sheet kerf min_long min_short = nat_le kerf MOST_KERF && nat_le 1 min_short && nat_le min_short min_long && nat_le min_long MOST_WIDTH
+is_rule Bar kerf min_long min_short = nat_le kerf MAX_KERF && min_short == 1 && nat_le 1 min_long && nat_le min_long MAX_WIDTH
+is_rule Sheet kerf min_long min_short = nat_le kerf MAX_KERF && nat_le 1 min_short && nat_le min_short min_long && nat_le min_long MAX_WIDTH
 
 abbrev pub rule_of : Kind → ℕ → ℕ → ℕ → Option Rule
 rule_of kind kerf min_long min_short =

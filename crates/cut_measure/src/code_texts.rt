@@ -4,7 +4,7 @@ ghost use Rattle.std.specs.Prelude.{◌≡◌, ◌++◌, IsTrue, ◌↔◌, OnOk
 ghost use Rattle.std.specs.List.{list_all};
 ghost use Rattle.cut_measure.specs.Codes.{code_of, code_cmp, is_code, is_code_byte};
 
-use crate::ranges::LONGEST_CODE;
+use crate::ranges::MAX_CODE_LEN;
 use std::alloc::AllocError;
 use std::cmp::Ordering;
 use std::marker::Model;
@@ -12,13 +12,13 @@ use std::marker::Model;
 /// The code of a material, a batch or an order: 1 to 16 characters of `A-Z0-9-`.
 #[derive(Clone, Copy, Debug)]
 pub struct Code {
-    text: [u8; LONGEST_CODE],
+    text: [u8; MAX_CODE_LEN],
     len: usize,
 }
 
 impl Model for Code {
     ghost use Rattle.std.specs.Prelude.{◌≡◌, ◌-◌, ◌++◌, ◌≤◌, List, ℕ, length, take, drop, replicate};
-    ghost use Rattle.cut_measure.specs.declared.ranges.TheConstants.{LONGEST_CODE};
+    ghost use Rattle.cut_measure.specs.declared.ranges.TheConstants.{MAX_CODE_LEN};
     ghost use Rattle.cut_measure.specs.Codes.{is_code};
     ghost use Rattle.std.specs.Prelude.{IsTrue};
 
@@ -28,12 +28,12 @@ impl Model for Code {
 
     ghost view = { λ c. take c.len c.text };
 
-    ghost invariant = { λ c. (length c.text ≡ LONGEST_CODE) × (c.len ≤ LONGEST_CODE)
-        × (drop c.len c.text ≡ replicate (LONGEST_CODE - c.len) 0)
+    ghost invariant = { λ c. (length c.text ≡ MAX_CODE_LEN) × (c.len ≤ MAX_CODE_LEN)
+        × (drop c.len c.text ≡ replicate (MAX_CODE_LEN - c.len) 0)
         × IsTrue (is_code (take c.len c.text)) };
 
     ghost inverse = { λ text.
-        record { text = text ++ replicate (LONGEST_CODE - length text) 0; len = length text } };
+        record { text = text ++ replicate (MAX_CODE_LEN - length text) 0; len = length text } };
 
     ghost inverse_ok = { λ a h. fields_back a h.0 h.1 h.2 };
 }
@@ -71,7 +71,7 @@ fn is_code_text(text: &str) -> bool
 {
     let bytes = text.as_bytes();
     let len = bytes.len();
-    if len < 1 || len > LONGEST_CODE {
+    if len < 1 || len > MAX_CODE_LEN {
         return false;
     }
     has_code_bytes(bytes)
@@ -87,7 +87,7 @@ impl Code {
         }
         let bytes = text.as_bytes();
         let len = bytes.len();
-        let mut text = [0u8; LONGEST_CODE];
+        let mut text = [0u8; MAX_CODE_LEN];
         text[..len].copy_from_slice(bytes);
         Some(Code { text, len })
     }

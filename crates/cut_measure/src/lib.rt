@@ -19,6 +19,6 @@ pub use lists::RowList;
 pub use numbers::{digits_value_of, read_number};
 pub use part_names::PartName;
 pub use ranges::{
-    LONGEST_CODE, MOST_COUNT, MOST_HEIGHT, MOST_KERF, MOST_NUMBERS, MOST_WIDTH, MOST_WORTH,
+    MAX_CODE_LEN, MAX_COUNT, MAX_HEIGHT, MAX_KERF, MAX_NUMBERS, MAX_WIDTH, MAX_WORTH,
 };
 pub use sizes::{Axis, Kind, Size};

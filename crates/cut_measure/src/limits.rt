@@ -3,7 +3,7 @@
 ghost use Rattle.std.specs.Prelude.{◌≡◌, ◌≤◌};
 ghost use Rattle.cut_measure.specs.Measures.{rule_of, is_kept};
 
-use crate::ranges::{MOST_KERF, MOST_WIDTH};
+use crate::ranges::{MAX_KERF, MAX_WIDTH};
 use crate::sizes::{Kind, Size};
 use std::marker::Model;
 
@@ -17,15 +17,15 @@ pub struct Limits {
 
 impl Model for Limits {
     ghost use Rattle.std.specs.Prelude.{◌≤◌};
-    ghost use Rattle.cut_measure.specs.declared.ranges.TheConstants.{MOST_KERF, MOST_WIDTH};
+    ghost use Rattle.cut_measure.specs.declared.ranges.TheConstants.{MAX_KERF, MAX_WIDTH};
     ghost use Rattle.cut_measure.specs.Measures.{Rule};
 
     ghost Value = { Rule };
 
     ghost view = { λ l. record { kerf = l.kerf; min_long = l.min_long; min_short = l.min_short } };
 
-    ghost invariant = { λ l. (l.kerf ≤ MOST_KERF) × (1 ≤ l.min_short) × (l.min_short ≤ l.min_long)
-        × (l.min_long ≤ MOST_WIDTH) };
+    ghost invariant = { λ l. (l.kerf ≤ MAX_KERF) × (1 ≤ l.min_short) × (l.min_short ≤ l.min_long)
+        × (l.min_long ≤ MAX_WIDTH) };
 
     ghost inverse = { λ r. record {
       kerf = r.kerf;
@@ -44,7 +44,7 @@ impl Limits {
             Kind::Bar => min_short == 1,
             Kind::Sheet => 1 <= min_short,
         };
-        if kerf <= MOST_KERF && fits && min_short <= min_long && min_long <= MOST_WIDTH {
+        if kerf <= MAX_KERF && fits && min_short <= min_long && min_long <= MAX_WIDTH {
             Some(Limits {
                 kerf,
                 min_long,
@@ -58,7 +58,7 @@ impl Limits {
     /// How wide the saw cuts: 0 to 200.
     pub fn kerf(&self) -> u32
         ensures value { result ≡ self.now.kerf }
-        ensures most { result ≤ MOST_KERF }
+        ensures most { result ≤ MAX_KERF }
     {
         self.kerf
     }
@@ -67,7 +67,7 @@ impl Limits {
     pub fn min_long(&self) -> u32
         ensures value { result ≡ self.now.min_long }
         ensures least { self.now.min_short ≤ result }
-        ensures most { result ≤ MOST_WIDTH }
+        ensures most { result ≤ MAX_WIDTH }
     {
         self.min_long
     }

@@ -3,7 +3,7 @@
 ghost use Rattle.cut_measure.specs.Names.{IsNameOf};
 
 use crate::numbers::read_number;
-use crate::ranges::MOST_NUMBERS;
+use crate::ranges::MAX_NUMBERS;
 use std::alloc::AllocError;
 use std::cmp::Ordering;
 use std::marker::Model;
@@ -17,14 +17,14 @@ pub struct PartName {
 
 impl Model for PartName {
     ghost use Rattle.std.specs.Prelude.{◌≤◌};
-    ghost use Rattle.cut_measure.specs.declared.ranges.TheConstants.{MOST_NUMBERS};
+    ghost use Rattle.cut_measure.specs.declared.ranges.TheConstants.{MAX_NUMBERS};
     ghost use Rattle.cut_measure.specs.Names.{Name};
 
     ghost Value = { Name };
 
     ghost view = { λ n. record { act = n.act; node = n.node } };
 
-    ghost invariant = { λ n. (1 ≤ n.act) × (n.act ≤ MOST_NUMBERS) };
+    ghost invariant = { λ n. (1 ≤ n.act) × (n.act ≤ MAX_NUMBERS) };
 
     ghost inverse = { λ n. record { act = n.act; node = n.node } };
 }
@@ -36,7 +36,7 @@ fn named(text: &str) -> Option<PartName>
     let (act, node) = text.split_once('/')?;
     let act = read_number(act.as_bytes())?;
     let node = read_number(node.as_bytes())?;
-    if act < 1 || act > MOST_NUMBERS {
+    if act < 1 || act > MAX_NUMBERS {
         return None;
     }
     Some(PartName { act, node })
@@ -49,7 +49,7 @@ impl PartName {
     /// The name of a node of an act.
     pub fn new(act: u32, node: u32) -> PartName
         requires least { 1 ≤ act }
-        requires most { act ≤ MOST_NUMBERS }
+        requires most { act ≤ MAX_NUMBERS }
         ensures { result ≡ record { act = act; node = node } }
     {
         PartName { act, node }
@@ -78,7 +78,7 @@ impl PartName {
     pub fn act(&self) -> u32
         ensures value { result ≡ self.now.act }
         ensures least { 1 ≤ result }
-        ensures most { result ≤ MOST_NUMBERS }
+        ensures most { result ≤ MAX_NUMBERS }
     {
         self.act
     }

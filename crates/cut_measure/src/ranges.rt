@@ -1,22 +1,22 @@
 //! The greatest measures and numbers that the shop allows.
 
 /// The greatest width of a unit, a part or a piece, in tenths of a millimetre.
-pub const MOST_WIDTH: u32 = 200_000;
+pub const MAX_WIDTH: u32 = 200_000;
 
 /// The greatest height of a unit, a part or a piece, in tenths of a millimetre.
-pub const MOST_HEIGHT: u32 = 60_000;
+pub const MAX_HEIGHT: u32 = 60_000;
 
 /// The widest kerf, in tenths of a millimetre.
-pub const MOST_KERF: u32 = 200;
+pub const MAX_KERF: u32 = 200;
 
 /// The most acts and the most demands: each of them has a number from 1 to this.
-pub const MOST_NUMBERS: u32 = 2_147_483_647;
+pub const MAX_NUMBERS: u32 = 2_147_483_647;
 
 /// The most pieces of one demand.
-pub const MOST_COUNT: u32 = 1_000_000;
+pub const MAX_COUNT: u32 = 1_000_000;
 
 /// The most that a piece is worth.
-pub const MOST_WORTH: u32 = 1_000_000_000;
+pub const MAX_WORTH: u32 = 1_000_000_000;
 
 /// The most characters of a code.
-pub const LONGEST_CODE: usize = 16;
+pub const MAX_CODE_LEN: usize = 16;

@@ -3,7 +3,7 @@
 ghost use Rattle.std.specs.Prelude.{◌≡◌, ◌*◌, ◌≤◌, length};
 ghost use Rattle.cut_measure.specs.Measures.{size_of, cells_of};
 
-use crate::ranges::{MOST_HEIGHT, MOST_WIDTH};
+use crate::ranges::{MAX_HEIGHT, MAX_WIDTH};
 use std::marker::Model;
 
 /// What a material comes as.
@@ -33,14 +33,14 @@ pub struct Size {
 
 impl Model for Size {
     ghost use Rattle.std.specs.Prelude.{◌≤◌};
-    ghost use Rattle.cut_measure.specs.declared.ranges.TheConstants.{MOST_WIDTH, MOST_HEIGHT};
+    ghost use Rattle.cut_measure.specs.declared.ranges.TheConstants.{MAX_WIDTH, MAX_HEIGHT};
     ghost use Rattle.cut_measure.specs.Measures.{Extent};
 
     ghost Value = { Extent };
 
     ghost view = { λ s. record { w = s.w; h = s.h } };
 
-    ghost invariant = { λ s. (1 ≤ s.w) × (s.w ≤ MOST_WIDTH) × (1 ≤ s.h) × (s.h ≤ MOST_HEIGHT) };
+    ghost invariant = { λ s. (1 ≤ s.w) × (s.w ≤ MAX_WIDTH) × (1 ≤ s.h) × (s.h ≤ MAX_HEIGHT) };
 
     ghost inverse = { λ e. record { w = e.w; h = e.h } };
 }
@@ -53,9 +53,9 @@ impl Size {
     {
         let fits = match kind {
             Kind::Bar => h == 1,
-            Kind::Sheet => 1 <= h && h <= MOST_HEIGHT,
+            Kind::Sheet => 1 <= h && h <= MAX_HEIGHT,
         };
-        if 1 <= w && w <= MOST_WIDTH && fits {
+        if 1 <= w && w <= MAX_WIDTH && fits {
             Some(Size { w, h })
         } else {
             None
@@ -66,7 +66,7 @@ impl Size {
     pub fn w(&self) -> u32
         ensures value { result ≡ self.now.w }
         ensures least { 1 ≤ result }
-        ensures most { result ≤ MOST_WIDTH }
+        ensures most { result ≤ MAX_WIDTH }
     {
         self.w
     }
@@ -75,7 +75,7 @@ impl Size {
     pub fn h(&self) -> u32
         ensures value { result ≡ self.now.h }
         ensures least { 1 ≤ result }
-        ensures most { result ≤ MOST_HEIGHT }
+        ensures most { result ≤ MAX_HEIGHT }
     {
         self.h
     }
@@ -84,7 +84,7 @@ impl Size {
     pub fn cells(&self) -> u64
         ensures value { result ≡ self.now.w * self.now.h }
         ensures counted { result ≡ length (cells_of self.now) }
-        ensures most { result ≤ MOST_WIDTH * MOST_HEIGHT }
+        ensures most { result ≤ MAX_WIDTH * MAX_HEIGHT }
     {
         u64::from(self.w) * u64::from(self.h)
     }

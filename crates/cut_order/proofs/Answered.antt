@@ -9,7 +9,7 @@ use Rattle.std.proofs.Math.Bridge.{le_prop}
 use Rattle.std.proofs.Math.Nat.{le_refl}
 use Rattle.cut_measure.specs.declared.sizes.Kind.{Kind}
 use Rattle.cut_wants.specs.declared.wants.Want.{Want}
-use Rattle.cut_bound.specs.declared.limits.TheConstants.{MOST_UNITS}
+use Rattle.cut_bound.specs.declared.limits.TheConstants.{MAX_ORDER_UNITS}
 use Rattle.cut_bound.specs.declared.stock.StockSize.{StockSize}
 use Rattle.cut_bound.specs.declared.planned.PlannedUnit.{PlannedUnit}
 use Rattle.cut_bound.specs.declared.check.CheckedOrder.{CheckedOrder}
@@ -20,18 +20,18 @@ use Rattle.cut_bound.specs.Prices.{price_of, priced, step_of}
 use Rattle.cut_bound.proofs.CheckedOrders.{cheapest_order}
 use Rattle.cut_bound.proofs.PlannedUnits.{planned_all}
 use Rattle.cut_bound.proofs.UnitSums.{each_at, falls_short}
-use Rattle.cut_order.specs.declared.question.TheConstants.{MOST_COST}
+use Rattle.cut_order.specs.declared.question.TheConstants.{MAX_COST}
 use Rattle.cut_order.specs.declared.answer.OrderPlan.{OrderPlan}
 use Rattle.cut_order.specs.Answers.{IsAnswerOf, IsToldBound}
 use Rattle.cut_order.specs.Places.{IsFewOrderPlan, IsFilledOrFull, unit_count}
 
 -- a unit costs no more than the dearest size may
-unit_cost : (sizes : List StockSize) (place : ℕ) → All (λ s. s.cost ≤ MOST_COST) sizes → (o : Option StockSize) → slice_get sizes place ≡ o → option_map_or (λ s. s.cost) o 0 ≤ MOST_COST
+unit_cost : (sizes : List StockSize) (place : ℕ) → All (λ s. s.cost ≤ MAX_COST) sizes → (o : Option StockSize) → slice_get sizes place ≡ o → option_map_or (λ s. s.cost) o 0 ≤ MAX_COST
 unit_cost sizes place cheap None is = omega arith
-unit_cost sizes place cheap (Some s) is = each_at (λ (z : StockSize). z.cost ≤ MOST_COST) sizes place s cheap is
+unit_cost sizes place cheap (Some s) is = each_at (λ (z : StockSize). z.cost ≤ MAX_COST) sizes place s cheap is
 
-planned_cost : (sizes : List StockSize) → All (λ s. s.cost ≤ MOST_COST) sizes → (us : List PlannedUnit)
-    → sum_by (λ u. u.times * option_map_or (λ s. s.cost) (slice_get sizes u.place) 0) us ≤ unit_count us * MOST_COST
+planned_cost : (sizes : List StockSize) → All (λ s. s.cost ≤ MAX_COST) sizes → (us : List PlannedUnit)
+    → sum_by (λ u. u.times * option_map_or (λ s. s.cost) (slice_get sizes u.place) 0) us ≤ unit_count us * MAX_COST
 planned_cost sizes cheap [] = omega arith
 planned_cost sizes cheap (u ∷ us) =
     let cost = option_map_or (λ (s : StockSize). s.cost) (slice_get sizes u.place) 0 in
@@ -39,11 +39,11 @@ planned_cost sizes cheap (u ∷ us) =
       arith,
       sum_by-cons (λ (v : PlannedUnit). v.times * option_map_or (λ (s : StockSize). s.cost) (slice_get sizes v.place) 0) u us,
       sum_by-cons (λ (v : PlannedUnit). v.times) u us,
-      mul-le u.times cost u.times MOST_COST (le_refl u.times) (unit_cost sizes u.place cheap (slice_get sizes u.place) refl),
+      mul-le u.times cost u.times MAX_COST (le_refl u.times) (unit_cost sizes u.place cheap (slice_get sizes u.place) refl),
       planned_cost sizes cheap us,
     )
 
-pub small_cost : (sizes : List StockSize) (us : List PlannedUnit) → All (λ s. s.cost ≤ MOST_COST) sizes → unit_count us ≤ MOST_UNITS → cost_of sizes (cutting_of us) < 2 ^ 63
+pub small_cost : (sizes : List StockSize) (us : List PlannedUnit) → All (λ s. s.cost ≤ MAX_COST) sizes → unit_count us ≤ MAX_ORDER_UNITS → cost_of sizes (cutting_of us) < 2 ^ 63
 small_cost sizes us cheap few =
     omega (
       arith,

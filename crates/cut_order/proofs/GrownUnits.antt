@@ -13,14 +13,14 @@ use Rattle.cut_wants.specs.declared.wants.Want.{Want}
 use Rattle.cut_wants.specs.Legal.{HaveOwnDemands, IsWantedPiece, leaf_count, of_demand}
 use Rattle.cut_wants.proofs.LeafSums.{of_demand_found}
 use Rattle.cut_plan.specs.Faults.{is_fitting}
-use Rattle.cut_bound.specs.declared.limits.TheConstants.{MOST_UNITS}
+use Rattle.cut_bound.specs.declared.limits.TheConstants.{MAX_ORDER_UNITS}
 use Rattle.cut_bound.specs.declared.stock.StockSize.{StockSize}
 use Rattle.cut_bound.specs.declared.planned.PlannedUnit.{PlannedUnit}
 use Rattle.cut_bound.specs.Cuttings.{AreAtHand, CutUnit, pieces_of, units_at}
 use Rattle.cut_bound.specs.Planned.{IsPlannedUnit, MakesNoMore, cutting_of, one_of}
 use Rattle.cut_bound.specs.Stages.{IsStaged, stage_count}
 use Rattle.cut_bound.proofs.PlannedUnits.{planned_all, planned_sum}
-use Rattle.cut_order.specs.declared.question.TheConstants.{LEAST_STAGES, MOST_STAGES}
+use Rattle.cut_order.specs.declared.question.TheConstants.{MIN_STAGES, MAX_STAGES}
 use Rattle.cut_order.specs.Stocks.{IsStageLimit}
 use Rattle.cut_order.specs.Places.{IsAddition, IsDoneAt, IsFewOrderPlan, IsFilledOrFull, IsGrown, unit_count}
 use Rattle.cut_order.specs.Singles.{single}
@@ -53,7 +53,7 @@ more_used : (o : Option ℕ) (m n : ℕ) → m ≤ n → IfSome o (λ most. n < 
 more_used None m n le is = tt
 more_used (Some most) m n le is = omega (arith, le, is)
 
-pub done_on : (sizes : List StockSize) (us vs : List PlannedUnit) (x : Want) (place : ℕ) → IsGrown us vs → unit_count vs ≤ MOST_UNITS → IsDoneAt sizes us x place → IsDoneAt sizes vs x place
+pub done_on : (sizes : List StockSize) (us vs : List PlannedUnit) (x : Want) (place : ℕ) → IsGrown us vs → unit_count vs ≤ MAX_ORDER_UNITS → IsDoneAt sizes us x place → IsDoneAt sizes vs x place
 done_on sizes us vs x place g few is =
     record {
       done = elim is.done [
@@ -64,7 +64,7 @@ done_on sizes us vs x place g few is =
       ];
     }
 
-pub filled_on : (sizes : List StockSize) (us vs : List PlannedUnit) (x : Want) → IsGrown us vs → unit_count vs ≤ MOST_UNITS → IsFilledOrFull sizes us x → IsFilledOrFull sizes vs x
+pub filled_on : (sizes : List StockSize) (us vs : List PlannedUnit) (x : Want) → IsGrown us vs → unit_count vs ≤ MAX_ORDER_UNITS → IsFilledOrFull sizes us x → IsFilledOrFull sizes vs x
 filled_on sizes us vs x g few is =
     elim is [
       | inl full ↦ inl (omega (arith, full, few, count_grows us vs g))
@@ -80,7 +80,7 @@ filled_on sizes us vs x g few is =
 abbrev pub AreDoneTo : List StockSize → List PlannedUnit → Want → ℕ → Type 0
 AreDoneTo sizes us x i = (place : ℕ) → place < i → IsDoneAt sizes us x place
 
-pub done_next : (sizes : List StockSize) (us vs : List PlannedUnit) (x : Want) (i : ℕ) → IsGrown us vs → unit_count vs ≤ MOST_UNITS → AreDoneTo sizes us x i → IsDoneAt sizes vs x i
+pub done_next : (sizes : List StockSize) (us vs : List PlannedUnit) (x : Want) (i : ℕ) → IsGrown us vs → unit_count vs ≤ MAX_ORDER_UNITS → AreDoneTo sizes us x i → IsDoneAt sizes vs x i
     → AreDoneTo sizes vs x (i + 1)
 done_next sizes us vs x i g few before here place lt =
     elim (cases_lt place i) [
@@ -91,9 +91,9 @@ done_next sizes us vs x i g few before here place lt =
     ]
 
 -- all places are done
-pub all_done : (sizes : List StockSize) (us : List PlannedUnit) (x : Want) → unit_count us ≤ MOST_UNITS → AreDoneTo sizes us x (length sizes) → IsFilledOrFull sizes us x
+pub all_done : (sizes : List StockSize) (us : List PlannedUnit) (x : Want) → unit_count us ≤ MAX_ORDER_UNITS → AreDoneTo sizes us x (length sizes) → IsFilledOrFull sizes us x
 all_done sizes us x most done =
-    elim (cases_lt (unit_count us) MOST_UNITS) [
+    elim (cases_lt (unit_count us) MAX_ORDER_UNITS) [
       | inl few ↦ elim (cases_lt (pieces_of (cutting_of us) x.demand) x.left) [
         | inl missing ↦ inr (record { unheld = λ _ place s there unused fits. at few missing place s there unused fits (done place (slice_get_within sizes place s there)).done })
         | inr made ↦ inr (record { unheld = λ missing. absurd (omega (arith, made, missing)) })
@@ -101,9 +101,9 @@ all_done sizes us x most done =
       | inr many ↦ inl (omega (arith, most, many))
     ]
   where
-    at : unit_count us < MOST_UNITS → pieces_of (cutting_of us) x.demand < x.left → (place : ℕ) (s : StockSize) → slice_get sizes place ≡ Some s
+    at : unit_count us < MAX_ORDER_UNITS → pieces_of (cutting_of us) x.demand < x.left → (place : ℕ) (s : StockSize) → slice_get sizes place ≡ Some s
         → IfSome s.limit (λ n. units_at (cutting_of us) place < n) → IsTrue (is_fitting s.size x)
-        → (unit_count us ≡ MOST_UNITS) ⊎ (x.left ≤ pieces_of (cutting_of us) x.demand)
+        → (unit_count us ≡ MAX_ORDER_UNITS) ⊎ (x.left ≤ pieces_of (cutting_of us) x.demand)
         ⊎ ((s : StockSize) → slice_get sizes place ≡ Some s → IfSome s.limit (λ n. units_at (cutting_of us) place < n) → IsTrue (is_fitting s.size x) → ⊥) → ⊥
     at few missing place s there unused fits (inl full) = absurd (omega (arith, few, full))
     at few missing place s there unused fits (inr (inl made)) = absurd (omega (arith, missing, made))
@@ -206,7 +206,7 @@ module _ (wants : List Want) (k : ℕ) (sizes : List StockSize) (us : List Plann
 
   single_staged : (stages : Option ℕ) → IsStageLimit stages → IsStaged stages u.plan.tree
   single_staged None limit = tt
-  single_staged (Some n) limit = omega (arith, leb-true LEAST_STAGES n (and_parts (nat_le LEAST_STAGES n) (nat_le n MOST_STAGES) limit).0, ap stage_count is.tree, single_few_stages k add.stock.size x is.fits)
+  single_staged (Some n) limit = omega (arith, leb-true MIN_STAGES n (and_parts (nat_le MIN_STAGES n) (nat_le n MAX_STAGES) limit).0, ap stage_count is.tree, single_few_stages k add.stock.size x is.fits)
 
   no_more_pushed : HaveOwnDemands wants → MakesNoMore wants (cutting_of us) → MakesNoMore wants (cutting_of (us ++ u ∷ []))
   no_more_pushed own before =

@@ -3,7 +3,7 @@ use Rattle.std.proofs.Common.{◌≡◌, ℕ, ◌+◌, ◌≤◌, Bool, true, fa
 use Rattle.std.specs.Prelude.{◌&&◌, ◌||◌, Contains, IsTrue, nat_le, if◌then◌else◌}
 use Rattle.std.proofs.lemmas.Bool.{and_parts, leb-true}
 use Rattle.std.proofs.lemmas.Bool.Decides.{eqb_tells, leb_tells}
-use Rattle.cut_measure.specs.declared.ranges.TheConstants.{MOST_HEIGHT, MOST_KERF, MOST_WIDTH}
+use Rattle.cut_measure.specs.declared.ranges.TheConstants.{MAX_HEIGHT, MAX_KERF, MAX_WIDTH}
 use Rattle.cut_measure.specs.declared.sizes.Axis.TheVariants.{X, Y}
 use Rattle.cut_measure.specs.Measures.{Extent}
 use Rattle.cut_tree.specs.Tree.{Tree, Piece, Rest, Trim, Cut, CutsInto, IsShaped, cut_count, leaf_sum}
@@ -121,8 +121,8 @@ single_few_stages k size x fits =
     single_by (λ t. stage_count t ≤ 2) k size x fits (λ a b. cornered_stages x.demand false x.size.w x.size.h k size) (λ t a b. cornered_stages x.demand true x.size.h x.size.w k size)
 
 -- such a plan
-pub single_plan : (k : ℕ) (size : Extent) (x : Want) (t : Tree) → t ≡ single k size x → IsTrue (is_fitting size x) → HasDemandNumber x → 1 ≤ x.size.w → 1 ≤ x.size.h → k ≤ MOST_KERF → 1 ≤ size.w
-    → size.w ≤ MOST_WIDTH → 1 ≤ size.h → size.h ≤ MOST_HEIGHT → IsPlan (record { tree = t; w = size.w; h = size.h; kerf = k })
+pub single_plan : (k : ℕ) (size : Extent) (x : Want) (t : Tree) → t ≡ single k size x → IsTrue (is_fitting size x) → HasDemandNumber x → 1 ≤ x.size.w → 1 ≤ x.size.h → k ≤ MAX_KERF → 1 ≤ size.w
+    → size.w ≤ MAX_WIDTH → 1 ≤ size.h → size.h ≤ MAX_HEIGHT → IsPlan (record { tree = t; w = size.w; h = size.h; kerf = k })
 single_plan k size x t is fits number wide tall narrow some_w most_w some_h most_h =
     subst (λ (s : Tree). IsPlan (record { tree = s; w = size.w; h = size.h; kerf = k })) (sym is)
     (record {

@@ -2,7 +2,7 @@
 use Rattle.std.specs.Prelude.{◌≡◌, ◌⊎◌, ℕ, ◌+◌, ◌<◌, ◌≤◌, All, IsTrue, List, Option, ◌++◌, IfSome, Some, slice_get, sum_by}
 use Rattle.cut_wants.specs.declared.wants.Want.{Want}
 use Rattle.cut_plan.specs.Faults.{is_fitting}
-use Rattle.cut_bound.specs.declared.limits.TheConstants.{MOST_UNITS}
+use Rattle.cut_bound.specs.declared.limits.TheConstants.{MAX_ORDER_UNITS}
 use Rattle.cut_bound.specs.declared.stock.StockSize.{StockSize}
 use Rattle.cut_bound.specs.declared.planned.PlannedUnit.{PlannedUnit}
 use Rattle.cut_bound.specs.Cuttings.{pieces_of, units_at}
@@ -21,7 +21,7 @@ AreStaged stages units = All (λ u. IsStaged stages u.plan.tree) units
 pub record IsFewOrderPlan (wants : List Want) (kerf : ℕ) (stages : Option ℕ) (sizes : List StockSize) (units : List PlannedUnit) : Type 0 where
   pub plan : IsOrderPlan wants kerf sizes units
   pub staged : AreStaged stages units
-  pub few : unit_count units ≤ MOST_UNITS
+  pub few : unit_count units ≤ MAX_ORDER_UNITS
 
 -- the same units and others after them
 pub record IsGrown (old new : List PlannedUnit) : Type 0 where
@@ -30,7 +30,7 @@ pub record IsGrown (old new : List PlannedUnit) : Type 0 where
 
 -- of the size at a place none is unused that holds a missing piece of the want, or there are 100000 units
 pub record IsDoneAt (sizes : List StockSize) (units : List PlannedUnit) (x : Want) (place : ℕ) : Type 0 where
-  pub done : (unit_count units ≡ MOST_UNITS) ⊎ (x.left ≤ pieces_of (cutting_of units) x.demand)
+  pub done : (unit_count units ≡ MAX_ORDER_UNITS) ⊎ (x.left ≤ pieces_of (cutting_of units) x.demand)
       ⊎ ((s : StockSize) → slice_get sizes place ≡ Some s → IfSome s.limit (λ n. units_at (cutting_of units) place < n) → IsTrue (is_fitting s.size x) → ⊥)
 
 -- so many units of the size at a place, one piece of the want each, may be added, and no more can or need be
@@ -38,12 +38,12 @@ pub record IsAddition (sizes : List StockSize) (units : List PlannedUnit) (x : W
   pub stock : StockSize
   pub there : slice_get sizes place ≡ Some stock
   pub fits : 1 ≤ times → IsTrue (is_fitting stock.size x)
-  pub few : unit_count units + times ≤ MOST_UNITS
+  pub few : unit_count units + times ≤ MAX_ORDER_UNITS
   pub no_more : 1 ≤ times → pieces_of (cutting_of units) x.demand + times ≤ x.left
   pub at_hand : IfSome stock.limit (λ n. units_at (cutting_of units) place + times ≤ n)
-  pub all : (unit_count units + times ≡ MOST_UNITS) ⊎ (x.left ≤ pieces_of (cutting_of units) x.demand + times)
+  pub all : (unit_count units + times ≡ MAX_ORDER_UNITS) ⊎ (x.left ≤ pieces_of (cutting_of units) x.demand + times)
       ⊎ (IfSome stock.limit (λ n. units_at (cutting_of units) place + times < n) → IsTrue (is_fitting stock.size x) → ⊥)
 
 -- a piece of the want is missing only where no unused unit holds one, or there are 100000 units
 abbrev pub IsFilledOrFull : List StockSize → List PlannedUnit → Want → Type 0
-IsFilledOrFull sizes units x = (unit_count units ≡ MOST_UNITS) ⊎ IsFilled sizes (cutting_of units) x
+IsFilledOrFull sizes units x = (unit_count units ≡ MAX_ORDER_UNITS) ⊎ IsFilled sizes (cutting_of units) x

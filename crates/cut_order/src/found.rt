@@ -11,10 +11,10 @@ ghost use Rattle.cut_order.specs.Places.{AreStaged, IsFewOrderPlan};
 use crate::places::unit_count;
 use crate::question::Question;
 use crate::rests::largest_rest;
-use cut_bound::{CheckFault, CheckedOrder, MOST_UNITS, PlannedUnit, check_order, is_staged};
-use cut_measure::{Axis, MOST_KERF, MOST_NUMBERS, Size};
+use cut_bound::{CheckFault, CheckedOrder, MAX_ORDER_UNITS, PlannedUnit, check_order, is_staged};
+use cut_measure::{Axis, MAX_KERF, MAX_NUMBERS, Size};
 use cut_search_bars::found::FoundUnit;
-use cut_tree::{MOST_CUTS, Node, Plan};
+use cut_tree::{MAX_CUTS, Node, Plan};
 use std::alloc::{AllocError, Global};
 
 /// Units that are a plan of an order, the pieces that they leave out, and their cost.
@@ -86,7 +86,7 @@ fn has_demands(node: &Node) -> bool
     ensures { IsTrue result ↔ HasDemands (tree_of node.now) }
 {
     match node {
-        Node::Piece(demand, _) => 1 <= *demand && *demand <= MOST_NUMBERS,
+        Node::Piece(demand, _) => 1 <= *demand && *demand <= MAX_NUMBERS,
         Node::Rest => true,
         Node::Trim(_, _, first) => has_demands(first),
         Node::Cut(_, _, first, second) => has_demands(first) && has_demands(second),
@@ -96,11 +96,11 @@ fn has_demands(node: &Node) -> bool
 // Whether nodes are a plan of a unit, of at most so many stages.
 fn is_plan(node: &Node, size: Size, kerf: u32, stages: Option<u32>) -> bool
     ensures plan { IsTrue result → IsShaped (tree_of node.now) size.w size.h kerf
-        × (cut_count (tree_of node.now) ≤ MOST_CUTS) × HasDemands (tree_of node.now) }
+        × (cut_count (tree_of node.now) ≤ MAX_CUTS) × HasDemands (tree_of node.now) }
     ensures staged { IsTrue result → IsStaged stages (tree_of node.now) }
 {
     is_shaped(node, size.w(), size.h(), kerf)
-        && cuts_within(node, MOST_CUTS).is_some()
+        && cuts_within(node, MAX_CUTS).is_some()
         && has_demands(node)
         && is_staged(node, stages)
 }
@@ -113,7 +113,7 @@ fn plan_of(
     kerf: u32,
     stages: Option<u32>,
 ) -> Result<Option<Plan>, AllocError>
-    requires { kerf ≤ MOST_KERF }
+    requires { kerf ≤ MAX_KERF }
     ensures { IfOk result (λ found. IfSome found (λ plan. IsStaged stages plan.tree)) }
 {
     if !is_plan(&node, size, kerf, stages) {
@@ -176,7 +176,7 @@ fn checked(
     ensures { IfOk result (λ told. IfSome told (λ _. IsFewOrderPlan question.now.wants.items
         question.now.kerf question.now.stages question.now.sizes.items units.now)) }
 {
-    if unit_count(units) > MOST_UNITS as u128 {
+    if unit_count(units) > MAX_ORDER_UNITS as u128 {
         return Ok(None);
     }
     match check_order(

@@ -17,9 +17,9 @@ mod single;
 
 pub use answer::OrderPlan;
 pub use cut_bound::{
-    MOST_BOUGHT_SIZES, MOST_BOUND, MOST_CALLS, MOST_ORDER_WANTS, MOST_PARTS, MOST_UNITS,
+    MAX_BOUGHT_SIZES, MAX_BOUND, MAX_CALLS, MAX_ORDER_UNITS, MAX_ORDER_WANTS, MAX_PARTS,
     PlannedUnit, Price, StockSize, least_cost,
 };
 pub use planning::plan_order;
-pub use question::{LEAST_STAGES, MOST_COST, MOST_STAGES, Question, is_stage_limit, is_stock};
+pub use question::{MAX_COST, MAX_STAGES, MIN_STAGES, Question, is_stage_limit, is_stock};
 pub use search::OrderSearch;

@@ -1,10 +1,10 @@
 //! How many units of a size are left over.
 
 ghost use Rattle.std.specs.Prelude.{◌≡◌, ◌+◌, ◌≤◌, ◌<◌, ◌⊎◌, IfSome};
-ghost use Rattle.cut_bound.specs.declared.limits.TheConstants.{MOST_UNITS};
+ghost use Rattle.cut_bound.specs.declared.limits.TheConstants.{MAX_ORDER_UNITS};
 ghost use Rattle.cut_order.specs.Places as places;
 
-use cut_bound::{MOST_UNITS, PlannedUnit};
+use cut_bound::{MAX_ORDER_UNITS, PlannedUnit};
 
 /// How many units there are.
 pub fn unit_count(units: &[PlannedUnit]) -> u128
@@ -19,23 +19,25 @@ pub fn unit_count(units: &[PlannedUnit]) -> u128
 
 // How many units of a size are at hand beside so many that are used, and no more than 100000.
 fn unused(limit: Option<u32>, used: u128) -> u32
-    ensures most { result ≤ MOST_UNITS }
+    ensures most { result ≤ MAX_ORDER_UNITS }
     ensures within { IfSome limit (λ n. used ≤ n → used + result ≤ n) }
-    ensures all { (result ≡ MOST_UNITS) ⊎ (IfSome limit (λ n. used + result < n) → ⊥) }
+    ensures all { (result ≡ MAX_ORDER_UNITS) ⊎ (IfSome limit (λ n. used + result < n) → ⊥) }
 {
     match limit {
-        None => MOST_UNITS,
-        Some(limit) => (limit as u128).saturating_sub(used).min(MOST_UNITS as u128) as u32,
+        None => MAX_ORDER_UNITS,
+        Some(limit) => (limit as u128)
+            .saturating_sub(used)
+            .min(MAX_ORDER_UNITS as u128) as u32,
     }
 }
 
 /// How many units of a size may be added to so many, of which so many are of that size: as many as
 /// are at hand, and at most 100000 together.
 pub fn room_for(limit: Option<u32>, used: u128, count: u128) -> u32
-    requires { count ≤ MOST_UNITS }
-    ensures few { count + result ≤ MOST_UNITS }
+    requires { count ≤ MAX_ORDER_UNITS }
+    ensures few { count + result ≤ MAX_ORDER_UNITS }
     ensures within { IfSome limit (λ n. used ≤ n → used + result ≤ n) }
-    ensures all { (count + result ≡ MOST_UNITS) ⊎ (IfSome limit (λ n. used + result < n) → ⊥) }
+    ensures all { (count + result ≡ MAX_ORDER_UNITS) ⊎ (IfSome limit (λ n. used + result < n) → ⊥) }
 {
-    unused(limit, used).min(MOST_UNITS - count as u32)
+    unused(limit, used).min(MAX_ORDER_UNITS - count as u32)
 }

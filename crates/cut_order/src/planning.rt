@@ -11,7 +11,7 @@ ghost use Rattle.cut_order.specs.Stocks.{IsStageLimit, IsStock};
 use crate::answer::OrderPlan;
 use crate::search::OrderSearch;
 use cut_bound::StockSize;
-use cut_measure::{Kind, MOST_KERF};
+use cut_measure::{Kind, MAX_KERF};
 use cut_plan::{PlanFault, Want};
 use std::alloc::{AllocError, Global};
 
@@ -50,7 +50,7 @@ pub fn plan_order(
     wants: &[Want],
     calls: u32,
 ) -> Result<OrderPlan, PlanFault>
-    requires kerf { kerf ≤ MOST_KERF }
+    requires kerf { kerf ≤ MAX_KERF }
     requires limit { IsStageLimit stages }
     requires stock { IsStock kind sizes.now }
     requires demands { AreDemands wants.now }

@@ -1,24 +1,24 @@
 //! What is asked of a search: the sizes and the wants of an order.
 
 ghost use Rattle.std.specs.Prelude.{◌≡◌, ◌≤◌, ◌↔◌, IsTrue, None};
-ghost use Rattle.cut_measure.specs.declared.ranges.TheConstants.{MOST_KERF};
+ghost use Rattle.cut_measure.specs.declared.ranges.TheConstants.{MAX_KERF};
 ghost use Rattle.cut_plan.specs.Proposals.{AreDemands};
 ghost use Rattle.cut_bound.specs.Orders as orders;
 ghost use Rattle.cut_order.specs.Stocks as stocks;
 ghost use Rattle.cut_order.specs.Stocks.{AreFlat, IsStageLimit, IsStock};
 
-use cut_bound::{MOST_BOUGHT_SIZES, MOST_PARTS, StockSize};
+use cut_bound::{MAX_BOUGHT_SIZES, MAX_PARTS, StockSize};
 use cut_measure::Kind;
 use cut_plan::Want;
 
 /// The most that a unit costs: 100 for each cell of the largest sheet.
-pub const MOST_COST: u64 = 4_000_000_000_000;
+pub const MAX_COST: u64 = 4_000_000_000_000;
 
 /// The least limit of a plan's stages: one piece is cut from an empty unit in so many.
-pub const LEAST_STAGES: u32 = 2;
+pub const MIN_STAGES: u32 = 2;
 
 /// The greatest limit of a plan's stages: no plan has more, since it has at most so many cuts.
-pub const MOST_STAGES: u32 = 255;
+pub const MAX_STAGES: u32 = 255;
 
 /// What is asked of a search.
 #[derive(Drop)]
@@ -34,7 +34,7 @@ pub struct Question {
     pub sizes: Vec<StockSize>,
     /// 1 to 100.
     pub wants: Vec<Want>,
-    ghost narrow: { kerf ≤ MOST_KERF },
+    ghost narrow: { kerf ≤ MAX_KERF },
     ghost stocked: { IsStock kind sizes.items },
     ghost limited: { IsStageLimit stages },
     ghost numbered: { AreDemands wants.items },
@@ -69,7 +69,7 @@ pub fn is_stage_limit(stages: Option<u32>) -> bool
 {
     match stages {
         None => true,
-        Some(most) => LEAST_STAGES <= most && most <= MOST_STAGES,
+        Some(most) => MIN_STAGES <= most && most <= MAX_STAGES,
     }
 }
 
@@ -79,8 +79,8 @@ pub fn is_stage_limit(stages: Option<u32>) -> bool
 pub fn is_stock(kind: Kind, sizes: &[StockSize]) -> bool
     ensures { IsTrue result ↔ IsStock kind sizes.now }
 {
-    sizes.len() <= MOST_PARTS as usize + MOST_BOUGHT_SIZES
-        && parts_of(sizes) <= MOST_PARTS as u128
-        && sizes.iter().all(|stock| stock.cost <= MOST_COST)
+    sizes.len() <= MAX_PARTS as usize + MAX_BOUGHT_SIZES
+        && parts_of(sizes) <= MAX_PARTS as u128
+        && sizes.iter().all(|stock| stock.cost <= MAX_COST)
         && are_flat(kind, sizes)
 }

@@ -14,7 +14,7 @@ use crate::found::{Kept, better, kept_units};
 use crate::question::Question;
 use crate::seek::search_for;
 use cut_bound::{StockSize, order_fault};
-use cut_measure::{Kind, MOST_KERF};
+use cut_measure::{Kind, MAX_KERF};
 use cut_plan::{PlanFault, Want};
 use cut_search::search::Search;
 use cut_search_bars::found::{Found, FoundUnit};
@@ -74,7 +74,7 @@ impl OrderSearch {
         sizes: &[StockSize],
         wants: &[Want],
     ) -> Result<OrderSearch, AllocError>
-        requires kerf { kerf ≤ MOST_KERF }
+        requires kerf { kerf ≤ MAX_KERF }
         requires limit { IsStageLimit stages }
         requires stock { IsStock kind sizes.now }
         requires demands { AreDemands wants.now }
@@ -111,7 +111,7 @@ impl OrderSearch {
         sizes: &[StockSize],
         wants: &[Want],
     ) -> Result<OrderSearch, PlanFault>
-        requires kerf { kerf ≤ MOST_KERF }
+        requires kerf { kerf ≤ MAX_KERF }
         requires limit { IsStageLimit stages }
         requires stock { IsStock kind sizes.now }
         requires demands { AreDemands wants.now }

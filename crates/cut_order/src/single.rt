@@ -7,7 +7,7 @@ ghost use Rattle.cut_plan.specs.Faults.{is_fitting};
 ghost use Rattle.cut_plan.specs.Proposals.{HasDemandNumber};
 ghost use Rattle.cut_order.specs.Singles as singles;
 
-use cut_measure::{Axis, MOST_KERF, Size};
+use cut_measure::{Axis, MAX_KERF, Size};
 use cut_plan::Want;
 use cut_tree::{Node, Plan};
 use std::alloc::{AllocError, Global};
@@ -22,7 +22,7 @@ fn cut_off(
     first: Node,
 ) -> Result<Node, AllocError>
     requires inside { place ≤ side }
-    requires kerf { kerf ≤ MOST_KERF }
+    requires kerf { kerf ≤ MAX_KERF }
     ensures { IfOk result
         (λ node. tree_of node ≡ singles.cut_off axis place side kerf (tree_of first)) }
 {
@@ -48,7 +48,7 @@ fn cornered(
 ) -> Result<Node, AllocError>
     requires wide { w ≤ size.w }
     requires high { h ≤ size.h }
-    requires kerf { kerf ≤ MOST_KERF }
+    requires kerf { kerf ≤ MAX_KERF }
     ensures { IfOk result (λ node. tree_of node
         ≡ singles.cut_off X w size.w kerf (singles.cut_off Y h size.h kerf (tree_of piece))) }
 {
@@ -67,7 +67,7 @@ fn is_upright(size: Size, want: &Want) -> bool
 // The nodes of one piece on a unit that it fits.
 fn single_node(alloc: Global, kerf: u32, size: Size, want: &Want) -> Result<Node, AllocError>
     requires fits { IsTrue (is_fitting size want.now) }
-    requires kerf { kerf ≤ MOST_KERF }
+    requires kerf { kerf ≤ MAX_KERF }
     ensures tree { IfOk result (λ node. tree_of node ≡ singles.single kerf size want.now) }
     ensures sides { (1 ≤ want.now.size.w) × (1 ≤ want.now.size.h) }
 {
@@ -84,7 +84,7 @@ fn single_node(alloc: Global, kerf: u32, size: Size, want: &Want) -> Result<Node
 pub fn single_plan(alloc: Global, kerf: u32, size: Size, want: &Want) -> Result<Plan, AllocError>
     requires fits { IsTrue (is_fitting size want.now) }
     requires demand { HasDemandNumber want.now }
-    requires kerf { kerf ≤ MOST_KERF }
+    requires kerf { kerf ≤ MAX_KERF }
     ensures plan { IfOk result (λ plan. (plan.tree ≡ singles.single kerf size want.now)
         × (plan.w ≡ size.w) × (plan.h ≡ size.h) × (plan.kerf ≡ kerf)) }
     ensures sides { (1 ≤ want.now.size.w) × (1 ≤ want.now.size.h) }

@@ -4,7 +4,7 @@ use Rattle.std.specs.Prelude.{Contains, All, sum_by}
 use Rattle.std.proofs.lemmas.List.Elements.{All-append, All-contains, All-replicate}
 use Rattle.std.proofs.lemmas.List.Folds.{sum_by-replicate}
 use Rattle.std.proofs.lemmas.List.Sums.{sum_by-append, sum_by-cons}
-use Rattle.cut_tree.specs.declared.token.TheConstants.{MOST_CUTS}
+use Rattle.cut_tree.specs.declared.token.TheConstants.{MAX_CUTS}
 use Rattle.cut_measure.specs.Measures.{Extent}
 use Rattle.cut_tree.specs.Tree.{leaf_sum, cut_count}
 use Rattle.cut_tree.specs.Patterns.{Pattern}
@@ -66,8 +66,8 @@ best_tree size k wants ns own flat high some best =
     )
 
 -- a tree of over 255 cuts has over 255 pieces
-pub many_leaves : (wants : List Want) (k w : ℕ) (ns : List ℕ) → 1 ≤ w → HaveLength wants → AreBestCounts k wants (w + k) ns → MOST_CUTS < cut_count (bar_tree (pieces_of wants ns) w k)
-    → MOST_CUTS < leaf_count (bar_tree (pieces_of wants ns) w k)
+pub many_leaves : (wants : List Want) (k w : ℕ) (ns : List ℕ) → 1 ≤ w → HaveLength wants → AreBestCounts k wants (w + k) ns → MAX_CUTS < cut_count (bar_tree (pieces_of wants ns) w k)
+    → MAX_CUTS < leaf_count (bar_tree (pieces_of wants ns) w k)
 many_leaves wants k w ns one some best many =
     let all = lengths wants ns some in
     let room = has_room wants k w ns best in
@@ -78,7 +78,7 @@ many_leaves wants k w ns one some best many =
       | inr c ↦ omega (arith, c.1, leaves)
     ]
 
-some_bar : (ps : List (ℕ × ℕ)) (w k : ℕ) → All (λ q. 1 ≤ q.1) ps → spent k ps ≤ w + k → MOST_CUTS < cut_count (bar_tree ps w k) → 1 ≤ w
+some_bar : (ps : List (ℕ × ℕ)) (w k : ℕ) → All (λ q. 1 ≤ q.1) ps → spent k ps ≤ w + k → MAX_CUTS < cut_count (bar_tree ps w k) → 1 ≤ w
 some_bar [] w k all fits many = absurd (omega arith)
 some_bar (p ∷ ps) w k all fits many = let one : 1 ≤ p.1 = all 0 p (omega arith) in omega (arith, spent-cons k p ps, one, fits)
 
@@ -96,9 +96,9 @@ is_proposal size k wants pieces plan own flat high b tree unit =
     }
 
 pub too_many : (size : Extent) (k : ℕ) (wants : List Want) (pieces : Pieces) → HaveOwnDemands wants → AreUprightOfHeightOne wants → size.h ≡ 1 → AreBestPieces size k wants pieces
-    → MOST_CUTS < cut_count (bar_tree pieces.pieces.items size.w k) → HasManyPieces size k wants
+    → MAX_CUTS < cut_count (bar_tree pieces.pieces.items size.w k) → HasManyPieces size k wants
 too_many size k wants pieces own flat high b cuts =
-    let many = subst (λ ps. MOST_CUTS < cut_count (bar_tree ps size.w k)) b.list cuts in
+    let many = subst (λ ps. MAX_CUTS < cut_count (bar_tree ps size.w k)) b.list cuts in
     let one = some_bar (pieces_of wants b.counts) size.w k (lengths wants b.counts b.some) (has_room wants k size.w b.counts b.best) many in
     record {
       tree = bar_tree (pieces_of wants b.counts) size.w k;

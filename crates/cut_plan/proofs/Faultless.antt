@@ -6,10 +6,10 @@ use Rattle.std.proofs.lemmas.Bool.{false≢true, ltb-false, eqb-false, eqb-true,
 use Rattle.std.proofs.Math.Nat.{le_refl}
 use Rattle.std.proofs.lemmas.Nat.{mul-le}
 use Rattle.std.proofs.lemmas.List.Sums.{sum_by-cons}
-use Rattle.cut_measure.specs.declared.ranges.TheConstants.{MOST_COUNT, MOST_WORTH}
-use Rattle.cut_plan.specs.declared.faults.TheConstants.{MOST_WANTS}
-use Rattle.cut_bars.specs.declared.bar.TheConstants.{LONGEST_BAR}
-use Rattle.cut_sheets.specs.declared.sheet.TheConstants.{MOST_STEPS}
+use Rattle.cut_measure.specs.declared.ranges.TheConstants.{MAX_COUNT, MAX_WORTH}
+use Rattle.cut_plan.specs.declared.faults.TheConstants.{MAX_WANTS}
+use Rattle.cut_bars.specs.declared.bar.TheConstants.{MAX_BAR_LENGTH}
+use Rattle.cut_sheets.specs.declared.sheet.TheConstants.{MAX_STEPS}
 use Rattle.cut_measure.specs.declared.sizes.Kind.{Kind}
 use Rattle.cut_measure.specs.declared.sizes.Kind.TheVariants.{Bar, Sheet}
 use Rattle.cut_measure.specs.Measures.{Extent}
@@ -55,30 +55,30 @@ past false f o e = (refl, e)
 
 -- no fault stands before the tables
 pub record Faultless (kind : Kind) (size : Extent) (k s : ℕ) (wants : List Want) : Type 0 where
-  pub in_range : are_bad_wants MOST_WANTS kind wants ≡ false
+  pub in_range : are_bad_wants MAX_WANTS kind wants ≡ false
   pub stepped : is_bad_step kind k s wants ≡ false
   pub small : is_large kind size k s ≡ false
 
 pub faultless : (kind : Kind) (size : Extent) (k s : ℕ) (wants : List Want) → plan_fault kind size k s wants ≡ None → Faultless kind size k s wants
 faultless kind size k s wants e =
-    let a = past (are_bad_wants MOST_WANTS kind wants) _ _ e in
+    let a = past (are_bad_wants MAX_WANTS kind wants) _ _ e in
     let b = past (is_bad_step kind k s wants) _ _ a.1 in
     let c = past (is_large kind size k s) _ _ b.1 in
     record { in_range = a.0; stepped = b.0; small = c.0 }
 
 pub record IsInRange (x : Want) : Type 0 where
-  pub worth : (1 ≤ x.worth) × (x.worth ≤ MOST_WORTH)
-  pub left : (1 ≤ x.left) × (x.left ≤ MOST_COUNT)
+  pub worth : (1 ≤ x.worth) × (x.worth ≤ MAX_WORTH)
+  pub left : (1 ≤ x.left) × (x.left ≤ MAX_COUNT)
 
 in_range : (x : Want) → is_bad_number x ≡ false → IsInRange x
 in_range x e =
-    let a = neither (x.worth == 0 || nat_lt MOST_WORTH x.worth || x.left == 0) (nat_lt MOST_COUNT x.left) e in
-    let b = neither (x.worth == 0 || nat_lt MOST_WORTH x.worth) (x.left == 0) a.0 in
-    let c = neither (x.worth == 0) (nat_lt MOST_WORTH x.worth) b.0 in
+    let a = neither (x.worth == 0 || nat_lt MAX_WORTH x.worth || x.left == 0) (nat_lt MAX_COUNT x.left) e in
+    let b = neither (x.worth == 0 || nat_lt MAX_WORTH x.worth) (x.left == 0) a.0 in
+    let c = neither (x.worth == 0) (nat_lt MAX_WORTH x.worth) b.0 in
     let worth : x.worth ≢ 0 = eqb-false x.worth 0 c.0 in
     let left : x.left ≢ 0 = eqb-false x.left 0 b.1 in
-    let most : x.worth ≤ MOST_WORTH = ltb-false MOST_WORTH x.worth c.1 in
-    let many : x.left ≤ MOST_COUNT = ltb-false MOST_COUNT x.left a.1 in
+    let most : x.worth ≤ MAX_WORTH = ltb-false MAX_WORTH x.worth c.1 in
+    let many : x.left ≤ MAX_COUNT = ltb-false MAX_COUNT x.left a.1 in
     record { worth = (omega arith, most); left = (omega arith, many) }
 
 pub own : (most : ℕ) (kind : Kind) (wants : List Want) → are_bad_wants most kind wants ≡ false → HaveOwnDemands wants
@@ -128,25 +128,25 @@ is_step k s wants e =
           (ltb-false (x.size.w + k) s b.0, ltb-false (x.size.h + k) s b.1);
     }
 
-pub few_steps : (size : Extent) (k s : ℕ) → is_large Sheet size k s ≡ false → (steps_down k s size.w ≤ MOST_STEPS) × (steps_down k s size.h ≤ MOST_STEPS)
+pub few_steps : (size : Extent) (k s : ℕ) → is_large Sheet size k s ≡ false → (steps_down k s size.w ≤ MAX_STEPS) × (steps_down k s size.h ≤ MAX_STEPS)
 few_steps size k s e =
-    let a = neither (nat_lt MOST_STEPS (steps_down k s size.w)) (nat_lt MOST_STEPS (steps_down k s size.h)) e in
-    (ltb-false MOST_STEPS (steps_down k s size.w) a.0, ltb-false MOST_STEPS (steps_down k s size.h) a.1)
+    let a = neither (nat_lt MAX_STEPS (steps_down k s size.w)) (nat_lt MAX_STEPS (steps_down k s size.h)) e in
+    (ltb-false MAX_STEPS (steps_down k s size.w) a.0, ltb-false MAX_STEPS (steps_down k s size.h) a.1)
 
-pub short : (size : Extent) (k s : ℕ) → is_large Bar size k s ≡ false → size.w ≤ LONGEST_BAR
-short size k s e = ltb-false LONGEST_BAR size.w e
+pub short : (size : Extent) (k s : ℕ) → is_large Bar size k s ≡ false → size.w ≤ MAX_BAR_LENGTH
+short size k s e = ltb-false MAX_BAR_LENGTH size.w e
 
 pub left_small : (xs : List Want) → ((x : Want) → Contains xs x → IsInRange x) → worth_left xs ≤ length xs * 1000000000000000
 left_small [] r = omega arith
 left_small (x ∷ xs) r =
     let here = r x (Contains-head x xs) in
-    let most = mul-le x.worth x.left MOST_WORTH MOST_COUNT (omega (arith, here.worth)) (omega (arith, here.left)) in
+    let most = mul-le x.worth x.left MAX_WORTH MAX_COUNT (omega (arith, here.worth)) (omega (arith, here.left)) in
     let there = left_small xs (λ y h. r y (Contains-tail x xs y h)) in
     omega (arith, sum_by-cons (λ (y : Want). y.worth * y.left) x xs)
 
 -- all that is left is worth less than 2^62
-pub left_fits : (kind : Kind) (wants : List Want) → are_bad_wants MOST_WANTS kind wants ≡ false → worth_left wants < 2 ^ 62
-left_fits kind wants e = omega (arith, left_small wants (ranges MOST_WANTS kind wants e), few MOST_WANTS kind wants e)
+pub left_fits : (kind : Kind) (wants : List Want) → are_bad_wants MAX_WANTS kind wants ≡ false → worth_left wants < 2 ^ 62
+left_fits kind wants e = omega (arith, left_small wants (ranges MAX_WANTS kind wants e), few MAX_WANTS kind wants e)
 
 pub value_left : (xs : List Want) (counts : List ℕ) → AreCounts xs counts → worth_of_counts xs counts ≤ worth_left xs
 value_left [] [] is = omega arith
@@ -162,17 +162,17 @@ counts_length (x ∷ xs) [] is = absurd is
 counts_length (x ∷ xs) (a ∷ ns) is = ap suc (counts_length xs ns is.1)
 
 -- the best worth is at least 1 where something fits
-pub some_worth : (kind : Kind) (size : Extent) (k s : ℕ) (wants : List Want) (best : ℕ) → are_bad_wants MOST_WANTS kind wants ≡ false → SomeFits size wants
+pub some_worth : (kind : Kind) (size : Extent) (k s : ℕ) (wants : List Want) (best : ℕ) → are_bad_wants MAX_WANTS kind wants ≡ false → SomeFits size wants
     → ((t : Tree) → Legal wants k t size.w size.h → IsWithinCounts wants t → worth_of wants t ≤ best) → 1 ≤ best
 some_worth kind size k s wants best e fit each =
     let x = fit.want in
-    let r = ranges MOST_WANTS kind wants e x fit.there in
+    let r = ranges MAX_WANTS kind wants e x fit.there in
     let p = fitted k wants x size.w size.h fit.there fit.wide fit.tall fit.fits in
-    let worth = p.sums (of_demand (λ y. y.worth) wants) ∙ of_demand_found (λ y. y.worth) wants x (own MOST_WANTS kind wants e) fit.there in
+    let worth = p.sums (of_demand (λ y. y.worth) wants) ∙ of_demand_found (λ y. y.worth) wants x (own MAX_WANTS kind wants e) fit.there in
     let within : IsWithinCounts wants p.tree = λ d.
     elim (eqb_tells x.demand d) [
       | inl (t, same) ↦
-          let left = ap (of_demand (λ y. y.left) wants) (sym same) ∙ of_demand_found (λ y. y.left) wants x (own MOST_WANTS kind wants e) fit.there in
+          let left = ap (of_demand (λ y. y.left) wants) (sym same) ∙ of_demand_found (λ y. y.left) wants x (own MAX_WANTS kind wants e) fit.there in
           let one = p.sums (λ f. if f == d then 1 else 0) in
           omega (arith, one, rw t at one, left, r.left)
       | inr (t, other) ↦

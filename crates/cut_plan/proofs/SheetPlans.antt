@@ -8,8 +8,8 @@ use Rattle.std.proofs.lemmas.Bool.{ne_eqb}
 use Rattle.std.proofs.lemmas.Bool.Decides.{eqb_tells}
 use Rattle.std.proofs.lemmas.List.Elements.{All-contains}
 use Rattle.std.proofs.lemmas.List.Sums.{sum_by-cons}
-use Rattle.cut_tree.specs.declared.token.TheConstants.{MOST_CUTS}
-use Rattle.cut_sheets.specs.declared.sheet.TheConstants.{MOST_STEPS}
+use Rattle.cut_tree.specs.declared.token.TheConstants.{MAX_CUTS}
+use Rattle.cut_sheets.specs.declared.sheet.TheConstants.{MAX_STEPS}
 use Rattle.cut_measure.specs.declared.sizes.Axis.TheVariants.{X, Y}
 use Rattle.cut_measure.specs.Measures.{Extent}
 use Rattle.cut_tree.specs.Tree.{Tree, Rest, Piece, Trim, Cut, IsShaped, leaf_sum, count_of, cut_count}
@@ -30,7 +30,7 @@ use Rattle.cut_sheets.proofs.SheetSteps.{down_worth, leaf_sum-same, exact_wants,
 use Rattle.cut_plan.specs.Proposals.{AreDemands, HasDemandNumber}
 use Rattle.cut_plan.specs.Sheets.{IsCutting, IsFirstCutting, kept_counts, dropped_of, IsSheetPlan, IsCeiling, HasManyKept}
 
-cutting : (wants : List Want) (p q : ℕ) (old new : List ℕ) (kept : Tree) → KeepsLeaves wants p q old new kept → length new ≡ length wants → ((i : ℕ) → get_or old i 0 ≡ 0) → p ≤ MOST_STEPS → q ≤ MOST_STEPS
+cutting : (wants : List Want) (p q : ℕ) (old new : List ℕ) (kept : Tree) → KeepsLeaves wants p q old new kept → length new ≡ length wants → ((i : ℕ) → get_or old i 0 ≡ 0) → p ≤ MAX_STEPS → q ≤ MAX_STEPS
     → ((i : ℕ) → i < length new → get_or new i 0 ≤ get_or old i 0 + p * q) → IsCutting wants p q new kept
 cutting wants p q old new kept k len zeros pp qq grown = record {
   tree = k.leaves.tree;
@@ -39,14 +39,14 @@ cutting wants p q old new kept k len zeros pp qq grown = record {
   len = len;
   exact = λ i x has. omega (arith, k.leaves.counts i x has, zeros i);
   few = λ i x has. omega (arith, k.few i x has, zeros i);
-  small = λ i lt. omega (arith, grown i lt, zeros i, mul-le p q MOST_STEPS MOST_STEPS pp qq);
+  small = λ i lt. omega (arith, grown i lt, zeros i, mul-le p q MAX_STEPS MAX_STEPS pp qq);
   inside = k.inside;
   pruned = k.pruned;
 }
 
 -- the same of the first ones of those that are kept
 pub first_cutting : (wants : List Want) (p q : ℕ) (old new : List ℕ) (kept : Kept) → IsKept wants p q old new kept → length new ≡ length wants → ((i : ℕ) → get_or old i 0 ≡ 0)
-    → p ≤ MOST_STEPS → q ≤ MOST_STEPS → ((i : ℕ) → i < length new → get_or new i 0 ≤ get_or old i 0 + p * q) → IsFirstCutting wants p q new kept
+    → p ≤ MAX_STEPS → q ≤ MAX_STEPS → ((i : ℕ) → i < length new → get_or new i 0 ≤ get_or old i 0 + p * q) → IsFirstCutting wants p q new kept
 first_cutting wants p q old new kept k len zeros pp qq grown = record {
   all = k.all;
   cutting = cutting wants p q old new k.all k.keeps len zeros pp qq grown;
@@ -202,13 +202,13 @@ laid size k s wants counts kept tree worth dropped own c p len is_worth is_dropp
 
 -- what is laid out of more pieces than a plan has takes more cuts than it may have
 pub many_kept : (size : Extent) (k s : ℕ) (wants : List Want) (counts : List ℕ) (all : Tree) → HaveOwnDemands wants → HaveSides wants → 1 ≤ s
-    → IsCutting (wants_up k s wants) (steps_down k s size.w) (steps_down k s size.h) counts all → length counts ≡ length wants → MOST_CUTS + 1 < leaf_count all
+    → IsCutting (wants_up k s wants) (steps_down k s size.w) (steps_down k s size.h) counts all → length counts ≡ length wants → MAX_CUTS + 1 < leaf_count all
     → HasManyKept size k s wants
 many_kept size k s wants counts all own sides pos c len more =
     let places = kept_places wants k s all _ _ size.w size.h pos sides c.inside c.pruned (steps_inside k s size.w) (steps_inside k s size.h) in
     let out = laid_out wants k s all size.w size.h own sides c.pruned places in
     let plan = laid size k s wants counts all out.0 _ _ own c out.1 len refl refl in
-    let many : MOST_CUTS < cut_count out.0 = omega (arith, leaf_count-le_cuts out.0, out.1.sums (λ _. 1), more) in
+    let many : MAX_CUTS < cut_count out.0 = omega (arith, leaf_count-le_cuts out.0, out.1.sums (λ _. 1), more) in
     record { tree = out.0; worth = _; dropped = _; laid = plan; many = omega (arith, many, plan.few_cuts); many_cuts = many }
 
 pub zero_at : (xs : List ℕ) → All (λ a. a ≡ 0) xs → (i : ℕ) → get_or xs i 0 ≡ 0

@@ -1,10 +1,10 @@
 -- Why a planner gives no plan: the first of its faults whose condition holds.
 use Rattle.std.specs.Prelude.{ℕ, ◌+◌, ◌&&◌, ◌||◌, ◌==◌, not, Bool, false, nat_le, nat_lt, List, [], ◌∷◌, length, if◌then◌else◌, Option, Some, None, IsTrue, Contains, ◌≤◌}
 use Rattle.std.specs.List.{list_any}
-use Rattle.cut_measure.specs.declared.ranges.TheConstants.{MOST_COUNT, MOST_WORTH}
-use Rattle.cut_plan.specs.declared.faults.TheConstants.{MOST_WANTS}
-use Rattle.cut_bars.specs.declared.bar.TheConstants.{LONGEST_BAR}
-use Rattle.cut_sheets.specs.declared.sheet.TheConstants.{MOST_STEPS}
+use Rattle.cut_measure.specs.declared.ranges.TheConstants.{MAX_COUNT, MAX_WORTH}
+use Rattle.cut_plan.specs.declared.faults.TheConstants.{MAX_WANTS}
+use Rattle.cut_bars.specs.declared.bar.TheConstants.{MAX_BAR_LENGTH}
+use Rattle.cut_sheets.specs.declared.sheet.TheConstants.{MAX_STEPS}
 use Rattle.cut_measure.specs.declared.sizes.Kind.{Kind}
 use Rattle.cut_measure.specs.declared.sizes.Kind.TheVariants.{Bar, Sheet}
 use Rattle.cut_measure.specs.Measures.{Extent}
@@ -15,7 +15,7 @@ use Rattle.cut_plan.specs.declared.faults.PlanFault.TheVariants.{BadWant, BadSte
 
 -- a worth or a number that is left outside its range
 abbrev pub is_bad_number : Want → Bool
-is_bad_number x = x.worth == 0 || nat_lt MOST_WORTH x.worth || x.left == 0 || nat_lt MOST_COUNT x.left
+is_bad_number x = x.worth == 0 || nat_lt MAX_WORTH x.worth || x.left == 0 || nat_lt MAX_COUNT x.left
 
 -- a bar's piece is flat, and isn't turned
 abbrev pub is_bad_want : Kind → Want → Bool
@@ -40,8 +40,8 @@ is_bad_step Bar k s wants = false
 is_bad_step Sheet k s wants = s == 0 || list_any (is_short k s) wants
 
 abbrev pub is_large : Kind → Extent → (kerf step : ℕ) → Bool
-is_large Bar size k s = nat_lt LONGEST_BAR size.w
-is_large Sheet size k s = nat_lt MOST_STEPS (steps_down k s size.w) || nat_lt MOST_STEPS (steps_down k s size.h)
+is_large Bar size k s = nat_lt MAX_BAR_LENGTH size.w
+is_large Sheet size k s = nat_lt MAX_STEPS (steps_down k s size.w) || nat_lt MAX_STEPS (steps_down k s size.h)
 
 -- the want fits the unit, turned where it may be
 abbrev pub is_fitting : Extent → Want → Bool
@@ -50,7 +50,7 @@ is_fitting size x =
 
 abbrev pub plan_fault : Kind → Extent → (kerf step : ℕ) → List Want → Option PlanFault
 plan_fault kind size k s wants =
-    if are_bad_wants MOST_WANTS kind wants then Some BadWant
+    if are_bad_wants MAX_WANTS kind wants then Some BadWant
     else (if is_bad_step kind k s wants then Some BadStep
     else (if is_large kind size k s then Some TableTooLarge
     else (if list_any (is_fitting size) wants then None else Some NothingFits)))

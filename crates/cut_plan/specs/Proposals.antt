@@ -1,7 +1,7 @@
 -- Best plans of a bar.
 use Rattle.std.specs.Prelude.{◌≡◌, ℕ, ◌+◌, ◌≤◌, ◌<◌, List, [], ◌∷◌, ◌++◌, replicate, All}
-use Rattle.cut_measure.specs.declared.ranges.TheConstants.{MOST_NUMBERS}
-use Rattle.cut_tree.specs.declared.token.TheConstants.{MOST_CUTS}
+use Rattle.cut_measure.specs.declared.ranges.TheConstants.{MAX_NUMBERS}
+use Rattle.cut_tree.specs.declared.token.TheConstants.{MAX_CUTS}
 use Rattle.cut_measure.specs.Measures.{Extent}
 use Rattle.cut_tree.specs.Tree.{Tree, cut_count}
 use Rattle.cut_tree.specs.Bars.{bar_tree}
@@ -13,7 +13,7 @@ use Rattle.cut_plan.specs.declared.bars.Pieces.{Pieces}
 
 -- the want's demand has a number that a demand may have
 abbrev pub HasDemandNumber : Want → Type 0
-HasDemandNumber x = (1 ≤ x.demand) × (x.demand ≤ MOST_NUMBERS)
+HasDemandNumber x = (1 ≤ x.demand) × (x.demand ≤ MAX_NUMBERS)
 
 abbrev pub AreDemands : List Want → Type 0
 AreDemands wants = All HasDemandNumber wants
@@ -51,5 +51,5 @@ pub record IsBarProposal (size : Extent) (kerf : ℕ) (wants : List Want) (propo
 pub record HasManyPieces (size : Extent) (kerf : ℕ) (wants : List Want) : Type 0 where
   pub tree : Tree
   pub planned : IsBarPlan size kerf wants tree
-  pub many : MOST_CUTS < leaf_count tree
-  pub many_cuts : MOST_CUTS < cut_count tree
+  pub many : MAX_CUTS < leaf_count tree
+  pub many_cuts : MAX_CUTS < cut_count tree

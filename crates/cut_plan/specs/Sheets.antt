@@ -1,6 +1,6 @@
 -- Plans of a sheet, with a ceiling.
 use Rattle.std.specs.Prelude.{◌≡◌, false, IsTrue, ℕ, ◌+◌, ◌-◌, ◌*◌, ◌≤◌, ◌<◌, List, [], ◌∷◌, length, min, sum_by, slice_get, slice_index, Some, Contains}
-use Rattle.cut_tree.specs.declared.token.TheConstants.{MOST_CUTS}
+use Rattle.cut_tree.specs.declared.token.TheConstants.{MAX_CUTS}
 use Rattle.cut_measure.specs.Measures.{Extent}
 use Rattle.cut_tree.specs.Tree.{Tree, CutsInto, count_of, cut_count}
 use Rattle.cut_tree.specs.Nodes.{tree_of}
@@ -34,7 +34,7 @@ pub record IsFirstCutting (wants : List Want) (p q : ℕ) (counts : List ℕ) (k
   pub all : Tree
   pub cutting : IsCutting wants p q counts all
   pub whole : IsTrue kept.is_whole → tree_of kept.tree ≡ all
-  pub more : kept.is_whole ≡ false → MOST_CUTS + 1 < leaf_count all
+  pub more : kept.is_whole ≡ false → MAX_CUTS + 1 < leaf_count all
 
 -- of each count at most what is left
 abbrev pub kept_counts : List Want → List ℕ → List ℕ
@@ -82,4 +82,4 @@ pub record HasManyKept (size : Extent) (kerf step : ℕ) (wants : List Want) : T
   pub dropped : ℕ
   pub laid : IsSheetPlan size kerf step wants tree worth dropped
   pub many : 85 < kept_pieces wants laid.up
-  pub many_cuts : MOST_CUTS < cut_count tree
+  pub many_cuts : MAX_CUTS < cut_count tree

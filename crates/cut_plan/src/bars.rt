@@ -8,7 +8,7 @@ ghost use Rattle.cut_plan.specs.Proposals as proposals;
 
 use crate::faults::{PlanFault, first_fault};
 use cut_bars::bar::{best_counts, counted_worth};
-use cut_measure::{Kind, MOST_KERF, MOST_NUMBERS, Size};
+use cut_measure::{Kind, MAX_KERF, MAX_NUMBERS, Size};
 use cut_tree::{BarFault, Plan, bar_plan};
 use cut_wants::wants::Want;
 use std::alloc::{AllocError, Global};
@@ -57,7 +57,7 @@ fn counted_pieces(
 
 // The pieces of best counts.
 fn best_pieces(alloc: Global, size: Size, kerf: u32, wants: &[Want]) -> Result<Pieces, AllocError>
-    requires kerf { kerf ≤ MOST_KERF }
+    requires kerf { kerf ≤ MAX_KERF }
     requires faultless { plan_fault Bar size kerf 0 wants.now ≡ None }
     ensures { IfOk result (proposals.AreBestPieces size kerf wants.now) }
 {
@@ -75,7 +75,7 @@ fn proposal_of(
     wants: &[Want],
     best: &Pieces,
 ) -> Result<Proposal, PlanFault>
-    requires kerf { kerf ≤ MOST_KERF }
+    requires kerf { kerf ≤ MAX_KERF }
     requires flat { size.h ≡ 1 }
     requires demands { proposals.AreDemands wants.now }
     requires faultless { plan_fault Bar size kerf 0 wants.now ≡ None }
@@ -102,7 +102,7 @@ fn faultless_bar(
     kerf: u32,
     wants: &[Want],
 ) -> Result<Proposal, PlanFault>
-    requires kerf { kerf ≤ MOST_KERF }
+    requires kerf { kerf ≤ MAX_KERF }
     requires flat { size.h ≡ 1 }
     requires demands { proposals.AreDemands wants.now }
     requires faultless { plan_fault Bar size kerf 0 wants.now ≡ None }
@@ -123,14 +123,14 @@ pub fn have_demands(wants: &[Want]) -> bool
 {
     wants
         .iter()
-        .all(|want| 1 <= want.demand && want.demand <= MOST_NUMBERS)
+        .all(|want| 1 <= want.demand && want.demand <= MAX_NUMBERS)
 }
 
 /// The plan of a bar from which pieces of the wants are cut, each at most as often as is left, such that no legal plan
 /// within those counts is worth more (an integer knapsack, Gilmore and Gomory 1961). Faults in the order of `PlanFault`;
 /// the bar has a height of 1, and demands are in 1..=2147483647.
 pub fn plan_bar(alloc: Global, size: Size, kerf: u32, wants: &[Want]) -> Result<Proposal, PlanFault>
-    requires kerf { kerf ≤ MOST_KERF }
+    requires kerf { kerf ≤ MAX_KERF }
     requires flat { size.h ≡ 1 }
     requires demands { proposals.AreDemands wants.now }
     ensures ok { IfOk result (λ p. (plan_fault Bar size kerf 0 wants.now ≡ None)

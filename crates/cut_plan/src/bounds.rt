@@ -8,7 +8,7 @@ ghost use Rattle.cut_plan.specs.declared.faults.PlanFault.TheVariants.{NoMemory}
 
 use crate::faults::{PlanFault, first_fault};
 use cut_bars::bar::{best_counts, counted_worth};
-use cut_measure::{Kind, MOST_KERF, Size};
+use cut_measure::{Kind, MAX_KERF, Size};
 use cut_sheets::bound::{ceiling, units};
 use cut_wants::wants::Want;
 use std::alloc::{AllocError, Global};
@@ -31,7 +31,7 @@ fn unit_best(
     step: u32,
     wants: &[Want],
 ) -> Result<u64, AllocError>
-    requires kerf { kerf ≤ MOST_KERF }
+    requires kerf { kerf ≤ MAX_KERF }
     requires flat { kind ≡ Bar → size.h ≡ 1 }
     requires faultless { plan_fault kind size kerf step wants.now ≡ None }
     ensures best { IfOk result (IsUnitBest kind size kerf step wants.now) }
@@ -56,7 +56,7 @@ fn faultless_bound(
     step: u32,
     wants: &[Want],
 ) -> Result<Bound, AllocError>
-    requires kerf { kerf ≤ MOST_KERF }
+    requires kerf { kerf ≤ MAX_KERF }
     requires flat { kind ≡ Bar → size.h ≡ 1 }
     requires faultless { plan_fault kind size kerf step wants.now ≡ None }
     requires fits { SomeFits size wants.now }
@@ -78,7 +78,7 @@ pub fn least_units(
     step: u32,
     wants: &[Want],
 ) -> Result<Bound, PlanFault>
-    requires kerf { kerf ≤ MOST_KERF }
+    requires kerf { kerf ≤ MAX_KERF }
     requires flat { kind ≡ Bar → size.h ≡ 1 }
     ensures ok { IfOk result (IsBound kind size kerf step wants.now) }
     ensures faulty { IfSome (plan_fault kind size kerf step wants.now) (λ fault. result ≡ Err fault) }

@@ -5,15 +5,15 @@ ghost use Rattle.std.specs.List.{list_any};
 ghost use Rattle.cut_measure.specs.declared.sizes.Kind.TheVariants.{Sheet};
 ghost use Rattle.cut_plan.specs.Faults as faults;
 
-use cut_bars::bar::LONGEST_BAR;
-use cut_measure::{Kind, MOST_COUNT, MOST_KERF, MOST_WORTH, Size};
-use cut_sheets::sheet::MOST_STEPS;
+use cut_bars::bar::MAX_BAR_LENGTH;
+use cut_measure::{Kind, MAX_COUNT, MAX_KERF, MAX_WORTH, Size};
+use cut_sheets::sheet::MAX_STEPS;
 use cut_wants::wants::Want;
 use std::error::Error;
 use std::fmt;
 
 /// The most wants of which a plan is made.
-pub const MOST_WANTS: usize = 40;
+pub const MAX_WANTS: usize = 40;
 
 /// Why there is no plan.
 #[derive(Clone, Copy, Debug, PartialEq, Eq)]
@@ -57,7 +57,7 @@ impl Error for PlanFault {}
 fn is_bad_number(want: &Want) -> bool
     ensures { result ≡ faults.is_bad_number want.now }
 {
-    want.worth == 0 || want.worth > MOST_WORTH || want.left == 0 || want.left > MOST_COUNT
+    want.worth == 0 || want.worth > MAX_WORTH || want.left == 0 || want.left > MAX_COUNT
 }
 
 fn is_bad_want(kind: Kind, want: &Want) -> bool
@@ -101,14 +101,14 @@ pub fn are_bad_wants(most: usize, kind: Kind, wants: &[Want]) -> bool
 
 /// Whether a side of a want and a kerf are shorter than the step.
 pub fn is_short(want: &Want, kerf: u32, step: u32) -> bool
-    requires { kerf ≤ MOST_KERF }
+    requires { kerf ≤ MAX_KERF }
     ensures { result ≡ faults.is_short kerf step want.now }
 {
     want.size.w() + kerf < step || want.size.h() + kerf < step
 }
 
 fn has_short_want(wants: &[Want], kerf: u32, step: u32) -> bool
-    requires { kerf ≤ MOST_KERF }
+    requires { kerf ≤ MAX_KERF }
     ensures { result ≡ list_any (faults.is_short kerf step) wants.now }
 {
     wants.iter().any(|want| is_short(want, kerf, step))
@@ -116,7 +116,7 @@ fn has_short_want(wants: &[Want], kerf: u32, step: u32) -> bool
 
 /// Whether a sheet's step is 0, or longer than some want's side and a kerf.
 pub fn is_bad_step(kind: Kind, wants: &[Want], kerf: u32, step: u32) -> bool
-    requires { kerf ≤ MOST_KERF }
+    requires { kerf ≤ MAX_KERF }
     ensures { result ≡ faults.is_bad_step kind kerf step wants.now }
 {
     match kind {
@@ -127,14 +127,13 @@ pub fn is_bad_step(kind: Kind, wants: &[Want], kerf: u32, step: u32) -> bool
 
 /// Whether a unit is too large to be planned.
 pub fn is_large(kind: Kind, size: Size, kerf: u32, step: u32) -> bool
-    requires kerf { kerf ≤ MOST_KERF }
+    requires kerf { kerf ≤ MAX_KERF }
     requires step { kind ≡ Sheet → 1 ≤ step }
     ensures { result ≡ faults.is_large kind size kerf step }
 {
     match kind {
-        Kind::Bar => size.w() > LONGEST_BAR,
-        Kind::Sheet => (size.w() + kerf) / step > MOST_STEPS
-            || (size.h() + kerf) / step > MOST_STEPS,
+        Kind::Bar => size.w() > MAX_BAR_LENGTH,
+        Kind::Sheet => (size.w() + kerf) / step > MAX_STEPS || (size.h() + kerf) / step > MAX_STEPS,
     }
 }
 
@@ -168,11 +167,11 @@ pub fn first_fault(
     step: u32,
     wants: &[Want],
 ) -> Option<PlanFault>
-    requires { kerf ≤ MOST_KERF }
+    requires { kerf ≤ MAX_KERF }
     ensures value { result ≡ faults.plan_fault kind size kerf step wants.now }
     ensures which { IfNone result (faults.SomeFits size wants.now) }
 {
-    if are_bad_wants(MOST_WANTS, kind, wants) {
+    if are_bad_wants(MAX_WANTS, kind, wants) {
         return Some(PlanFault::BadWant);
     }
     if is_bad_step(kind, wants, kerf, step) {

@@ -12,7 +12,7 @@ ghost use Rattle.cut_plan.specs.Proposals.{AreDemands};
 
 use crate::faults::{PlanFault, first_fault};
 use cut_bars::bar::{Entry, reach};
-use cut_measure::{Kind, MOST_KERF, Size};
+use cut_measure::{Kind, MAX_KERF, Size};
 use cut_wants::wants::Want;
 use std::alloc::{AllocError, Global};
 use std::collections::BTreeMap;
@@ -36,7 +36,7 @@ fn faultless_map(
     kerf: u32,
     wants: &[Want],
 ) -> Result<BTreeMap<u32, u64>, AllocError>
-    requires kerf { kerf ≤ MOST_KERF }
+    requires kerf { kerf ≤ MAX_KERF }
     requires faultless { plan_fault Bar size kerf 0 wants.now ≡ None }
     ensures { IfOk result (λ map. IsReached kerf wants.now (size.w + kerf) (get nat_cmp map)) }
 {
@@ -54,7 +54,7 @@ pub fn reached(
     kerf: u32,
     wants: &[Want],
 ) -> Result<BTreeMap<u32, u64>, PlanFault>
-    requires kerf { kerf ≤ MOST_KERF }
+    requires kerf { kerf ≤ MAX_KERF }
     requires flat { size.h ≡ 1 }
     requires demands { AreDemands wants.now }
     ensures ok { IfOk result (λ map. (plan_fault Bar size kerf 0 wants.now ≡ None)

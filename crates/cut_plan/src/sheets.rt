@@ -15,13 +15,13 @@ ghost use Rattle.cut_plan.specs.Sheets as spec;
 
 use crate::faults::{PlanFault, first_fault};
 use cut_bars::bar::counted_worth;
-use cut_measure::{Kind, MOST_KERF, Size};
+use cut_measure::{Kind, MAX_KERF, Size};
 use cut_sheets::bound::{all_up, ceiling_beside};
 use cut_sheets::keep::{Kept, keep};
 use cut_sheets::place::place;
 use cut_sheets::read::worth_at;
-use cut_sheets::sheet::{MOST_STEPS, best_table};
-use cut_tree::{MOST_CUTS, Node, Plan, count_cuts};
+use cut_sheets::sheet::{MAX_STEPS, best_table};
+use cut_tree::{MAX_CUTS, Node, Plan, count_cuts};
 use cut_wants::wants::{Scaled, Want};
 use std::alloc::{AllocError, Global};
 
@@ -63,8 +63,8 @@ fn kept_leaves(
 ) -> Result<Cutting, AllocError>
     requires own { HaveOwnDemands wants.now }
     requires small { HaveSidesAndBoundedWorths wants.now }
-    requires across { across ≤ MOST_STEPS }
-    requires down { down ≤ MOST_STEPS }
+    requires across { across ≤ MAX_STEPS }
+    requires down { down ≤ MAX_STEPS }
     ensures kept { IfOk result
         (λ c. spec.IsFirstCutting wants.now across down c.counts.items c.kept) }
     ensures best { IfOk result (λ c. IsBestOf wants.now 0 across down c.best) }
@@ -109,7 +109,7 @@ fn cut_up(
     step: u32,
     wants: &[Want],
 ) -> Result<Cutting, AllocError>
-    requires kerf { kerf ≤ MOST_KERF }
+    requires kerf { kerf ≤ MAX_KERF }
     requires faultless { plan_fault Sheet size kerf step wants.now ≡ None }
     ensures sides { IfOk result (λ _. HaveSides wants.now) }
     ensures kept { IfOk result (λ c. spec.IsFirstCutting (wants_up kerf step wants.now)
@@ -133,7 +133,7 @@ fn lay_out(
     wants: &[Want],
     cutting: Cutting,
 ) -> Result<Laid, AllocError>
-    requires kerf { kerf ≤ MOST_KERF }
+    requires kerf { kerf ≤ MAX_KERF }
     requires faultless { plan_fault Sheet size kerf step wants.now ≡ None }
     requires sides { HaveSides wants.now }
     requires kept { spec.IsCutting (wants_up kerf step wants.now) (steps_down kerf step size.w)
@@ -168,7 +168,7 @@ fn proposal_of(
     wants: &[Want],
     laid: Laid,
 ) -> Result<SheetProposal, PlanFault>
-    requires kerf { kerf ≤ MOST_KERF }
+    requires kerf { kerf ≤ MAX_KERF }
     requires demands { AreDemands wants.now }
     requires laid { spec.IsSheetPlan size kerf step wants.now
         (tree_of laid.root) laid.worth laid.dropped }
@@ -179,7 +179,7 @@ fn proposal_of(
         (λ fault. (fault ≡ NoMemory)
         ⊎ ((fault ≡ TableTooLarge) × spec.HasManyKept size kerf step wants.now)) }
 {
-    if count_cuts(&laid.root) > MOST_CUTS {
+    if count_cuts(&laid.root) > MAX_CUTS {
         return Err(PlanFault::TableTooLarge);
     }
     let _sides = (size.w(), size.h());
@@ -201,7 +201,7 @@ fn faultless_sheet(
     step: u32,
     wants: &[Want],
 ) -> Result<SheetProposal, PlanFault>
-    requires kerf { kerf ≤ MOST_KERF }
+    requires kerf { kerf ≤ MAX_KERF }
     requires demands { AreDemands wants.now }
     requires faultless { plan_fault Sheet size kerf step wants.now ≡ None }
     ensures ok { IfOk result (spec.IsSheetProposal size kerf step wants.now) }
@@ -232,7 +232,7 @@ pub fn plan_sheet(
     step: u32,
     wants: &[Want],
 ) -> Result<SheetProposal, PlanFault>
-    requires kerf { kerf ≤ MOST_KERF }
+    requires kerf { kerf ≤ MAX_KERF }
     requires demands { AreDemands wants.now }
     ensures ok { IfOk result (λ p. (plan_fault Sheet size kerf step wants.now ≡ None)
         × spec.IsSheetProposal size kerf step wants.now p) }

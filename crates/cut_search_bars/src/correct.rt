@@ -25,16 +25,16 @@ const WHOLE_SHARE: i128 = 1_000_000;
 const LOSS_WEIGHT: u128 = 1000;
 
 /// The old value's weight beside it at least, where one unit was cut and no more pieces are left.
-const LEAST_WEIGHT: u64 = 667;
+const MIN_WEIGHT: u64 = 667;
 
 /// That weight at most.
-const MOST_WEIGHT: u64 = 1500;
+const MAX_WEIGHT: u64 = 1500;
 
 /// How much the power of a room is above 1 at least, in 1000ths.
-const LEAST_POWER: u64 = 20;
+const MIN_POWER: u64 = 20;
 
 /// How much it is at most.
-const MOST_POWER: u64 = 99;
+const MAX_POWER: u64 = 99;
 
 /// What was asked for.
 #[derive(Clone, Copy, PartialEq, Eq)]
@@ -256,8 +256,8 @@ impl Correct {
             most: order.most_cells(),
             unit: order.unit_cells.get(size).copied().unwrap_or(0),
             used,
-            weight: roll_within(&mut self.dice, LEAST_WEIGHT, MOST_WEIGHT),
-            power: roll_within(&mut self.dice, LEAST_POWER, MOST_POWER),
+            weight: roll_within(&mut self.dice, MIN_WEIGHT, MAX_WEIGHT),
+            power: roll_within(&mut self.dice, MIN_POWER, MAX_POWER),
         };
         let pieces = order.piece_cells.iter().zip(counts).zip(&self.draft.left);
         for (value, ((cells, count), left)) in self.values.iter_mut().zip(pieces) {

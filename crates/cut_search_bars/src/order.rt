@@ -7,7 +7,7 @@ use std::alloc::{AllocError, Global};
 
 /// The greatest worth of what one unit holds, so that no table overflows and each worth may be told
 /// as a price.
-const MOST_UNIT_WORTH: u128 = 1_000_000_000;
+const MAX_UNIT_WORTH: u128 = 1_000_000_000;
 
 /// What is to be cut, and the stock.
 #[derive(Drop)]
@@ -164,10 +164,10 @@ impl Order {
         }
         let mut worths = Vec::new(alloc);
         for (value, count) in values.iter().zip(left) {
-            let worth = if densest < MOST_UNIT_WORTH {
+            let worth = if densest < MAX_UNIT_WORTH {
                 *value as u128
             } else {
-                (*value as u128 * MOST_UNIT_WORTH)
+                (*value as u128 * MAX_UNIT_WORTH)
                     .checked_div(densest)
                     .unwrap_or(0)
             };

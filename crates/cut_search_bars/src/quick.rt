@@ -3,7 +3,7 @@
 
 use crate::draft::Draft;
 use crate::order::Order;
-use cut_tree::MOST_CUTS;
+use cut_tree::MAX_CUTS;
 use std::alloc::{AllocError, Global};
 
 /// Open units that are filled alike.
@@ -110,7 +110,7 @@ fn open_units(
         return Ok(false);
     };
     let room = order.unit_cells.get(size).copied().unwrap_or(0);
-    let each = pieces_within(room, cells, MOST_CUTS);
+    let each = pieces_within(room, cells, MAX_CUTS);
     let needed = left.div_ceil(each.max(1));
     let mut times = needed;
     if let Some(Some(number)) = free.get_mut(size) {
@@ -121,7 +121,7 @@ fn open_units(
         size,
         room,
         counts: vec![in alloc; 0u32; order.left.len()]?,
-        pieces: MOST_CUTS,
+        pieces: MAX_CUTS,
         times,
     };
     fill(alloc, empty, want, cells, left, units)?;

@@ -7,20 +7,20 @@ use crate::order::{Order, Rated, rounded_up};
 use cut_fill_bars::bars::{Bars, Priced};
 use cut_master::column::Plan;
 use cut_master::fixed::{ONE, ratio};
-use cut_master::master::{End, LEAST_GAIN, Master, Size, Taken};
+use cut_master::master::{End, MIN_GAIN, Master, Size, Taken};
 use std::alloc::{AllocError, Global};
 
 /// So many pivots are made between two looks elsewhere.
 const PIVOTS: u32 = 200;
 
 /// So many limited sizes have a row of the program at most, so that its tables stay small.
-const MOST_LIMITED: usize = 100;
+const MAX_LIMITED: usize = 100;
 
 /// So many further columns are taken from a table.
 const MORE_COLUMNS: usize = 12;
 
 /// Plans of so many sizes are taken from a table.
-const MOST_SIZES: usize = 3;
+const MAX_SIZES: usize = 3;
 
 /// A run of it.
 #[derive(Drop)]
@@ -51,7 +51,7 @@ pub fn offered_sizes(alloc: Global, free: &[Option<u32>]) -> Result<Vec<bool>, A
             limited = limited.saturating_add(1);
         }
     }
-    let stride = limited.div_ceil(MOST_LIMITED).max(1);
+    let stride = limited.div_ceil(MAX_LIMITED).max(1);
     let mut offered = Vec::new(alloc);
     let mut place = 0usize;
     for number in free {
@@ -160,7 +160,7 @@ impl Relax {
 
     /// What the program costs, rounded up: no bound by it is greater.
     pub fn most_bound(&self, order: &Order) -> u64 {
-        let value = u128::try_from(self.master.value().saturating_sub(LEAST_GAIN)).unwrap_or(0);
+        let value = u128::try_from(self.master.value().saturating_sub(MIN_GAIN)).unwrap_or(0);
         let cost = value.saturating_mul(order.dearest as u128);
         rounded_up(cost.div_ceil(ONE as u128), order.grain)
     }
@@ -197,7 +197,7 @@ impl Relax {
         for (place, plan) in plans.iter().enumerate() {
             let gain = self.master.gain(plan).unwrap_or(0);
             let is_free = self.offered.get(plan.size).copied().unwrap_or(false);
-            if gain > LEAST_GAIN && is_free {
+            if gain > MIN_GAIN && is_free {
                 gains.push((gain.saturating_neg(), place))?;
             }
         }
@@ -218,7 +218,7 @@ impl Relax {
             let known = plans
                 .iter()
                 .any(|p| p.counts.as_slice() == plan.counts.as_slice());
-            let gains = self.master.gain(&plan).unwrap_or(0) > LEAST_GAIN;
+            let gains = self.master.gain(&plan).unwrap_or(0) > MIN_GAIN;
             if gains && !known && times_within(&plan.counts, &self.left) > 0 {
                 plans.push(plan)?;
             }
@@ -240,7 +240,7 @@ impl Relax {
             })?;
         }
         let gains = self.gaining(alloc, &plans)?;
-        for (_, place) in gains.iter().take(MOST_SIZES) {
+        for (_, place) in gains.iter().take(MAX_SIZES) {
             if let Some(plan) = plans.get(*place) {
                 self.add_more(alloc, bars, plan)?;
             }

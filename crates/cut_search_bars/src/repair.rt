@@ -6,7 +6,7 @@ use crate::order::Order;
 use std::alloc::{AllocError, Global};
 
 /// So many units are taken apart at most.
-const MOST_UNITS: u64 = 12;
+const MAX_REPAIRED_UNITS: u64 = 12;
 
 /// What a unit loses, in thousandths.
 fn loss_of(order: &Order, batch: &Batch) -> u64 {
@@ -31,7 +31,7 @@ fn by_loss(
     let mut units = Vec::new(alloc);
     for (place, batch) in draft.batches.iter().enumerate() {
         let loss = loss_of(order, batch);
-        for _ in 0..(batch.times as u64).min(MOST_UNITS) {
+        for _ in 0..(batch.times as u64).min(MAX_REPAIRED_UNITS) {
             let key = loss.saturating_add(roll_within(dice, 0, width));
             units.push((key, place))?;
         }
@@ -50,7 +50,7 @@ pub fn taken_apart(
 ) -> Result<Draft, AllocError> {
     let units = by_loss(alloc, order, draft, width, dice)?;
     let half = units.len().div_ceil(2).max(3) as u64;
-    let most = half.min(MOST_UNITS);
+    let most = half.min(MAX_REPAIRED_UNITS);
     let count = roll_within(dice, 3, most.max(3));
     let mut rest = draft.copy(alloc)?;
     for (_, place) in units.iter().rev().take(count as usize) {

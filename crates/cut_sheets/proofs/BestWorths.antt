@@ -5,7 +5,7 @@ use Rattle.std.proofs.lemmas.Bool.{cases_lt}
 use Rattle.std.proofs.lemmas.Nat.{mul-le}
 use Rattle.std.proofs.Math.Nat.{le_refl}
 use Rattle.std.proofs.lemmas.Option.{slice_get-get_or}
-use Rattle.cut_sheets.specs.declared.sheet.TheConstants.{MOST_STEPS}
+use Rattle.cut_sheets.specs.declared.sheet.TheConstants.{MAX_STEPS}
 use Rattle.cut_wants.specs.declared.wants.Want.{Want}
 use Rattle.cut_tree.specs.Tree.{Tree, count_of, Rest, Piece, Trim, Cut}
 use Rattle.cut_measure.specs.declared.sizes.Axis.TheVariants.{X, Y}
@@ -19,8 +19,8 @@ use Rattle.cut_wants.proofs.NumberRows.{set_here, set_other}
 use Rattle.cut_wants.proofs.LeafSums.{Contains-tail}
 use Rattle.cut_sheets.proofs.SheetTables.{piece_worth, best-le_price, small_priced, row_worth}
 
-pub value_small : (wants : List Want) (w h v : ℕ) → HaveOwnDemands wants → HaveSidesAndBoundedWorths wants → w ≤ MOST_STEPS → h ≤ MOST_STEPS → IsBestOf wants 0 w h v → v ≤ 250000 * 2 ^ 30
-value_small wants w h v own small ws hs b = omega (arith, best-le_price (2 ^ 30) wants w h v own (small_priced wants small) b, mul-le w h MOST_STEPS MOST_STEPS ws hs)
+pub value_small : (wants : List Want) (w h v : ℕ) → HaveOwnDemands wants → HaveSidesAndBoundedWorths wants → w ≤ MAX_STEPS → h ≤ MAX_STEPS → IsBestOf wants 0 w h v → v ≤ 250000 * 2 ^ 30
+value_small wants w h v own small ws hs b = omega (arith, best-le_price (2 ^ 30) wants w h v own (small_priced wants small) b, mul-le w h MAX_STEPS MAX_STEPS ws hs)
 
 pub best_same : (wants : List Want) (w h u v : ℕ) → IsBestOf wants 0 w h u → IsBestOf wants 0 w h v → u ≡ v
 best_same wants w h u v a b = omega (arith, a.found.2, b.found.2, a.most b.found.0 b.found.1, b.most a.found.0 a.found.1)

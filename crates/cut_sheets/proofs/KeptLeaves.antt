@@ -11,7 +11,7 @@ use Rattle.cut_tree.specs.Nodes.{tree_of}
 use Rattle.cut_wants.specs.Legal.{HasSides, HaveOwnDemands, leaf_count}
 use Rattle.cut_wants.specs.Best.{IsBestOf}
 use Rattle.cut_sheets.specs.Table.{CountsLeaves, IsPieceAt, IsCutX, IsCutY}
-use Rattle.cut_tree.specs.declared.token.TheConstants.{MOST_CUTS}
+use Rattle.cut_tree.specs.declared.token.TheConstants.{MAX_CUTS}
 use Rattle.cut_sheets.specs.declared.keep.Part.{Part}
 use Rattle.cut_sheets.specs.Kept.{FitsInto, IsInside, IsPruned, joined, rejoined, KeepsLeaves, KeepsPiece, KeepsFirst}
 use Rattle.cut_sheets.proofs.BestWorths.{contains_get, own_at, leaves_none, leaves_piece, leaves_x, leaves_y, counts_one}
@@ -169,11 +169,11 @@ first_none wants w h best n old b z = record {
 }
 
 -- a piece that is one of the first, or not
-first_leaf : (d : ℕ) (r : Bool) (n m : ℕ) (t : Tree) → KeepsPiece d r n m t → (leaf_count t + min n (MOST_CUTS + 1) ≡ min m (MOST_CUTS + 1)) × IsPruned t
+first_leaf : (d : ℕ) (r : Bool) (n m : ℕ) (t : Tree) → KeepsPiece d r n m t → (leaf_count t + min n (MAX_CUTS + 1) ≡ min m (MAX_CUTS + 1)) × IsPruned t
 first_leaf d r n m t k =
-    elim (cases_lt MOST_CUTS n) [
-      | inl lt ↦ subst (λ v. (leaf_count v + min n (MOST_CUTS + 1) ≡ min m (MOST_CUTS + 1)) × IsPruned v) (sym (k.past lt)) (omega (arith, lt, k.counted), tt)
-      | inr ge ↦ subst (λ v. (leaf_count v + min n (MOST_CUTS + 1) ≡ min m (MOST_CUTS + 1)) × IsPruned v) (sym (k.first ge)) (omega (arith, ge, k.counted), tt)
+    elim (cases_lt MAX_CUTS n) [
+      | inl lt ↦ subst (λ v. (leaf_count v + min n (MAX_CUTS + 1) ≡ min m (MAX_CUTS + 1)) × IsPruned v) (sym (k.past lt)) (omega (arith, lt, k.counted), tt)
+      | inr ge ↦ subst (λ v. (leaf_count v + min n (MAX_CUTS + 1) ≡ min m (MAX_CUTS + 1)) × IsPruned v) (sym (k.first ge)) (omega (arith, ge, k.counted), tt)
     ]
 
 pub first_piece : (wants : List Want) (w h best i : ℕ) (turned : Bool) (old : List ℕ) (n m : ℕ) (tree : Tree) → HaveOwnDemands wants → length old ≡ length wants → IsBestOf wants 0 w h best
@@ -197,7 +197,7 @@ first_piece wants w h best i turned old n m tree own len b p way =
         keeps = keeps_piece wants w h best i turned old Rest own len b p (inr (k.0, refl));
         counted = omega (arith, k.1);
         whole = λ le. k.2;
-        few = subst (λ v. leaf_count v + min n (MOST_CUTS + 1) ≡ min m (MOST_CUTS + 1)) (sym k.2) (omega (arith, k.1));
+        few = subst (λ v. leaf_count v + min n (MAX_CUTS + 1) ≡ min m (MAX_CUTS + 1)) (sym k.2) (omega (arith, k.1));
         pruned = subst IsPruned (sym k.2) tt;
       }
     ]

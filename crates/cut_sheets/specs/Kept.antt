@@ -6,7 +6,7 @@ use Rattle.cut_tree.specs.Tree.{Tree, Rest, Piece, Trim, Cut, CutsInto, leaf_sum
 use Rattle.cut_wants.specs.declared.wants.Want.{Want}
 use Rattle.cut_wants.specs.Legal.{Legal, leaf_count}
 use Rattle.cut_tree.specs.Nodes.{tree_of}
-use Rattle.cut_tree.specs.declared.token.TheConstants.{MOST_CUTS}
+use Rattle.cut_tree.specs.declared.token.TheConstants.{MAX_CUTS}
 use Rattle.cut_sheets.specs.Table.{CountsLeaves}
 use Rattle.cut_sheets.specs.declared.keep.Kept.{Kept}
 use Rattle.cut_sheets.specs.declared.keep.Part.{Part}
@@ -59,17 +59,17 @@ rejoined (p ∷ parts) t = joined p.axis p.place (tree_of p.first) (rejoined par
 -- a piece that is kept after so many others stands in the tree as one of the first ones, or not; they are counted
 pub record KeepsPiece (demand : ℕ) (turned : Bool) (before after : ℕ) (tree : Tree) : Type 0 where
   pub counted : after ≡ min (before + 1) (2 ^ 32 - 1)
-  pub first : before ≤ MOST_CUTS → tree ≡ Piece demand turned
-  pub past : MOST_CUTS < before → tree ≡ Rest
+  pub first : before ≤ MAX_CUTS → tree ≡ Piece demand turned
+  pub past : MAX_CUTS < before → tree ≡ Rest
 
 -- Leaves are kept after so many others, and counted as far as a tree may have them. The first ones of them are joined to a
 -- tree, as many as there may be beside those before.
 pub record KeepsFirst (wants : List Want) (w h : ℕ) (old new : List ℕ) (before after : ℕ) (tree : Tree) : Type 0 where
   pub all : Tree
   pub keeps : KeepsLeaves wants w h old new all
-  pub counted : min after (MOST_CUTS + 2) ≡ min (before + leaf_count all) (MOST_CUTS + 2)
-  pub whole : after ≤ MOST_CUTS + 1 → tree ≡ all
-  pub few : leaf_count tree + min before (MOST_CUTS + 1) ≡ min after (MOST_CUTS + 1)
+  pub counted : min after (MAX_CUTS + 2) ≡ min (before + leaf_count all) (MAX_CUTS + 2)
+  pub whole : after ≤ MAX_CUTS + 1 → tree ≡ all
+  pub few : leaf_count tree + min before (MAX_CUTS + 1) ≡ min after (MAX_CUTS + 1)
   pub pruned : IsPruned tree
 
 -- the tree of all that are kept, or of the first ones where they are more than a plan has
@@ -77,9 +77,9 @@ pub record IsKept (wants : List Want) (w h : ℕ) (old new : List ℕ) (kept : K
   pub all : Tree
   pub keeps : KeepsLeaves wants w h old new all
   pub whole : IsTrue kept.is_whole → tree_of kept.tree ≡ all
-  pub more : kept.is_whole ≡ false → (MOST_CUTS + 1 < leaf_count all) × (leaf_count (tree_of kept.tree) ≡ MOST_CUTS + 1)
+  pub more : kept.is_whole ≡ false → (MAX_CUTS + 1 < leaf_count all) × (leaf_count (tree_of kept.tree) ≡ MAX_CUTS + 1)
   pub pruned : IsPruned (tree_of kept.tree)
-  pub few : leaf_count (tree_of kept.tree) ≤ MOST_CUTS + 1
+  pub few : leaf_count (tree_of kept.tree) ≤ MAX_CUTS + 1
 
 -- the kept tree has places on a sheet of these sides, its cuts being counted in steps
 abbrev pub HasPlaces : List Want → (kerf step : ℕ) → Tree → (w h : ℕ) → Type 0

@@ -12,13 +12,13 @@ ghost use Rattle.cut_sheets.specs.Bound.{Meets, worth_left};
 ghost use Rattle.cut_sheets.specs.Table.{HaveBoundedWorths, HaveSides, HaveSidesAndBoundedWorths};
 
 use crate::read::worth_at;
-use crate::sheet::{MOST_STEPS, best_table};
-use cut_measure::{MOST_KERF, Size};
+use crate::sheet::{MAX_STEPS, best_table};
+use cut_measure::{MAX_KERF, Size};
 use cut_wants::wants::{Scaled, Want};
 use std::alloc::{AllocError, Global};
 
 fn down(want: &Want, kerf: u32, step: u32) -> Scaled
-    requires kerf { kerf ≤ MOST_KERF }
+    requires kerf { kerf ≤ MAX_KERF }
     requires step { 1 ≤ step }
     ensures { result ≡ want_down kerf step want.now }
 {
@@ -39,7 +39,7 @@ pub fn all_down(
     kerf: u32,
     step: u32,
 ) -> Result<Vec<Scaled>, AllocError>
-    requires kerf { kerf ≤ MOST_KERF }
+    requires kerf { kerf ≤ MAX_KERF }
     requires step { 1 ≤ step }
     ensures { IfOk result (λ down. down.items ≡ wants_down kerf step wants.now) }
 {
@@ -52,7 +52,7 @@ pub fn all_down(
 }
 
 fn up(want: &Want, kerf: u32, step: u32) -> Scaled
-    requires kerf { kerf ≤ MOST_KERF }
+    requires kerf { kerf ≤ MAX_KERF }
     requires step { 1 ≤ step }
     requires within { step ≤ want.now.size.w + kerf }
     ensures value { result ≡ want_up kerf step want.now }
@@ -75,7 +75,7 @@ pub fn all_up(
     kerf: u32,
     step: u32,
 ) -> Result<Vec<Scaled>, AllocError>
-    requires kerf { kerf ≤ MOST_KERF }
+    requires kerf { kerf ≤ MAX_KERF }
     requires step { IsStep kerf step wants.now }
     ensures value { IfOk result (λ up. up.items ≡ wants_up kerf step wants.now) }
     ensures sides { IfOk result (λ _. HaveSides wants.now) }
@@ -97,8 +97,8 @@ fn table_worth(
 ) -> Result<u64, AllocError>
     requires own { HaveOwnDemands wants.now }
     requires small { HaveSidesAndBoundedWorths wants.now }
-    requires across { across ≤ MOST_STEPS }
-    requires down { down ≤ MOST_STEPS }
+    requires across { across ≤ MAX_STEPS }
+    requires down { down ≤ MAX_STEPS }
     ensures { IfOk result (IsBestOf wants.now 0 across down) }
 {
     let table = best_table(alloc, wants, across, down)?;
@@ -115,10 +115,10 @@ pub fn ceiling(
 ) -> Result<u64, AllocError>
     requires own { HaveOwnDemands wants.now }
     requires worthy { HaveBoundedWorths wants.now }
-    requires kerf { kerf ≤ MOST_KERF }
+    requires kerf { kerf ≤ MAX_KERF }
     requires step { IsStep kerf step wants.now }
-    requires wide { steps_down kerf step size.w ≤ MOST_STEPS }
-    requires tall { steps_down kerf step size.h ≤ MOST_STEPS }
+    requires wide { steps_down kerf step size.w ≤ MAX_STEPS }
+    requires tall { steps_down kerf step size.h ≤ MAX_STEPS }
     ensures best { IfOk result
         (IsBestOf (wants_down kerf step wants.now) 0 (steps_down kerf step size.w)
         (steps_down kerf step size.h)) }
@@ -135,7 +135,7 @@ pub fn ceiling(
 
 /// Whether each side and a kerf are whole steps, so that rounding up and down give the same wants.
 fn are_exact(wants: &[Want], kerf: u32, step: u32) -> bool
-    requires kerf { kerf ≤ MOST_KERF }
+    requires kerf { kerf ≤ MAX_KERF }
     requires step { 1 ≤ step }
     ensures { result ≡ list_all (is_exact kerf step) wants.now }
 {
@@ -156,10 +156,10 @@ pub fn ceiling_beside(
 ) -> Result<u64, AllocError>
     requires own { HaveOwnDemands wants.now }
     requires worthy { HaveBoundedWorths wants.now }
-    requires kerf { kerf ≤ MOST_KERF }
+    requires kerf { kerf ≤ MAX_KERF }
     requires step { IsStep kerf step wants.now }
-    requires wide { steps_down kerf step size.w ≤ MOST_STEPS }
-    requires tall { steps_down kerf step size.h ≤ MOST_STEPS }
+    requires wide { steps_down kerf step size.w ≤ MAX_STEPS }
+    requires tall { steps_down kerf step size.h ≤ MAX_STEPS }
     requires best { IsBestOf (wants_up kerf step wants.now) 0 (steps_down kerf step size.w)
         (steps_down kerf step size.h) best_up }
     ensures best { IfOk result

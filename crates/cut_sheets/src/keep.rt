@@ -9,9 +9,9 @@ ghost use Rattle.cut_sheets.specs.Table.{IsTable, heights, HaveSidesAndBoundedWo
 ghost use Rattle.cut_sheets.specs.Kept.{joined, rejoined, KeepsPiece, KeepsFirst, IsKept};
 
 use crate::read::{Choice, choose, worth_at};
-use crate::sheet::{MOST_STEPS, Table};
+use crate::sheet::{MAX_STEPS, Table};
 use cut_measure::Axis;
-use cut_tree::{MOST_CUTS, Node};
+use cut_tree::{MAX_CUTS, Node};
 use cut_wants::wants::Scaled;
 use std::alloc::{AllocError, Global};
 
@@ -82,7 +82,7 @@ fn keep_piece(demand: u32, turned: bool, pieces: &mut u32) -> Node
 {
     let before = *pieces;
     *pieces = before.saturating_add(1);
-    if before <= MOST_CUTS {
+    if before <= MAX_CUTS {
         Node::Piece(demand, turned)
     } else {
         Node::Rest
@@ -124,8 +124,8 @@ fn keep_first(
 ) -> Result<Node, AllocError>
     requires own { HaveOwnDemands wants.now }
     requires small { HaveSidesAndBoundedWorths wants.now }
-    requires places { places ≤ MOST_STEPS + 1 }
-    requires heights { heights table.now ≤ MOST_STEPS + 1 }
+    requires places { places ≤ MAX_STEPS + 1 }
+    requires heights { heights table.now ≤ MAX_STEPS + 1 }
     requires table { IsTable wants.now places table.now }
     requires w { w < places }
     requires h { h < heights table.now }
@@ -187,8 +187,8 @@ pub fn keep(
 ) -> Result<Kept, AllocError>
     requires own { HaveOwnDemands wants.now }
     requires small { HaveSidesAndBoundedWorths wants.now }
-    requires places { places ≤ MOST_STEPS + 1 }
-    requires heights { heights table.now ≤ MOST_STEPS + 1 }
+    requires places { places ≤ MAX_STEPS + 1 }
+    requires heights { heights table.now ≤ MAX_STEPS + 1 }
     requires table { IsTable wants.now places table.now }
     requires w { w < places }
     requires h { h < heights table.now }
@@ -203,6 +203,6 @@ pub fn keep(
     let tree = keep_first(alloc, wants, table, places, w, h, counts, &mut pieces)?;
     Ok(Kept {
         tree,
-        is_whole: pieces <= MOST_CUTS + 1,
+        is_whole: pieces <= MAX_CUTS + 1,
     })
 }

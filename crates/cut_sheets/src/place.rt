@@ -9,7 +9,7 @@ ghost use Rattle.cut_wants.specs.Legal.{HaveOwnDemands};
 ghost use Rattle.cut_sheets.specs.Kept.{IsInside, IsPruned, HasPlaces, Places};
 ghost use Rattle.cut_sheets.specs.Kept as kept;
 
-use cut_measure::{Axis, MOST_KERF, Size};
+use cut_measure::{Axis, MAX_KERF, Size};
 use cut_tree::Node;
 use cut_wants::wants::Want;
 use std::alloc::{AllocError, Global};
@@ -89,7 +89,7 @@ fn place_piece(
     kerf: u32,
 ) -> Result<Node, AllocError>
     requires own { HaveOwnDemands wants.now }
-    requires kerf { kerf ≤ MOST_KERF }
+    requires kerf { kerf ≤ MAX_KERF }
     requires inside { IsInside wants.now demand turned w h }
     ensures { IfOk result (λ node. Places wants.now kerf (Piece demand turned) w h (tree_of node)) }
 {
@@ -119,7 +119,7 @@ pub fn place(
     step: u32,
 ) -> Result<Node, AllocError>
     requires own { HaveOwnDemands wants.now }
-    requires kerf { kerf ≤ MOST_KERF }
+    requires kerf { kerf ≤ MAX_KERF }
     requires pruned { IsPruned (tree_of node.now) }
     requires places { HasPlaces wants.now kerf step (tree_of node.now) w h }
     ensures { IfOk result (λ placed. Places wants.now kerf (tree_of node.now) w h

@@ -6,7 +6,7 @@ ghost use Rattle.cut_wants.specs.Best.{IsBestOf};
 ghost use Rattle.cut_wants.specs.Legal.{HaveOwnDemands, HasSides};
 ghost use Rattle.cut_sheets.specs.Table.{IsTable, AreBestRows, heights, HaveSidesAndBoundedWorths, IsCutX, IsCutY, IsPieceAt, Explains};
 
-use crate::sheet::{MOST_STEPS, Table};
+use crate::sheet::{MAX_STEPS, Table};
 use cut_wants::number::Number;
 use cut_wants::wants::Scaled;
 
@@ -55,8 +55,8 @@ fn find_cut_x(
 ) -> Option<usize>
     requires own { HaveOwnDemands wants.now }
     requires small { HaveSidesAndBoundedWorths wants.now }
-    requires places { places ≤ MOST_STEPS + 1 }
-    requires heights { heights table.now ≤ MOST_STEPS + 1 }
+    requires places { places ≤ MAX_STEPS + 1 }
+    requires heights { heights table.now ≤ MAX_STEPS + 1 }
     requires table { IsTable wants.now places table.now }
     requires w { w < places }
     requires h { h < heights table.now }
@@ -83,8 +83,8 @@ fn find_cut_y(
 ) -> Option<usize>
     requires own { HaveOwnDemands wants.now }
     requires small { HaveSidesAndBoundedWorths wants.now }
-    requires places { places ≤ MOST_STEPS + 1 }
-    requires heights { heights table.now ≤ MOST_STEPS + 1 }
+    requires places { places ≤ MAX_STEPS + 1 }
+    requires heights { heights table.now ≤ MAX_STEPS + 1 }
     requires table { IsTable wants.now places table.now }
     requires w { w < places }
     requires h { h < heights table.now }
@@ -141,8 +141,8 @@ pub fn choose(
 ) -> Choice
     requires own { HaveOwnDemands wants.now }
     requires small { HaveSidesAndBoundedWorths wants.now }
-    requires places { places ≤ MOST_STEPS + 1 }
-    requires heights { heights table.now ≤ MOST_STEPS + 1 }
+    requires places { places ≤ MAX_STEPS + 1 }
+    requires heights { heights table.now ≤ MAX_STEPS + 1 }
     requires table { IsTable wants.now places table.now }
     requires w { w < places }
     requires h { h < heights table.now }

@@ -11,7 +11,7 @@ use cut_wants::wants::Scaled;
 use std::alloc::{AllocError, Global};
 
 /// The most steps that a side of a sheet is counted in.
-pub const MOST_STEPS: u32 = 500;
+pub const MAX_STEPS: u32 = 500;
 
 /// The best worths of rectangles by height and then width, in narrow numbers where they do.
 #[derive(Drop)]
@@ -112,7 +112,7 @@ fn best_row<T: Number>(
     width: usize,
 ) -> Result<Vec<T>, AllocError>
     requires own { HaveOwnDemands wants.now }
-    requires width { width ≤ MOST_STEPS }
+    requires width { width ≤ MAX_STEPS }
     requires fits { IsPricedBelow T.limit wants.now (width + 1) (length rows.now) }
     requires table { AreBestRows T.value wants.now (width + 1) rows.now }
     requires len { length useful.now ≡ length rows.now }
@@ -147,8 +147,8 @@ fn best_rows<T: Number>(
     height: usize,
 ) -> Result<Vec<Vec<T>>, AllocError>
     requires own { HaveOwnDemands wants.now }
-    requires width { width ≤ MOST_STEPS }
-    requires height { height ≤ MOST_STEPS }
+    requires width { width ≤ MAX_STEPS }
+    requires height { height ≤ MAX_STEPS }
     requires fits { IsPricedBelow T.limit wants.now (width + 1) height }
     ensures len { IfOk result (λ rows. length rows.items ≡ height + 1) }
     ensures table { IfOk result (λ rows. AreBestRows T.value wants.now (width + 1) rows.items) }
@@ -195,8 +195,8 @@ pub fn best_table(
 ) -> Result<Table, AllocError>
     requires own { HaveOwnDemands wants.now }
     requires small { HaveSidesAndBoundedWorths wants.now }
-    requires width { width ≤ MOST_STEPS }
-    requires height { height ≤ MOST_STEPS }
+    requires width { width ≤ MAX_STEPS }
+    requires height { height ≤ MAX_STEPS }
     ensures len { IfOk result (λ table. heights table ≡ height + 1) }
     ensures table { IfOk result (IsTable wants.now (width + 1)) }
 {

@@ -4,7 +4,7 @@ use Rattle.std.specs.Prelude.{All, sum_by, ◌⊎◌, nat_le, ◌==◌}
 use Rattle.std.proofs.lemmas.Bool.{eqb-true, eqb-false, leb-true, leb-false}
 use Rattle.std.proofs.lemmas.List.Sums.{sum_by-cons}
 use Rattle.std.proofs.lemmas.Bool.{cond_both}
-use Rattle.cut_tree.specs.declared.token.TheConstants.{MOST_CUTS}
+use Rattle.cut_tree.specs.declared.token.TheConstants.{MAX_CUTS}
 use Rattle.cut_measure.specs.declared.sizes.Axis.TheVariants.{X}
 use Rattle.cut_tree.specs.Tree.{Tree, Piece, Trim, Cut, CutsInto, cut_count, leaf_sum}
 use Rattle.cut_tree.specs.Patterns.{HasDemands}
@@ -124,8 +124,8 @@ HasDemands-bar_tree (p ∷ ps) w k all fits =
 
 -- The cuts are at most 255 exactly where the pieces are at most 255, or 256 that leave nothing of the room.
 pub cuts_by_room : (ps : List (ℕ × ℕ)) (w k room most : ℕ) → 1 ≤ w → All (λ q. 1 ≤ q.1) ps → spent k ps ≤ w + k → room ≡ w + k - spent k ps →
-    ((room ≡ 0) × (most ≡ 256)) ⊎ ((room ≡ 0 → ⊥) × (most ≡ MOST_CUTS)) →
-    (length ps ≤ most → cut_count (bar_tree ps w k) ≤ MOST_CUTS) × (most < length ps → MOST_CUTS < cut_count (bar_tree ps w k))
+    ((room ≡ 0) × (most ≡ 256)) ⊎ ((room ≡ 0 → ⊥) × (most ≡ MAX_CUTS)) →
+    (length ps ≤ most → cut_count (bar_tree ps w k) ≤ MAX_CUTS) × (most < length ps → MAX_CUTS < cut_count (bar_tree ps w k))
 cuts_by_room ps w k room most some all fits left limit =
     elim (cut_count-bar_tree ps w k some all fits) [
       | inl c ↦

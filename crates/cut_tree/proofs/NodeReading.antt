@@ -2,7 +2,7 @@
 use Rattle.std.proofs.Common.{◌≡◌, ℕ, ◌+◌, ◌-◌, ◌<◌, ◌≤◌, List, [], refl, subst, sym, arith, ◌⊎◌, inl, inr, Option, Some}
 use Rattle.std.specs.Prelude.{slice_get}
 use Rattle.std.proofs.lemmas.List.{length-append}
-use Rattle.cut_tree.specs.declared.token.TheConstants.{MOST_CUTS}
+use Rattle.cut_tree.specs.declared.token.TheConstants.{MAX_CUTS}
 use Rattle.cut_measure.specs.declared.sizes.Axis.{Axis}
 use Rattle.cut_measure.specs.declared.sizes.Axis.TheVariants.{X, Y}
 use Rattle.cut_tree.specs.declared.token.Token.TheVariants as token
@@ -26,7 +26,7 @@ wrong_start OffUnit word cuts w h k p = absurd p
 wrong_start Extra word cuts w h k p = absurd p
 wrong_start NoMemory word cuts w h k p = absurd p
 
-module _ (ws : List (List ℕ)) (at cuts : ℕ) (s : Sides) (k : ℕ) (few : cuts ≤ MOST_CUTS) where
+module _ (ws : List (List ℕ)) (at cuts : ℕ) (s : Sides) (k : ℕ) (few : cuts ≤ MAX_CUTS) where
   pub start_fails : (f : SpellFault) → f.token ≡ at → IsNoTokenFor f.cause (slice_get ws at) → Fails ws at cuts s k f
   start_fails f here p = inr (record {
     prefix = [];
@@ -38,7 +38,7 @@ module _ (ws : List (List ℕ)) (at cuts : ℕ) (s : Sides) (k : ℕ) (few : cut
   })
 
   module _ (axis : Axis) (a : ℕ) (got : slice_get ws at ≡ Some (token_text (token.Cut axis a))) (is_token : IsToken (token.Cut axis a)) where
-    pub full_fails : cuts ≡ MOST_CUTS → IsFaultWithin ws at cuts s.w s.h k at TooManyCuts
+    pub full_fails : cuts ≡ MAX_CUTS → IsFaultWithin ws at cuts s.w s.h k at TooManyCuts
     full_fails full = record {
       prefix = [];
       place = omega arith;
@@ -48,7 +48,7 @@ module _ (ws : List (List ℕ)) (at cuts : ℕ) (s : Sides) (k : ℕ) (few : cut
       wrong = (axis, a, (got, is_token), omega arith);
     }
 
-pub off_fails : (ws : List (List ℕ)) (at cuts : ℕ) (s : Sides) (k a : ℕ) (axis : Axis) → slice_get ws at ≡ Some (token_text (token.Cut axis a)) → IsToken (token.Cut axis a) → side_along s axis ≤ a → cuts < MOST_CUTS → IsFaultWithin ws at cuts s.w s.h k at OffUnit
+pub off_fails : (ws : List (List ℕ)) (at cuts : ℕ) (s : Sides) (k a : ℕ) (axis : Axis) → slice_get ws at ≡ Some (token_text (token.Cut axis a)) → IsToken (token.Cut axis a) → side_along s axis ≤ a → cuts < MAX_CUTS → IsFaultWithin ws at cuts s.w s.h k at OffUnit
 off_fails ws at cuts s k a X got is_token out few = off_x ws at cuts s.w s.h k a at OffUnit got is_token out few refl
 off_fails ws at cuts s k a Y got is_token out few = off_y ws at cuts s.w s.h k a at OffUnit got is_token out few refl
 

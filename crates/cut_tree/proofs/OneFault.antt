@@ -3,7 +3,7 @@ use Rattle.std.proofs.Common.{◌≡◌, ℕ, suc, ◌+◌, ◌≤◌, ◌<◌, 
 use Rattle.std.specs.Prelude.{slice_get}
 use Rattle.std.proofs.lemmas.Bool.{cases_lt}
 use Rattle.std.proofs.lemmas.List.{append-nil}
-use Rattle.cut_tree.specs.declared.token.TheConstants.{MOST_CUTS}
+use Rattle.cut_tree.specs.declared.token.TheConstants.{MAX_CUTS}
 use Rattle.cut_tree.specs.declared.token.Token.{Token}
 use Rattle.cut_tree.specs.declared.token.Token.TheVariants as token
 use Rattle.cut_tree.specs.declared.token.Cause.{Cause}
@@ -40,12 +40,12 @@ module _ (w h k : ℕ) where
 
   -- what is wrong after a prefix is no token of a tree that begins with it
   goes_no_further : (cause : Cause) (prefix : List Token) (t : Token) (more : List Token) (word : Option (List ℕ)) → word ≡ Some (token_text t) → IsToken t →
-      IsWrong cause prefix word 0 w h k → IsPrefix (prefix ++ t ∷ more) w h k → cuts_in (prefix ++ t ∷ more) ≤ MOST_CUTS → ⊥
+      IsWrong cause prefix word 0 w h k → IsPrefix (prefix ++ t ∷ more) w h k → cuts_in (prefix ++ t ∷ more) ≤ MAX_CUTS → ⊥
   goes_no_further BadToken prefix t more word is p wrong f few = (let no : IsNoToken (Some (token_text t)) = subst IsNoToken is wrong in no t p refl)
   goes_no_further TooManyCuts prefix t more word is p wrong f few =
       let i : word ≡ Some (token_text (token.Cut wrong.0 wrong.1)) = wrong.2.0 in
       let cut : t ≡ token.Cut wrong.0 wrong.1 = one_token t (token.Cut wrong.0 wrong.1) p wrong.2.1 (cc) in
-      let full : 0 + cuts_in prefix ≡ MOST_CUTS = wrong.3 in
+      let full : 0 + cuts_in prefix ≡ MAX_CUTS = wrong.3 in
       let count : cuts_in (prefix ++ t ∷ more) ≡ cuts_in prefix + cuts_in (token.Cut wrong.0 wrong.1 ∷ more) =
       cuts_in-append prefix (t ∷ more) ∙ ap (λ v. cuts_in prefix + cuts_in (v ∷ more)) cut in
       omega (arith, count, full, few)
@@ -112,13 +112,13 @@ module _ (w h k : ℕ) where
 
   module _ (ws : List (List ℕ)) where
     further : (n : ℕ) (a : Cause) (fs gs more : List Token) → 0 + length fs ≡ n → gs ≡ fs ++ more → SpelledAt ws n more → IsWrong a fs (slice_get ws n) 0 w h k →
-        IsPrefix gs w h k → cuts_in gs ≤ MOST_CUTS → n < length gs → ⊥
+        IsPrefix gs w h k → cuts_in gs ≤ MAX_CUTS → n < length gs → ⊥
     further n a fs gs [] place split p wrong f few past = omega (arith, place, ap length (split ∙ append-nil fs))
     further n a fs gs (t ∷ more) place split p wrong f few past =
         goes_no_further a fs t more (slice_get ws n) p.0 p.1 wrong (subst (λ (l : List Token). IsPrefix l w h k) split f) (omega (arith, ap cuts_in split))
 
     -- a reader that stopped met no longer prefix
-    not_past : (n : ℕ) (a : Cause) (gs : List Token) → IsFaultWithin ws 0 0 w h k n a → SpelledAt ws 0 gs → IsPrefix gs w h k → cuts_in gs ≤ MOST_CUTS → n < length gs → ⊥
+    not_past : (n : ℕ) (a : Cause) (gs : List Token) → IsFaultWithin ws 0 0 w h k n a → SpelledAt ws 0 gs → IsPrefix gs w h k → cuts_in gs ≤ MAX_CUTS → n < length gs → ⊥
     not_past n a gs s p f few past =
         let more = begins ws 0 s.prefix gs s.spelled p (omega (arith, s.place)) in
         further n a s.prefix gs more.0 s.place more.1 (subst (λ (m : ℕ). SpelledAt ws m more.0) s.place more.2) s.wrong f few past

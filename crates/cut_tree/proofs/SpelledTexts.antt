@@ -9,7 +9,7 @@ use Rattle.std.proofs.lemmas.Str.Parse.{digit_at}
 use Rattle.std.proofs.lemmas.List.{append-nil, append_cancel_right, get_or_default}
 use Rattle.std.proofs.lemmas.List.Elements.{All-cons, All-append, All-nil}
 use Rattle.std.proofs.lemmas.List.Splits.{slice_split_none, slice_split_at}
-use Rattle.cut_tree.specs.declared.token.TheConstants.{MOST_CUTS}
+use Rattle.cut_tree.specs.declared.token.TheConstants.{MAX_CUTS}
 use Rattle.cut_measure.specs.declared.sizes.Axis.TheVariants.{X, Y}
 use Rattle.cut_tree.specs.declared.token.Token.{Token}
 use Rattle.cut_tree.specs.declared.token.Token.TheVariants as token
@@ -116,7 +116,7 @@ agree ws at (t ∷ ts) (f ∷ fs) here all p =
     let e : at + suc (length fs) ≡ at + 1 + length fs = omega arith in
     (more.0, cc, more.2, ap (λ n. drop n ws) e ∙ more.3)
 
-module _ (t : Tree) (w h k : ℕ) (shaped : IsShaped t w h k) (few : cut_count t ≤ MOST_CUTS) where
+module _ (t : Tree) (w h k : ℕ) (shaped : IsShaped t w h k) (few : cut_count t ≤ MAX_CUTS) where
   -- the tree ends where the prefix does, or the next word is the tree's next token
   at_end : (prefix : List Token) → tokens t ≡ prefix ++ [] → GoesOn prefix w h k → ⊥
   at_end prefix same g =
@@ -130,7 +130,7 @@ module _ (t : Tree) (w h k : ℕ) (shaped : IsShaped t w h k) (few : cut_count t
   at_token TooManyCuts prefix c cs word same p is wrong =
       let i : word ≡ Some (token_text (token.Cut wrong.0 wrong.1)) = wrong.2.0 in
       let cut : c ≡ token.Cut wrong.0 wrong.1 = one_token c (token.Cut wrong.0 wrong.1) p wrong.2.1 (cc) in
-      let full : 0 + cuts_in prefix ≡ MOST_CUTS = wrong.3 in
+      let full : 0 + cuts_in prefix ≡ MAX_CUTS = wrong.3 in
       let count : cuts_in (tokens t) ≡ cuts_in prefix + cuts_in (token.Cut wrong.0 wrong.1 ∷ cs) =
       ap cuts_in (same ∙ ap (λ v. prefix ++ v ∷ cs) cut) ∙ cuts_in-append prefix (token.Cut wrong.0 wrong.1 ∷ cs) in
       omega (arith, count, full, cuts_in-tokens t)
@@ -181,7 +181,7 @@ spelled_words : (text : List ℕ) (t : Tree) (w h k : ℕ) → IsSpelling text t
 spelled_words text t w h k s = ap words s.text_is ∙ words-text_of (tokens t) (some_token t) s.numbers
 
 -- a text that spells a tree has no fault but want of memory
-pub faultless : (text : List ℕ) (t : Tree) (w h k n : ℕ) (cause : Cause) → IsSpelling text t w h k → cut_count t ≤ MOST_CUTS → IsFirstFault text w h k n cause → cause ≡ NoMemory
+pub faultless : (text : List ℕ) (t : Tree) (w h k n : ℕ) (cause : Cause) → IsSpelling text t w h k → cut_count t ≤ MAX_CUTS → IsFirstFault text w h k n cause → cause ≡ NoMemory
 faultless text t w h k n cause s few (inl p) = p.1
 faultless text t w h k n cause s few (inr (inl p)) = absurd (not_stopped t w h k s.shaped few (words text) n cause (spelled_words text t w h k s) s.numbers p)
 faultless text t w h k n cause s few (inr (inr p)) = absurd (not_after t w h k s.shaped few (words text) n cause (spelled_words text t w h k s) s.numbers p)

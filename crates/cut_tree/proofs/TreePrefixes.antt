@@ -3,7 +3,7 @@ use Rattle.std.proofs.Common.{◌≡◌, ℕ, suc, ◌+◌, ◌-◌, ◌<◌, �
 use Rattle.std.specs.Prelude.{slice_get}
 use Rattle.std.proofs.lemmas.List.{append-nil, length-append}
 use Rattle.std.proofs.lemmas.Bool.{cases_lt}
-use Rattle.cut_tree.specs.declared.token.TheConstants.{MOST_CUTS}
+use Rattle.cut_tree.specs.declared.token.TheConstants.{MAX_CUTS}
 use Rattle.cut_measure.specs.declared.sizes.Axis.{Axis}
 use Rattle.cut_measure.specs.declared.sizes.Axis.TheVariants.{X, Y}
 use Rattle.cut_tree.specs.declared.token.Token.{Token}
@@ -251,16 +251,16 @@ no_tree_y w h k a out (Cut Y b f s) more shaped text = let e : b ≡ a = cc in l
 module _ (w h k a : ℕ) (word : Option (List ℕ)) (cuts : ℕ) where
   wrong_first_x : (cause : Cause) (prefix : List Token) → GoesOn prefix a h k → IsWrong cause prefix word (cuts + 1) a h k → IsWrong cause (token.Cut X a ∷ prefix) word cuts w h k
   wrong_first_x BadToken prefix g p = p
-  wrong_first_x TooManyCuts prefix g p = (p.0, p.1, p.2, (let e : cuts + 1 + cuts_in prefix ≡ MOST_CUTS = p.3 in omega arith))
-  wrong_first_x OffUnit prefix g p = (p.0, p.1, p.2, (λ f. off_first_x w h k a prefix (token.Cut p.0 p.1) g p.3 f.0 f.1 f.2 f.3), (let e : cuts + 1 + cuts_in prefix < MOST_CUTS = p.4 in omega arith))
+  wrong_first_x TooManyCuts prefix g p = (p.0, p.1, p.2, (let e : cuts + 1 + cuts_in prefix ≡ MAX_CUTS = p.3 in omega arith))
+  wrong_first_x OffUnit prefix g p = (p.0, p.1, p.2, (λ f. off_first_x w h k a prefix (token.Cut p.0 p.1) g p.3 f.0 f.1 f.2 f.3), (let e : cuts + 1 + cuts_in prefix < MAX_CUTS = p.4 in omega arith))
   wrong_first_x Missing prefix g p = p
   wrong_first_x Extra prefix g p = p
   wrong_first_x NoMemory prefix g p = p
 
   wrong_second_x : (cause : Cause) (first : Tree) (prefix : List Token) → a + k < w → IsShaped first a h k → IsWrong cause prefix word (cuts + 1 + cuts_in (tokens first)) (w - a - k) h k → IsWrong cause (token.Cut X a ∷ (tokens first ++ prefix)) word cuts w h k
   wrong_second_x BadToken first prefix fits fp p = p
-  wrong_second_x TooManyCuts first prefix fits fp p = (p.0, p.1, p.2, (let e : cuts + 1 + cuts_in (tokens first) + cuts_in prefix ≡ MOST_CUTS = p.3 in omega (arith, cuts_in-append (tokens first) prefix)))
-  wrong_second_x OffUnit first prefix fits fp p = (p.0, p.1, p.2, (λ f. off_second_x w h k a first prefix (token.Cut p.0 p.1) fits fp p.3 f.0 f.1 f.2 f.3), (let e : cuts + 1 + cuts_in (tokens first) + cuts_in prefix < MOST_CUTS = p.4 in omega (arith, cuts_in-append (tokens first) prefix)))
+  wrong_second_x TooManyCuts first prefix fits fp p = (p.0, p.1, p.2, (let e : cuts + 1 + cuts_in (tokens first) + cuts_in prefix ≡ MAX_CUTS = p.3 in omega (arith, cuts_in-append (tokens first) prefix)))
+  wrong_second_x OffUnit first prefix fits fp p = (p.0, p.1, p.2, (λ f. off_second_x w h k a first prefix (token.Cut p.0 p.1) fits fp p.3 f.0 f.1 f.2 f.3), (let e : cuts + 1 + cuts_in (tokens first) + cuts_in prefix < MAX_CUTS = p.4 in omega (arith, cuts_in-append (tokens first) prefix)))
   wrong_second_x Missing first prefix fits fp p = p
   wrong_second_x Extra first prefix fits fp p = p
   wrong_second_x NoMemory first prefix fits fp p = p
@@ -272,7 +272,7 @@ module _ (ws : List (List ℕ)) (at cuts w h k a n : ℕ) (cause : Cause) (got :
     place = (let e : at + 1 + length s.prefix ≡ n = s.place in omega arith);
     spelled = (got, is_token, s.spelled);
     goes_on = on_x w h k a s.prefix is_token.0 fits s.goes_on;
-    few_cuts = (let e : cuts + 1 + cuts_in s.prefix ≤ MOST_CUTS = s.few_cuts in omega arith);
+    few_cuts = (let e : cuts + 1 + cuts_in s.prefix ≤ MAX_CUTS = s.few_cuts in omega arith);
     wrong = wrong_first_x w h k a (slice_get ws n) cuts cause s.prefix s.goes_on s.wrong;
   }
 
@@ -283,12 +283,12 @@ module _ (ws : List (List ℕ)) (at cuts w h k a n : ℕ) (cause : Cause) (got :
     place = (let e : at + 1 + length (tokens first) + length s.prefix ≡ n = s.place in omega (arith, length-append (tokens first) s.prefix));
     spelled = (got, is_token, SpelledAt-append ws (at + 1) (tokens first) s.prefix spelled s.spelled);
     goes_on = on_second_x w h k a first s.prefix is_token.0 fits shaped s.goes_on;
-    few_cuts = (let e : cuts + 1 + cuts_in (tokens first) + cuts_in s.prefix ≤ MOST_CUTS = s.few_cuts in omega (arith, cuts_in-append (tokens first) s.prefix));
+    few_cuts = (let e : cuts + 1 + cuts_in (tokens first) + cuts_in s.prefix ≤ MAX_CUTS = s.few_cuts in omega (arith, cuts_in-append (tokens first) s.prefix));
     wrong = wrong_second_x w h k a (slice_get ws n) cuts cause first s.prefix fits shaped s.wrong;
   }
 
   -- a cut that isn't inside its rectangle
-  pub off_x : w ≤ a → cuts < MOST_CUTS → n ≡ at → IsFaultWithin ws at cuts w h k n OffUnit
+  pub off_x : w ≤ a → cuts < MAX_CUTS → n ≡ at → IsFaultWithin ws at cuts w h k n OffUnit
   off_x out few here = record {
     prefix = [];
     place = omega arith;
@@ -302,16 +302,16 @@ module _ (ws : List (List ℕ)) (at cuts w h k a n : ℕ) (cause : Cause) (got :
 module _ (w h k a : ℕ) (word : Option (List ℕ)) (cuts : ℕ) where
   wrong_first_y : (cause : Cause) (prefix : List Token) → GoesOn prefix w a k → IsWrong cause prefix word (cuts + 1) w a k → IsWrong cause (token.Cut Y a ∷ prefix) word cuts w h k
   wrong_first_y BadToken prefix g p = p
-  wrong_first_y TooManyCuts prefix g p = (p.0, p.1, p.2, (let e : cuts + 1 + cuts_in prefix ≡ MOST_CUTS = p.3 in omega arith))
-  wrong_first_y OffUnit prefix g p = (p.0, p.1, p.2, (λ f. off_first_y w h k a prefix (token.Cut p.0 p.1) g p.3 f.0 f.1 f.2 f.3), (let e : cuts + 1 + cuts_in prefix < MOST_CUTS = p.4 in omega arith))
+  wrong_first_y TooManyCuts prefix g p = (p.0, p.1, p.2, (let e : cuts + 1 + cuts_in prefix ≡ MAX_CUTS = p.3 in omega arith))
+  wrong_first_y OffUnit prefix g p = (p.0, p.1, p.2, (λ f. off_first_y w h k a prefix (token.Cut p.0 p.1) g p.3 f.0 f.1 f.2 f.3), (let e : cuts + 1 + cuts_in prefix < MAX_CUTS = p.4 in omega arith))
   wrong_first_y Missing prefix g p = p
   wrong_first_y Extra prefix g p = p
   wrong_first_y NoMemory prefix g p = p
 
   wrong_second_y : (cause : Cause) (first : Tree) (prefix : List Token) → a + k < h → IsShaped first w a k → IsWrong cause prefix word (cuts + 1 + cuts_in (tokens first)) w (h - a - k) k → IsWrong cause (token.Cut Y a ∷ (tokens first ++ prefix)) word cuts w h k
   wrong_second_y BadToken first prefix fits fp p = p
-  wrong_second_y TooManyCuts first prefix fits fp p = (p.0, p.1, p.2, (let e : cuts + 1 + cuts_in (tokens first) + cuts_in prefix ≡ MOST_CUTS = p.3 in omega (arith, cuts_in-append (tokens first) prefix)))
-  wrong_second_y OffUnit first prefix fits fp p = (p.0, p.1, p.2, (λ f. off_second_y w h k a first prefix (token.Cut p.0 p.1) fits fp p.3 f.0 f.1 f.2 f.3), (let e : cuts + 1 + cuts_in (tokens first) + cuts_in prefix < MOST_CUTS = p.4 in omega (arith, cuts_in-append (tokens first) prefix)))
+  wrong_second_y TooManyCuts first prefix fits fp p = (p.0, p.1, p.2, (let e : cuts + 1 + cuts_in (tokens first) + cuts_in prefix ≡ MAX_CUTS = p.3 in omega (arith, cuts_in-append (tokens first) prefix)))
+  wrong_second_y OffUnit first prefix fits fp p = (p.0, p.1, p.2, (λ f. off_second_y w h k a first prefix (token.Cut p.0 p.1) fits fp p.3 f.0 f.1 f.2 f.3), (let e : cuts + 1 + cuts_in (tokens first) + cuts_in prefix < MAX_CUTS = p.4 in omega (arith, cuts_in-append (tokens first) prefix)))
   wrong_second_y Missing first prefix fits fp p = p
   wrong_second_y Extra first prefix fits fp p = p
   wrong_second_y NoMemory first prefix fits fp p = p
@@ -323,7 +323,7 @@ module _ (ws : List (List ℕ)) (at cuts w h k a n : ℕ) (cause : Cause) (got :
     place = (let e : at + 1 + length s.prefix ≡ n = s.place in omega arith);
     spelled = (got, is_token, s.spelled);
     goes_on = on_y w h k a s.prefix is_token.0 fits s.goes_on;
-    few_cuts = (let e : cuts + 1 + cuts_in s.prefix ≤ MOST_CUTS = s.few_cuts in omega arith);
+    few_cuts = (let e : cuts + 1 + cuts_in s.prefix ≤ MAX_CUTS = s.few_cuts in omega arith);
     wrong = wrong_first_y w h k a (slice_get ws n) cuts cause s.prefix s.goes_on s.wrong;
   }
 
@@ -334,12 +334,12 @@ module _ (ws : List (List ℕ)) (at cuts w h k a n : ℕ) (cause : Cause) (got :
     place = (let e : at + 1 + length (tokens first) + length s.prefix ≡ n = s.place in omega (arith, length-append (tokens first) s.prefix));
     spelled = (got, is_token, SpelledAt-append ws (at + 1) (tokens first) s.prefix spelled s.spelled);
     goes_on = on_second_y w h k a first s.prefix is_token.0 fits shaped s.goes_on;
-    few_cuts = (let e : cuts + 1 + cuts_in (tokens first) + cuts_in s.prefix ≤ MOST_CUTS = s.few_cuts in omega (arith, cuts_in-append (tokens first) s.prefix));
+    few_cuts = (let e : cuts + 1 + cuts_in (tokens first) + cuts_in s.prefix ≤ MAX_CUTS = s.few_cuts in omega (arith, cuts_in-append (tokens first) s.prefix));
     wrong = wrong_second_y w h k a (slice_get ws n) cuts cause first s.prefix fits shaped s.wrong;
   }
 
   -- a cut that isn't inside its rectangle
-  pub off_y : h ≤ a → cuts < MOST_CUTS → n ≡ at → IsFaultWithin ws at cuts w h k n OffUnit
+  pub off_y : h ≤ a → cuts < MAX_CUTS → n ≡ at → IsFaultWithin ws at cuts w h k n OffUnit
   off_y out few here = record {
     prefix = [];
     place = omega arith;

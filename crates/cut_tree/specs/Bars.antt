@@ -1,7 +1,7 @@
 -- The plan of a bar: pieces cut off one after another.
 use Rattle.std.specs.Prelude.{ℕ, false, ◌+◌, ◌-◌, ◌*◌, ◌≤◌, ◌<◌, ◌==◌, nat_le, if◌then◌else◌, List, [], ◌∷◌, length, sum_by}
-use Rattle.cut_measure.specs.declared.ranges.TheConstants.{MOST_NUMBERS}
-use Rattle.cut_tree.specs.declared.token.TheConstants.{MOST_CUTS}
+use Rattle.cut_measure.specs.declared.ranges.TheConstants.{MAX_NUMBERS}
+use Rattle.cut_tree.specs.declared.token.TheConstants.{MAX_CUTS}
 use Rattle.cut_measure.specs.declared.sizes.Axis.TheVariants.{X}
 use Rattle.cut_tree.specs.declared.bars.BarFault.{BarFault}
 use Rattle.cut_tree.specs.declared.bars.BarFault.TheVariants.{TooLong, TooManyCuts, NoMemory}
@@ -9,7 +9,7 @@ use Rattle.cut_tree.specs.Tree.{Tree, Piece, Rest, Trim, Cut, cut_count}
 
 -- a piece of a bar is a demand, which has a number that a demand may have, and a length
 abbrev pub IsBarPiece : ℕ × ℕ → Type 0
-IsBarPiece p = (1 ≤ p.0) × (p.0 ≤ MOST_NUMBERS) × (1 ≤ p.1)
+IsBarPiece p = (1 ≤ p.0) × (p.0 ≤ MAX_NUMBERS) × (1 ≤ p.1)
 
 -- the length of bar that pieces take, with a kerf between each two
 abbrev pub bar_length : List (ℕ × ℕ) → (kerf : ℕ) → ℕ
@@ -27,5 +27,5 @@ bar_tree (p ∷ ps) w k =
 -- why there is no plan: the pieces are too long for the bar, or else their tree has over 255 cuts, or memory ran out
 abbrev pub IsBarFault : BarFault → List (ℕ × ℕ) → (w kerf : ℕ) → Type 0
 IsBarFault TooLong pieces w k = w < bar_length pieces k
-IsBarFault TooManyCuts pieces w k = (bar_length pieces k ≤ w) × (MOST_CUTS < cut_count (bar_tree pieces w k))
+IsBarFault TooManyCuts pieces w k = (bar_length pieces k ≤ w) × (MAX_CUTS < cut_count (bar_tree pieces w k))
 IsBarFault NoMemory pieces w k = bar_length pieces k ≤ w

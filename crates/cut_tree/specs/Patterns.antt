@@ -3,8 +3,8 @@ use Rattle.std.specs.Prelude.{ℕ, Bool, true, false, ◌≡◌, ◌≤◌, List
 use Rattle.std.specs.Coded.{Coded, code_by, coded×, coded_ℕ, coded_bool, coded_list}
 use Rattle.std.proofs.Common.{ap, sym, ◌∙◌, append_assoc}
 use Rattle.std.proofs.lemmas.List.{append-nil}
-use Rattle.cut_measure.specs.declared.ranges.TheConstants.{MOST_HEIGHT, MOST_KERF, MOST_NUMBERS, MOST_WIDTH}
-use Rattle.cut_tree.specs.declared.token.TheConstants.{MOST_CUTS}
+use Rattle.cut_measure.specs.declared.ranges.TheConstants.{MAX_HEIGHT, MAX_KERF, MAX_NUMBERS, MAX_WIDTH}
+use Rattle.cut_tree.specs.declared.token.TheConstants.{MAX_CUTS}
 use Rattle.cut_measure.specs.declared.sizes.Axis.{Axis}
 use Rattle.cut_measure.specs.declared.sizes.Axis.TheVariants.{X, Y}
 use Rattle.cut_tree.specs.Tree.{Tree, Piece, Rest, Trim, Cut, IsShaped, cut_count}
@@ -17,7 +17,7 @@ pub record Pattern : Type 0 where
 
 -- the pieces' demands have numbers that a demand may have
 abbrev pub HasDemands : Tree → Type 0
-HasDemands (Piece demand turned) = (1 ≤ demand) × (demand ≤ MOST_NUMBERS)
+HasDemands (Piece demand turned) = (1 ≤ demand) × (demand ≤ MAX_NUMBERS)
 HasDemands Rest = Unit {0}
 HasDemands (Trim axis a first) = HasDemands first
 HasDemands (Cut axis a first second) = HasDemands first × HasDemands second
@@ -25,13 +25,13 @@ HasDemands (Cut axis a first second) = HasDemands first × HasDemands second
 -- what each plan keeps: its tree follows the rule of cuts on its size, with at most 255 cuts
 pub record IsPlan (p : Pattern) : Type 0 where
   pub shaped : IsShaped p.tree p.w p.h p.kerf
-  pub few_cuts : cut_count p.tree ≤ MOST_CUTS
+  pub few_cuts : cut_count p.tree ≤ MAX_CUTS
   pub demands : HasDemands p.tree
   pub some_width : 1 ≤ p.w
-  pub width_in_range : p.w ≤ MOST_WIDTH
+  pub width_in_range : p.w ≤ MAX_WIDTH
   pub some_height : 1 ≤ p.h
-  pub height_in_range : p.h ≤ MOST_HEIGHT
-  pub narrow : p.kerf ≤ MOST_KERF
+  pub height_in_range : p.h ≤ MAX_HEIGHT
+  pub narrow : p.kerf ≤ MAX_KERF
 
 -- How a proof tells trees apart: a tree's nodes in order, each as two marks, a third one and a number.
 abbrev pub Mark : Type 0

@@ -3,8 +3,8 @@ use Rattle.std.specs.Prelude.{ℕ, Bool, true, false, ◌≡◌, ◌+◌, ◌≤
 use Rattle.std.specs.List.{slice_split, join_with_byte}
 use Rattle.std.specs.Prelude.{◌==◌}
 use Rattle.std.specs.Fmt.{decimal}
-use Rattle.cut_measure.specs.declared.ranges.TheConstants.{MOST_NUMBERS}
-use Rattle.cut_tree.specs.declared.token.TheConstants.{MOST_CUTS}
+use Rattle.cut_measure.specs.declared.ranges.TheConstants.{MAX_NUMBERS}
+use Rattle.cut_tree.specs.declared.token.TheConstants.{MAX_CUTS}
 use Rattle.cut_measure.specs.declared.sizes.Axis.{Axis}
 use Rattle.cut_measure.specs.declared.sizes.Axis.TheVariants.{X, Y}
 use Rattle.cut_tree.specs.declared.token.Token.{Token}
@@ -32,7 +32,7 @@ token_text token.Rest = 114 ∷ []
 -- the numbers that a token may have
 abbrev pub IsToken : Token → Type 0
 IsToken (token.Cut axis place) = (1 ≤ place) × (place ≤ 4294967295)
-IsToken (token.Piece demand turned) = (1 ≤ demand) × (demand ≤ MOST_NUMBERS)
+IsToken (token.Piece demand turned) = (1 ≤ demand) × (demand ≤ MAX_NUMBERS)
 IsToken token.Rest = Unit {0}
 
 -- a node is followed by its first part, and that by its second
@@ -86,10 +86,10 @@ IsCut word axis place = (word ≡ Some (token_text (token.Cut axis place))) × I
 -- What is wrong with the word after a prefix of a tree, or with its absence. So many cuts stand before the tree.
 abbrev pub IsWrong : Cause → (prefix : List Token) → Option (List ℕ) → (cuts w h kerf : ℕ) → Type 0
 IsWrong BadToken prefix word cuts w h k = IsNoToken word
-IsWrong TooManyCuts prefix word cuts w h k = (axis : Axis) × (place : ℕ) × IsCut word axis place × (cuts + cuts_in prefix ≡ MOST_CUTS)
+IsWrong TooManyCuts prefix word cuts w h k = (axis : Axis) × (place : ℕ) × IsCut word axis place × (cuts + cuts_in prefix ≡ MAX_CUTS)
 -- no tree goes on with the cut
 IsWrong OffUnit prefix word cuts w h k =
-    (axis : Axis) × (place : ℕ) × IsCut word axis place × (IsPrefix (prefix ++ token.Cut axis place ∷ []) w h k → ⊥) × (cuts + cuts_in prefix < MOST_CUTS)
+    (axis : Axis) × (place : ℕ) × IsCut word axis place × (IsPrefix (prefix ++ token.Cut axis place ∷ []) w h k → ⊥) × (cuts + cuts_in prefix < MAX_CUTS)
 IsWrong Missing prefix word cuts w h k = word ≡ None
 IsWrong Extra prefix word cuts w h k = ⊥
 IsWrong NoMemory prefix word cuts w h k = ⊥
@@ -101,7 +101,7 @@ pub record IsFaultWithin (ws : List (List ℕ)) (at cuts w h kerf n : ℕ) (caus
   pub place : at + length prefix ≡ n
   pub spelled : SpelledAt ws at prefix
   pub goes_on : GoesOn prefix w h kerf
-  pub few_cuts : cuts + cuts_in prefix ≤ MOST_CUTS
+  pub few_cuts : cuts + cuts_in prefix ≤ MAX_CUTS
   pub wrong : IsWrong cause prefix (slice_get ws n) cuts w h kerf
 
 -- what is wrong with a word after a whole tree
@@ -119,7 +119,7 @@ pub record IsFaultAfter (ws : List (List ℕ)) (w h kerf n : ℕ) (cause : Cause
   pub place : length prefix ≡ n
   pub spelled : SpelledAt ws 0 prefix
   pub whole : AreTreeTokens prefix w h kerf
-  pub few_cuts : cuts_in prefix ≤ MOST_CUTS
+  pub few_cuts : cuts_in prefix ≤ MAX_CUTS
   pub wrong : IsWrongAfter cause (slice_get ws n)
 
 -- the first fault of a text, if it is no tree's or memory ran out
@@ -133,7 +133,7 @@ pub record HasReadTree (ws : List (List ℕ)) (at cuts w h kerf : ℕ) (tree : T
   pub spelled : SpelledAt ws at (tokens tree)
   pub upto : next ≡ at + length (tokens tree)
   pub counted : cuts_after ≡ cuts + cuts_in (tokens tree)
-  pub few_cuts : cuts_after ≤ MOST_CUTS
+  pub few_cuts : cuts_after ≤ MAX_CUTS
 
 -- the number of a byte word's token, or none is spelled so
 abbrev pub IsTokenOf : Option Token → List ℕ → Type 0

@@ -7,8 +7,8 @@ ghost use Rattle.cut_tree.specs.Nodes.{tree_of};
 ghost use Rattle.cut_tree.specs.Bars.{IsBarPiece, bar_length, bar_tree, IsBarFault};
 
 use crate::node::Node;
-use crate::token::MOST_CUTS;
-use cut_measure::{Axis, MOST_KERF, MOST_WIDTH};
+use crate::token::MAX_CUTS;
+use cut_measure::{Axis, MAX_KERF, MAX_WIDTH};
 use std::alloc::{AllocError, Global};
 use std::error::Error;
 use std::fmt;
@@ -60,7 +60,7 @@ fn bar_node(
     length: u32,
     kerf: u32,
 ) -> Result<Node, AllocError>
-    requires narrow { kerf ≤ MOST_KERF }
+    requires narrow { kerf ≤ MAX_KERF }
     requires fits { sum_by (λ p. p.1 + kerf) pieces.now ≤ length + kerf }
     ensures { IfOk result (λ node. tree_of node ≡ bar_tree pieces.now length kerf) }
 {
@@ -87,13 +87,13 @@ pub fn bar_root(
     kerf: u32,
     pieces: &[(u32, u32)],
 ) -> Result<Node, BarFault>
-    requires narrow { kerf ≤ MOST_KERF }
+    requires narrow { kerf ≤ MAX_KERF }
     requires some { 1 ≤ length }
-    requires short { length ≤ MOST_WIDTH }
+    requires short { length ≤ MAX_WIDTH }
     requires pieces { All IsBarPiece pieces.now }
     ensures tree { IfOk result (λ node. tree_of node ≡ bar_tree pieces.now length kerf) }
     ensures fits { OnOk result (bar_length pieces.now kerf ≤ length) }
-    ensures few_cuts { OnOk result (cut_count (bar_tree pieces.now length kerf) ≤ MOST_CUTS) }
+    ensures few_cuts { OnOk result (cut_count (bar_tree pieces.now length kerf) ≤ MAX_CUTS) }
     ensures fault { IfErr result (λ f. IsBarFault f pieces.now length kerf) }
 {
     let Some(room) = room_after(pieces, length + kerf, kerf) else {
@@ -101,9 +101,9 @@ pub fn bar_root(
     };
     // A last piece that fills its part needs no cut.
     let most = if room == 0 {
-        MOST_CUTS as usize + 1
+        MAX_CUTS as usize + 1
     } else {
-        MOST_CUTS as usize
+        MAX_CUTS as usize
     };
     if pieces.len() > most {
         return Err(BarFault::TooManyCuts);

@@ -7,7 +7,7 @@ ghost use Rattle.cut_tree.specs.Leaves.{leaves_of};
 
 use crate::lay::{Rect, first_of, rest_of};
 use crate::node::Node;
-use cut_measure::MOST_KERF;
+use cut_measure::MAX_KERF;
 use std::alloc::AllocError;
 
 /// A piece leaf of a plan: its demand, whether it is turned, and its sides in tenths of a millimetre.
@@ -31,7 +31,7 @@ pub fn add_leaves(
 ) -> Result<(), AllocError>
     requires shaped { IsShaped (tree_of node.now) rect.w rect.h kerf }
     requires in_range { FarSidesFit rect }
-    requires kerf { kerf ≤ MOST_KERF }
+    requires kerf { kerf ≤ MAX_KERF }
     ensures { OnOk result (leaves.new.items ≡ leaves.old.items
         ++ leaves_of (tree_of node.now) rect.w rect.h kerf) }
 {

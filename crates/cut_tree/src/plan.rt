@@ -20,9 +20,9 @@ use crate::node::{Node, count_cuts, count_pieces, is_same};
 use crate::read::{SpellFault, after, read_node, words_of};
 use crate::saved::{cut_side, is_split, lost_cut};
 use crate::steps::{Step, step_node};
-use crate::token::{Cause, MOST_CUTS, Sides};
+use crate::token::{Cause, MAX_CUTS, Sides};
 use crate::write::write_node;
-use cut_measure::{MOST_KERF, Size};
+use cut_measure::{MAX_KERF, Size};
 use std::alloc::{AllocError, Global};
 use std::marker::Model;
 use std::rc::Rc;
@@ -54,12 +54,12 @@ impl Model for Plan {
 impl Plan {
     /// The plan that a text spells on a unit of this size, under a kerf of at most 200; else the text's first fault.
     pub fn read(alloc: Global, text: &str, size: Size, kerf: u32) -> Result<Plan, SpellFault>
-        requires { kerf ≤ MOST_KERF }
+        requires { kerf ≤ MAX_KERF }
         ensures spelled { IfOk result (λ plan. IsSpelling text.now plan.tree size.w size.h kerf) }
         ensures unit { IfOk result
             (λ plan. (plan.w ≡ size.w) × (plan.h ≡ size.h) × (plan.kerf ≡ kerf)) }
         ensures only { (t : Tree) → IsSpelling text.now t size.w size.h kerf
-            → cut_count t ≤ MOST_CUTS
+            → cut_count t ≤ MAX_CUTS
             → MatchResult result (λ plan. plan.tree ≡ t) (λ f. f.cause ≡ NoMemory) }
         ensures fault { IfErr result
             (λ f. IsFirstFault text.now size.w size.h kerf f.token f.cause) }
@@ -68,7 +68,7 @@ impl Plan {
     }
 
     fn parse(alloc: Global, text: &str, size: Size, kerf: u32) -> Result<Plan, SpellFault>
-        requires { kerf ≤ MOST_KERF }
+        requires { kerf ≤ MAX_KERF }
         ensures spelled { IfOk result (λ plan. IsSpelling text.now plan.tree size.w size.h kerf) }
         ensures unit { IfOk result
             (λ plan. (plan.w ≡ size.w) × (plan.h ≡ size.h) × (plan.kerf ≡ kerf)) }
@@ -127,7 +127,7 @@ impl Plan {
     /// How many cuts the plan has.
     pub fn cuts(&self) -> u32
         ensures count { result ≡ cut_count self.now.tree }
-        ensures few { result ≤ MOST_CUTS }
+        ensures few { result ≤ MAX_CUTS }
         ensures kept { IsPlan self.now }
     {
         count_cuts(&self.root)
@@ -135,7 +135,7 @@ impl Plan {
 
     /// Looks at a plan, which so is known to keep a plan's rules.
     pub fn see(&self)
-        ensures few { cut_count self.now.tree ≤ MOST_CUTS }
+        ensures few { cut_count self.now.tree ≤ MAX_CUTS }
         ensures kept { IsPlan self.now }
     {
         let _root = &self.root;
@@ -320,7 +320,7 @@ pub fn bar_plan(
     pieces: &[(u32, u32)],
 ) -> Result<Plan, BarFault>
     requires bar { size.h ≡ 1 }
-    requires narrow { kerf ≤ MOST_KERF }
+    requires narrow { kerf ≤ MAX_KERF }
     requires pieces { All IsBarPiece pieces.now }
     ensures tree { IfOk result (λ plan. plan.tree ≡ bar_tree pieces.now size.w kerf) }
     ensures unit { IfOk result

@@ -9,13 +9,13 @@ ghost use Rattle.cut_tree.specs.Stops.{cut_side, lost_cut};
 use crate::halts::Halt;
 use crate::lay::{Rect, first_of, rest_of, side_of};
 use crate::node::{Node, count_cuts};
-use cut_measure::MOST_KERF;
+use cut_measure::MAX_KERF;
 
 /// The side that the cut of a number was to divide, in a tree whose first cut has the number `number`.
 pub fn cut_side(node: &Node, rect: Rect, kerf: u32, number: u32, cut: u32) -> Option<u32>
     requires shaped { IsShaped (tree_of node.now) rect.w rect.h kerf }
     requires in_range { FarSidesFit rect }
-    requires kerf { kerf ≤ MOST_KERF }
+    requires kerf { kerf ≤ MAX_KERF }
     requires cuts { number + cut_count (tree_of node.now) < 2 ^ 32 }
     ensures { result ≡ cut_side (tree_of node.now) rect.w rect.h kerf number cut }
 {

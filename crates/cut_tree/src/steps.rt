@@ -8,7 +8,7 @@ ghost use Rattle.cut_tree.specs.StepRows.{one_step, steps_of};
 use crate::lay::{Rect, first_of, rest_of};
 use crate::node::{Node, count_nodes};
 use crate::token::Token;
-use cut_measure::MOST_KERF;
+use cut_measure::MAX_KERF;
 use std::alloc::AllocError;
 
 /// A node of a plan, numbered from 0 in preorder, with its whole rectangle in tenths of a millimetre and what is done
@@ -53,7 +53,7 @@ pub fn step_node(
 ) -> Result<(), AllocError>
     requires shaped { IsShaped (tree_of node.now) rect.w rect.h kerf }
     requires in_range { FarSidesFit rect }
-    requires kerf { kerf ≤ MOST_KERF }
+    requires kerf { kerf ≤ MAX_KERF }
     requires nodes { number + node_count (tree_of node.now) < 2 ^ 32 }
     ensures { OnOk result (steps.new.items ≡ steps.old.items
         ++ steps_of (tree_of node.now) rect.x rect.y rect.w rect.h kerf number) }

@@ -8,7 +8,7 @@ use std::error::Error;
 use std::fmt;
 
 /// The most cuts that a plan has.
-pub const MOST_CUTS: u32 = 255;
+pub const MAX_CUTS: u32 = 255;
 
 /// A node of a tree as its text has it.
 #[derive(Clone, Copy, PartialEq, Eq, Debug)]

@@ -2,7 +2,7 @@
 
 use crate::causes::ShopCause;
 use cut_measure::{Code, read_mm};
-use shop_files::{LONGEST_TEXT, MOST_ENTRIES};
+use shop_files::{MAX_ENTRIES, MAX_TEXT_LEN};
 use std::alloc::{AllocError, Global};
 use toml::{Table, Value};
 
@@ -208,7 +208,7 @@ fn look_at_document(
     };
     match entry {
         Some(entry) => look_at_entry(alloc, text, entry, list.as_slice()),
-        None if list.len() > MOST_ENTRIES => place(alloc, None, ShopCause::Many, ""),
+        None if list.len() > MAX_ENTRIES => place(alloc, None, ShopCause::Many, ""),
         None => place(alloc, None, ShopCause::Changed, ""),
     }
 }
@@ -219,7 +219,7 @@ pub fn look_at_shop(
     bytes: &[u8],
     entry: Option<usize>,
 ) -> Result<ShopPlace, AllocError> {
-    if bytes.len() > LONGEST_TEXT {
+    if bytes.len() > MAX_TEXT_LEN {
         return place(alloc, None, ShopCause::Long, "");
     }
     let Ok(text) = str::from_utf8(bytes) else {

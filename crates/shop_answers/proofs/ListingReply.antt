@@ -4,7 +4,7 @@ use Rattle.std.specs.Prelude.{MatchOption, unwrap_or}
 use Rattle.std.specs.List.{slice_range}
 use Rattle.std.proofs.lemmas.Bool.{ltb-false, ltb-true}
 use Rattle.std.proofs.lemmas.List.{length-take-le, take_all}
-use Rattle.shop_answers.specs.declared.listing.TheConstants.{MOST_TOLD}
+use Rattle.shop_answers.specs.declared.listing.TheConstants.{MAX_LISTED}
 use Rattle.shop_answers.specs.Listing.{are_more, first_told}
 
 module _ {T : Type 0} where
@@ -22,19 +22,19 @@ module _ {T : Type 0} where
       by false e = ap (λ l. nat_lt n (length l)) (take_all (suc n) xs (omega (arith, ltb-false n (length xs) e)))
 
   -- rows of which one more was listed than are told
-  pub first_listed : (rows all : List T) → rows ≡ take (MOST_TOLD + 1) all → first_told rows ≡ first_told all
-  first_listed rows all is = ap first_told is ∙ take_taken MOST_TOLD (MOST_TOLD + 1) all (omega arith)
+  pub first_listed : (rows all : List T) → rows ≡ take (MAX_LISTED + 1) all → first_told rows ≡ first_told all
+  first_listed rows all is = ap first_told is ∙ take_taken MAX_LISTED (MAX_LISTED + 1) all (omega arith)
 
-  pub more_listed : (rows all : List T) → rows ≡ take (MOST_TOLD + 1) all → are_more rows ≡ are_more all
-  more_listed rows all is = ap are_more is ∙ more_taken MOST_TOLD all
+  pub more_listed : (rows all : List T) → rows ≡ take (MAX_LISTED + 1) all → are_more rows ≡ are_more all
+  more_listed rows all is = ap are_more is ∙ more_taken MAX_LISTED all
 
   -- a list without more is told as a whole
-  pub all_told : (rows : List T) → length rows ≤ MOST_TOLD → rows ≡ first_told rows
-  all_told rows h = sym (take_all MOST_TOLD rows h)
+  pub all_told : (rows : List T) → length rows ≤ MAX_LISTED → rows ≡ first_told rows
+  all_told rows h = sym (take_all MAX_LISTED rows h)
 
   -- the first rows where there are so many, and else all
   pub told_by : (rows : Bor (List T)) (found : Option (Bor (List T)))
-      → MatchOption found ((MOST_TOLD < 0) ⊎ (length rows.now < MOST_TOLD)) (λ x. (0 ≤ MOST_TOLD) × (MOST_TOLD ≤ length rows.now) × (x.now ≡ slice_range rows.now 0 MOST_TOLD) × (length x.now + 0 ≡ MOST_TOLD))
+      → MatchOption found ((MAX_LISTED < 0) ⊎ (length rows.now < MAX_LISTED)) (λ x. (0 ≤ MAX_LISTED) × (MAX_LISTED ≤ length rows.now) × (x.now ≡ slice_range rows.now 0 MAX_LISTED) × (length x.now + 0 ≡ MAX_LISTED))
       → (unwrap_or found rows).now ≡ first_told rows.now
   told_by rows None (inl h) = absurd (omega (arith, h))
   told_by rows None (inr h) = all_told rows.now (omega (arith, h))

@@ -7,7 +7,7 @@ use Rattle.std.specs.Cmp.Derive.{both_true}
 use Rattle.std.proofs.lemmas.Bool.{not-false, eq-eqb, eqb-true}
 use Rattle.std.proofs.lemmas.Bool.Decides.{nat_tests}
 use Rattle.std.proofs.lemmas.Option.{MatchOption-at_none}
-use Rattle.cut_measure.specs.declared.ranges.TheConstants.{MOST_NUMBERS}
+use Rattle.cut_measure.specs.declared.ranges.TheConstants.{MAX_NUMBERS}
 use Rattle.cut_measure.specs.declared.sizes.Kind.{Kind}
 use Rattle.cut_measure.specs.declared.sizes.Kind.TheVariants.{Bar, Sheet}
 use Rattle.cut_measure.specs.Measures.{Extent}
@@ -316,15 +316,15 @@ module _ (ceiling dropped : ℕ) (text : List ℕ) (worth : ℕ) where
 
     -- of a reservation's refusals two are left
     judged : plan_refusal rows.row (Some plan) (demand_at m) act
-        ≡ option_or (first_of ((length (plan_leaves plan) == 0, BadTree) ∷ [])) (first_of ((nat_lt MOST_NUMBERS act, NumbersSpent) ∷ []))
+        ≡ option_or (first_of ((length (plan_leaves plan) == 0, BadTree) ∷ [])) (first_of ((nat_lt MAX_NUMBERS act, NumbersSpent) ∷ []))
     judged =
-        ap (λ o. option_or (first_of ((length (plan_leaves plan) == 0, BadTree) ∷ [])) (option_or o (first_of ((is_too_many (demand_at m) plan, TooMany) ∷ (nat_lt MOST_NUMBERS act, NumbersSpent) ∷ []))))
+        ap (λ o. option_or (first_of ((length (plan_leaves plan) == 0, BadTree) ∷ [])) (option_or o (first_of ((is_too_many (demand_at m) plan, TooMany) ∷ (nat_lt MAX_NUMBERS act, NumbersSpent) ∷ []))))
         (leaves_good (demand_at m) rows.row.material numbers rows.allowed (plan_leaves plan) wanted)
-        ∙ ap (λ b. option_or (first_of ((length (plan_leaves plan) == 0, BadTree) ∷ [])) (first_of ((b, TooMany) ∷ (nat_lt MOST_NUMBERS act, NumbersSpent) ∷ [])))
+        ∙ ap (λ b. option_or (first_of ((length (plan_leaves plan) == 0, BadTree) ∷ [])) (first_of ((b, TooMany) ∷ (nat_lt MAX_NUMBERS act, NumbersSpent) ∷ [])))
         (none_over (demand_at m) rows.row.material numbers rows.allowed plan.tree rows.plan.within (plan_leaves plan) wanted)
 
     refused_for : (refusal : Refusal) → plan_refusal rows.row (Some plan) (demand_at m) act ≡ Some refusal → (refusal ≡ NumbersSpent) ⊎ ((refusal ≡ BadTree) × HasNoPiece m part text)
-    refused_for refusal e = by (length (plan_leaves plan) == 0) refl (nat_lt MOST_NUMBERS act) (sym judged ∙ e)
+    refused_for refusal e = by (length (plan_leaves plan) == 0) refl (nat_lt MAX_NUMBERS act) (sym judged ∙ e)
       where
         by : (empty : Bool) → (length (plan_leaves plan) == 0) ≡ empty → (spent : Bool)
             → option_or (first_of ((empty, BadTree) ∷ [])) (first_of ((spent, NumbersSpent) ∷ [])) ≡ Some refusal → (refusal ≡ NumbersSpent) ⊎ ((refusal ≡ BadTree) × HasNoPiece m part text)

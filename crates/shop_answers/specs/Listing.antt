@@ -7,7 +7,7 @@ use Rattle.cut_tree.specs.Spelling.{text_of}
 use Rattle.cut_tree.specs.Stepping.{AreSteps}
 use Rattle.cut_tree.specs.declared.steps.Step.{Step}
 use Rattle.shop_answers.specs.declared.listing.LineSums.{LineSums}
-use Rattle.shop_answers.specs.declared.listing.TheConstants.{MOST_TOLD, MOST_TOLD_BYTES}
+use Rattle.shop_answers.specs.declared.listing.TheConstants.{MAX_LISTED, MAX_LISTED_BYTES}
 use Rattle.shop_records.specs.declared.records.Material.{Material}
 use Rattle.shop_records.specs.declared.records.Part.{Part}
 use Rattle.shop_records.specs.declared.records.Job.{Job}
@@ -30,11 +30,11 @@ use Rattle.shop_records.specs.Lists.{AreLines, begun_by, demand_row, due_for_job
 
 -- the first rows of a list, as many as are told
 abbrev pub first_told : {T : Type 0} → List T → List T
-first_told rows = take MOST_TOLD rows
+first_told rows = take MAX_LISTED rows
 
 -- others follow the last one told
 abbrev pub are_more : {T : Type 0} → List T → Bool
-are_more rows = nat_lt MOST_TOLD (length rows)
+are_more rows = nat_lt MAX_LISTED (length rows)
 
 abbrev pub told_parts : Option Material → List ℕ → List Part → Reply
 told_parts None code parts = reply.Refused NoMaterial
@@ -131,7 +131,7 @@ entry_bytes entry = length entry.message + length entry.reply
 abbrev pub shown_from : (bytes : ℕ) → List EntryTold → List EntryTold
 shown_from bytes [] = []
 shown_from bytes (entry ∷ entries) =
-    if nat_le MOST_TOLD_BYTES bytes then [] else entry ∷ shown_from (bytes + entry_bytes entry) entries
+    if nat_le MAX_LISTED_BYTES bytes then [] else entry ∷ shown_from (bytes + entry_bytes entry) entries
 
 -- the first entries, as many as are told
 abbrev pub shown_within : List EntryTold → List EntryTold

@@ -2,14 +2,14 @@
 use Rattle.std.specs.Prelude.{◌≡◌, ◌≢◌, ℕ, ◌-◌, ◌≤◌, ◌&&◌, ◌||◌, ◌==◌, ◌⊎◌, List, [], ◌∷◌, length, map, filter_map, All, Bool, true, false, not, nat_le, nat_lt, if◌then◌else◌, Option, Some, None, is_some, MatchOption, Result, Ok, Err}
 use Rattle.std.specs.List.{list_any}
 use Rattle.std.specs.Option.{option_or}
-use Rattle.cut_measure.specs.declared.ranges.TheConstants.{MOST_NUMBERS}
+use Rattle.cut_measure.specs.declared.ranges.TheConstants.{MAX_NUMBERS}
 use Rattle.cut_measure.specs.declared.sizes.Kind.{Kind}
 use Rattle.cut_measure.specs.declared.sizes.Kind.TheVariants.{Bar, Sheet}
 use Rattle.cut_measure.specs.Measures.{Extent, is_size}
 use Rattle.cut_tree.specs.Patterns.{IsPlan}
 use Rattle.cut_tree.specs.Spelling.{text_of}
 use Rattle.cut_wants.specs.declared.wants.Want.{Want}
-use Rattle.cut_plan.specs.declared.faults.TheConstants.{MOST_WANTS}
+use Rattle.cut_plan.specs.declared.faults.TheConstants.{MAX_WANTS}
 use Rattle.cut_plan.specs.declared.faults.PlanFault.{PlanFault}
 use Rattle.cut_plan.specs.declared.faults.PlanFault.TheVariants as fault
 use Rattle.cut_plan.specs.declared.bars.Proposal.{Proposal}
@@ -40,11 +40,11 @@ stands_twice (n ∷ ns) = list_any (λ m. m == n) ns || stands_twice ns
 
 -- there isn't a list of 1 to 40 numbers, each once
 abbrev pub are_bad_numbers : List ℕ → Bool
-are_bad_numbers numbers = length numbers == 0 || nat_lt MOST_WANTS (length numbers) || stands_twice numbers
+are_bad_numbers numbers = length numbers == 0 || nat_lt MAX_WANTS (length numbers) || stands_twice numbers
 
 -- a number that a demand may have
 abbrev pub is_demand_number : ℕ → Bool
-is_demand_number n = nat_le 1 n && nat_le n MOST_NUMBERS
+is_demand_number n = nat_le 1 n && nat_le n MAX_NUMBERS
 
 -- why a demand isn't planned on this material, if it isn't
 abbrev pub demand_refusal : List ℕ → ℕ → Option Demand → Option Refusal
@@ -172,7 +172,7 @@ AreAsked at numbers (Some found) = (are_bad_numbers numbers ≡ false) × (numbe
 
 -- a demand's number, in its range
 abbrev pub HasNumber : FoundDemand → Type 0
-HasNumber found = (1 ≤ found.number) × (found.number ≤ MOST_NUMBERS)
+HasNumber found = (1 ≤ found.number) × (found.number ≤ MAX_NUMBERS)
 
 -- a reply is one of these, or a refusal is, memory aside
 abbrev pub TellsReply : (Reply → Type 0) → Result Reply Refusal → Type 0

@@ -1,10 +1,10 @@
 //! How much of the history an answer tells.
 
 ghost use Rattle.std.specs.Prelude.{◌≡◌, ◌+◌, ◌<◌, ◌||◌, nat_le, length};
-ghost use Rattle.shop_answers.specs.declared.listing.TheConstants.{MOST_TOLD, MOST_TOLD_BYTES};
+ghost use Rattle.shop_answers.specs.declared.listing.TheConstants.{MAX_LISTED, MAX_LISTED_BYTES};
 ghost use Rattle.shop_answers.specs.Listing.{entry_bytes};
 
-use crate::listing::{MOST_TOLD, MOST_TOLD_BYTES};
+use crate::listing::{MAX_LISTED, MAX_LISTED_BYTES};
 use shop_records::{EntryTold, Text};
 
 // Bytes of a text.
@@ -17,9 +17,9 @@ fn bytes_of(text: &Text) -> u64
 /// Bytes of messages and replies with one entry more, or the greatest number of 64 bits where there are more. It is exact
 /// as long as another entry may follow.
 pub fn bytes_with(bytes: u64, told: &EntryTold) -> u64
-    ensures reached { nat_le MOST_TOLD_BYTES result
-        ≡ nat_le MOST_TOLD_BYTES (bytes + entry_bytes told.now) }
-    ensures exact { result < MOST_TOLD_BYTES → result ≡ bytes + entry_bytes told.now }
+    ensures reached { nat_le MAX_LISTED_BYTES result
+        ≡ nat_le MAX_LISTED_BYTES (bytes + entry_bytes told.now) }
+    ensures exact { result < MAX_LISTED_BYTES → result ≡ bytes + entry_bytes told.now }
 {
     let own = bytes_of(&told.message).saturating_add(bytes_of(&told.reply));
     bytes.saturating_add(own)
@@ -27,7 +27,7 @@ pub fn bytes_with(bytes: u64, told: &EntryTold) -> u64
 
 /// Whether a reply with so many entries and so many bytes takes no further entry.
 pub fn is_full(count: usize, bytes: u64) -> bool
-    ensures { result ≡ (nat_le MOST_TOLD count || nat_le MOST_TOLD_BYTES bytes) }
+    ensures { result ≡ (nat_le MAX_LISTED count || nat_le MAX_LISTED_BYTES bytes) }
 {
-    count >= MOST_TOLD || bytes >= MOST_TOLD_BYTES
+    count >= MAX_LISTED || bytes >= MAX_LISTED_BYTES
 }

@@ -9,7 +9,7 @@ mod planning;
 pub use entries::{bytes_with, is_full};
 pub use laws::{orders_have_one_answer, told_plans_can_be_reserved};
 pub use listing::{
-    MOST_TOLD, MOST_TOLD_BYTES, answer_demands, answer_job, answer_orders, answer_parts,
+    MAX_LISTED, MAX_LISTED_BYTES, answer_demands, answer_job, answer_orders, answer_parts,
     answer_pieces, answer_steps, are_more, demand_row, first_told, job_row, order_row, piece_row,
     step_row,
 };

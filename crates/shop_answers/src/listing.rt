@@ -2,7 +2,7 @@
 //! and its plan.
 
 ghost use Rattle.std.specs.Prelude.{◌≡◌, ◌≢◌, ◌+◌, ◌<◌, ℕ, List, [], true, None, Some, IfOk, AllPairs, take, map, filter_map, option_map, unwrap_or};
-ghost use Rattle.shop_answers.specs.declared.listing.TheConstants.{MOST_TOLD};
+ghost use Rattle.shop_answers.specs.declared.listing.TheConstants.{MAX_LISTED};
 ghost use Rattle.shop_records.specs.declared.records.Demand.{Demand as DemandOf};
 ghost use Rattle.shop_records.specs.declared.records.Part.{Part as PartOf};
 ghost use Rattle.shop_records.specs.declared.refusals.Refusal.TheVariants.{NoMemory, StoreFault};
@@ -25,23 +25,23 @@ use shop_records::{
 use std::alloc::{AllocError, Global};
 
 /// The most rows that a list tells of parts, demands or jobs.
-pub const MOST_TOLD: usize = 100;
+pub const MAX_LISTED: usize = 100;
 
 /// A list of entries ends with the one with which so many bytes of messages and replies, as they are kept, are reached.
-pub const MOST_TOLD_BYTES: u64 = 1_000_000;
+pub const MAX_LISTED_BYTES: u64 = 1_000_000;
 
 /// Whether others follow the last row of a list that is told.
 pub fn are_more<T>(rows: &[T]) -> bool
     ensures { result ≡ listing.are_more rows.now }
 {
-    rows.len() > MOST_TOLD
+    rows.len() > MAX_LISTED
 }
 
 /// The first rows of a list, as many as are told.
 pub fn first_told<T>(rows: &[T]) -> &[T]
     ensures { result.now ≡ listing.first_told rows.now }
 {
-    rows.get(..MOST_TOLD).unwrap_or(rows)
+    rows.get(..MAX_LISTED).unwrap_or(rows)
 }
 
 // The same in a list of its own.
@@ -58,7 +58,7 @@ fn told_rows<T: Copy + Drop>(alloc: Global, rows: &[T]) -> Result<RowList<T>, Al
 /// The answer to a query for the parts of a material that is there, from the first that are listed: all, or one more than
 /// are told. Refused `NoMemory` alone.
 pub fn answer_parts(alloc: Global, material: Code, rows: &[Part]) -> Reply
-    ensures answer { (parts : List PartOf) → rows.now ≡ take (MOST_TOLD + 1) parts
+    ensures answer { (parts : List PartOf) → rows.now ≡ take (MAX_LISTED + 1) parts
         → result ≢ Refused NoMemory
         → result ≡ Parts material (listing.are_more parts) (listing.first_told parts) }
     ensures store { result ≢ Refused StoreFault }
@@ -87,7 +87,7 @@ pub fn demand_row(demand: &Demand, due: u32) -> DemandRow
 /// The answer to a query for open demands, from the first that are listed: all, or one more than are told; and from the rows
 /// of those that are told.
 pub fn answer_demands(rows: &[Demand], demands: DemandRows) -> Reply
-    ensures answer { (m : Content) (all : List DemandOf) → rows.now ≡ take (MOST_TOLD + 1) all
+    ensures answer { (m : Content) (all : List DemandOf) → rows.now ≡ take (MAX_LISTED + 1) all
         → demands ≡ map (lists.demand_row m) (listing.first_told rows.now)
         → result ≡ listing.told_demands m true all }
     ensures store { result ≢ Refused StoreFault }
@@ -198,7 +198,7 @@ pub fn order_row(alloc: Global, order: Code, note: Option<OrderNote>, lines: &[D
 /// The answer to a query for orders, from the codes of the first that are listed: all, or one more than are told; and from
 /// the rows of those that are told.
 pub fn answer_orders(codes: &[Code], orders: OrderList) -> Reply
-    ensures answer { (m : Content) (all : List (List ℕ)) → codes.now ≡ take (MOST_TOLD + 1) all
+    ensures answer { (m : Content) (all : List (List ℕ)) → codes.now ≡ take (MAX_LISTED + 1) all
         → listing.AreOrderRows m (listing.first_told codes.now) orders
         → listing.IsOrdersAnswer m all result }
     ensures store { result ≢ Refused StoreFault }
@@ -254,7 +254,7 @@ pub fn piece_row(part: &Part, demand: &Demand, at: u64) -> PieceRow
 /// The answer to a query for pieces, from the first that are listed: all, or one more than are told; and from the rows of those
 /// that are told.
 pub fn answer_pieces(rows: &[Part], pieces: PieceList) -> Reply
-    ensures answer { (m : Content) (all : List PartOf) → rows.now ≡ take (MOST_TOLD + 1) all
+    ensures answer { (m : Content) (all : List PartOf) → rows.now ≡ take (MAX_LISTED + 1) all
         → pieces ≡ filter_map (lists.piece_row m) (listing.first_told rows.now)
         → result ≡ listing.told_pieces m None all }
     ensures store { result ≢ Refused StoreFault }

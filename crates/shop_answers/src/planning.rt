@@ -1,7 +1,7 @@
 //! Queries for a plan of a part and for the least number of units: the wants that are left, and the answer.
 
 ghost use Rattle.std.specs.Prelude.{filter_map, ◌≡◌, ◌≢◌, ◌≤◌, IfOk, IfErr, IfNone, ℕ, List, Option, None, Some, All, not, Ok, Err};
-ghost use Rattle.cut_measure.specs.declared.ranges.TheConstants.{MOST_KERF};
+ghost use Rattle.cut_measure.specs.declared.ranges.TheConstants.{MAX_KERF};
 ghost use Rattle.cut_measure.specs.declared.sizes.Kind.TheVariants.{Bar, Sheet};
 ghost use Rattle.cut_plan.specs.Proposals.{AreDemands};
 ghost use Rattle.cut_tree.specs.Spelling.{text_of};
@@ -11,8 +11,8 @@ ghost use Rattle.shop_records.specs.declared.messages.Reply.TheVariants.{Refused
 ghost use Rattle.shop_answers.specs.Planning as planning;
 ghost use Rattle.shop_answers.specs.Planning.{AreAsked, AreFound, HasNumber, IsPlanAnswer, IsBoundAnswer, IsPlanned, IsBounded, TellsReply, are_bad_numbers, numbers_in, planned_size, numbers_refusal};
 
-use cut_measure::{Code, Kind, MOST_NUMBERS, RowList, Size};
-use cut_plan::{MOST_WANTS, PlanFault, Want, least_units, plan_bar, plan_sheet};
+use cut_measure::{Code, Kind, MAX_NUMBERS, RowList, Size};
+use cut_plan::{MAX_WANTS, PlanFault, Want, least_units, plan_bar, plan_sheet};
 use cut_tree::Plan;
 use shop_records::{Demand, Material, Part, Refusal, Reply, Text};
 use std::alloc::{AllocError, Global};
@@ -41,7 +41,7 @@ fn stands_twice(numbers: &[u32]) -> bool
 pub fn can_be_planned(numbers: &[u32]) -> bool
     ensures { result ≡ not (are_bad_numbers numbers.now) }
 {
-    !(numbers.is_empty() || numbers.len() > MOST_WANTS || stands_twice(numbers))
+    !(numbers.is_empty() || numbers.len() > MAX_WANTS || stands_twice(numbers))
 }
 
 fn demand_refusal(material: &Code, found: &FoundDemand) -> Option<Refusal>
@@ -53,7 +53,7 @@ fn demand_refusal(material: &Code, found: &FoundDemand) -> Option<Refusal>
     match &found.demand {
         None => Some(Refusal::NoDemand),
         Some(demand) => {
-            if found.number < 1 || found.number > MOST_NUMBERS {
+            if found.number < 1 || found.number > MAX_NUMBERS {
                 Some(Refusal::NoDemand)
             } else if demand.material.order(material) != Ordering::Equal {
                 Some(Refusal::WrongMaterial)
@@ -179,7 +179,7 @@ fn bar_reply(
     step: u32,
     wants: &[Want],
 ) -> Result<Reply, Refusal>
-    requires kerf { kerf ≤ MOST_KERF }
+    requires kerf { kerf ≤ MAX_KERF }
     requires demands { AreDemands wants.now }
     ensures told { TellsReply (IsPlanned Bar (planned_size Bar size) kerf step wants.now) result }
     ensures store { planning.SparesStore result }
@@ -211,7 +211,7 @@ fn sheet_reply(
     step: u32,
     wants: &[Want],
 ) -> Result<Reply, Refusal>
-    requires kerf { kerf ≤ MOST_KERF }
+    requires kerf { kerf ≤ MAX_KERF }
     requires demands { AreDemands wants.now }
     ensures told { TellsReply (IsPlanned Sheet size kerf step wants.now) result }
     ensures store { planning.SparesStore result }

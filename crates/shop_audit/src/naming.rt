@@ -1,14 +1,14 @@
 //! Which row two books differ by first, the tables by their names and each by its key.
 
 use crate::rows::Row;
-use cut_measure::{Code, MOST_NUMBERS, PartName};
+use cut_measure::{Code, MAX_NUMBERS, PartName};
 use shop_book::{Book, BookFault, Ledger, StrayUse, is_same_halt};
 use shop_records::{Entry, Job, JobHalt, Material, Pair};
 use std::alloc::{AllocError, Global};
 use std::cmp::Ordering;
 
 /// More parts than bear the number of an act.
-const MOST_NODES: u32 = 1024;
+const MAX_NODES: u32 = 1024;
 
 fn first_begun<B: Book, F: Book>(book: &mut B, anew: &mut F) -> Result<Option<Row>, BookFault> {
     let behind = book.next_act()?.max(anew.next_act()?);
@@ -293,10 +293,10 @@ fn first_part_of(one: &Ledger, other: &Ledger, act: u32) -> Option<Row> {
     if act < 1 {
         return None;
     }
-    if act > MOST_NUMBERS {
+    if act > MAX_NUMBERS {
         return None;
     }
-    for node in 0..MOST_NODES {
+    for node in 0..MAX_NODES {
         let name = PartName::new(act, node);
         if one.part(name) != other.part(name) {
             return Some(Row::Part(name));

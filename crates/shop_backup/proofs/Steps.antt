@@ -6,8 +6,8 @@ use Rattle.std.proofs.lemmas.List.Sorted.{All-permutation, length_permutation}
 use Rattle.std.specs.List.Sorted.{IsNonDecreasing, IsPermutation}
 use Rattle.std.specs.Io.KnownBytes.{Appends, Consumes, IsAtEnd}
 use Rattle.std.specs.Prelude.{All, IfSome, IsSome, OnErr, max, min}
-use Rattle.shop_backup.specs.declared.shelves.Half.{Half}
-use Rattle.shop_backup.specs.declared.shelves.Half.TheVariants.{Store, Log}
+use Rattle.shop_backup.specs.declared.shelves.StoreFile.{StoreFile}
+use Rattle.shop_backup.specs.declared.shelves.StoreFile.TheVariants.{Store, Log}
 use Rattle.shop_backup.specs.Steps.{BackupStep, Adds, ArePassed, IsAllBut, IsBackupMade, IsBegun, IsNoBackupMade, IsOld, IsPart, IsPassing, IsUnbegun, begins, cleared, finished, greatest, kept, listed, looked, made, next_number, stayed, taken, whole}
 
 pub adds-none : {X : Type 0} (a : Option (List X)) → Adds a a []
@@ -59,21 +59,21 @@ held_all None bytes is = absurd is
 held_all (Some written) bytes is = ap Some is
 
 -- a file was copied whole, and was kept
-pub half_kept : (done new : Option (List BackupStep)) (number : ℕ) (half : Half) (bytes : List ℕ) (left held holding : Option (List ℕ))
+pub half_kept : (done new : Option (List BackupStep)) (number : ℕ) (which : StoreFile) (bytes : List ℕ) (left held holding : Option (List ℕ))
     → (IsSome done → left ≡ Some bytes) → (IsSome done → held ≡ Some []) → IfSome left (λ bytes. Appends held holding bytes)
-    → ((written : List ℕ) → holding ≡ Some written → Adds done new (kept number half written ∷ [])) → Adds done new (kept number half bytes ∷ [])
-half_kept None new number half bytes left held holding known empty copied keeps = tt
-half_kept (Some steps) new number half bytes left held holding known empty copied keeps =
+    → ((written : List ℕ) → holding ≡ Some written → Adds done new (kept number which written ∷ [])) → Adds done new (kept number which bytes ∷ [])
+half_kept None new number which bytes left held holding known empty copied keeps = tt
+half_kept (Some steps) new number which bytes left held holding known empty copied keeps =
     keeps bytes (held_all holding bytes (subst (λ (o : Option (List ℕ)). Appends o holding bytes) (empty refl)
     (subst (λ (o : Option (List ℕ)). IfSome o (λ b. Appends held holding b)) (known refl) copied)))
 
 -- ---- the steps of a backup
 
-module _ (holds there : Half → List ℕ) (same : there ≡ holds) (number : ℕ) where
+module _ (holds there : StoreFile → List ℕ) (same : there ≡ holds) (number : ℕ) where
   pub filled : (a b c d : Option (List BackupStep)) → Adds a b (kept number Store (holds Store) ∷ []) → Adds b c (kept number Log (there Log) ∷ []) → Adds c d (finished number ∷ [])
       → Adds a d (kept number Store (holds Store) ∷ kept number Log (holds Log) ∷ finished number ∷ [])
   filled a b c d p q r =
-      let log : Adds b c (kept number Log (holds Log) ∷ []) = subst (λ (h : Half → List ℕ). Adds b c (kept number Log (h Log) ∷ [])) same q in
+      let log : Adds b c (kept number Log (holds Log) ∷ []) = subst (λ (h : StoreFile → List ℕ). Adds b c (kept number Log (h Log) ∷ [])) same q in
       adds-more a c d _ _ (adds-more a b c _ _ p log) r
 
   pub none_filled : (a b : Option (List BackupStep)) → b ≡ a → (part : List BackupStep) × IsPart holds number part × Adds a b part
@@ -85,7 +85,7 @@ module _ (holds there : Half → List ℕ) (same : there ≡ holds) (number : �
   pub both_filled : (a b c d : Option (List BackupStep)) → Adds a b (kept number Store (holds Store) ∷ []) → Adds b c (kept number Log (there Log) ∷ []) → d ≡ c
       → (part : List BackupStep) × IsPart holds number part × Adds a d part
   both_filled a b c d p q is =
-      let log : Adds b c (kept number Log (holds Log) ∷ []) = subst (λ (h : Half → List ℕ). Adds b c (kept number Log (h Log) ∷ [])) same q in
+      let log : Adds b c (kept number Log (holds Log) ∷ []) = subst (λ (h : StoreFile → List ℕ). Adds b c (kept number Log (h Log) ∷ [])) same q in
       (kept number Store (holds Store) ∷ kept number Log (holds Log) ∷ [], inr (inr refl), adds-same a c d _ is (adds-more a b c _ _ p log))
 
 -- ---- the number of a backup
@@ -193,7 +193,7 @@ module _ (there wholes : List ℕ) (a b c d : Option (List BackupStep)) (first :
     adds = adds-more a c d _ _ (adds-more a b c _ _ first second) third;
   }
 
-module _ (holds known : Half → List ℕ) (same : known ≡ holds) (keep : Option ℕ) (gone : List ℕ) (number : ℕ) (a b : Option (List BackupStep)) (first : IsBegun keep a b number gone) where
+module _ (holds known : StoreFile → List ℕ) (same : known ≡ holds) (keep : Option ℕ) (gone : List ℕ) (number : ℕ) (a b : Option (List BackupStep)) (first : IsBegun keep a b number gone) where
   begun-here : Adds a b (begins first.there first.wholes ++ made (next_number first.there) ∷ [])
   begun-here = subst (λ (k : ℕ). Adds a b (begins first.there first.wholes ++ made k ∷ [])) first.numbered first.adds
 
@@ -203,7 +203,7 @@ module _ (holds known : Half → List ℕ) (same : known ≡ holds) (keep : Opti
       let next = next_number first.there in
       let here : Adds b c (kept next Store (holds Store) ∷ kept next Log (holds Log) ∷ finished next ∷ []) =
       subst (λ (k : ℕ). Adds b c (kept k Store (holds Store) ∷ kept k Log (holds Log) ∷ finished k ∷ [])) first.numbered
-      (subst (λ (h : Half → List ℕ). Adds b c (kept number Store (h Store) ∷ kept number Log (h Log) ∷ finished number ∷ [])) same rest) in
+      (subst (λ (h : StoreFile → List ℕ). Adds b c (kept number Store (h Store) ∷ kept number Log (h Log) ∷ finished number ∷ [])) same rest) in
       record {
         there = first.there;
         wholes = first.wholes;
@@ -219,11 +219,11 @@ module _ (holds known : Half → List ℕ) (same : known ≡ holds) (keep : Opti
   pub made-none : (c d : Option (List BackupStep)) → (part : List BackupStep) × IsPart known number part × Adds b c part → Adds c d (cleared number ∷ []) → IsNoBackupMade holds a d
   made-none c d (part, some, rest) last =
       let next = next_number first.there in
-      let here : IsPart holds next part = subst (λ (k : ℕ). IsPart holds k part) first.numbered (subst (λ (h : Half → List ℕ). IsPart h number part) same some) in
+      let here : IsPart holds next part = subst (λ (k : ℕ). IsPart holds k part) first.numbered (subst (λ (h : StoreFile → List ℕ). IsPart h number part) same some) in
       let end : Adds c d (cleared next ∷ []) = subst (λ (k : ℕ). Adds c d (cleared k ∷ [])) first.numbered last in
       let all = adds-more a b d _ _ begun-here (adds-more b c d part _ rest end) in
       (begins first.there first.wholes ++ (made next ∷ (part ++ cleared next ∷ [])), inr (first.there, (first.wholes, (part, here, refl))), all)
 
 -- none was begun
-pub begun-none : (holds : Half → List ℕ) (a b : Option (List BackupStep)) → (steps : List BackupStep) × IsUnbegun steps × Adds a b steps → IsNoBackupMade holds a b
+pub begun-none : (holds : StoreFile → List ℕ) (a b : Option (List BackupStep)) → (steps : List BackupStep) × IsUnbegun steps × Adds a b steps → IsNoBackupMade holds a b
 begun-none holds a b (steps, is, p) = (steps, inl is, p)

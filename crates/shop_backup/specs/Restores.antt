@@ -3,7 +3,7 @@ use Rattle.std.specs.Prelude.{◌<◌, ℕ, List, [], ◌∷◌, take, length, O
 use Rattle.shop_backup.specs.Steps.{Adds}
 use Rattle.shop_backup.specs.declared.restoring.RestoreStep.{RestoreStep}
 use Rattle.shop_backup.specs.declared.restoring.RestoreStep.TheVariants.{Close, Judge, Look, Copy, PutAside, PutIn}
-use Rattle.shop_backup.specs.declared.shelves.Half.TheVariants.{Store, Log}
+use Rattle.shop_backup.specs.declared.shelves.StoreFile.TheVariants.{Store, Log}
 
 -- the steps of a backup that was put in a store's place, in their order: no program has the store open, the backup holds a book, and
 -- the names for the files that were there are free; both files were copied beside the store; then those that were there got these

@@ -1,8 +1,8 @@
 -- What is done for a backup, step by step.
 use Rattle.std.specs.Prelude.{◌≡◌, ◌⊎◌, ◌<◌, ◌-◌, ℕ, suc, zero, max, min, List, [], ◌∷◌, ◌++◌, length, All, Option, Some, None, IsSome, ⊤}
 use Rattle.std.specs.List.Sorted.{IsNonDecreasing, IsPermutation}
-use Rattle.shop_backup.specs.declared.shelves.Half.{Half}
-use Rattle.shop_backup.specs.declared.shelves.Half.TheVariants.{Store, Log}
+use Rattle.shop_backup.specs.declared.shelves.StoreFile.{StoreFile}
+use Rattle.shop_backup.specs.declared.shelves.StoreFile.TheVariants.{Store, Log}
 
 -- What was done: the folder was looked at, and is the one of the start, in which nobody but its owner may write; the numbers of all
 -- that is named as a backup there, whole or not, were listed, and those of what is named as a whole one. And under a number: its
@@ -13,7 +13,7 @@ pub data BackupStep : Type 0 where
   looked : BackupStep
   listed : List ℕ → List ℕ → BackupStep
   made : ℕ → BackupStep
-  kept : ℕ → Half → List ℕ → BackupStep
+  kept : ℕ → StoreFile → List ℕ → BackupStep
   finished : ℕ → BackupStep
   cleared : ℕ → BackupStep
   taken : ℕ → BackupStep
@@ -59,12 +59,12 @@ begins there wholes = looked ∷ listed there wholes ∷ []
 
 -- the steps of a backup, beside these: the folder was looked at, and the numbers in it were listed; then the folder of the next number
 -- was made, both files were kept with just the bytes that the store's hold, and at last it got its name
-abbrev pub whole : (Half → List ℕ) → List ℕ → List ℕ → List BackupStep
+abbrev pub whole : (StoreFile → List ℕ) → List ℕ → List ℕ → List BackupStep
 whole holds there wholes =
     begins there wholes ++ made (next_number there) ∷ kept (next_number there) Store (holds Store) ∷ kept (next_number there) Log (holds Log) ∷ finished (next_number there) ∷ []
 
 -- some first ones of the steps between a folder and its name
-abbrev pub IsPart : (Half → List ℕ) → ℕ → List BackupStep → Type 0
+abbrev pub IsPart : (StoreFile → List ℕ) → ℕ → List BackupStep → Type 0
 IsPart holds n steps =
     (steps ≡ []) ⊎ (steps ≡ kept n Store (holds Store) ∷ []) ⊎ (steps ≡ kept n Store (holds Store) ∷ kept n Log (holds Log) ∷ [])
 
@@ -73,13 +73,13 @@ abbrev pub IsUnbegun : List BackupStep → Type 0
 IsUnbegun steps = (steps ≡ []) ⊎ (steps ≡ looked ∷ []) ⊎ ((there : List ℕ) × ((wholes : List ℕ) × (steps ≡ begins there wholes)))
 
 -- the steps of a backup of which a part was made and taken away, and which got no name
-abbrev pub IsTakenAway : (Half → List ℕ) → List BackupStep → Type 0
+abbrev pub IsTakenAway : (StoreFile → List ℕ) → List BackupStep → Type 0
 IsTakenAway holds steps =
     (there : List ℕ) × ((wholes : List ℕ) × ((part : List BackupStep) × IsPart holds (next_number there) part
     × (steps ≡ begins there wholes ++ (made (next_number there) ∷ (part ++ cleared (next_number there) ∷ [])))))
 
 -- the steps of a backup that wasn't made: none was begun; or a part of it was made and taken away
-abbrev pub IsUndone : (Half → List ℕ) → List BackupStep → Type 0
+abbrev pub IsUndone : (StoreFile → List ℕ) → List BackupStep → Type 0
 IsUndone holds steps = IsUnbegun steps ⊎ IsTakenAway holds steps
 
 -- a backup was begun under this number, and these are to be taken away once it is whole
@@ -93,7 +93,7 @@ pub record IsBegun (keep : Option ℕ) (old new : Option (List BackupStep)) (num
 
 -- the backup of a number was made, by these steps and no others: it is whole, and its number is behind all that were there; then, and
 -- no sooner, those of the whole ones that are old, so that so many are kept, were taken away or stayed; each has a smaller number
-pub record IsBackupMade (keep : Option ℕ) (holds : Half → List ℕ) (old new : Option (List BackupStep)) (number : ℕ) : Type 0 where
+pub record IsBackupMade (keep : Option ℕ) (holds : StoreFile → List ℕ) (old new : Option (List BackupStep)) (number : ℕ) : Type 0 where
   pub there : List ℕ
   pub wholes : List ℕ
   pub gone : List ℕ
@@ -105,5 +105,5 @@ pub record IsBackupMade (keep : Option ℕ) (holds : Half → List ℕ) (old new
   pub adds : Adds old new (whole holds there wholes ++ passed)
 
 -- none was made, nothing is left of one, and none was taken away
-abbrev pub IsNoBackupMade : (Half → List ℕ) → (old new : Option (List BackupStep)) → Type 0
+abbrev pub IsNoBackupMade : (StoreFile → List ℕ) → (old new : Option (List BackupStep)) → Type 0
 IsNoBackupMade holds old new = (steps : List BackupStep) × IsUndone holds steps × Adds old new steps

@@ -3,10 +3,10 @@
 ghost use Rattle.std.specs.Prelude.{◌≡◌, ◌∷◌, ◌++◌, [], ℕ, List, Ok, true, false, All, ◌≤◌, IfOk, IfSome, IsSome, OnErr, OnOk};
 ghost use Rattle.std.specs.Io.KnownBytes.{Appends, Consumes, IsAtEnd};
 ghost use Rattle.shop_backup.specs.Steps.{Adds, ArePassed, BackupStep, IsAllBut, IsBackupMade, IsBegun, IsNoBackupMade, IsOld, IsPart, IsPassing, IsUnbegun, begins, finished, greatest, kept, made, next_number};
-ghost use Rattle.shop_backup.specs.declared.shelves.Half.TheVariants.{Store, Log};
+ghost use Rattle.shop_backup.specs.declared.shelves.StoreFile.TheVariants.{Store, Log};
 
 use crate::faults::BackupFault;
-use crate::shelves::{Half, Numbers, Shelf};
+use crate::shelves::{BackupTarget, Numbers, StoreFile};
 use shop_advice::BackupCause;
 use shop_streams::{Sink, Source, write_all};
 use std::alloc::AllocError;
@@ -15,7 +15,7 @@ use std::alloc::AllocError;
 const BUFFER_SIZE: usize = 65536;
 
 /// The greatest number of a backup.
-pub const MOST_BACKUPS: u32 = 1_000_000;
+pub const MAX_BACKUPS: u32 = 1_000_000;
 
 // Why not all bytes were copied.
 #[derive(Clone, Copy, PartialEq, Eq)]
@@ -59,40 +59,40 @@ pub(crate) fn copy_all<S: Source, W: Sink>(source: &mut S, sink: &mut W) -> Resu
 }
 
 // Copies a file of the store to the backup that was begun.
-fn copy_half<S: Source + Drop, W: Sink + Drop, T: Shelf<S, W>>(
-    shelf: &mut T,
+fn copy_half<S: Source + Drop, W: Sink + Drop, T: BackupTarget<S, W>>(
+    target: &mut T,
     number: u32,
-    half: Half,
+    which: StoreFile,
 ) -> Result<(), BackupFault>
-    ensures holds { T.holds shelf.new ≡ T.holds shelf.old }
-    ensures ok { OnOk result (Adds (T.done shelf.old) (T.done shelf.new)
-        (kept number half (T.holds shelf.old half) ∷ [])) }
-    ensures err { OnErr result (T.done shelf.new ≡ T.done shelf.old) }
+    ensures holds { T.holds target.new ≡ T.holds target.old }
+    ensures ok { OnOk result (Adds (T.done target.old) (T.done target.new)
+        (kept number which (T.holds target.old which) ∷ [])) }
+    ensures err { OnErr result (T.done target.new ≡ T.done target.old) }
 {
-    let mut from = shelf.source(half)?;
-    let mut to = shelf.sink(number, half)?;
+    let mut from = target.source(which)?;
+    let mut to = target.sink(number, which)?;
     match copy_all(&mut from, &mut to) {
-        Ok(()) => shelf.keep(number, half, to),
+        Ok(()) => target.keep(number, which, to),
         Err(CopyFault::Read) => Err(BackupFault::Failed(BackupCause::Unread)),
-        Err(CopyFault::Write) => Err(BackupFault::Failed(shelf.cause(&to))),
+        Err(CopyFault::Write) => Err(BackupFault::Failed(target.cause(&to))),
     }
 }
 
 // Copies both files to the backup that was begun, and gives it its name.
-fn fill<S: Source + Drop, W: Sink + Drop, T: Shelf<S, W>>(
-    shelf: &mut T,
+fn fill<S: Source + Drop, W: Sink + Drop, T: BackupTarget<S, W>>(
+    target: &mut T,
     number: u32,
 ) -> Result<(), BackupFault>
-    ensures holds { T.holds shelf.new ≡ T.holds shelf.old }
-    ensures ok { OnOk result (Adds (T.done shelf.old) (T.done shelf.new)
-        (kept number Store (T.holds shelf.old Store) ∷ kept number Log (T.holds shelf.old Log)
+    ensures holds { T.holds target.new ≡ T.holds target.old }
+    ensures ok { OnOk result (Adds (T.done target.old) (T.done target.new)
+        (kept number Store (T.holds target.old Store) ∷ kept number Log (T.holds target.old Log)
         ∷ finished number ∷ [])) }
-    ensures err { OnErr result ((part : List BackupStep) × IsPart (T.holds shelf.old) number part
-        × Adds (T.done shelf.old) (T.done shelf.new) part) }
+    ensures err { OnErr result ((part : List BackupStep) × IsPart (T.holds target.old) number part
+        × Adds (T.done target.old) (T.done target.new) part) }
 {
-    copy_half(shelf, number, Half::Store)?;
-    copy_half(shelf, number, Half::Log)?;
-    shelf.finish(number)
+    copy_half(target, number, StoreFile::Store)?;
+    copy_half(target, number, StoreFile::Log)?;
+    target.finish(number)
 }
 
 // The greatest of these numbers, or 0 where there is none.
@@ -109,21 +109,21 @@ fn greatest_of(numbers: &[u32]) -> u32
 }
 
 // Begins the backup of the number behind these.
-fn begin_behind<S: Source, W: Sink, T: Shelf<S, W>>(
-    shelf: &mut T,
+fn begin_behind<S: Source, W: Sink, T: BackupTarget<S, W>>(
+    target: &mut T,
     there: &[u32],
 ) -> Result<u32, BackupFault>
-    ensures holds { T.holds shelf.new ≡ T.holds shelf.old }
+    ensures holds { T.holds target.new ≡ T.holds target.old }
     ensures ok { IfOk result (λ number. (number ≡ next_number there.now)
-        × Adds (T.done shelf.old) (T.done shelf.new) (made number ∷ [])) }
-    ensures err { OnErr result (T.done shelf.new ≡ T.done shelf.old) }
+        × Adds (T.done target.old) (T.done target.new) (made number ∷ [])) }
+    ensures err { OnErr result (T.done target.new ≡ T.done target.old) }
 {
     let before = greatest_of(there);
-    if before >= MOST_BACKUPS {
+    if before >= MAX_BACKUPS {
         return Err(BackupFault::Failed(BackupCause::NoNumber));
     }
     let number = before + 1;
-    shelf.begin(number)?;
+    target.begin(number)?;
     Ok(number)
 }
 
@@ -159,56 +159,56 @@ struct Begun {
 }
 
 // Begins the backup of the next number beside these.
-fn begin_beside<S: Source, W: Sink, T: Shelf<S, W>>(
-    shelf: &mut T,
+fn begin_beside<S: Source, W: Sink, T: BackupTarget<S, W>>(
+    target: &mut T,
     keep: Option<u32>,
     there: Numbers,
 ) -> Result<Begun, BackupFault>
-    ensures holds { T.holds shelf.new ≡ T.holds shelf.old }
+    ensures holds { T.holds target.new ≡ T.holds target.old }
     ensures ok { IfOk result (λ begun. (begun.number ≡ next_number there.all.items)
         × IsOld keep there.whole.items begun.old.items
-        × Adds (T.done shelf.old) (T.done shelf.new) (made begun.number ∷ [])) }
-    ensures err { OnErr result (T.done shelf.new ≡ T.done shelf.old) }
+        × Adds (T.done target.old) (T.done target.new) (made begun.number ∷ [])) }
+    ensures err { OnErr result (T.done target.new ≡ T.done target.old) }
 {
     let old = old_of(keep, there.whole)?;
-    let number = begin_behind(shelf, &there.all)?;
+    let number = begin_behind(target, &there.all)?;
     Ok(Begun { number, old })
 }
 
 // Begins the backup of the next number, in the folder of the start.
-fn begin_next<S: Source, W: Sink, T: Shelf<S, W>>(
-    shelf: &mut T,
+fn begin_next<S: Source, W: Sink, T: BackupTarget<S, W>>(
+    target: &mut T,
     keep: Option<u32>,
 ) -> Result<Begun, BackupFault>
-    ensures holds { T.holds shelf.new ≡ T.holds shelf.old }
-    ensures ok { IfOk result (λ begun. IsBegun keep (T.done shelf.old) (T.done shelf.new)
+    ensures holds { T.holds target.new ≡ T.holds target.old }
+    ensures ok { IfOk result (λ begun. IsBegun keep (T.done target.old) (T.done target.new)
         begun.number begun.old.items) }
     ensures err { OnErr result ((steps : List BackupStep) × IsUnbegun steps
-        × Adds (T.done shelf.old) (T.done shelf.new) steps) }
+        × Adds (T.done target.old) (T.done target.new) steps) }
 {
-    shelf.look()?;
-    let there = shelf.list()?;
-    let begun = begin_beside(shelf, keep, there)?;
+    target.look()?;
+    let there = target.list()?;
+    let begun = begin_beside(target, keep, there)?;
     Ok(begun)
 }
 
 // Takes one backup away, or has it told that it stays.
-fn pass<S: Source, W: Sink, T: Shelf<S, W>>(shelf: &mut T, number: u32)
+fn pass<S: Source, W: Sink, T: BackupTarget<S, W>>(target: &mut T, number: u32)
     ensures { (step : BackupStep) × IsPassing number step
-        × Adds (T.done shelf.old) (T.done shelf.new) (step ∷ []) }
+        × Adds (T.done target.old) (T.done target.new) (step ∷ []) }
 {
-    if !shelf.take_away(number) {
-        shelf.stay(number);
+    if !target.take_away(number) {
+        target.stay(number);
     }
 }
 
 // Takes these backups away, as far as that goes.
-fn pass_all<S: Source, W: Sink, T: Shelf<S, W>>(shelf: &mut T, old: &[u32])
+fn pass_all<S: Source, W: Sink, T: BackupTarget<S, W>>(target: &mut T, old: &[u32])
     ensures { (steps : List BackupStep) × ArePassed old.now steps
-        × Adds (T.done shelf.old) (T.done shelf.new) steps }
+        × Adds (T.done target.old) (T.done target.new) steps }
 {
     for number in old {
-        pass(shelf, *number);
+        pass(target, *number);
     }
 }
 
@@ -219,23 +219,23 @@ fn pass_all<S: Source, W: Sink, T: Shelf<S, W>>(shelf: &mut T, old: &[u32])
 /// so many are kept, whole ones that were there were taken away, all but the newest, so that with this one so many stay; the place
 /// hears of each that couldn't be taken away. At `Err`, because memory ran out or something hindered it, none has a name, what was
 /// made of it was taken away, and none that was there. At most 64 KiB of the files are in memory at once.
-pub fn back_up<S: Source + Drop, W: Sink + Drop, T: Shelf<S, W>>(
-    shelf: &mut T,
+pub fn back_up<S: Source + Drop, W: Sink + Drop, T: BackupTarget<S, W>>(
+    target: &mut T,
     keep: Option<u32>,
 ) -> Result<u32, BackupFault>
     ensures ok { IfOk result
-        (IsBackupMade keep (T.holds shelf.old) (T.done shelf.old) (T.done shelf.new)) }
+        (IsBackupMade keep (T.holds target.old) (T.done target.old) (T.done target.new)) }
     ensures err { OnErr result
-        (IsNoBackupMade (T.holds shelf.old) (T.done shelf.old) (T.done shelf.new)) }
+        (IsNoBackupMade (T.holds target.old) (T.done target.old) (T.done target.new)) }
 {
-    let begun = begin_next(shelf, keep)?;
-    match fill(shelf, begun.number) {
+    let begun = begin_next(target, keep)?;
+    match fill(target, begun.number) {
         Ok(()) => {
-            pass_all(shelf, &begun.old);
+            pass_all(target, &begun.old);
             Ok(begun.number)
         }
         Err(fault) => {
-            shelf.clear(begun.number);
+            target.clear(begun.number);
             Err(fault)
         }
     }

@@ -2,12 +2,12 @@
 
 ghost use Rattle.std.specs.Prelude.{[], None};
 
-use crate::backing::{MOST_BACKUPS, back_up};
+use crate::backing::{MAX_BACKUPS, back_up};
 use crate::faults::BackupFault;
 use crate::held::HeldFolder;
 use crate::made::Made;
 use crate::names::{Identity, Names, identity_of, unread};
-use crate::shelves::{Half, Numbers, Shelf};
+use crate::shelves::{BackupTarget, Numbers, StoreFile};
 use shop_advice::{BackupCause, backup_cause};
 use shop_streams::{Counted, Failed, Sink};
 use std::alloc::{AllocError, Global};
@@ -16,7 +16,7 @@ use std::io::{self, ErrorKind, Write};
 use std::os::unix::fs::{DirBuilderExt, MetadataExt, OpenOptionsExt};
 
 // How often a call is made that is interrupted each time, and how many names are tried for one that is free.
-const MOST_TRIES: u32 = 1000;
+const MAX_TRIES: u32 = 1000;
 
 // The permission to write of all but a folder's owner. Where a list of permissions gives it to somebody, it is that of the group.
 const WRITE_OF_OTHERS: u32 = 0o022;
@@ -96,7 +96,7 @@ fn trial_path(alloc: Global, folder: &str, attempt: u32) -> Result<String, Alloc
 
 // Makes a folder of a name that is free and no backup's, and takes it away again.
 fn try_in<R: Files>(rt: &R, alloc: Global, folder: &str) -> Result<(), BackupFault> {
-    for attempt in 0..MOST_TRIES {
+    for attempt in 0..MAX_TRIES {
         let path = trial_path(alloc, folder, attempt)?;
         match try_name(rt, path.as_str()) {
             Ok(true) => return Ok(()),
@@ -124,7 +124,7 @@ fn number_of(name: &str) -> Option<u32> {
         return None;
     }
     match digits.parse::<u32>() {
-        Ok(number) if number <= MOST_BACKUPS => Some(number),
+        Ok(number) if number <= MAX_BACKUPS => Some(number),
         _ => None,
     }
 }
@@ -192,7 +192,7 @@ impl Backups {
 
     /// Makes a backup, and takes older ones away where only so many are kept.
     pub fn make<R: Files>(&self, rt: &R, alloc: Global) -> Result<Made, BackupFault> {
-        let mut shelf = Folder {
+        let mut target = Folder {
             rt,
             alloc,
             backups: self,
@@ -202,23 +202,23 @@ impl Backups {
             has_log: false,
             stayed: Vec::new(alloc),
         };
-        let number = back_up(&mut shelf, self.keep)?;
-        let Folder { stayed, .. } = shelf;
+        let number = back_up(&mut target, self.keep)?;
+        let Folder { stayed, .. } = target;
         Ok(Made { number, stayed })
     }
 
     // The path of a file of the store.
-    fn path(&self, half: Half) -> &str {
-        match half {
-            Half::Store => self.names.store.as_str(),
-            Half::Log => self.names.log.as_str(),
+    fn path(&self, which: StoreFile) -> &str {
+        match which {
+            StoreFile::Store => self.names.store.as_str(),
+            StoreFile::Log => self.names.log.as_str(),
         }
     }
 
-    fn identity(&self, half: Half) -> Identity {
-        match half {
-            Half::Store => self.names.store_is,
-            Half::Log => self.names.log_is,
+    fn identity(&self, which: StoreFile) -> Identity {
+        match which {
+            StoreFile::Store => self.names.store_is,
+            StoreFile::Log => self.names.log_is,
         }
     }
 
@@ -237,14 +237,19 @@ impl Backups {
     }
 
     // The name that a file of the store has in a backup.
-    fn name(&self, half: Half) -> &str {
-        last_name(self.path(half))
+    fn name(&self, which: StoreFile) -> &str {
+        last_name(self.path(which))
     }
 
     // A file of one that isn't whole yet.
-    fn part_file(&self, alloc: Global, number: u32, half: Half) -> Result<String, BackupFault> {
+    fn part_file(
+        &self,
+        alloc: Global,
+        number: u32,
+        which: StoreFile,
+    ) -> Result<String, BackupFault> {
         let folder = self.folder();
-        let name = self.name(half);
+        let name = self.name(which);
         let path = format!(in alloc; "{folder}/{number}.part/{name}")?;
         Ok(path)
     }
@@ -261,8 +266,8 @@ impl Backups {
     }
 
     // Whether the folder of a whole backup has a copy of this file.
-    fn has_copy<R: Files>(&self, rt: &R, alloc: Global, whole: &str, half: Half) -> bool {
-        let name = self.name(half);
+    fn has_copy<R: Files>(&self, rt: &R, alloc: Global, whole: &str, which: StoreFile) -> bool {
+        let name = self.name(which);
         match format!(in alloc; "{whole}/{name}") {
             Ok(path) => self.is_copy(rt, path.as_str()),
             Err(_) => false,
@@ -276,9 +281,9 @@ impl Backups {
             return None;
         }
         let held = HeldFolder::open(whole)?;
-        let is_backup = held.holds_just([self.name(Half::Store), self.name(Half::Log)])
-            && self.has_copy(rt, alloc, whole, Half::Store)
-            && self.has_copy(rt, alloc, whole, Half::Log);
+        let is_backup = held.holds_just([self.name(StoreFile::Store), self.name(StoreFile::Log)])
+            && self.has_copy(rt, alloc, whole, StoreFile::Store)
+            && self.has_copy(rt, alloc, whole, StoreFile::Log);
         if is_backup { Some(held) } else { None }
     }
 }
@@ -316,7 +321,7 @@ impl<F: Write> Sink for Target<F> {
     ghost failed = { λ target. target.failures };
 
     fn write(&mut self, bytes: &[u8]) -> Result<usize, Failed> {
-        for _ in 0..MOST_TRIES {
+        for _ in 0..MAX_TRIES {
             match self.file.write(bytes) {
                 Ok(0) => break,
                 Ok(count) => return Ok(count),
@@ -388,25 +393,25 @@ impl<'a, R: Files> Folder<'a, R> {
     }
 
     // Makes a file of a backup, and notes that it did.
-    fn make_file(&mut self, path: &str, half: Half) -> io::Result<R::File> {
+    fn make_file(&mut self, path: &str, which: StoreFile) -> io::Result<R::File> {
         let mut options = OpenOptions::new();
         options.write(true).create_new(true).mode(0o600);
         let file = options.open(self.rt, path)?;
-        match half {
-            Half::Store => self.has_store = true,
-            Half::Log => self.has_log = true,
+        match which {
+            StoreFile::Store => self.has_store = true,
+            StoreFile::Log => self.has_log = true,
         }
         Ok(file)
     }
 
     // Opens a file of the store, if it is the one that is open.
-    fn open(&self, half: Half) -> Result<R::File, BackupFault> {
-        let file = match File::open(self.rt, self.backups.path(half)) {
+    fn open(&self, which: StoreFile) -> Result<R::File, BackupFault> {
+        let file = match File::open(self.rt, self.backups.path(which)) {
             Ok(file) => file,
             Err(error) => return Err(unread(&error)),
         };
         match file.metadata() {
-            Ok(found) if identity_of(&found) == self.backups.identity(half) => Ok(file),
+            Ok(found) if identity_of(&found) == self.backups.identity(which) => Ok(file),
             Ok(_) => Err(BackupFault::Failed(BackupCause::Moved)),
             Err(error) => Err(unread(&error)),
         }
@@ -431,10 +436,10 @@ impl<'a, R: Files> Folder<'a, R> {
     // Takes away what was made here of a backup that isn't whole.
     fn remove_part(&self, held: &HeldFolder) {
         if self.has_store {
-            let _ = held.remove(self.backups.name(Half::Store));
+            let _ = held.remove(self.backups.name(StoreFile::Store));
         }
         if self.has_log {
-            let _ = held.remove(self.backups.name(Half::Log));
+            let _ = held.remove(self.backups.name(StoreFile::Log));
         }
     }
 
@@ -462,15 +467,15 @@ impl<'a, R: Files> Folder<'a, R> {
         if self.unname(whole, part).is_err() {
             return false;
         }
-        if !held.remove(self.backups.name(Half::Store)) {
+        if !held.remove(self.backups.name(StoreFile::Store)) {
             let _ = fs::rename(self.rt, part, whole);
             return false;
         }
-        held.remove(self.backups.name(Half::Log)) && fs::remove_dir(self.rt, part).is_ok()
+        held.remove(self.backups.name(StoreFile::Log)) && fs::remove_dir(self.rt, part).is_ok()
     }
 }
 
-impl<'a, R: Files> Shelf<Counted<R::File>, Target<R::File>> for Folder<'a, R> {
+impl<'a, R: Files> BackupTarget<Counted<R::File>, Target<R::File>> for Folder<'a, R> {
     ghost done = { λ _. None };
 
     ghost holds = { λ _ _. [] };
@@ -498,14 +503,14 @@ impl<'a, R: Files> Shelf<Counted<R::File>, Target<R::File>> for Folder<'a, R> {
         }
     }
 
-    fn source(&mut self, half: Half) -> Result<Counted<R::File>, BackupFault> {
-        let file = self.open(half)?;
+    fn source(&mut self, which: StoreFile) -> Result<Counted<R::File>, BackupFault> {
+        let file = self.open(which)?;
         Ok(Counted::new(file))
     }
 
-    fn sink(&mut self, number: u32, half: Half) -> Result<Target<R::File>, BackupFault> {
-        let path = self.backups.part_file(self.alloc, number, half)?;
-        match self.make_file(path.as_str(), half) {
+    fn sink(&mut self, number: u32, which: StoreFile) -> Result<Target<R::File>, BackupFault> {
+        let path = self.backups.part_file(self.alloc, number, which)?;
+        match self.make_file(path.as_str(), which) {
             Ok(file) => Ok(Target {
                 file,
                 failures: 0,
@@ -525,7 +530,7 @@ impl<'a, R: Files> Shelf<Counted<R::File>, Target<R::File>> for Folder<'a, R> {
     fn keep(
         &mut self,
         _number: u32,
-        _half: Half,
+        _half: StoreFile,
         sink: Target<R::File>,
     ) -> Result<(), BackupFault> {
         match sink.file.sync_all() {

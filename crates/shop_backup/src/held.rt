@@ -8,7 +8,7 @@ use std::os::fd::{AsRawFd, OwnedFd};
 // How many bytes of names are read at once, and how often at most.
 const NAMES_SIZE: usize = 4096;
 
-const MOST_READS: u32 = 1000;
+const MAX_READS: u32 = 1000;
 
 /// A folder that is held open.
 #[derive(Drop)]
@@ -45,7 +45,7 @@ impl HeldFolder {
     pub(crate) fn holds_just(&self, names: [&str; 2]) -> bool {
         let mut found = 0u32;
         let mut buffer = [0u8; NAMES_SIZE];
-        for _ in 0..MOST_READS {
+        for _ in 0..MAX_READS {
             let count = os::read_dir(self.fd.as_raw_fd(), &mut buffer);
             if count == 0 {
                 return os::errno() == 0 && found == 2;

@@ -19,4 +19,4 @@ pub use made::{Made, stayed_note};
 pub use names::Names;
 pub use replacing::{BookEntries, Judges, put_back};
 pub use restoring::{Place, RestoreFault, RestoreStep, restore};
-pub use shelves::{Half, Numbers, Shelf};
+pub use shelves::{BackupTarget, Numbers, StoreFile};

@@ -6,7 +6,7 @@ use crate::backing::{CopyFault, copy_all};
 use crate::folders::{Target, sync_folder};
 use crate::held::{HeldFile, HeldFolder, HoldFault};
 use crate::restoring::{Place, RestoreFault, RestoreStep, restore};
-use crate::shelves::Half;
+use crate::shelves::StoreFile;
 use shop_advice::{StoreCause, kind_cause};
 use shop_streams::Counted;
 use std::alloc::{AllocError, Global};
@@ -101,17 +101,17 @@ impl Paths {
         })
     }
 
-    fn name(&self, half: Half) -> &str {
-        match half {
-            Half::Store => self.store.as_str(),
-            Half::Log => self.log.as_str(),
+    fn name(&self, which: StoreFile) -> &str {
+        match which {
+            StoreFile::Store => self.store.as_str(),
+            StoreFile::Log => self.log.as_str(),
         }
     }
 
-    fn new_name(&self, half: Half) -> &str {
-        match half {
-            Half::Store => self.new_store.as_str(),
-            Half::Log => self.new_log.as_str(),
+    fn new_name(&self, which: StoreFile) -> &str {
+        match which {
+            StoreFile::Store => self.new_store.as_str(),
+            StoreFile::Log => self.new_log.as_str(),
         }
     }
 }
@@ -300,8 +300,8 @@ impl<'a, R: Files, J: Judges> Replacing<'a, R, J> {
     // The owner and the permissions that the new files get: those of the old ones, or of the backup.
     fn access(&self, copy: &str) -> Option<Metadata> {
         for path in [
-            self.paths.name(Half::Store),
-            self.paths.name(Half::Log),
+            self.paths.name(StoreFile::Store),
+            self.paths.name(StoreFile::Log),
             copy,
         ] {
             if let Ok(found) = fs::symlink_metadata(self.rt, path) {
@@ -311,17 +311,17 @@ impl<'a, R: Files, J: Judges> Replacing<'a, R, J> {
         None
     }
 
-    fn copy(&self, half: Half) -> Result<(), RestoreFault> {
+    fn copy(&self, which: StoreFile) -> Result<(), RestoreFault> {
         let Some(store) = &self.copy else {
             return Err(RestoreFault::NoBackup);
         };
         let store = store.as_str();
         let log = format!(in self.alloc; "{store}-wal")?;
-        let from = match half {
-            Half::Store => store,
-            Half::Log => log.as_str(),
+        let from = match which {
+            StoreFile::Store => store,
+            StoreFile::Log => log.as_str(),
         };
-        let to = self.paths.new_name(half);
+        let to = self.paths.new_name(which);
         free_name(self.rt, to)?;
         copy_file(self.rt, from, to, self.access(store).as_ref())
     }
@@ -377,8 +377,8 @@ impl<'a, R: Files, J: Judges> Replacing<'a, R, J> {
         self.link(self.paths.log.as_str(), self.paths.old_log.as_str())
     }
 
-    fn put_in(&self, half: Half) -> Result<(), RestoreFault> {
-        self.rename(self.paths.new_name(half), self.paths.name(half))
+    fn put_in(&self, which: StoreFile) -> Result<(), RestoreFault> {
+        self.rename(self.paths.new_name(which), self.paths.name(which))
     }
 }
 
@@ -390,10 +390,10 @@ impl<'a, R: Files, J: Judges> Place for Replacing<'a, R, J> {
             RestoreStep::Close => self.close(),
             RestoreStep::Judge => self.judge(),
             RestoreStep::Look => self.look(),
-            RestoreStep::Copy(half) => self.copy(half),
-            RestoreStep::PutAside(Half::Store) => self.put_store_aside(),
-            RestoreStep::PutAside(Half::Log) => self.put_log_aside(),
-            RestoreStep::PutIn(half) => self.put_in(half),
+            RestoreStep::Copy(which) => self.copy(which),
+            RestoreStep::PutAside(StoreFile::Store) => self.put_store_aside(),
+            RestoreStep::PutAside(StoreFile::Log) => self.put_log_aside(),
+            RestoreStep::PutIn(which) => self.put_in(which),
         }
     }
 }

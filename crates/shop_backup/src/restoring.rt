@@ -4,7 +4,7 @@ ghost use Rattle.std.specs.Prelude.{◌≡◌, ◌∷◌, [], List, Option, OnEr
 ghost use Rattle.shop_backup.specs.Steps.{Adds};
 ghost use Rattle.shop_backup.specs.Restores.{IsBrokenOff, restored};
 
-use crate::shelves::Half;
+use crate::shelves::StoreFile;
 use shop_advice::StoreCause;
 use std::alloc::AllocError;
 
@@ -42,11 +42,11 @@ pub enum RestoreStep {
     /// Looks whether the names are free that the files get which were there.
     Look,
     /// Copies a file of the backup beside the store, under a name of its own, and has it on the disk.
-    Copy(Half),
+    Copy(StoreFile),
     /// Gives a file that was there another name, if it is there.
-    PutAside(Half),
+    PutAside(StoreFile),
     /// Gives a copy the name of the store's file.
-    PutIn(Half),
+    PutIn(StoreFile),
 }
 
 /// A store's place, in which a backup is put.
@@ -83,12 +83,12 @@ pub fn restore<P: Place>(place: &mut P) -> Result<(), RestoreFault>
         RestoreStep::Close,
         RestoreStep::Judge,
         RestoreStep::Look,
-        RestoreStep::Copy(Half::Store),
-        RestoreStep::Copy(Half::Log),
-        RestoreStep::PutAside(Half::Store),
-        RestoreStep::PutAside(Half::Log),
-        RestoreStep::PutIn(Half::Log),
-        RestoreStep::PutIn(Half::Store),
+        RestoreStep::Copy(StoreFile::Store),
+        RestoreStep::Copy(StoreFile::Log),
+        RestoreStep::PutAside(StoreFile::Store),
+        RestoreStep::PutAside(StoreFile::Log),
+        RestoreStep::PutIn(StoreFile::Log),
+        RestoreStep::PutIn(StoreFile::Store),
     ];
     take_all(place, &steps)
 }

@@ -9,7 +9,7 @@ use shop_streams::{Sink, Source};
 
 /// A file of a store: that of its database, or its log.
 #[derive(Clone, Copy, Debug, PartialEq, Eq)]
-pub enum Half {
+pub enum StoreFile {
     Store,
     Log,
 }
@@ -22,14 +22,14 @@ pub struct Numbers {
 }
 
 /// A place where backups of a store are made, each under a number.
-pub trait Shelf<S: Source, W: Sink> {
-    ghost use Rattle.shop_backup.specs.declared.shelves.Half.{Half};
+pub trait BackupTarget<S: Source, W: Sink> {
+    ghost use Rattle.shop_backup.specs.declared.shelves.StoreFile.{StoreFile};
 
     /// What was done so far, where that is known.
     ghost done: { Self → Option (List BackupStep) };
 
     /// What a file of the store holds, where it is known what was done.
-    ghost holds: { Self → Half → List ℕ };
+    ghost holds: { Self → StoreFile → List ℕ };
 
     /// Looks whether this is the place of the start, in which nobody but its owner may write.
     fn look(&mut self) -> Result<(), BackupFault>
@@ -53,14 +53,14 @@ pub trait Shelf<S: Source, W: Sink> {
         ensures err { OnErr result (done self.new ≡ done self.old) };
 
     /// A file of the store, to be read from its first byte on.
-    fn source(&mut self, half: Half) -> Result<S, BackupFault>
+    fn source(&mut self, which: StoreFile) -> Result<S, BackupFault>
         ensures holds { holds self.new ≡ holds self.old }
         ensures done { done self.new ≡ done self.old }
         ensures left { IfOk result
-            (λ source. IsSome (done self.old) → S.left source ≡ Some (holds self.old half)) };
+            (λ source. IsSome (done self.old) → S.left source ≡ Some (holds self.old which)) };
 
     /// A new file of the backup that was begun, in which nothing is yet.
-    fn sink(&mut self, number: u32, half: Half) -> Result<W, BackupFault>
+    fn sink(&mut self, number: u32, which: StoreFile) -> Result<W, BackupFault>
         ensures holds { holds self.new ≡ holds self.old }
         ensures done { done self.new ≡ done self.old }
         ensures empty { IfOk result (λ sink. IsSome (done self.old) → W.held sink ≡ Some []) };
@@ -69,10 +69,10 @@ pub trait Shelf<S: Source, W: Sink> {
     fn cause(&self, sink: &W) -> BackupCause;
 
     /// Has a file of the backup on the disk, as it was written.
-    fn keep(&mut self, number: u32, half: Half, sink: W) -> Result<(), BackupFault>
+    fn keep(&mut self, number: u32, which: StoreFile, sink: W) -> Result<(), BackupFault>
         ensures holds { holds self.new ≡ holds self.old }
         ensures ok { OnOk result ((bytes : List ℕ) → W.held sink ≡ Some bytes
-            → Adds (done self.old) (done self.new) (kept number half bytes ∷ [])) }
+            → Adds (done self.old) (done self.new) (kept number which bytes ∷ [])) }
         ensures err { OnErr result (done self.new ≡ done self.old) };
 
     /// Gives the backup its name, once its files are on the disk, and has that there, too.

@@ -1,6 +1,6 @@
 -- How failures of a store are counted.
 use Rattle.std.specs.Prelude.{◌≡◌, ℕ, ◌+◌, nat_lt, if◌then◌else◌, List, codes, Result, Ok, Err}
-use Rattle.shop_book.specs.declared.books.TheConstants.{MOST_FAILURES}
+use Rattle.shop_book.specs.declared.books.TheConstants.{MAX_FAILURES}
 use Rattle.shop_book.specs.declared.books.BookFault.{BookFault}
 use Rattle.shop_book.specs.declared.books.BookFault.TheVariants.{NoMemory, Store, WrongVersion}
 use Rattle.shop_records.specs.declared.refusals.Refusal.{Refusal}
@@ -8,7 +8,7 @@ use Rattle.shop_records.specs.declared.refusals.Refusal.TheVariants as refusal
 
 -- one more, and at the greatest count the same
 abbrev pub one_more_failure : ℕ → ℕ
-one_more_failure n = if nat_lt n MOST_FAILURES then n + 1 else MOST_FAILURES
+one_more_failure n = if nat_lt n MAX_FAILURES then n + 1 else MAX_FAILURES
 
 -- a failed store raises the count, and nothing else does; a book that was made is of no wrong version
 abbrev pub CountsFailure : {T : Type 0} → Result T BookFault → ℕ → ℕ → Type 0

@@ -26,7 +26,7 @@ use std::error::Error;
 use std::fmt;
 
 /// The greatest number of failures that is counted.
-pub const MOST_FAILURES: u64 = 18446744073709551615;
+pub const MAX_FAILURES: u64 = 18446744073709551615;
 
 /// Why a book has no answer.
 #[derive(Clone, Copy, Debug, PartialEq, Eq)]
@@ -426,7 +426,7 @@ pub trait Book {
         ensures clean_disk { has_clean_disk self.new → has_clean_disk self.old }
         ensures failures { CountsFailure result (failed self.old) (failed self.new) };
 
-    /// How often the store failed, up to `MOST_FAILURES`.
+    /// How often the store failed, up to `MAX_FAILURES`.
     fn failures(&self) -> u64
         ensures { result ≡ failed self.now };
 }

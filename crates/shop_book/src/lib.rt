@@ -29,7 +29,7 @@ mod storage;
 mod stories;
 mod uses;
 
-pub use books::{Book, BookFault, FoundJob, JobHead, MOST_FAILURES};
+pub use books::{Book, BookFault, FoundJob, JobHead, MAX_FAILURES};
 pub use end_rows::JobEnds;
 pub use ledger::Ledger;
 pub use mem_storage::MemStorage;

@@ -8,9 +8,9 @@ use Rattle.std.proofs.lemmas.Bool.{and_parts, not-false}
 use Rattle.std.proofs.lemmas.List.Elements.{All-cons, All-filter, All-map, All-nil, All-take, filter_passes, recursion_from_All}
 use Rattle.cut_measure.specs.declared.sizes.Kind.{Kind}
 use Rattle.cut_measure.specs.Names.{Name}
-use Rattle.cut_measure.specs.declared.ranges.TheConstants.{MOST_NUMBERS}
+use Rattle.cut_measure.specs.declared.ranges.TheConstants.{MAX_NUMBERS}
 use Rattle.cut_wants.specs.declared.wants.Want.{Want}
-use Rattle.cut_bound.specs.declared.limits.TheConstants.{MOST_ORDER_WANTS, MOST_PARTS}
+use Rattle.cut_bound.specs.declared.limits.TheConstants.{MAX_ORDER_WANTS, MAX_PARTS}
 use Rattle.shop_records.specs.declared.records.Demand.{Demand}
 use Rattle.shop_records.specs.declared.records.Part.{Part}
 use Rattle.shop_records.specs.declared.refusals.Refusal.TheVariants.{NoDemand, NotStanding, WrongMaterial}
@@ -24,7 +24,7 @@ use Rattle.shop_records.proofs.Basics.{names_total, same_some}
 use Rattle.shop_machine.proofs.Allowed.{none_of, or_none}
 use Rattle.shop_answers.specs.declared.planning.FoundDemand.{FoundDemand}
 use Rattle.shop_answers.specs.Planning.{demand_refusal, found_refusal, found_wants, is_demand_number, left_of, planned_size, want_of}
-use Rattle.shop_planning.specs.declared.posed.StockPart.{StockPart}
+use Rattle.shop_planning.specs.declared.instance.StockPart.{StockPart}
 use Rattle.shop_planning.specs.Asked.{before_it, demands_for, first_by_day, parts_for, found_demand, with_row, has_left, can_be_planned, is_long}
 use Rattle.shop_planning.specs.Questions.{part_refusal, parts_refusal}
 use Rattle.shop_planning.specs.Stock.{parts_from, stock_part, stock_parts}
@@ -108,11 +108,11 @@ module _ (m : Content) (code : List ℕ) where
     pub wants_found : (named : Option (List ℕ)) → found_refusal code (demands_for m code named) ≡ None → All (IsWantOf m code) (found_wants (demands_for m code named))
     wants_found None e =
         let P = λ (d : Demand). IsFound m code (with_row d) in
-        let rows = take MOST_NUMBERS (open_demands m 0 (Some code)) in
+        let rows = take MAX_NUMBERS (open_demands m 0 (Some code)) in
         let left = filter has_left rows in
         all_wanted (demands_for m code None) (recursion_from_All (IsFound m code) (demands_for m code None)
-        (All-map (IsFound m code) with_row (first_by_day m left) (All-filter (λ (d : Demand). nat_lt (before_it m left d) MOST_ORDER_WANTS) P left
-        (All-filter has_left P rows (All-take P MOST_NUMBERS (open_demands m 0 (Some code)) open_found)))))
+        (All-map (IsFound m code) with_row (first_by_day m left) (All-filter (λ (d : Demand). nat_lt (before_it m left d) MAX_ORDER_WANTS) P left
+        (All-filter has_left P rows (All-take P MAX_NUMBERS (open_demands m 0 (Some code)) open_found)))))
     wants_found (Some ns) e = all_wanted (map (found_demand m) ns) (named_found ns e)
 
 -- ---- parts
@@ -179,15 +179,15 @@ module _ (m : Content) (code : List ℕ) (kind : Kind) where
 
     first_used : AllByRecursion (IsUsed m code) (parts_for m code kind None)
     first_used =
-        let rows = take MOST_NUMBERS (parts_after m code None) in
+        let rows = take MAX_NUMBERS (parts_after m code None) in
         let Q = λ (p : Part). IsUsed m code (Some p) in
         let all = all_both IsHere (λ (p : Part). can_be_planned kind p ≡ true) Q
         (λ p here is. record { part = p; is = refl; found = here.0; free = (and_parts (is_free p.state) (not (is_long kind p)) is).0; of = here.1 })
         (filter (can_be_planned kind) rows)
-        (All-filter (can_be_planned kind) IsHere rows (All-take IsHere MOST_NUMBERS (parts_after m code None) listed_used))
+        (All-filter (can_be_planned kind) IsHere rows (All-take IsHere MAX_NUMBERS (parts_after m code None) listed_used))
         (filter_passes (can_be_planned kind) rows) in
         recursion_from_All (IsUsed m code) (parts_for m code kind None)
-        (All-map (IsUsed m code) Some (take MOST_PARTS (filter (can_be_planned kind) rows)) (All-take Q MOST_PARTS (filter (can_be_planned kind) rows) all))
+        (All-map (IsUsed m code) Some (take MAX_PARTS (filter (can_be_planned kind) rows)) (All-take Q MAX_PARTS (filter (can_be_planned kind) rows) all))
 
     pub parts_found : (remnant : ℕ) (named : Option (List Name)) → parts_refusal code (parts_for m code kind named) ≡ None
         → All (IsPartOf m code kind) (stock_parts kind remnant (parts_for m code kind named))

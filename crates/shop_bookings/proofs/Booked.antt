@@ -31,13 +31,13 @@ use Rattle.shop_machine.proofs.Allowed.{or_none}
 use Rattle.shop_plans.specs.declared.answers.PlansReply.{PlansReply}
 use Rattle.shop_plans.specs.declared.answers.ToldPlan.{ToldPlan}
 use Rattle.shop_plans.specs.declared.questions.PlansQuery.{PlansQuery}
-use Rattle.shop_planning.specs.declared.posed.Posed.{Posed}
-use Rattle.shop_planning.specs.declared.posed.StockPart.{StockPart}
+use Rattle.shop_planning.specs.declared.instance.PlanInstance.{PlanInstance}
+use Rattle.shop_planning.specs.declared.instance.StockPart.{StockPart}
 use Rattle.shop_planning.specs.declared.telling.Entry.{Entry}
 use Rattle.shop_planning.specs.Answers.{IsPlansReply}
 use Rattle.shop_planning.specs.Asked.{demands_for, parts_for}
 use Rattle.shop_planning.specs.Entries.{entries_of, is_of}
-use Rattle.shop_planning.specs.Questions.{IsPosed, parts_refusal, rows_refusal}
+use Rattle.shop_planning.specs.Questions.{IsInstance, parts_refusal, rows_refusal}
 use Rattle.shop_planning.specs.Shares.{are_alike, share_of, shares_of}
 use Rattle.shop_planning.specs.Stock.{firsts}
 use Rattle.shop_planning.proofs.Firsts.{all_firsts}
@@ -97,15 +97,15 @@ record IsShare (wants : List Want) (kerf : ℕ) (sizes : List StockSize) (unit :
   there : slice_get sizes unit.place ≡ Some stock
   planned : IsPlanFor wants kerf stock.size unit.plan
 
-module _ (texts : Texts) (m : Content) (sound : IsSound texts m) (q : PlansQuery) (posed : Posed) (asks : IsPosed m q posed) (reply : PlansReply) (answer : IsPlansReply posed reply) where
+module _ (texts : Texts) (m : Content) (sound : IsSound texts m) (q : PlansQuery) (instance : PlanInstance) (asks : IsInstance m q instance) (reply : PlansReply) (answer : IsPlansReply instance reply) where
   abbrev material : Material
   material = asks.material
 
   abbrev wants : List Want
-  wants = posed.wants.items
+  wants = instance.wants.items
 
   abbrev sizes : List StockSize
-  sizes = posed.sizes.items
+  sizes = instance.sizes.items
 
   abbrev units : List PlannedUnit
   units = answer.plan.units.items
@@ -126,7 +126,7 @@ module _ (texts : Texts) (m : Content) (sound : IsSound texts m) (q : PlansQuery
 
   parts_are : All (IsPartOf m q.material material.kind) answer.plans.ranked
   parts_are =
-      All-permutation (IsPartOf m q.material material.kind) posed.parts.items answer.plans.ranked answer.plans.parts.all
+      All-permutation (IsPartOf m q.material material.kind) instance.parts.items answer.plans.ranked answer.plans.parts.all
       (subst (All (IsPartOf m q.material material.kind)) (sym asks.is.parts)
       (parts_found m q.material material.kind texts sound q.remnant q.parts
       (or_none (parts_refusal q.material (parts_for m q.material material.kind q.parts)) _ (or_none (found_refusal q.material (demands_for m q.material q.demands)) _ rows_allowed).1).0))

@@ -6,7 +6,7 @@ use Rattle.std.specs.Option.{option_or}
 use Rattle.std.specs.Cmp.Derive.{both_true}
 use Rattle.std.proofs.lemmas.List.Elements.{All-contains, All-weaker, recursion_from_All}
 use Rattle.cut_measure.specs.Measures.{Extent}
-use Rattle.cut_measure.specs.declared.ranges.TheConstants.{MOST_NUMBERS}
+use Rattle.cut_measure.specs.declared.ranges.TheConstants.{MAX_NUMBERS}
 use Rattle.cut_measure.specs.declared.sizes.Kind.{Kind}
 use Rattle.cut_measure.specs.declared.sizes.Kind.TheVariants.{Bar, Sheet}
 use Rattle.cut_tree.specs.declared.leaves.Leaf.{Leaf}
@@ -33,7 +33,7 @@ use Rattle.shop_machine.specs.Decisions.{first_of}
 use Rattle.shop_machine.specs.Recounts.{plan_leaves}
 use Rattle.shop_machine.specs.Reserving.{IsReading, fits_demand, leaf_refusal, leaves_refusal}
 use Rattle.shop_machine.proofs.Allowed.{narrow}
-use Rattle.shop_planning.specs.declared.posed.StockPart.{StockPart}
+use Rattle.shop_planning.specs.declared.instance.StockPart.{StockPart}
 use Rattle.shop_bookings.proofs.Asked.{IsWantOf, IsPartOf}
 
 -- a leaf with a want's sides has those of its demand
@@ -55,7 +55,7 @@ module _ (texts : Texts) (m : Content) (sound : IsSound texts m) (code : List �
     (wants : List Want) (are : All (IsWantOf m code) wants) where
   numbered : AreDemands wants
   numbered =
-      All-weaker (IsWantOf m code) (λ (x : Want). (1 ≤ x.demand) × (x.demand ≤ MOST_NUMBERS)) (λ x w.
+      All-weaker (IsWantOf m code) (λ (x : Want). (1 ≤ x.demand) × (x.demand ≤ MAX_NUMBERS)) (λ x w.
       let d = sound.demands x.demand w.demand w.found in
       let last = sound.in_range.last_demand in
       let so_far = d.so_far in

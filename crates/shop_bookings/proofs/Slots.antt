@@ -14,7 +14,7 @@ use Rattle.cut_bound.proofs.PlannedUnits.{planned_sum}
 use Rattle.shop_records.specs.Elements.{IsIn}
 use Rattle.shop_records.proofs.Basics.{all_in, in_append, in_first, in_later, in_map, map_in}
 use Rattle.shop_records.proofs.Puts.{all_from}
-use Rattle.shop_planning.specs.declared.posed.StockPart.{StockPart}
+use Rattle.shop_planning.specs.declared.instance.StockPart.{StockPart}
 use Rattle.shop_planning.specs.declared.telling.Entry.{Entry}
 use Rattle.shop_planning.specs.Entries.{entries_from, entry_by, entry_of, is_of, taken}
 

@@ -5,7 +5,7 @@ use Rattle.std.specs.List.{list_any, AllByRecursion}
 use Rattle.std.specs.Option.{option_or}
 use Rattle.std.proofs.lemmas.List.Sums.{sum_by-cons}
 use Rattle.std.proofs.lemmas.List.Elements.{All-from_recursion}
-use Rattle.cut_measure.specs.declared.ranges.TheConstants.{MOST_NUMBERS}
+use Rattle.cut_measure.specs.declared.ranges.TheConstants.{MAX_NUMBERS}
 use Rattle.cut_measure.specs.Names.{Name}
 use Rattle.cut_tree.specs.declared.leaves.Leaf.{Leaf}
 use Rattle.cut_tree.specs.Tree.{count_of}
@@ -78,15 +78,15 @@ module _ (row : Part) (material : Material) (plan : Pattern) (at : ℕ → Optio
     (free : is_free row.state ≡ true) (some : 1 ≤ length (plan_leaves plan)) (taken : leaves_refusal at row.material (plan_leaves plan) ≡ None)
     (few : is_too_many at plan ≡ false) where
   abbrev last : Option Refusal
-  last = first_of ((nat_lt MOST_NUMBERS act, NumbersSpent) ∷ [])
+  last = first_of ((nat_lt MAX_NUMBERS act, NumbersSpent) ∷ [])
 
   abbrev following : Option Refusal
-  following = option_or (leaves_refusal at row.material (plan_leaves plan)) (first_of ((is_too_many at plan, TooMany) ∷ (nat_lt MOST_NUMBERS act, NumbersSpent) ∷ []))
+  following = option_or (leaves_refusal at row.material (plan_leaves plan)) (first_of ((is_too_many at plan, TooMany) ∷ (nat_lt MAX_NUMBERS act, NumbersSpent) ∷ []))
 
   by_leaves : following ≡ last
   by_leaves =
-      ap (λ o. option_or o (first_of ((is_too_many at plan, TooMany) ∷ (nat_lt MOST_NUMBERS act, NumbersSpent) ∷ []))) taken
-      ∙ ap (λ b. first_of ((b, TooMany) ∷ (nat_lt MOST_NUMBERS act, NumbersSpent) ∷ [])) few
+      ap (λ o. option_or o (first_of ((is_too_many at plan, TooMany) ∷ (nat_lt MAX_NUMBERS act, NumbersSpent) ∷ []))) taken
+      ∙ ap (λ b. first_of ((b, TooMany) ∷ (nat_lt MAX_NUMBERS act, NumbersSpent) ∷ [])) few
 
   by_plan : plan_refusal row (Some plan) at act ≡ last
   by_plan = ap (λ b. option_or (first_of ((b, BadTree) ∷ [])) following) (positive (length (plan_leaves plan)) some) ∙ by_leaves
@@ -95,7 +95,7 @@ module _ (row : Part) (material : Material) (plan : Pattern) (at : ℕ → Optio
   by_part = ap (λ b. option_or (first_of ((not b, NotStanding) ∷ (false, StoreFault) ∷ [])) (plan_refusal row (Some plan) at act)) free ∙ by_plan
 
   spent : reserve_refusal (Some row) (Some material) (Some plan) at act ≡ Some r → r ≡ NumbersSpent
-  spent e = last_refusal (nat_lt MOST_NUMBERS act) r (sym by_part ∙ e)
+  spent e = last_refusal (nat_lt MAX_NUMBERS act) r (sym by_part ∙ e)
 
 -- ---- one of them, and the others
 

@@ -9,9 +9,9 @@ ghost use Rattle.shop_records.specs.Soundness.{IsSound};
 ghost use Rattle.shop_machine.specs.Machine.{Run};
 ghost use Rattle.shop_plans.specs.declared.answers.PlansReply.{PlansReply};
 ghost use Rattle.shop_plans.specs.declared.questions.PlansQuery.{PlansQuery};
-ghost use Rattle.shop_planning.specs.declared.posed.Posed.{Posed as PosedQuestion};
+ghost use Rattle.shop_planning.specs.declared.instance.PlanInstance.{PlanInstance as InstanceOfQuestion};
 ghost use Rattle.shop_planning.specs.Answers.{IsPlansReply};
-ghost use Rattle.shop_planning.specs.Questions.{IsPosed};
+ghost use Rattle.shop_planning.specs.Questions.{IsInstance};
 ghost use Rattle.shop_bookings.specs.Bookings.{Booking, AreBookable, OnlySpent, sent_by};
 ghost use Rattle.shop_bookings.specs.Told.{AreBookedBy};
 
@@ -27,9 +27,9 @@ pub fn bookings_stand_together()
 /// As long as nothing else happens in between, each plan that is told for a part can be reserved, in any order, all of them
 /// or some: refused are only those for which numbers are spent, want of memory and a failed store aside.
 pub fn told_plans_are_reserved()
-    ensures { (texts : Texts) (old new : Content) (q : PlansQuery) (posed : PosedQuestion)
+    ensures { (texts : Texts) (old new : Content) (q : PlansQuery) (instance : InstanceOfQuestion)
         (reply : PlansReply) (messages : List Message) (answers : List Reply)
-        → IsSound texts old → IsPosed old q posed → IsPlansReply posed reply
+        → IsSound texts old → IsInstance old q instance → IsPlansReply instance reply
         → AreBookedBy old reply messages → Run texts old messages answers new
         → All OnlySpent answers }
 {}

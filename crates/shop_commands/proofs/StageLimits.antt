@@ -8,4 +8,4 @@ use Rattle.shop_words.specs.CommandLine.{HasStages}
 
 pub stage_limit : (stages : Option ℕ) → HasStages stages → IsStageLimit stages
 stage_limit None has = refl
-stage_limit (Some n) has = rw (le-leb orders.LEAST_STAGES n has.0, le-leb n orders.MOST_STAGES has.1) refl
+stage_limit (Some n) has = rw (le-leb orders.MIN_STAGES n has.0, le-leb n orders.MAX_STAGES has.1) refl

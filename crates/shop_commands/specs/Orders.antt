@@ -4,7 +4,7 @@ use Rattle.std.specs.Fmt.{decimal}
 use Rattle.std.specs.List.{before_first, list_any}
 use Rattle.std.specs.Str.{IsUtf8}
 use Rattle.shop_files.specs.Orders.{IsOrders, HasOrdersFault}
-use Rattle.shop_files.specs.declared.limits.TheConstants.{LONGEST_TEXT, MOST_LINES}
+use Rattle.shop_files.specs.declared.limits.TheConstants.{MAX_TEXT_LEN, MAX_LINES}
 use Rattle.shop_files.specs.declared.orders.OrderLine.{OrderLine}
 use Rattle.shop_files.specs.declared.shops.MaterialEntry.{MaterialEntry}
 use Rattle.shop_problems.specs.declared.judging.BadField.{BadField}
@@ -34,7 +34,7 @@ has_semicolons text = first_line_has 59 text && not (first_line_has 44 text)
 
 abbrev pub header_cause : List ℕ → OrderCause
 header_cause text =
-    if nat_lt LONGEST_TEXT (length text) then cause.Long
+    if nat_lt MAX_TEXT_LEN (length text) then cause.Long
     else if has_semicolons text then cause.Semicolons
     else cause.Header
 
@@ -49,7 +49,7 @@ field_cause field =
 abbrev pub cause_of : List ℕ → (row field : ℕ) → OrderCause
 cause_of text row field =
     if row == 0 then header_cause text
-    else if nat_lt MOST_LINES row then cause.Many
+    else if nat_lt MAX_LINES row then cause.Many
     else field_cause field
 
 -- what stops the work at a fault of a text

@@ -17,7 +17,7 @@ use Rattle.shop_serve.specs.declared.ports.PortCause.TheVariants as port_cause
 use Rattle.shop_serve.specs.declared.sites.Site.{Site}
 use Rattle.shop_advice.specs.declared.causes.BackupCause.{BackupCause}
 use Rattle.shop_advice.specs.declared.causes.StoreCause.TheVariants as store_cause
-use Rattle.shop_commands.specs.declared.files.TheConstants.{LONGEST_PAGE}
+use Rattle.shop_commands.specs.declared.files.TheConstants.{MAX_PAGE_LEN}
 use Rattle.shop_words.specs.declared.words.Serving.{Serving}
 use Rattle.shop_words.specs.declared.words.TheConstants.{VERSION}
 use Rattle.shop_opening.specs.declared.shops.EntryRefused.{EntryRefused}
@@ -50,7 +50,7 @@ IsShopUnread fault = ((fault ≡ NoMemory) ⊎ (fault ≡ File)) ⊎ ((bytes : L
 -- a page is asked for, and these are the bytes of one that isn't too long; or none is
 abbrev pub IsPageRead : (path page : Option (List ℕ)) → Type 0
 IsPageRead None page = page ≡ None
-IsPageRead (Some path) page = (bytes : List ℕ) × (page ≡ Some bytes) × (length bytes ≤ LONGEST_PAGE)
+IsPageRead (Some path) page = (bytes : List ℕ) × (page ≡ Some bytes) × (length bytes ≤ MAX_PAGE_LEN)
 
 -- the page can't be read, is too long, or memory ran out
 abbrev pub IsPageUnread : Fault → Type 0

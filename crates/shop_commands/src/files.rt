@@ -2,18 +2,18 @@
 
 ghost use Rattle.std.specs.Prelude.{◌≡◌, ◌⊎◌, ◌≤◌, IfOk, IfErr, OnOk, length};
 ghost use Rattle.shop_commands.specs.declared.faults.Fault.TheVariants as fault;
-ghost use Rattle.shop_commands.specs.declared.files.TheConstants.{LONGEST_PAGE};
+ghost use Rattle.shop_commands.specs.declared.files.TheConstants.{MAX_PAGE_LEN};
 ghost use Rattle.shop_commands.specs.Sinks.{Adds, AddsPrefix, IsWritten, SinkFailed, change_of};
 
 use crate::faults::Fault;
-use shop_files::LONGEST_TEXT;
+use shop_files::MAX_TEXT_LEN;
 use shop_text::{Sink, write_all};
 use std::alloc::Global;
 use std::fs::{File, Files};
 use std::io::{self, Read};
 
 /// The longest page, in bytes.
-pub(crate) const LONGEST_PAGE: usize = 1_048_576;
+pub(crate) const MAX_PAGE_LEN: usize = 1_048_576;
 
 // What a file holds; of one with more bytes than these the first too many is the last.
 fn bytes_of<R: Files>(rt: &R, alloc: Global, path: &str, most: usize) -> io::Result<Vec<u8>> {
@@ -40,16 +40,16 @@ fn read_up_to<R: Files>(rt: &R, alloc: Global, path: &str, most: usize) -> Resul
 pub fn read_file<R: Files>(rt: &R, alloc: Global, path: &str) -> Result<Vec<u8>, Fault>
     ensures { IfErr result (λ f. (f ≡ fault.NoMemory) ⊎ (f ≡ fault.File)) }
 {
-    read_up_to(rt, alloc, path, LONGEST_TEXT)
+    read_up_to(rt, alloc, path, MAX_TEXT_LEN)
 }
 
 /// The page that a file holds, of at most 1048576 bytes.
 pub fn read_page<R: Files>(rt: &R, alloc: Global, path: &str) -> Result<Vec<u8>, Fault>
-    ensures ok { IfOk result (λ page. length page.items ≤ LONGEST_PAGE) }
+    ensures ok { IfOk result (λ page. length page.items ≤ MAX_PAGE_LEN) }
     ensures err { IfErr result (λ f. (f ≡ fault.NoMemory) ⊎ (f ≡ fault.File)) }
 {
-    let page = read_up_to(rt, alloc, path, LONGEST_PAGE)?;
-    if page.len() > LONGEST_PAGE {
+    let page = read_up_to(rt, alloc, path, MAX_PAGE_LEN)?;
+    if page.len() > MAX_PAGE_LEN {
         return Err(Fault::File);
     }
     Ok(page)

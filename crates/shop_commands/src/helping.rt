@@ -7,7 +7,7 @@ ghost use Rattle.shop_commands.specs.declared.faults.Fault.TheVariants as fault;
 
 use crate::advice::{Advice, Cause, advice_of};
 use crate::files::read_file;
-use cut_measure::MOST_KERF;
+use cut_measure::MAX_KERF;
 use shop_files::{Problem, read_cgcut};
 use shop_problems::{StepHelp, Steps, help_of_all, help_of_one};
 use shop_records::Refusal;
@@ -26,7 +26,7 @@ fn step_help<R: Files>(rt: &R, alloc: Global, request: &Request<'_>) -> Option<S
     match request {
         Request::Plan { file, kerf, step } => {
             let problem = problem_of(rt, alloc, file)?;
-            Some(help_of_one(&problem, (*kerf).min(MOST_KERF), *step))
+            Some(help_of_one(&problem, (*kerf).min(MAX_KERF), *step))
         }
         Request::PlanOrder {
             file,
@@ -35,7 +35,7 @@ fn step_help<R: Files>(rt: &R, alloc: Global, request: &Request<'_>) -> Option<S
             ..
         } => {
             let problem = problem_of(rt, alloc, file)?;
-            Some(help_of_all(&problem, (*kerf).min(MOST_KERF), *step))
+            Some(help_of_all(&problem, (*kerf).min(MAX_KERF), *step))
         }
         _ => Some(StepHelp::ShorterBar),
     }

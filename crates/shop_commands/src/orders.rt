@@ -10,7 +10,7 @@ use crate::faults::{Fault, OrderCause, OrderFault};
 use crate::files::{read_file, write_text};
 use crate::stored::shop_entries;
 use shop_files::{
-    LONGEST_TEXT, MOST_LINES, MaterialEntry, OrderLine, OrdersFault, RowList, read_orders,
+    MAX_LINES, MAX_TEXT_LEN, MaterialEntry, OrderLine, OrdersFault, RowList, read_orders,
 };
 use shop_problems::{BadField, first_bad_field};
 use shop_records::{Command, Form, Message, Text};
@@ -47,7 +47,7 @@ fn has_semicolons(text: &[u8]) -> bool
 fn header_cause(text: &[u8]) -> OrderCause
     ensures { result ≡ spec.header_cause text.now }
 {
-    if text.len() > LONGEST_TEXT {
+    if text.len() > MAX_TEXT_LEN {
         return OrderCause::Long;
     }
     if has_semicolons(text) {
@@ -79,7 +79,7 @@ fn cause_of(text: &[u8], row: usize, field: usize) -> OrderCause
     if row == 0 {
         return header_cause(text);
     }
-    if row > MOST_LINES {
+    if row > MAX_LINES {
         return OrderCause::Many;
     }
     field_cause(field)

@@ -1,7 +1,7 @@
 //! From the words of a command line to the command that is done, and the status that is given back.
 
 ghost use Rattle.std.specs.Prelude.{◌≡◌, ◌+◌, ◌≤◌, IfOk, IfErr, IfSome, OnOk, map, string_bytes};
-ghost use Rattle.cut_measure.specs.declared.ranges.TheConstants.{MOST_KERF};
+ghost use Rattle.cut_measure.specs.declared.ranges.TheConstants.{MAX_KERF};
 ghost use Rattle.clap.specs.Words.{kind_of};
 ghost use Rattle.clap.specs.declared.error.kind.ErrorKind.TheVariants as kind;
 ghost use Rattle.shop_wire.specs.Streams.{most_reads};
@@ -27,7 +27,7 @@ use crate::stored::{StoreText, print_stored, serve};
 use clap::Error;
 use clap::error::ErrorKind;
 use shop_opening::Opens;
-use shop_problems::{USUAL_CALLS, WholePlan};
+use shop_problems::{DEFAULT_CALLS, WholePlan};
 use shop_request::Address;
 use shop_store::Book;
 use shop_text::{Sink, Source};
@@ -72,7 +72,7 @@ fn plan<R: Files, W: Sink>(
     step: u32,
     sink: &mut W,
 ) -> Result<(), Fault>
-    requires { kerf ≤ MOST_KERF }
+    requires { kerf ≤ MAX_KERF }
     ensures ok { OnOk result (IsPlanDone (λ bytes. IsFilePlan bytes kerf step)
         (change_of W.Sink sink.old sink.new)) }
     ensures err { IfErr result (λ f. IsPlanStopped (λ bytes. IsFilePlan bytes kerf step)
@@ -94,14 +94,14 @@ fn plan_order<R: Files, W: Sink>(
     stages: Option<u32>,
     sink: &mut W,
 ) -> Result<(), Fault>
-    requires kerf { kerf ≤ MOST_KERF }
+    requires kerf { kerf ≤ MAX_KERF }
     requires limit { IsStageLimit stages }
     ensures ok { OnOk result (IsPlanDone (λ bytes. IsFileWhole bytes kerf step stages)
         (change_of W.Sink sink.old sink.new)) }
     ensures err { IfErr result (λ f. IsPlanStopped (λ bytes. IsFileWhole bytes kerf step stages)
         (λ bytes. IsFileWholeFault bytes kerf step) f (change_of W.Sink sink.old sink.new)) }
 {
-    let calls = calls.unwrap_or(USUAL_CALLS);
+    let calls = calls.unwrap_or(DEFAULT_CALLS);
     let bytes = read_file(rt, alloc, file)?;
     let how = WholePlan {
         kerf,

@@ -1,10 +1,10 @@
 //! `cutshop plan`: the plan of a problem file, or of the lines of an order file.
 
 ghost use Rattle.std.specs.Prelude.{◌≡◌, ◌≤◌, None, IfOk, IfErr, OnOk, length, string_bytes};
-ghost use Rattle.cut_measure.specs.declared.ranges.TheConstants.{MOST_KERF};
+ghost use Rattle.cut_measure.specs.declared.ranges.TheConstants.{MAX_KERF};
 ghost use Rattle.cut_order.specs.Stocks.{IsStageLimit};
 ghost use Rattle.shop_files.specs.Problems.{ArePieces};
-ghost use Rattle.shop_files.specs.declared.limits.TheConstants.{MOST_LINES};
+ghost use Rattle.shop_files.specs.declared.limits.TheConstants.{MAX_LINES};
 ghost use Rattle.shop_problems.specs.Judged.{AreSized};
 ghost use Rattle.shop_problems.specs.Orders.{IsLinesText};
 ghost use Rattle.shop_problems.specs.Stock.{first_bad_entry};
@@ -17,7 +17,7 @@ use crate::stored::shop_entries;
 use cut_plan::{SheetProposal, plan_sheet};
 use shop_files::{MaterialEntry, OrderLine, Problem, read_cgcut};
 use shop_problems::{
-    LinesAsked, USUAL_CALLS, WholePlan, first_bad_entry, plan_lines as lines_planned, plan_whole,
+    DEFAULT_CALLS, LinesAsked, WholePlan, first_bad_entry, plan_lines as lines_planned, plan_whole,
     wants_of,
 };
 use shop_words::OrderPlan;
@@ -41,7 +41,7 @@ fn plan_lines(alloc: Global, proposal: &SheetProposal) -> Result<String, AllocEr
 
 fn plan_problem(alloc: Global, problem: &Problem, kerf: u32, step: u32) -> Result<String, Fault>
     requires pieces { ArePieces problem.now.pieces }
-    requires kerf { kerf ≤ MOST_KERF }
+    requires kerf { kerf ≤ MAX_KERF }
     ensures ok { IfOk result (λ text. spec.IsPlanText problem.now.size problem.now.pieces kerf step
         (string_bytes text)) }
     ensures err { IfErr result (spec.IsPlanless problem.now.size problem.now.pieces kerf step) }
@@ -58,7 +58,7 @@ fn plan_problem(alloc: Global, problem: &Problem, kerf: u32, step: u32) -> Resul
 /// The text's first fault, or the planner's; a problem of over 40 pieces is a `BadWant`. Want of memory may come at any
 /// point. The kerf is at most 200.
 pub fn plan_file(alloc: Global, bytes: &[u8], kerf: u32, step: u32) -> Result<String, Fault>
-    requires { kerf ≤ MOST_KERF }
+    requires { kerf ≤ MAX_KERF }
     ensures ok { IfOk result (λ text. spec.IsFilePlan bytes.now kerf step (string_bytes text)) }
     ensures err { IfErr result (spec.IsFileFault bytes.now kerf step) }
 {
@@ -68,7 +68,7 @@ pub fn plan_file(alloc: Global, bytes: &[u8], kerf: u32, step: u32) -> Result<St
 
 fn plan_whole_problem(alloc: Global, problem: &Problem, how: WholePlan) -> Result<String, Fault>
     requires pieces { ArePieces problem.now.pieces }
-    requires kerf { how.kerf ≤ MOST_KERF }
+    requires kerf { how.kerf ≤ MAX_KERF }
     requires limit { IsStageLimit how.stages }
     ensures ok { IfOk result (λ text. IsWholeText problem.now.size problem.now.pieces how.kerf
         how.step how.stages (string_bytes text)) }
@@ -85,7 +85,7 @@ fn plan_whole_problem(alloc: Global, problem: &Problem, how: WholePlan) -> Resul
 /// The text's first fault, or the order's; a problem of over 100 pieces is a `BadWant`. Want of memory may come at any
 /// point. The kerf is at most 200.
 pub fn plan_whole_file(alloc: Global, bytes: &[u8], how: WholePlan) -> Result<String, Fault>
-    requires kerf { how.kerf ≤ MOST_KERF }
+    requires kerf { how.kerf ≤ MAX_KERF }
     requires limit { IsStageLimit how.stages }
     ensures ok { IfOk result
         (λ text. spec.IsFileWhole bytes.now how.kerf how.step how.stages (string_bytes text)) }
@@ -114,7 +114,7 @@ fn plan_from(
     entries: &[MaterialEntry],
     asked: &OrderPlan<'_>,
 ) -> Result<String, Fault>
-    requires few { length lines.now ≤ MOST_LINES }
+    requires few { length lines.now ≤ MAX_LINES }
     requires sized { AreSized lines.now }
     requires limit { IsStageLimit asked.now.stages }
     ensures ok { IfOk result (λ text. (first_bad_entry entries.now ≡ None)
@@ -127,7 +127,7 @@ fn plan_from(
         entries,
         material: asked.material,
         sizes: asked.sizes.as_slice(),
-        calls: asked.calls.unwrap_or(USUAL_CALLS),
+        calls: asked.calls.unwrap_or(DEFAULT_CALLS),
         stages: asked.stages,
     };
     match lines_planned(alloc, lines, stock) {
@@ -144,7 +144,7 @@ fn plan_good_lines<R: Files>(
     lines: &[OrderLine],
     asked: &OrderPlan<'_>,
 ) -> Result<String, Fault>
-    requires few { length lines.now ≤ MOST_LINES }
+    requires few { length lines.now ≤ MAX_LINES }
     requires sized { AreSized lines.now }
     requires limit { IsStageLimit asked.now.stages }
     ensures ok { IfOk result (λ text. spec.IsShopLines lines.now asked.now (string_bytes text)) }

@@ -1,7 +1,7 @@
 //! `cutshop serve`, `cutshop ticket` and `cutshop yield`: what is done over the book of a store file.
 
 ghost use Rattle.std.specs.Prelude.{◌≡◌, ◌≤◌, ◌⊎◌, IfOk, IfErr, OnOk, length, option_map, string_bytes};
-ghost use Rattle.shop_files.specs.declared.limits.TheConstants.{MOST_ENTRIES};
+ghost use Rattle.shop_files.specs.declared.limits.TheConstants.{MAX_ENTRIES};
 ghost use Rattle.shop_commands.specs.declared.faults.Fault.TheVariants as fault;
 ghost use Rattle.shop_commands.specs.Faults.{shop_fault};
 ghost use Rattle.shop_commands.specs.Stored as spec;
@@ -105,7 +105,7 @@ pub fn print_stored<B: Book + Drop, O: Opens<B>, W: Sink>(
 // The entries that bytes spell.
 fn entries_in(alloc: Global, bytes: &[u8]) -> Result<RowList<MaterialEntry>, Fault>
     ensures ok { IfOk result (λ entries. IsShopFile bytes.now entries
-        × (length entries ≤ MOST_ENTRIES)) }
+        × (length entries ≤ MAX_ENTRIES)) }
     ensures err { IfErr result
         (λ f. (g : ShopFaultOf) × IsShopFault bytes.now g × (f ≡ shop_fault g)) }
 {
@@ -121,7 +121,7 @@ pub(crate) fn shop_entries<R: Files>(
     alloc: Global,
     path: &str,
 ) -> Result<RowList<MaterialEntry>, Fault>
-    ensures ok { IfOk result (λ entries. IsShopRead entries × (length entries ≤ MOST_ENTRIES)) }
+    ensures ok { IfOk result (λ entries. IsShopRead entries × (length entries ≤ MAX_ENTRIES)) }
     ensures err { IfErr result IsShopUnread }
 {
     let bytes = read_file(rt, alloc, path)?;
@@ -226,7 +226,7 @@ fn add_entries<B: Book>(
     entries: &[MaterialEntry],
     at: u64,
 ) -> Result<(), Fault>
-    requires { length entries.now ≤ MOST_ENTRIES }
+    requires { length entries.now ≤ MAX_ENTRIES }
     ensures ok { OnOk result (IsShopped B.Book book.old book.new entries.now) }
     ensures err { IfErr result (AddFailed B.Book book.old book.new entries.now) }
 {
@@ -310,7 +310,7 @@ fn serve_book<R: Net + Clock + Eprint + Files, B: Book, W: Sink>(
     book: &mut B,
     begun: &mut bool,
 ) -> Result<(), Fault>
-    requires { length entries.now ≤ MOST_ENTRIES }
+    requires { length entries.now ≤ MAX_ENTRIES }
     ensures ok { OnOk result
         (IsBookServed B.Book site.now book.old book.new entries.now port limit
         (change_of W.Sink sink.old sink.new)) }

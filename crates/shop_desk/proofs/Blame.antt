@@ -2,7 +2,7 @@
 use Rattle.std.proofs.Common.{◌≡◌, ℕ, ◌+◌, List, [], ◌∷◌, ◌++◌, Option, Some, None, inl, inr, refl, sym, subst, arith}
 use Rattle.std.specs.Prelude.{Bool, true, false, nat_lt, if◌then◌else◌, MatchOption}
 use Rattle.std.proofs.lemmas.Bool.Decides.{nat_tests}
-use Rattle.shop_book.specs.declared.books.TheConstants.{MOST_FAILURES}
+use Rattle.shop_book.specs.declared.books.TheConstants.{MAX_FAILURES}
 use Rattle.shop_book.specs.Failures.{one_more_failure}
 use Rattle.shop_records.specs.declared.refusals.Refusal.{Refusal}
 use Rattle.shop_records.specs.declared.refusals.Refusal.TheVariants.{StoreFault}
@@ -15,9 +15,9 @@ pub up_same : (a b : ℕ) → b ≡ a → CountsUp a b
 up_same a b is = inl is
 
 up_one : (a b : ℕ) → b ≡ one_more_failure a → CountsUp a b
-up_one a b is = by (nat_lt a MOST_FAILURES) refl is
+up_one a b is = by (nat_lt a MAX_FAILURES) refl is
   where
-    by : (below : Bool) → nat_lt a MOST_FAILURES ≡ below → b ≡ (if below then a + 1 else MOST_FAILURES) → CountsUp a b
+    by : (below : Bool) → nat_lt a MAX_FAILURES ≡ below → b ≡ (if below then a + 1 else MAX_FAILURES) → CountsUp a b
     by true e is = inr (inl (omega (arith, is), grind (arith, nat_tests)))
     by false e is = inr (inr is)
 

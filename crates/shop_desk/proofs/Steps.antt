@@ -2,7 +2,7 @@
 use Rattle.std.proofs.Common.{◌≡◌, ◌≢◌, ℕ, List, [], ◌∷◌, Option, Some, None, Ok, Err, inl, inr, refl, sym, ap, ◌∙◌, subst, arith}
 use Rattle.std.specs.Prelude.{◌⊎◌, ◌+◌, Bool, true, false, nat_lt, if◌then◌else◌, MatchOption, is_some, not}
 use Rattle.std.specs.Option.{option_map}
-use Rattle.shop_book.specs.declared.books.TheConstants.{MOST_FAILURES}
+use Rattle.shop_book.specs.declared.books.TheConstants.{MAX_FAILURES}
 use Rattle.shop_book.specs.Failures.{CountsFailure, refusal_for}
 use Rattle.shop_book.specs.declared.books.BookFault.{BookFault}
 use Rattle.shop_book.specs.declared.books.BookFault.TheVariants as fault
@@ -34,14 +34,14 @@ counts_made before after answer made same = by (refusal_in answer) made
     by None e = same
     by (Some refusal) e = cc
 
-rose : (before after : ℕ) (below : Bool) → after ≡ (if below then before + 1 else MOST_FAILURES) → StoreFailed before after
+rose : (before after : ℕ) (below : Bool) → after ≡ (if below then before + 1 else MAX_FAILURES) → StoreFailed before after
 rose before after true e = inl (omega arith)
 rose before after false e = inr e
 
 -- a refusal that tells of a failed store is counted
 pub store_failed : (before after : ℕ) (answer : Reply) → CountsReply answer before after → answer ≡ Refused StoreFault → StoreFailed before after
 store_failed before after answer counts e =
-    rose before after (nat_lt before MOST_FAILURES) (subst (λ (r : Reply). CountsReply r before after) e counts)
+    rose before after (nat_lt before MAX_FAILURES) (subst (λ (r : Reply). CountsReply r before after) e counts)
 
 -- a decision to accept is counted as no failure
 pub counted_made : (before after : ℕ) (change : Change) → CountsOrDisagrees (Ok change) before after → after ≡ before
@@ -56,7 +56,7 @@ commit_blamed T before mid after fault.NoMemory refusal same counts is told = ab
     other : (refusal : Refusal) → refusal ≡ NoMemory → Refused refusal ≡ Refused StoreFault → ⊥
     other refusal is told = cc
 commit_blamed T before mid after fault.Store refusal same counts is told =
-    rose before after (nat_lt before MOST_FAILURES) (subst (λ n. after ≡ (if nat_lt n MOST_FAILURES then n + 1 else MOST_FAILURES)) same counts)
+    rose before after (nat_lt before MAX_FAILURES) (subst (λ n. after ≡ (if nat_lt n MAX_FAILURES then n + 1 else MAX_FAILURES)) same counts)
 commit_blamed T before mid after fault.WrongVersion refusal same counts is told = absurd counts
 
 -- what follows a decision to accept is counted as if it were alone

@@ -9,7 +9,7 @@ use Rattle.shop_records.specs.declared.journal.Entry.{Entry}
 use Rattle.shop_records.specs.declared.journal.EntryTold.{EntryTold}
 use Rattle.shop_records.specs.Content.{Content}
 use Rattle.shop_records.specs.Lists.{told_entry, told_entries}
-use Rattle.shop_answers.specs.declared.listing.TheConstants.{MOST_TOLD, MOST_TOLD_BYTES}
+use Rattle.shop_answers.specs.declared.listing.TheConstants.{MAX_LISTED, MAX_LISTED_BYTES}
 use Rattle.shop_answers.specs.Listing.{entry_bytes, shown_from, shown_within, are_hidden}
 use Rattle.shop_desk.specs.declared.history.Shown.{Shown}
 use Rattle.shop_desk.specs.ToldEntries.{ShowsMore, Hides, TellsFirst, Tells}
@@ -18,38 +18,38 @@ use Rattle.shop_desk.specs.ToldEntries.{ShowsMore, Hides, TellsFirst, Tells}
 pub record IsSoFar (all : List EntryTold) (bytes : ℕ) : Type 0 where
   pub left : ℕ
   pub reached : ℕ
-  pub room : length all + left ≡ MOST_TOLD
-  pub within : nat_le MOST_TOLD_BYTES bytes ≡ nat_le MOST_TOLD_BYTES reached
-  pub exact : bytes < MOST_TOLD_BYTES → bytes ≡ reached
+  pub room : length all + left ≡ MAX_LISTED
+  pub within : nat_le MAX_LISTED_BYTES bytes ≡ nat_le MAX_LISTED_BYTES reached
+  pub exact : bytes < MAX_LISTED_BYTES → bytes ≡ reached
   pub shown : (rest : List EntryTold) → shown_within (all ++ rest) ≡ all ++ shown_from reached (take left rest)
 
 -- none yet
 pub none_so_far : IsSoFar [] 0
-none_so_far = record { left = MOST_TOLD; reached = 0; room = refl; within = refl; exact = λ lt. refl; shown = λ rest. refl }
+none_so_far = record { left = MAX_LISTED; reached = 0; room = refl; within = refl; exact = λ lt. refl; shown = λ rest. refl }
 
 -- where fewer bytes than the most were reached, the next one is told
-next_shown : (reached k : ℕ) (entry : EntryTold) (rest : List EntryTold) → nat_le MOST_TOLD_BYTES reached ≡ false
+next_shown : (reached k : ℕ) (entry : EntryTold) (rest : List EntryTold) → nat_le MAX_LISTED_BYTES reached ≡ false
     → shown_from reached (take (suc k) (entry ∷ rest)) ≡ entry ∷ shown_from (reached + entry_bytes entry) (take k rest)
 next_shown reached k entry rest few =
     ap (λ (b : Bool). if b then [] else entry ∷ shown_from (reached + entry_bytes entry) (take k rest)) few
 
 module _ (all : List EntryTold) (bytes : ℕ) (so_far : IsSoFar all bytes) where
   -- one more
-  module _ (entry : EntryTold) (next : ℕ) (few : (nat_le MOST_TOLD (length all) || nat_le MOST_TOLD_BYTES bytes) ≡ false) (within : nat_le MOST_TOLD_BYTES next ≡ nat_le MOST_TOLD_BYTES (bytes + entry_bytes entry))
-      (exact : next < MOST_TOLD_BYTES → next ≡ bytes + entry_bytes entry) where
-    tests : (nat_le MOST_TOLD (length all) ≡ false) × (nat_le MOST_TOLD_BYTES bytes ≡ false)
-    tests = or_parts (nat_le MOST_TOLD (length all)) (nat_le MOST_TOLD_BYTES bytes) few
+  module _ (entry : EntryTold) (next : ℕ) (few : (nat_le MAX_LISTED (length all) || nat_le MAX_LISTED_BYTES bytes) ≡ false) (within : nat_le MAX_LISTED_BYTES next ≡ nat_le MAX_LISTED_BYTES (bytes + entry_bytes entry))
+      (exact : next < MAX_LISTED_BYTES → next ≡ bytes + entry_bytes entry) where
+    tests : (nat_le MAX_LISTED (length all) ≡ false) × (nat_le MAX_LISTED_BYTES bytes ≡ false)
+    tests = or_parts (nat_le MAX_LISTED (length all)) (nat_le MAX_LISTED_BYTES bytes) few
 
     same : bytes ≡ so_far.reached
-    same = so_far.exact (leb-false MOST_TOLD_BYTES bytes tests.1)
+    same = so_far.exact (leb-false MAX_LISTED_BYTES bytes tests.1)
 
-    by : (left : ℕ) → length all + left ≡ MOST_TOLD → ((rest : List EntryTold) → shown_within (all ++ rest) ≡ all ++ shown_from so_far.reached (take left rest)) → IsSoFar (all ++ entry ∷ []) next
-    by zero room shown = absurd (omega (arith, room, leb-false MOST_TOLD (length all) tests.0))
+    by : (left : ℕ) → length all + left ≡ MAX_LISTED → ((rest : List EntryTold) → shown_within (all ++ rest) ≡ all ++ shown_from so_far.reached (take left rest)) → IsSoFar (all ++ entry ∷ []) next
+    by zero room shown = absurd (omega (arith, room, leb-false MAX_LISTED (length all) tests.0))
     by (suc k) room shown = record {
       left = k;
       reached = so_far.reached + entry_bytes entry;
       room = omega (arith, room, length-append all (entry ∷ []));
-      within = within ∙ ap (λ n. nat_le MOST_TOLD_BYTES (n + entry_bytes entry)) same;
+      within = within ∙ ap (λ n. nat_le MAX_LISTED_BYTES (n + entry_bytes entry)) same;
       exact = λ lt. exact lt ∙ ap (λ n. n + entry_bytes entry) same;
       shown = λ rest.
           ap shown_within (append_assoc all (entry ∷ []) rest) ∙ shown (entry ∷ rest)
@@ -69,18 +69,18 @@ module _ (all : List EntryTold) (bytes : ℕ) (so_far : IsSoFar all bytes) where
   all_shown = ap shown_within (sym (append-nil all)) ∙ so_far.shown [] ∙ ap (λ es. all ++ es) (nothing_left so_far.left) ∙ append-nil all
 
   -- no more than these is told at once
-  over_by : (count over : Bool) → nat_le MOST_TOLD (length all) ≡ count → nat_le MOST_TOLD_BYTES bytes ≡ over → (count || over) ≡ true
-      → (left : ℕ) → length all + left ≡ MOST_TOLD → (entry : EntryTold) (rest : List EntryTold) → shown_from so_far.reached (take left (entry ∷ rest)) ≡ []
+  over_by : (count over : Bool) → nat_le MAX_LISTED (length all) ≡ count → nat_le MAX_LISTED_BYTES bytes ≡ over → (count || over) ≡ true
+      → (left : ℕ) → length all + left ≡ MAX_LISTED → (entry : EntryTold) (rest : List EntryTold) → shown_from so_far.reached (take left (entry ∷ rest)) ≡ []
   over_by count over many much e zero room entry rest = refl
-  over_by true over many much e (suc k) room entry rest = absurd (omega (arith, room, leb-true MOST_TOLD (length all) many))
+  over_by true over many much e (suc k) room entry rest = absurd (omega (arith, room, leb-true MAX_LISTED (length all) many))
   over_by false over many much e (suc k) room entry rest =
       ap (λ (b : Bool). if b then [] else entry ∷ shown_from (so_far.reached + entry_bytes entry) (take k rest)) (sym so_far.within ∙ much ∙ e)
 
-  module _ (over : (nat_le MOST_TOLD (length all) || nat_le MOST_TOLD_BYTES bytes) ≡ true) (entry : EntryTold) (rest : List EntryTold) where
+  module _ (over : (nat_le MAX_LISTED (length all) || nat_le MAX_LISTED_BYTES bytes) ≡ true) (entry : EntryTold) (rest : List EntryTold) where
     pub over_shown : shown_within (all ++ entry ∷ rest) ≡ all
     over_shown =
         so_far.shown (entry ∷ rest)
-        ∙ ap (λ es. all ++ es) (over_by (nat_le MOST_TOLD (length all)) (nat_le MOST_TOLD_BYTES bytes) refl refl over so_far.left so_far.room entry rest)
+        ∙ ap (λ es. all ++ es) (over_by (nat_le MAX_LISTED (length all)) (nat_le MAX_LISTED_BYTES bytes) refl refl over so_far.left so_far.room entry rest)
         ∙ append-nil all
 
     pub over_hidden : true ≡ are_hidden (all ++ entry ∷ rest)

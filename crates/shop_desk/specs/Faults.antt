@@ -6,12 +6,12 @@ use Rattle.shop_records.specs.declared.messages.Reply.{Reply}
 use Rattle.shop_records.specs.declared.messages.Reply.TheVariants.{Refused}
 use Rattle.shop_records.specs.Messages.{refusal_in}
 use Rattle.shop_records.specs.Elements.{IsIn}
-use Rattle.shop_book.specs.declared.books.TheConstants.{MOST_FAILURES}
+use Rattle.shop_book.specs.declared.books.TheConstants.{MAX_FAILURES}
 use Rattle.shop_book.specs.Failures.{one_more_failure}
 
 -- the count of failures rose, or was at its greatest value
 abbrev pub StoreFailed : ℕ → ℕ → Type 0
-StoreFailed before after = (before < after) ⊎ (after ≡ MOST_FAILURES)
+StoreFailed before after = (before < after) ⊎ (after ≡ MAX_FAILURES)
 
 -- replies tell of a failed store only where it failed meanwhile
 abbrev pub TellOfFailures : List Reply → ℕ → ℕ → Type 0
@@ -19,7 +19,7 @@ TellOfFailures answers before after = IsIn (Refused StoreFault) answers → Stor
 
 -- the count of failures stayed, rose in its range, or stands at its greatest value
 abbrev pub CountsUp : ℕ → ℕ → Type 0
-CountsUp before after = (after ≡ before) ⊎ (((before < after) × (after ≤ MOST_FAILURES)) ⊎ (after ≡ MOST_FAILURES))
+CountsUp before after = (after ≡ before) ⊎ (((before < after) × (after ≤ MAX_FAILURES)) ⊎ (after ≡ MAX_FAILURES))
 
 -- a refusal that tells of a failed store goes with one more failure, and each other one with none
 abbrev pub CountsRefusal : Refusal → ℕ → ℕ → Type 0

@@ -5,7 +5,7 @@ use Rattle.shop_records.specs.declared.journal.EntryTold.{EntryTold}
 use Rattle.shop_records.specs.declared.journal.Subject.{Subject}
 use Rattle.shop_records.specs.Content.{Content}
 use Rattle.shop_records.specs.Lists.{entries_behind, entries_about, told_entries}
-use Rattle.shop_answers.specs.declared.listing.TheConstants.{MOST_TOLD, MOST_TOLD_BYTES}
+use Rattle.shop_answers.specs.declared.listing.TheConstants.{MAX_LISTED, MAX_LISTED_BYTES}
 use Rattle.shop_answers.specs.Listing.{entry_bytes, shown_within, are_hidden}
 use Rattle.shop_desk.specs.declared.history.Shown.{Shown}
 
@@ -16,15 +16,15 @@ entries_for content (Some about) after = entries_about content about after
 
 -- no entry more is told
 abbrev pub is_over : Shown → Bool
-is_over shown = nat_le MOST_TOLD (length shown.entries) || nat_le MOST_TOLD_BYTES shown.bytes
+is_over shown = nat_le MAX_LISTED (length shown.entries) || nat_le MAX_LISTED_BYTES shown.bytes
 
 -- an entry is told after others, where there is one
 abbrev pub ShowsMore : Shown → Option EntryTold → Shown → Type 0
 ShowsMore old None new = new ≡ old
 ShowsMore old (Some entry) new =
     (is_over old ≡ false) × (new.entries ≡ old.entries ++ entry ∷ [])
-    × (nat_le MOST_TOLD_BYTES new.bytes ≡ nat_le MOST_TOLD_BYTES (old.bytes + entry_bytes entry))
-    × (new.bytes < MOST_TOLD_BYTES → new.bytes ≡ old.bytes + entry_bytes entry)
+    × (nat_le MAX_LISTED_BYTES new.bytes ≡ nat_le MAX_LISTED_BYTES (old.bytes + entry_bytes entry))
+    × (new.bytes < MAX_LISTED_BYTES → new.bytes ≡ old.bytes + entry_bytes entry)
 
 -- an entry isn't told after others, which are all that is told
 abbrev pub Hides : Shown → Option EntryTold → Shown → Type 0

@@ -17,7 +17,7 @@ ghost use Rattle.shop_desk.specs.ToldEntries.{ShowsOrHides, Tells, TellsFirst, e
 use cut_measure::{Code, PartName};
 use shop_book::{Book, BookFault};
 use shop_rules::{
-    Entry, EntryList, EntryRows, EntryTold, Kept, MOST_TOLD, Pair, Refusal, Reply, Subject,
+    Entry, EntryList, EntryRows, EntryTold, Kept, MAX_LISTED, Pair, Refusal, Reply, Subject,
     bytes_with, is_full,
 };
 use std::alloc::{AllocError, Global};
@@ -228,7 +228,7 @@ fn told<B: Book>(
         (λ told. Tells m (entries_for m about.now after) told.0 told.1)) }
     ensures keeps { Unchanged B.Book (CountsFailure result) book.old book.new }
 {
-    match told_first(alloc, book, about, after, MOST_TOLD + 1)? {
+    match told_first(alloc, book, about, after, MAX_LISTED + 1)? {
         Some(told) => Ok(told),
         None => told_last(alloc, book, about, after),
     }

@@ -6,7 +6,7 @@ ghost use Rattle.shop_answers.specs.Queries.{Answers};
 ghost use Rattle.shop_records.specs.declared.messages.Query.TheVariants as query;
 ghost use Rattle.shop_records.specs.declared.messages.Reply.TheVariants.{Refused, Parts, Demands};
 ghost use Rattle.shop_records.specs.declared.refusals.Refusal.TheVariants.{NoMemory, StoreFault};
-ghost use Rattle.shop_answers.specs.declared.listing.TheConstants.{MOST_TOLD};
+ghost use Rattle.shop_answers.specs.declared.listing.TheConstants.{MAX_LISTED};
 ghost use Rattle.shop_answers.specs.Listing.{AreOrderRows, IsLinesAnswer, IsOrderRow, are_more, first_told, job_row_at, job_with_part, told_job};
 ghost use Rattle.shop_records.specs.Lists.{AreLines, begun_by, demand_row, job_numbers, open_demands, orders_after, parts_after, waiting_jobs};
 ghost use Rattle.shop_book.specs.Failures.{CountsFailure};
@@ -17,7 +17,7 @@ ghost use Rattle.shop_desk.specs.ListedJobs.{both, head_with_part, told_row};
 use cut_measure::PartName;
 use shop_book::{Book, BookFault, JobHead};
 use shop_rules::{
-    Code, CodeList, Demand, DemandList, DemandRow, DemandRows, Job, JobList, JobRow, MOST_TOLD,
+    Code, CodeList, Demand, DemandList, DemandRow, DemandRows, Job, JobList, JobRow, MAX_LISTED,
     OrderList, OrderRow, Part, Refusal, Reply, answer_demands, answer_job, answer_orders,
     answer_parts, are_more, demand_row, first_told, job_row, order_row,
 };
@@ -47,7 +47,7 @@ fn known_parts<B: Book>(
         (first_told (parts_after m material after))) }
     ensures keeps { Unchanged B.Book (CountsReply result) book.old book.new }
 {
-    match book.first_parts(alloc, material, after, MOST_TOLD + 1) {
+    match book.first_parts(alloc, material, after, MAX_LISTED + 1) {
         Err(fault) => Reply::Refused(Refusal::from(fault)),
         Ok(rows) => answer_parts(alloc, material, rows.as_slice()),
     }
@@ -104,11 +104,11 @@ fn first_open<B: Book>(
     material: Option<Code>,
 ) -> Result<(DemandList, DemandRows), BookFault>
     ensures demands { OnContent B.Book book.old book.new (λ m. IfOk result (λ found.
-        (found.0 ≡ take (MOST_TOLD + 1) (open_demands m after material))
+        (found.0 ≡ take (MAX_LISTED + 1) (open_demands m after material))
         × (found.1 ≡ map (demand_row m) (first_told found.0)))) }
     ensures keeps { Unchanged B.Book (CountsFailure result) book.old book.new }
 {
-    let open = book.first_demands(alloc, after, material, MOST_TOLD + 1)?;
+    let open = book.first_demands(alloc, after, material, MAX_LISTED + 1)?;
     let rows = demand_rows(alloc, book, first_told(open.as_slice()))?;
     Ok((open, rows))
 }
@@ -239,7 +239,7 @@ fn first_jobs<B: Book>(
         × (found.1 ≡ are_more (job_numbers (waiting_jobs m after))))) }
     ensures keeps { Unchanged B.Book (CountsFailure result) book.old book.new }
 {
-    let numbers = book.first_jobs(alloc, after, MOST_TOLD + 1)?;
+    let numbers = book.first_jobs(alloc, after, MAX_LISTED + 1)?;
     let rows = job_rows(alloc, book, first_told(numbers.as_slice()))?;
     Ok((rows, are_more(numbers.as_slice())))
 }
@@ -323,11 +323,11 @@ fn first_orders<B: Book>(
     after: Option<Code>,
 ) -> Result<(CodeList, OrderList), BookFault>
     ensures orders { OnContent B.Book book.old book.new (λ m. IfOk result (λ found.
-        (found.0 ≡ take (MOST_TOLD + 1) (orders_after m after))
+        (found.0 ≡ take (MAX_LISTED + 1) (orders_after m after))
         × AreOrderRows m (first_told found.0) found.1)) }
     ensures keeps { Unchanged B.Book (CountsFailure result) book.old book.new }
 {
-    let codes = book.first_orders(alloc, after, MOST_TOLD + 1)?;
+    let codes = book.first_orders(alloc, after, MAX_LISTED + 1)?;
     let rows = order_rows(alloc, book, first_told(codes.as_slice()))?;
     Ok((codes, rows))
 }

@@ -15,7 +15,7 @@ ghost use Rattle.shop_book.specs.Kept.{Unchanged, OnContent};
 ghost use Rattle.shop_desk.specs.Faults.{CountsReply};
 
 use crate::listing::job_with_part;
-use cut_measure::{MOST_NUMBERS, PartName};
+use cut_measure::{MAX_NUMBERS, PartName};
 use cut_tree::{Step, Token};
 use shop_book::{Book, BookFault};
 use shop_rules::{Demand, Job, Part, Refusal, Reply, StepList, StepRow, answer_steps, step_row};
@@ -37,7 +37,7 @@ fn demand_at_node<B: Book>(book: &mut B, what: Token) -> Result<Option<Demand>, 
 fn name_at(job: u32, node: u32) -> Option<PartName>
     ensures { IfSome result (λ (name : Name). name ≡ record { act = job; node = node }) }
 {
-    if job < 1 || job > MOST_NUMBERS {
+    if job < 1 || job > MAX_NUMBERS {
         return None;
     }
     Some(PartName::new(job, node))

@@ -3,7 +3,7 @@
 ghost use Rattle.std.specs.Prelude.{◌≡◌, ◌≢◌, ◌+◌, ◌++◌, IfOk, OnOk, None, filter_map, option_map, take};
 ghost use Rattle.std.specs.Option.{option_to_list};
 ghost use Rattle.shop_answers.specs.Queries.{Answers};
-ghost use Rattle.shop_answers.specs.declared.listing.TheConstants.{MOST_TOLD};
+ghost use Rattle.shop_answers.specs.declared.listing.TheConstants.{MAX_LISTED};
 ghost use Rattle.shop_answers.specs.Listing.{first_told, told_piece, told_pieces};
 ghost use Rattle.shop_records.specs.declared.messages.Query.TheVariants as query;
 ghost use Rattle.shop_records.specs.declared.messages.Reply.TheVariants.{Refused};
@@ -18,7 +18,7 @@ ghost use Rattle.shop_desk.specs.Faults.{CountsReply};
 use cut_measure::{Code, PartName};
 use shop_book::{Book, BookFault};
 use shop_rules::{
-    Demand, MOST_TOLD, Part, PartList, PieceList, PieceRow, PieceSource, Refusal, Reply, State,
+    Demand, MAX_LISTED, Part, PartList, PieceList, PieceRow, PieceSource, Refusal, Reply, State,
     answer_pieces, first_told, piece_row,
 };
 use std::alloc::{AllocError, Global};
@@ -110,11 +110,11 @@ fn first_rows<B: Book>(
     after: Option<PartName>,
 ) -> Result<(PartList, PieceList), BookFault>
     ensures pieces { OnContent B.Book book.old book.new (λ m. IfOk result (λ found.
-        (found.0 ≡ take (MOST_TOLD + 1) (pieces_after m of after))
+        (found.0 ≡ take (MAX_LISTED + 1) (pieces_after m of after))
         × (found.1 ≡ filter_map (piece_row m) (first_told found.0)))) }
     ensures keeps { Unchanged B.Book (CountsFailure result) book.old book.new }
 {
-    let parts = first_pieces(alloc, book, of, after, MOST_TOLD + 1)?;
+    let parts = first_pieces(alloc, book, of, after, MAX_LISTED + 1)?;
     let rows = piece_rows(alloc, book, first_told(parts.as_slice()))?;
     Ok((parts, rows))
 }

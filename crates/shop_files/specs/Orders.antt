@@ -8,7 +8,7 @@ use Rattle.csv.specs.declared.parser.State.{State}
 use Rattle.csv.specs.declared.parser.State.TheVariants as st
 use Rattle.cut_measure.specs.Codes.{code_of}
 use Rattle.cut_measure.specs.Lengths.{IsLengthText}
-use Rattle.shop_files.specs.declared.limits.TheConstants.{LONGEST_TEXT, MOST_LINES}
+use Rattle.shop_files.specs.declared.limits.TheConstants.{MAX_TEXT_LEN, MAX_LINES}
 use Rattle.shop_files.specs.declared.orders.OrderLine.{OrderLine}
 use Rattle.shop_files.specs.declared.orders.OrdersFault.{OrdersFault}
 use Rattle.shop_files.specs.declared.orders.OrdersFault.TheVariants.{At, NoMemory}
@@ -65,10 +65,10 @@ header = codes "line" ∷ codes "material" ∷ codes "length" ∷ codes "width" 
 
 -- the text spells the order lines
 pub record IsOrders (text : List ℕ) (lines : List OrderLine) : Type 0 where
-  pub short : length text ≤ LONGEST_TEXT
+  pub short : length text ≤ MAX_TEXT_LEN
   pub rows : List Fields
   pub records : AllRecords text (header ∷ rows)
-  pub few : length rows ≤ MOST_LINES
+  pub few : length rows ≤ MAX_LINES
   pub are_lines : AreLineRecords rows lines
 
 -- a field that no line has at that place, and one that some line has
@@ -93,20 +93,20 @@ IsBadHeader fields i =
 -- the header's fault: a long text, one without a record, or its first record
 abbrev pub IsHeaderFault : List ℕ → ℕ → Type 0
 IsHeaderFault text i =
-    ((LONGEST_TEXT < length text) × (i ≡ 7))
-    ⊎ ((length text ≤ LONGEST_TEXT) × AllRecords text [] × (i ≡ 7))
-    ⊎ ((length text ≤ LONGEST_TEXT) × ((fields : Fields) × FirstRecords text (fields ∷ []) × IsBadHeader fields i))
+    ((MAX_TEXT_LEN < length text) × (i ≡ 7))
+    ⊎ ((length text ≤ MAX_TEXT_LEN) × AllRecords text [] × (i ≡ 7))
+    ⊎ ((length text ≤ MAX_TEXT_LEN) × ((fields : Fields) × FirstRecords text (fields ∷ []) × IsBadHeader fields i))
 
 -- after n good records the next is bad, at field i
 pub record IsLineFault (text : List ℕ) (n i : ℕ) : Type 0 where
-  pub short : length text ≤ LONGEST_TEXT
+  pub short : length text ≤ MAX_TEXT_LEN
   pub rows : List Fields
   pub lines : List OrderLine
   pub fields : Fields
   pub records : FirstRecords text (header ∷ rows ++ fields ∷ [])
   pub are_lines : AreLineRecords rows lines
   pub number : length rows ≡ n
-  pub bad : ((n < MOST_LINES) × IsBadLine fields i) ⊎ ((n ≡ MOST_LINES) × (i ≡ 7))
+  pub bad : ((n < MAX_LINES) × IsBadLine fields i) ⊎ ((n ≡ MAX_LINES) × (i ≡ 7))
 
 -- the text's first fault, by record and field
 abbrev pub IsOrdersFault : List ℕ → (row field : ℕ) → Type 0

@@ -2,8 +2,8 @@
 use Rattle.std.specs.Prelude.{ℕ, suc, ◌≡◌, ◌+◌, ◌*◌, ◌%◌, ◌<◌, ◌≤◌, ◌&&◌, ◌||◌, ◌==◌, Bool, true, false, nat_le, if◌then◌else◌, List, [], ◌∷◌, ◌++◌, map, length, get_or, drop, ◌⊎◌}
 use Rattle.std.specs.List.{list_all, flat_map, AllByRecursion}
 use Rattle.cut_measure.specs.Measures.{Extent}
-use Rattle.cut_measure.specs.declared.ranges.TheConstants.{MOST_WIDTH, MOST_HEIGHT, MOST_COUNT, MOST_WORTH}
-use Rattle.shop_files.specs.declared.limits.TheConstants.{LONGEST_TEXT, MOST_PIECES}
+use Rattle.cut_measure.specs.declared.ranges.TheConstants.{MAX_WIDTH, MAX_HEIGHT, MAX_COUNT, MAX_WORTH}
+use Rattle.shop_files.specs.declared.limits.TheConstants.{MAX_TEXT_LEN, MAX_PIECES}
 use Rattle.shop_files.specs.Runs.{DigitRun, is_digit, value_of, runs_from, runs_of}
 use Rattle.shop_files.specs.declared.problems.Piece.{Piece}
 use Rattle.shop_files.specs.declared.problems.TextCause.{TextCause}
@@ -17,8 +17,8 @@ is_problem_byte b = is_digit b || (b == 32 || (b == 9 || (b == 13 || b == 10)))
 -- greatest count and its worth
 abbrev pub most_at : ℕ → ℕ
 most_at i =
-    if i == 0 then MOST_PIECES else if i == 1 then MOST_WIDTH else if i == 2 then MOST_HEIGHT
-    else if i % 4 == 3 then MOST_WIDTH else if i % 4 == 0 then MOST_HEIGHT else if i % 4 == 1 then MOST_COUNT else MOST_WORTH
+    if i == 0 then MAX_PIECES else if i == 1 then MAX_WIDTH else if i == 2 then MAX_HEIGHT
+    else if i % 4 == 3 then MAX_WIDTH else if i % 4 == 0 then MAX_HEIGHT else if i % 4 == 1 then MAX_COUNT else MAX_WORTH
 
 abbrev pub fits : ℕ → DigitRun → Bool
 fits i run = nat_le 1 (value_of run) && nat_le (value_of run) (most_at i)
@@ -42,18 +42,18 @@ numbers_of size pieces = length pieces ∷ size.w ∷ size.h ∷ flat_map piece_
 
 -- the text spells the problem of a rectangle and these pieces
 pub record IsProblem (text : List ℕ) (size : Extent) (pieces : List Piece) : Type 0 where
-  pub short : length text ≤ LONGEST_TEXT
+  pub short : length text ≤ MAX_TEXT_LEN
   pub bytes : list_all is_problem_byte text ≡ true
   pub numbers : map value_of (runs_of text) ≡ numbers_of size pieces
   pub in_range : AllFit 0 (runs_of text)
 
 -- a piece's numbers are in range
 abbrev pub IsPiece : Piece → Type 0
-IsPiece p = (1 ≤ p.w) × (p.w ≤ MOST_WIDTH) × (1 ≤ p.h) × (p.h ≤ MOST_HEIGHT) × (1 ≤ p.most) × (p.most ≤ MOST_COUNT) × (1 ≤ p.worth) × (p.worth ≤ MOST_WORTH)
+IsPiece p = (1 ≤ p.w) × (p.w ≤ MAX_WIDTH) × (1 ≤ p.h) × (p.h ≤ MAX_HEIGHT) × (1 ≤ p.most) × (p.most ≤ MAX_COUNT) × (1 ≤ p.worth) × (p.worth ≤ MAX_WORTH)
 
 -- a problem has 1 to 200 pieces, in range
 abbrev pub ArePieces : List Piece → Type 0
-ArePieces pieces = (1 ≤ length pieces) × (length pieces ≤ MOST_PIECES) × AllByRecursion IsPiece pieces
+ArePieces pieces = (1 ≤ length pieces) × (length pieces ≤ MAX_PIECES) × AllByRecursion IsPiece pieces
 
 -- a number before the `most`th is out of range, the first of them at this place
 abbrev pub IsBadNumber : ℕ → List DigitRun → ℕ → ℕ → Type 0
@@ -78,13 +78,13 @@ IsBadByte text place =
 
 -- the text is a list of numbers, of problem length
 abbrev pub IsNumbers : List ℕ → Type 0
-IsNumbers text = (length text ≤ LONGEST_TEXT) × (list_all is_problem_byte text ≡ true)
+IsNumbers text = (length text ≤ MAX_TEXT_LEN) × (list_all is_problem_byte text ≡ true)
 
 -- the first fault of a text, or that memory ran out
 abbrev pub IsProblemFault : List ℕ → ℕ → TextCause → Type 0
 IsProblemFault text offset Long =
-    ((LONGEST_TEXT < length text) × (offset ≡ LONGEST_TEXT)) ⊎ (IsNumbers text × IsOneTooMany (runs_of text) (wanted (runs_of text)) offset)
-IsProblemFault text offset Byte = (length text ≤ LONGEST_TEXT) × IsBadByte text offset
+    ((MAX_TEXT_LEN < length text) × (offset ≡ MAX_TEXT_LEN)) ⊎ (IsNumbers text × IsOneTooMany (runs_of text) (wanted (runs_of text)) offset)
+IsProblemFault text offset Byte = (length text ≤ MAX_TEXT_LEN) × IsBadByte text offset
 IsProblemFault text offset Number = IsNumbers text × IsBadNumber 0 (runs_of text) (wanted (runs_of text)) offset
 IsProblemFault text offset Short = IsNumbers text × AreFew 0 (runs_of text) (wanted (runs_of text)) × (offset ≡ length text)
 IsProblemFault text offset NoMemory = offset ≡ 0

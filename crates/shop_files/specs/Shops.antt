@@ -6,7 +6,7 @@ use Rattle.cut_measure.specs.Codes.{code_of}
 use Rattle.cut_measure.specs.Lengths.{IsLengthText}
 use Rattle.cut_measure.specs.declared.sizes.Kind.{Kind}
 use Rattle.cut_measure.specs.declared.sizes.Kind.TheVariants.{Bar, Sheet}
-use Rattle.shop_files.specs.declared.limits.TheConstants.{LONGEST_TEXT, MOST_ENTRIES}
+use Rattle.shop_files.specs.declared.limits.TheConstants.{MAX_TEXT_LEN, MAX_ENTRIES}
 use Rattle.shop_files.specs.declared.shops.MaterialEntry.{MaterialEntry}
 use Rattle.shop_files.specs.declared.shops.ShopFault.{ShopFault}
 use Rattle.shop_files.specs.declared.shops.ShopFault.TheVariants.{Text, Entry, NoMemory}
@@ -64,11 +64,11 @@ AreEntries (value ∷ list) (entry ∷ entries) = IsEntry value entry × AreEntr
 
 -- the text's document has this list, of not too many values
 pub record HasList (text : List ℕ) (list : List Data) : Type 0 where
-  pub short : length text ≤ LONGEST_TEXT
+  pub short : length text ≤ MAX_TEXT_LEN
   pub members : Members
   pub document : IsDocument text members
   pub is_list : IsList members list
-  pub few : length list ≤ MOST_ENTRIES
+  pub few : length list ≤ MAX_ENTRIES
 
 -- the text spells the entries
 pub record IsShopFile (text : List ℕ) (entries : List MaterialEntry) : Type 0 where

@@ -7,7 +7,7 @@ ghost use Rattle.cut_measure.specs.Lengths.{IsLengthText};
 ghost use Rattle.shop_files.specs.Orders.{IsShortNumber, turn_word, IsLineRecord, IsBadLine, IsBadHeader, header, Fields, HasRead, HasNext, IsOrders, HasOrdersFault};
 ghost use Rattle.shop_files.specs.declared.orders.OrdersFault.TheVariants.{NoMemory};
 
-use crate::limits::{LONGEST_TEXT, MOST_LINES};
+use crate::limits::{MAX_LINES, MAX_TEXT_LEN};
 use csv::{ByteRecord, Reader, ReaderBuilder};
 use cut_measure::{Code, RowList, digits_value_of, read_mm};
 use std::alloc::Global;
@@ -194,14 +194,14 @@ fn read_lines(
     reader: &mut Reader<&[u8]>,
     record: &mut ByteRecord,
 ) -> Result<RowList<OrderLine>, OrdersFault>
-    ensures ok { IfOk result (λ lines. (text : List ℕ) → length text ≤ LONGEST_TEXT
+    ensures ok { IfOk result (λ lines. (text : List ℕ) → length text ≤ MAX_TEXT_LEN
         → HasRead (λ s. Some s.now) reader.old text (header ∷ []) → IsOrders text lines) }
     ensures err { IfErr result
-        (λ f. (text : List ℕ) → length text ≤ LONGEST_TEXT
+        (λ f. (text : List ℕ) → length text ≤ MAX_TEXT_LEN
         → HasRead (λ s. Some s.now) reader.old text (header ∷ []) → HasOrdersFault text f) }
 {
     let mut lines = RowList::new(alloc);
-    for number in 0..MOST_LINES {
+    for number in 0..MAX_LINES {
         if !next_row(reader, record)? {
             return Ok(lines);
         }
@@ -221,7 +221,7 @@ fn read_lines(
     }
     if next_row(reader, record)? {
         return Err(OrdersFault::At {
-            row: MOST_LINES + 1,
+            row: MAX_LINES + 1,
             field: 7,
         });
     }
@@ -243,7 +243,7 @@ fn orders_of(alloc: Global, text: &[u8]) -> Result<RowList<OrderLine>, OrdersFau
     ensures ok { IfOk result (λ lines. IsOrders text.now lines) }
     ensures err { IfErr result (λ f. HasOrdersFault text.now f) }
 {
-    if text.len() > LONGEST_TEXT {
+    if text.len() > MAX_TEXT_LEN {
         return Err(OrdersFault::At { row: 0, field: 7 });
     }
     let mut reader = reader_of(alloc, text);

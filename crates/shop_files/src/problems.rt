@@ -8,9 +8,9 @@ ghost use Rattle.shop_files.specs.Problems.{most_at, runs_at, is_problem_byte, I
 ghost use Rattle.cut_measure.specs.Measures.{Extent};
 ghost use Rattle.shop_files.specs.declared.problems.TextCause.TheVariants.{NoMemory};
 
-use crate::limits::{LONGEST_TEXT, MOST_PIECES};
+use crate::limits::{MAX_PIECES, MAX_TEXT_LEN};
 use cut_measure::{
-    Kind, MOST_COUNT, MOST_HEIGHT, MOST_WIDTH, MOST_WORTH, RowList, Size, digits_value_of,
+    Kind, MAX_COUNT, MAX_HEIGHT, MAX_WIDTH, MAX_WORTH, RowList, Size, digits_value_of,
 };
 use std::alloc::{AllocError, Global};
 
@@ -174,10 +174,10 @@ fn piece_at(text: &[u8], at: usize) -> Result<(Piece, usize), TextFault>
     ensures err { IfErr result (λ f. (i wanted : ℕ) → i % 4 ≡ 3 → i + 3 < wanted
         → Stops i (runs_at text.now at) (length text.now) wanted f.offset f.cause) }
 {
-    let (w, after_w) = number_at(text, at, MOST_WIDTH)?;
-    let (h, after_h) = number_at(text, after_w, MOST_HEIGHT)?;
-    let (most, after_most) = number_at(text, after_h, MOST_COUNT)?;
-    let (worth, next) = number_at(text, after_most, MOST_WORTH)?;
+    let (w, after_w) = number_at(text, at, MAX_WIDTH)?;
+    let (h, after_h) = number_at(text, after_w, MAX_HEIGHT)?;
+    let (most, after_most) = number_at(text, after_h, MAX_COUNT)?;
+    let (worth, next) = number_at(text, after_most, MAX_WORTH)?;
     let piece = Piece { w, h, most, worth };
     Ok((piece, next))
 }
@@ -216,9 +216,9 @@ fn problem_in(alloc: Global, text: &[u8]) -> Result<Problem, TextFault>
     ensures ok { IfOk result (λ p. IsProblem text.now p.size p.pieces) }
     ensures err { IfErr result (λ f. IsProblemFault text.now f.offset f.cause) }
 {
-    let (count, after_count) = number_at(text, 0, MOST_PIECES)?;
-    let (w, after_w) = number_at(text, after_count, MOST_WIDTH)?;
-    let (h, after_h) = number_at(text, after_w, MOST_HEIGHT)?;
+    let (count, after_count) = number_at(text, 0, MAX_PIECES)?;
+    let (w, after_w) = number_at(text, after_count, MAX_WIDTH)?;
+    let (h, after_h) = number_at(text, after_w, MAX_HEIGHT)?;
     let (pieces, end) = pieces_at(alloc, text, after_h, count)?;
     if let Some(place) = next_place(text, end) {
         return Err(TextFault {
@@ -255,9 +255,9 @@ fn problem_of(alloc: Global, text: &[u8]) -> Result<Problem, TextFault>
     ensures ok { IfOk result (λ p. IsProblem text.now p.size p.pieces) }
     ensures err { IfErr result (λ f. IsProblemFault text.now f.offset f.cause) }
 {
-    if text.len() > LONGEST_TEXT {
+    if text.len() > MAX_TEXT_LEN {
         return Err(TextFault {
-            offset: LONGEST_TEXT,
+            offset: MAX_TEXT_LEN,
             cause: TextCause::Long,
         });
     }

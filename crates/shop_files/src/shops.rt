@@ -6,7 +6,7 @@ ghost use Rattle.toml.specs.View.{view, items_view, table_view};
 ghost use Rattle.shop_files.specs.Shops.{IsDocument, IsList, HasList, HasLength, kind_word, IsEntry, IsEntryTable, AreEntries, IsShopFile, IsShopFault, count};
 ghost use Rattle.shop_files.specs.declared.shops.ShopFault.TheVariants.{Text, NoMemory};
 
-use crate::limits::{LONGEST_TEXT, MOST_ENTRIES};
+use crate::limits::{MAX_ENTRIES, MAX_TEXT_LEN};
 use cut_measure::{Code, Kind, RowList, read_mm};
 use std::alloc::Global;
 use toml::{Table, Value};
@@ -141,7 +141,7 @@ fn list_in(document: &Table) -> Option<&[Value]>
 
 // The entries that values are, or the number of the first that is none, from 1.
 fn entries_of(alloc: Global, list: &[Value]) -> Result<RowList<MaterialEntry>, ShopFault>
-    requires { length list.now ≤ MOST_ENTRIES }
+    requires { length list.now ≤ MAX_ENTRIES }
     ensures ok { IfOk result (λ entries. AreEntries (map view list.now) entries) }
     ensures err { IfErr result
         (λ f. (text : List ℕ) → HasList text (map view list.now) → IsShopFault text f) }
@@ -187,14 +187,14 @@ fn shop_of(alloc: Global, text: &[u8]) -> Result<RowList<MaterialEntry>, ShopFau
     ensures ok { IfOk result (λ entries. IsShopFile text.now entries) }
     ensures err { IfErr result (λ f. IsShopFault text.now f) }
 {
-    if text.len() > LONGEST_TEXT {
+    if text.len() > MAX_TEXT_LEN {
         return Err(ShopFault::Text);
     }
     let document = document_of(alloc, text)?;
     let Some(list) = list_in(&document) else {
         return Err(ShopFault::Text);
     };
-    if list.len() > MOST_ENTRIES {
+    if list.len() > MAX_ENTRIES {
         return Err(ShopFault::Text);
     }
     entries_of(alloc, list)

@@ -5,7 +5,7 @@ use Rattle.cut_measure.specs.Names.{Name, name_text}
 use Rattle.cut_measure.specs.declared.sizes.Kind.{Kind}
 use Rattle.cut_tree.specs.declared.halts.Halt.{Halt}
 use Rattle.cut_tree.specs.declared.halts.Halt.TheVariants.{First, Listed}
-use Rattle.cut_tree.specs.declared.token.TheConstants.{MOST_CUTS}
+use Rattle.cut_tree.specs.declared.token.TheConstants.{MAX_CUTS}
 use Rattle.shop_records.specs.declared.messages.Command.{Command}
 use Rattle.shop_records.specs.declared.messages.Command.TheVariants.{AddMaterial, Receive, AddOrder, Reserve, Done, Break, Release, Scrap, GiveBack, Import, Amend, Undo, Note, Extend, Begin}
 use Rattle.shop_records.specs.declared.imports.Form.{Form}
@@ -700,7 +700,7 @@ sent_of d =
 
 -- a halt lists at most 255 cuts
 abbrev pub has_few_cuts : Command → Bool
-has_few_cuts (Break job (Listed cuts lost) rest) = nat_le (length cuts) MOST_CUTS
+has_few_cuts (Break job (Listed cuts lost) rest) = nat_le (length cuts) MAX_CUTS
 has_few_cuts _ = true
 
 -- terminal 0 sends nothing, and no terminal a long list of cuts

@@ -4,7 +4,7 @@ use Rattle.std.specs.Prelude.{Option, Some, None, nat_le, ◌==◌, ◌&&◌, if
 use Rattle.std.specs.List.{list_any, list_all}
 use Rattle.std.specs.Option.{option_or}
 use Rattle.std.proofs.lemmas.Bool.{and_parts, or_parts, leb-true, eqb-true, eq-eqb}
-use Rattle.cut_measure.specs.declared.ranges.TheConstants.{MOST_WIDTH, MOST_HEIGHT, MOST_KERF}
+use Rattle.cut_measure.specs.declared.ranges.TheConstants.{MAX_WIDTH, MAX_HEIGHT, MAX_KERF}
 use Rattle.cut_measure.specs.declared.sizes.Kind.{Kind}
 use Rattle.cut_measure.specs.declared.sizes.Kind.TheVariants.{Bar, Sheet}
 use Rattle.cut_measure.specs.Measures.{is_size, is_rule}
@@ -43,34 +43,34 @@ all_true p (y ∷ ys) h = ap (λ b. b && list_all p ys) (h y (inl refl)) ∙ all
 
 pub record IsSized (w h : ℕ) : Type 0 where
   pub some_width : 1 ≤ w
-  pub width : w ≤ MOST_WIDTH
+  pub width : w ≤ MAX_WIDTH
   pub some_height : 1 ≤ h
-  pub height : h ≤ MOST_HEIGHT
+  pub height : h ≤ MAX_HEIGHT
 
 pub sized : (kind : Kind) (w h : ℕ) → is_size kind w h ≡ true → IsSized w h
 sized Bar w h e =
-    let p = and_parts (nat_le 1 w && nat_le w MOST_WIDTH) (h == 1) e in
-    let q = and_parts (nat_le 1 w) (nat_le w MOST_WIDTH) p.0 in
+    let p = and_parts (nat_le 1 w && nat_le w MAX_WIDTH) (h == 1) e in
+    let q = and_parts (nat_le 1 w) (nat_le w MAX_WIDTH) p.0 in
     let one = eqb-true h 1 p.1 in
-    record { some_width = leb-true 1 w q.0; width = leb-true w MOST_WIDTH q.1; some_height = omega (arith, one); height = omega (arith, one) }
+    record { some_width = leb-true 1 w q.0; width = leb-true w MAX_WIDTH q.1; some_height = omega (arith, one); height = omega (arith, one) }
 sized Sheet w h e =
-    let p = and_parts (nat_le 1 w && nat_le w MOST_WIDTH && nat_le 1 h) (nat_le h MOST_HEIGHT) e in
-    let q = and_parts (nat_le 1 w && nat_le w MOST_WIDTH) (nat_le 1 h) p.0 in
-    let r = and_parts (nat_le 1 w) (nat_le w MOST_WIDTH) q.0 in
-    record { some_width = leb-true 1 w r.0; width = leb-true w MOST_WIDTH r.1; some_height = leb-true 1 h q.1; height = leb-true h MOST_HEIGHT p.1 }
+    let p = and_parts (nat_le 1 w && nat_le w MAX_WIDTH && nat_le 1 h) (nat_le h MAX_HEIGHT) e in
+    let q = and_parts (nat_le 1 w && nat_le w MAX_WIDTH) (nat_le 1 h) p.0 in
+    let r = and_parts (nat_le 1 w) (nat_le w MAX_WIDTH) q.0 in
+    record { some_width = leb-true 1 w r.0; width = leb-true w MAX_WIDTH r.1; some_height = leb-true 1 h q.1; height = leb-true h MAX_HEIGHT p.1 }
 
-pub narrow : (kind : Kind) (kerf min_long min_short : ℕ) → is_rule kind kerf min_long min_short ≡ true → kerf ≤ MOST_KERF
+pub narrow : (kind : Kind) (kerf min_long min_short : ℕ) → is_rule kind kerf min_long min_short ≡ true → kerf ≤ MAX_KERF
 narrow Bar kerf min_long min_short e =
-    let p = and_parts (nat_le kerf MOST_KERF && min_short == 1 && nat_le 1 min_long) (nat_le min_long MOST_WIDTH) e in
-    let q = and_parts (nat_le kerf MOST_KERF && min_short == 1) (nat_le 1 min_long) p.0 in
-    leb-true kerf MOST_KERF (and_parts (nat_le kerf MOST_KERF) (min_short == 1) q.0).0
+    let p = and_parts (nat_le kerf MAX_KERF && min_short == 1 && nat_le 1 min_long) (nat_le min_long MAX_WIDTH) e in
+    let q = and_parts (nat_le kerf MAX_KERF && min_short == 1) (nat_le 1 min_long) p.0 in
+    leb-true kerf MAX_KERF (and_parts (nat_le kerf MAX_KERF) (min_short == 1) q.0).0
 narrow Sheet kerf min_long min_short e =
-    let p = and_parts (nat_le kerf MOST_KERF && nat_le 1 min_short && nat_le min_short min_long) (nat_le min_long MOST_WIDTH) e in
-    let q = and_parts (nat_le kerf MOST_KERF && nat_le 1 min_short) (nat_le min_short min_long) p.0 in
-    leb-true kerf MOST_KERF (and_parts (nat_le kerf MOST_KERF) (nat_le 1 min_short) q.0).0
+    let p = and_parts (nat_le kerf MAX_KERF && nat_le 1 min_short && nat_le min_short min_long) (nat_le min_long MAX_WIDTH) e in
+    let q = and_parts (nat_le kerf MAX_KERF && nat_le 1 min_short) (nat_le min_short min_long) p.0 in
+    leb-true kerf MAX_KERF (and_parts (nat_le kerf MAX_KERF) (nat_le 1 min_short) q.0).0
 
 pub flat : (kind : Kind) (w h : ℕ) → is_size kind w h ≡ true → kind ≡ Bar → h ≡ 1
-flat Bar w h e bar = eqb-true h 1 (and_parts (nat_le 1 w && nat_le w MOST_WIDTH) (h == 1) e).1
+flat Bar w h e bar = eqb-true h 1 (and_parts (nat_le 1 w && nat_le w MAX_WIDTH) (h == 1) e).1
 flat Sheet w h e bar = cc
 
 -- a demand of which a plan has pieces is one of its leaves'

@@ -6,7 +6,7 @@ use Rattle.std.specs.Prelude.{Option, Some, None, IsSome, not, nat_le, nat_lt}
 use Rattle.std.specs.declared.cmp.Ordering.TheVariants.{Less}
 use Rattle.std.specs.Cmp.{nat_cmp_total}
 use Rattle.std.specs.FinMap.{nat_cmp-IsAntisymmetric}
-use Rattle.cut_measure.specs.declared.ranges.TheConstants.{MOST_COUNT}
+use Rattle.cut_measure.specs.declared.ranges.TheConstants.{MAX_COUNT}
 use Rattle.cut_measure.specs.Names.{name_cmp}
 use Rattle.shop_records.specs.declared.records.Part.{Part}
 use Rattle.shop_records.specs.declared.records.Demand.{Demand}
@@ -34,14 +34,14 @@ use Rattle.shop_machine.proofs.Steps.{After, AfterAll}
 -- what is reserved and made is wanted
 pub amend_room : (found : Option Demand) (row : Demand) (wanted : ℕ) → found ≡ Some row → amend_refusal found wanted ≡ None → row.reserved + row.made ≤ wanted
 amend_room found row wanted is allowed =
-    let few = none_of (not (nat_le wanted MOST_COUNT)) BadLine _ (subst (λ o. amend_refusal o wanted ≡ None) is allowed) in
+    let few = none_of (not (nat_le wanted MAX_COUNT)) BadLine _ (subst (λ o. amend_refusal o wanted ≡ None) is allowed) in
     let room = none_of (nat_lt wanted (row.reserved + row.made)) TooMany _ few.1 in
     ltb-false wanted (row.reserved + row.made) room.0
 
 pub amend_agrees : (found : Option Demand) (wanted : ℕ) → NoFault (amend_refusal found wanted)
 amend_agrees None wanted = λ e. cc
 amend_agrees (Some row) wanted =
-    other (not (nat_le wanted MOST_COUNT)) _ _ (λ e. cc) (other (nat_lt wanted (row.reserved + row.made)) _ _ (λ e. cc) nothing)
+    other (not (nat_le wanted MAX_COUNT)) _ _ (λ e. cc) (other (nat_lt wanted (row.reserved + row.made)) _ _ (λ e. cc) nothing)
 
 module _ (m : Content) (stock : IsStock m) (number : ℕ) (row : Demand) (found : demand_at m number ≡ Some row) (wanted : ℕ) (room : row.reserved + row.made ≤ wanted)
     (texts : Texts) (message : Message) where

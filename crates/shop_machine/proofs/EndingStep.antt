@@ -12,7 +12,7 @@ use Rattle.std.proofs.lemmas.Nat.{mul-le}
 use Rattle.cut_measure.specs.Codes.{code_cmp}
 use Rattle.cut_measure.specs.Names.{Name, name_cmp}
 use Rattle.cut_measure.specs.Measures.{Rule, Extent, is_kept}
-use Rattle.cut_measure.specs.declared.ranges.TheConstants.{MOST_WIDTH, MOST_HEIGHT, MOST_NUMBERS}
+use Rattle.cut_measure.specs.declared.ranges.TheConstants.{MAX_WIDTH, MAX_HEIGHT, MAX_NUMBERS}
 use Rattle.cut_tree.specs.declared.lay.Owner.{Owner}
 use Rattle.cut_tree.specs.declared.lay.Owner.TheVariants as owner
 use Rattle.cut_tree.specs.declared.lay.Row.{Row}
@@ -500,7 +500,7 @@ module _ (m : Content) (stock : IsStock m) (number : ℕ) (j : Job) (part : Part
       let old = placed m stock number j part material work waits in
       let right = old.right in
       let bottom = old.bottom in
-      let most = mul-le part.size.w part.size.h MOST_WIDTH MOST_HEIGHT (omega (arith, right)) (omega (arith, bottom)) in
+      let most = mul-le part.size.w part.size.h MAX_WIDTH MAX_HEIGHT (omega (arith, right)) (omega (arith, bottom)) in
       omega (arith, le, all, most)
     where
       by : (b : Bool) (n : ℕ) → (if b then n else 0) ≤ n
@@ -549,14 +549,14 @@ module _ (m : Content) (stock : IsStock m) where
       subst (λ o. rests j o (material_of m o) (demand_at m) (totals_for m o) ≡ true) (sym w.on.found)
       (subst (λ o. rests j (Some row) o (demand_at m) (totals_of m row.material) ≡ true) (sym w.on.known)
       (ap (λ b. b && has_cells row (totals_of m row.material) && list_all (λ leaf. has_reserved (count_of j.plan.tree leaf.demand) (demand_at m leaf.demand)) (plan_leaves j.plan))
-      (seven (nat_le 1 j.act) (nat_le j.act MOST_NUMBERS) (is_reserved_for j.act row.state) (row.size.w == j.plan.w) (row.size.h == j.plan.h) (nat_le (row.x + row.size.w) MOST_WIDTH) (nat_le (row.y + row.size.h) MOST_HEIGHT)
+      (seven (nat_le 1 j.act) (nat_le j.act MAX_NUMBERS) (is_reserved_for j.act row.state) (row.size.w == j.plan.w) (row.size.h == j.plan.h) (nat_le (row.x + row.size.w) MAX_WIDTH) (nat_le (row.y + row.size.h) MAX_HEIGHT)
       (le-leb 1 j.act (subst (λ n. 1 ≤ n) (sym is_job.numbered) is_job.least))
-      (le-leb j.act MOST_NUMBERS (omega (arith, is_job.so_far, is_job.numbered, stock.in_range.last)))
+      (le-leb j.act MAX_NUMBERS (omega (arith, is_job.so_far, is_job.numbered, stock.in_range.last)))
       (ap (is_reserved_for j.act) (reserved m stock number j row material work waits) ∙ eq-eqb j.act j.act refl)
       (eq-eqb row.size.w j.plan.w (sym (width m stock number j row material work waits)))
       (eq-eqb row.size.h j.plan.h (sym (height m stock number j row material work waits)))
-      (le-leb (row.x + row.size.w) MOST_WIDTH old.right)
-      (le-leb (row.y + row.size.h) MOST_HEIGHT old.bottom))
+      (le-leb (row.x + row.size.w) MAX_WIDTH old.right)
+      (le-leb (row.y + row.size.h) MAX_HEIGHT old.bottom))
       ∙ ap (λ b. b && list_all (λ leaf. has_reserved (count_of j.plan.tree leaf.demand) (demand_at m leaf.demand)) (plan_leaves j.plan)) (held m stock row (here m stock number j row material work waits))
       ∙ all_true (λ (leaf : Leaf). has_reserved (count_of j.plan.tree leaf.demand) (demand_at m leaf.demand)) (plan_leaves j.plan)
       (λ leaf i.

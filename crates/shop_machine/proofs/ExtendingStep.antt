@@ -8,9 +8,9 @@ use Rattle.std.specs.Ordering.{is_eq}
 use Rattle.std.specs.FinMap.{FinMap, values}
 use Rattle.cut_measure.specs.Codes.{code_cmp}
 use Rattle.cut_measure.specs.Names.{name_cmp}
-use Rattle.cut_measure.specs.declared.ranges.TheConstants.{MOST_NUMBERS}
+use Rattle.cut_measure.specs.declared.ranges.TheConstants.{MAX_NUMBERS}
 use Rattle.shop_files.specs.declared.orders.OrderLine.{OrderLine}
-use Rattle.shop_files.specs.declared.limits.TheConstants.{MOST_LINES}
+use Rattle.shop_files.specs.declared.limits.TheConstants.{MAX_LINES}
 use Rattle.shop_records.specs.declared.records.Part.{Part}
 use Rattle.shop_records.specs.declared.records.Demand.{Demand}
 use Rattle.shop_records.specs.declared.records.Material.{Material}
@@ -49,7 +49,7 @@ line_so_far m stock order number row is same =
 
 pub record IsExtended (m : Content) (order : List ℕ) (lines : List OrderLine) : Type 0 where
   pub ordered : has_order m order ≡ true
-  pub few : length lines ≤ MOST_LINES
+  pub few : length lines ≤ MAX_LINES
   pub more : AreMore m order lines
 
 pub extended_of : (m : Content) → IsStock m → (order : List ℕ) (lines : List OrderLine)
@@ -57,14 +57,14 @@ pub extended_of : (m : Content) → IsStock m → (order : List ℕ) (lines : Li
 extended_of m stock order lines e =
     let there = demands_of m order in
     let first = m.last_demand + 1 in
-    let outer = or_none (first_of ((not (has_order m order), NoOrder) ∷ (not (nat_le 1 (length lines) && nat_le (length there + length lines) MOST_LINES), BadLine) ∷ [])) _ e in
+    let outer = or_none (first_of ((not (has_order m order), NoOrder) ∷ (not (nat_le 1 (length lines) && nat_le (length there + length lines) MAX_LINES), BadLine) ∷ [])) _ e in
     let head = none_of (not (has_order m order)) NoOrder _ outer.0 in
-    let many = none_of (not (nat_le 1 (length lines) && nat_le (length there + length lines) MOST_LINES)) BadLine _ head.1 in
-    let range = and_parts (nat_le 1 (length lines)) (nat_le (length there + length lines) MOST_LINES)
-    (not-false (nat_le 1 (length lines) && nat_le (length there + length lines) MOST_LINES) many.0) in
+    let many = none_of (not (nat_le 1 (length lines) && nat_le (length there + length lines) MAX_LINES)) BadLine _ head.1 in
+    let range = and_parts (nat_le 1 (length lines)) (nat_le (length there + length lines) MAX_LINES)
+    (not-false (nat_le 1 (length lines) && nat_le (length there + length lines) MAX_LINES) many.0) in
     let inner = or_none (lines_refusal (material_at m) (last_line there) lines) _ outer.1 in
-    let last = none_of (nat_lt (MOST_NUMBERS + 1) (first + length lines)) NumbersSpent _ inner.1 in
-    let all : length there + length lines ≤ MOST_LINES = leb-true (length there + length lines) MOST_LINES range.1 in
+    let last = none_of (nat_lt (MAX_NUMBERS + 1) (first + length lines)) NumbersSpent _ inner.1 in
+    let all : length there + length lines ≤ MAX_LINES = leb-true (length there + length lines) MAX_LINES range.1 in
     record {
       ordered = not-false (has_order m order) head.0;
       few = omega (arith, all);
@@ -72,7 +72,7 @@ extended_of m stock order lines e =
         some = leb-true 1 (length lines) range.0;
         known = lines_known (material_at m) (last_line there) lines inner.0;
         rising = lines_rise (material_at m) (last_line there) lines inner.0;
-        numbers = ltb-false (MOST_NUMBERS + 1) (first + length lines) last.0;
+        numbers = ltb-false (MAX_NUMBERS + 1) (first + length lines) last.0;
         unlike = λ number row is same line i equal.
             let most = line_so_far m stock order number row is same in
             let behind : last_line there < line.line = lines_after (material_at m) (last_line there) lines inner.0 line i in
@@ -120,8 +120,8 @@ module _ (m : Content) (stock : IsStock m) (order : List ℕ) (lines : List Orde
 
 pub extend_agrees : (known : Bool) (at : List ℕ → Option Material) (there : List Demand) (lines : List OrderLine) (first : ℕ) → NoFault (extend_refusal known at there lines first)
 extend_agrees known at there lines first =
-    either _ _ (other (not known) _ _ (λ e. cc) (other (not (nat_le 1 (length lines) && nat_le (length there + length lines) MOST_LINES)) _ _ (λ e. cc) nothing))
-    (either _ _ (lines_agree at (last_line there) lines) (other (nat_lt (MOST_NUMBERS + 1) (first + length lines)) _ _ (λ e. cc) nothing))
+    either _ _ (other (not known) _ _ (λ e. cc) (other (not (nat_le 1 (length lines) && nat_le (length there + length lines) MAX_LINES)) _ _ (λ e. cc) nothing))
+    (either _ _ (lines_agree at (last_line there) lines) (other (nat_lt (MAX_NUMBERS + 1) (first + length lines)) _ _ (λ e. cc) nothing))
 
 -- ---- what is done to cells
 

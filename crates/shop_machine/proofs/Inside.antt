@@ -3,7 +3,7 @@ use Rattle.std.proofs.Common.{◌≡◌, ℕ, ◌+◌, ◌*◌, ◌≤◌, List,
 use Rattle.std.specs.Prelude.{All, nat_le, sum_by}
 use Rattle.std.proofs.Math.Nat.{mul-le-mul_left, mul-le-mul_right}
 use Rattle.std.proofs.lemmas.Bool.{and_parts, leb-true, eqb-true}
-use Rattle.cut_measure.specs.declared.ranges.TheConstants.{MOST_WIDTH, MOST_HEIGHT, MOST_NUMBERS}
+use Rattle.cut_measure.specs.declared.ranges.TheConstants.{MAX_WIDTH, MAX_HEIGHT, MAX_NUMBERS}
 use Rattle.cut_measure.specs.Measures.{Rule}
 use Rattle.cut_tree.specs.declared.lay.Row.{Row}
 use Rattle.cut_tree.specs.Tree.{Tree}
@@ -43,29 +43,29 @@ part_cells part rule act t w h k outcome laid is =
 -- what the test of a job's part says
 pub record HasPart (j : Job) (part : Part) : Type 0 where
   pub least : 1 ≤ j.act
-  pub most : j.act ≤ MOST_NUMBERS
+  pub most : j.act ≤ MAX_NUMBERS
   pub width : part.size.w ≡ j.plan.w
   pub height : part.size.h ≡ j.plan.h
-  pub right : part.x + part.size.w ≤ MOST_WIDTH
-  pub bottom : part.y + part.size.h ≤ MOST_HEIGHT
+  pub right : part.x + part.size.w ≤ MAX_WIDTH
+  pub bottom : part.y + part.size.h ≤ MAX_HEIGHT
 
 pub has_part : (j : Job) (part : Part) → is_part_of j part ≡ true → HasPart j part
 has_part j part e =
-    let f = and_parts _ (nat_le (part.y + part.size.h) MOST_HEIGHT) e in
-    let d = and_parts _ (nat_le (part.x + part.size.w) MOST_WIDTH) f.0 in
+    let f = and_parts _ (nat_le (part.y + part.size.h) MAX_HEIGHT) e in
+    let d = and_parts _ (nat_le (part.x + part.size.w) MAX_WIDTH) f.0 in
     let c = and_parts _ (nat_eq part.size.h j.plan.h) d.0 in
     let b = and_parts _ (nat_eq part.size.w j.plan.w) c.0 in
     let a = and_parts _ (is_reserved_for j.act part.state) b.0 in
     let n = and_parts _ _ a.0 in
     record {
       least = leb-true 1 j.act n.0;
-      most = leb-true j.act MOST_NUMBERS n.1;
+      most = leb-true j.act MAX_NUMBERS n.1;
       width = eqb-true part.size.w j.plan.w b.1;
       height = eqb-true part.size.h j.plan.h c.1;
-      right = leb-true (part.x + part.size.w) MOST_WIDTH d.1;
-      bottom = leb-true (part.y + part.size.h) MOST_HEIGHT f.1;
+      right = leb-true (part.x + part.size.w) MAX_WIDTH d.1;
+      bottom = leb-true (part.y + part.size.h) MAX_HEIGHT f.1;
     }
 
 -- a unit's cells are few
-pub few_cells : (w h : ℕ) → w ≤ MOST_WIDTH → h ≤ MOST_HEIGHT → w * h ≤ 12000000000
-few_cells w h wide high = let a = mul-le-mul_right h wide in let b = mul-le-mul_left MOST_WIDTH high in omega (arith, a, b)
+pub few_cells : (w h : ℕ) → w ≤ MAX_WIDTH → h ≤ MAX_HEIGHT → w * h ≤ 12000000000
+few_cells w h wide high = let a = mul-le-mul_right h wide in let b = mul-le-mul_left MAX_WIDTH high in omega (arith, a, b)

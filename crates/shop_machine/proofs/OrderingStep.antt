@@ -9,10 +9,10 @@ use Rattle.std.specs.FinMap.{FinMap, nat_cmp-IsAntisymmetric}
 use Rattle.std.specs.FinSet as set
 use Rattle.cut_measure.specs.Codes.{code_cmp}
 use Rattle.cut_measure.specs.Names.{name_cmp}
-use Rattle.cut_measure.specs.declared.ranges.TheConstants.{MOST_NUMBERS}
+use Rattle.cut_measure.specs.declared.ranges.TheConstants.{MAX_NUMBERS}
 use Rattle.cut_tree.specs.Tree.{count_of}
 use Rattle.shop_files.specs.declared.orders.OrderLine.{OrderLine}
-use Rattle.shop_files.specs.declared.limits.TheConstants.{MOST_LINES}
+use Rattle.shop_files.specs.declared.limits.TheConstants.{MAX_LINES}
 use Rattle.shop_records.specs.declared.records.Part.{Part}
 use Rattle.shop_records.specs.declared.records.Job.{Job}
 use Rattle.shop_records.specs.declared.records.Demand.{Demand}
@@ -44,10 +44,10 @@ use Rattle.shop_machine.proofs.Accounts.{Follows, row_later}
 pub record IsOrder (used : Bool) (at : List ℕ → Option Material) (lines : List OrderLine) (first : ℕ) : Type 0 where
   pub unused : used ≡ false
   pub some : 1 ≤ length lines
-  pub few : length lines ≤ MOST_LINES
+  pub few : length lines ≤ MAX_LINES
   pub known : (line : OrderLine) → IsIn line lines → IsSome (at line.material)
   pub rising : Pairwise (λ (a b : OrderLine). a.line < b.line) lines
-  pub numbers : first + length lines ≤ MOST_NUMBERS + 1
+  pub numbers : first + length lines ≤ MAX_NUMBERS + 1
 
 line_known : (last : ℕ) (line : OrderLine) (o : Option Material) → line_refusal last line o ≡ None → IsSome o
 line_known last line None e = cc
@@ -85,19 +85,19 @@ lines_rise at last (l ∷ lines) e =
 
 pub order_of : (used : Bool) (at : List ℕ → Option Material) (lines : List OrderLine) (first : ℕ) → order_refusal used at lines first ≡ None → IsOrder used at lines first
 order_of used at lines first e =
-    let outer = or_none (first_of ((used, OrderExists) ∷ (not (nat_le 1 (length lines) && nat_le (length lines) MOST_LINES), BadLine) ∷ [])) _ e in
+    let outer = or_none (first_of ((used, OrderExists) ∷ (not (nat_le 1 (length lines) && nat_le (length lines) MAX_LINES), BadLine) ∷ [])) _ e in
     let head = none_of used OrderExists _ outer.0 in
-    let many = none_of (not (nat_le 1 (length lines) && nat_le (length lines) MOST_LINES)) BadLine _ head.1 in
-    let range = and_parts (nat_le 1 (length lines)) (nat_le (length lines) MOST_LINES) (not-false (nat_le 1 (length lines) && nat_le (length lines) MOST_LINES) many.0) in
+    let many = none_of (not (nat_le 1 (length lines) && nat_le (length lines) MAX_LINES)) BadLine _ head.1 in
+    let range = and_parts (nat_le 1 (length lines)) (nat_le (length lines) MAX_LINES) (not-false (nat_le 1 (length lines) && nat_le (length lines) MAX_LINES) many.0) in
     let inner = or_none (lines_refusal at 0 lines) _ outer.1 in
-    let last = none_of (nat_lt (MOST_NUMBERS + 1) (first + length lines)) NumbersSpent _ inner.1 in
+    let last = none_of (nat_lt (MAX_NUMBERS + 1) (first + length lines)) NumbersSpent _ inner.1 in
     record {
       unused = head.0;
       some = leb-true 1 (length lines) range.0;
-      few = leb-true (length lines) MOST_LINES range.1;
+      few = leb-true (length lines) MAX_LINES range.1;
       known = lines_known at 0 lines inner.0;
       rising = lines_rise at 0 lines inner.0;
-      numbers = ltb-false (MOST_NUMBERS + 1) (first + length lines) last.0;
+      numbers = ltb-false (MAX_NUMBERS + 1) (first + length lines) last.0;
     }
 
 -- ---- the new demands
@@ -168,7 +168,7 @@ pub record AreMore (m : Content) (order : List ℕ) (lines : List OrderLine) : T
   pub some : 1 ≤ length lines
   pub known : (line : OrderLine) → IsIn line lines → IsSome (material_at m line.material)
   pub rising : Pairwise (λ (a b : OrderLine). a.line < b.line) lines
-  pub numbers : m.last_demand + 1 + length lines ≤ MOST_NUMBERS + 1
+  pub numbers : m.last_demand + 1 + length lines ≤ MAX_NUMBERS + 1
   pub unlike : (number : ℕ) (row : Demand) → demand_at m number ≡ Some row → row.order ≡ order → (line : OrderLine) → IsIn line lines → row.line ≡ line.line → ⊥
 
 -- the order is there already, or is new
@@ -387,8 +387,8 @@ lines_agree at last (line ∷ lines) = either (line_refusal last line (at line.m
 
 pub order_agrees : (used : Bool) (at : List ℕ → Option Material) (lines : List OrderLine) (first : ℕ) → NoFault (order_refusal used at lines first)
 order_agrees used at lines first =
-    either _ _ (other used _ _ (λ e. cc) (other (not (nat_le 1 (length lines) && nat_le (length lines) MOST_LINES)) _ _ (λ e. cc) nothing))
-    (either _ _ (lines_agree at 0 lines) (other (nat_lt (MOST_NUMBERS + 1) (first + length lines)) _ _ (λ e. cc) nothing))
+    either _ _ (other used _ _ (λ e. cc) (other (not (nat_le 1 (length lines) && nat_le (length lines) MAX_LINES)) _ _ (λ e. cc) nothing))
+    (either _ _ (lines_agree at 0 lines) (other (nat_lt (MAX_NUMBERS + 1) (first + length lines)) _ _ (λ e. cc) nothing))
 
 -- ---- what is done to cells
 

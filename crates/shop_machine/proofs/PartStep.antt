@@ -4,7 +4,7 @@ use Rattle.std.specs.Prelude.{Option, Some, None, IsSome, IfSome, MatchOption, s
 use Rattle.std.specs.declared.cmp.Ordering.TheVariants.{Less, Equal}
 use Rattle.std.specs.Cmp.{nat_cmp_total, tied_itself}
 use Rattle.std.specs.FinMap.{values, nat_cmp-IsAntisymmetric}
-use Rattle.cut_measure.specs.declared.ranges.TheConstants.{MOST_NUMBERS}
+use Rattle.cut_measure.specs.declared.ranges.TheConstants.{MAX_NUMBERS}
 use Rattle.cut_measure.specs.Names.{Name, name_cmp}
 use Rattle.cut_tree.specs.Tree.{Tree, count_of}
 use Rattle.shop_records.specs.declared.records.Part.{Part}
@@ -67,11 +67,11 @@ pub record IsPartStep (m : Content) (row : Part) (s : State) (made : List Part) 
   pub placed : (x : Part) → IsIn x made → IsPlaced m x.name x
   pub named : (x : Part) → IsIn x made → x.name.act ≤ with_number act m.last_act
   pub more : m.last_act ≤ with_number act m.last_act
-  pub numbers : IfSome act (λ a. (m.last_act < a) × (a ≤ MOST_NUMBERS))
+  pub numbers : IfSome act (λ a. (m.last_act < a) × (a ≤ MAX_NUMBERS))
   pub received : (code : List ℕ) → sum_by (cells_as Received code) made ≡ 0
   pub left : (code : List ℕ) → cells_left code row ≡ cells_left code (in_state s row) + sum_by (cells_left code) made
 
-few_numbers : (act : Option ℕ) (last : ℕ) → last ≤ MOST_NUMBERS → IfSome act (λ a. (last < a) × (a ≤ MOST_NUMBERS)) → with_number act last ≤ MOST_NUMBERS
+few_numbers : (act : Option ℕ) (last : ℕ) → last ≤ MAX_NUMBERS → IfSome act (λ a. (last < a) × (a ≤ MAX_NUMBERS)) → with_number act last ≤ MAX_NUMBERS
 few_numbers None last few h = few
 few_numbers (Some a) last few h = h.1
 

@@ -12,10 +12,10 @@ use Rattle.cut_measure.proofs.Cells.{length-below}
 use Rattle.cut_measure.specs.Codes.{code_cmp}
 use Rattle.cut_measure.specs.Names.{Name, name_cmp}
 use Rattle.cut_measure.specs.Measures.{Extent, below, is_size}
-use Rattle.cut_measure.specs.declared.ranges.TheConstants.{MOST_NUMBERS}
+use Rattle.cut_measure.specs.declared.ranges.TheConstants.{MAX_NUMBERS}
 use Rattle.cut_measure.specs.declared.sizes.Kind.TheVariants.{Bar}
-use Rattle.shop_records.specs.declared.records.TheConstants.{MOST_RECEIVED}
-use Rattle.shop_machine.specs.declared.receiving.TheConstants.{MOST_UNITS}
+use Rattle.shop_records.specs.declared.records.TheConstants.{MAX_RECEIVED}
+use Rattle.shop_machine.specs.declared.receiving.TheConstants.{MAX_RECEIVED_UNITS}
 use Rattle.shop_records.specs.declared.records.Material.{Material}
 use Rattle.shop_records.specs.declared.records.Part.{Part}
 use Rattle.shop_records.specs.declared.records.Demand.{Demand}
@@ -51,25 +51,25 @@ pub record IsReceipt (known : Option Material) (totals : Totals) (act w h count 
   pub is_known : known ≡ Some material
   pub size : IsSized w h
   pub one_high : material.kind ≡ Bar → h ≡ 1
-  pub few : count ≤ MOST_UNITS
-  pub room : totals.received + w * h * count ≤ MOST_RECEIVED
-  pub number : act ≤ MOST_NUMBERS
+  pub few : count ≤ MAX_RECEIVED_UNITS
+  pub room : totals.received + w * h * count ≤ MAX_RECEIVED
+  pub number : act ≤ MAX_NUMBERS
 
 pub receipt_of : (known : Option Material) (totals : Totals) (act w h count : ℕ) → receive_refusal known totals act w h count ≡ None → IsReceipt known totals act w h count
 receipt_of None totals act w h count e = cc
 receipt_of (Some m) totals act w h count e =
     let size = none_of (not (is_size m.kind w h)) BadSize _ e in
-    let number = none_of (not (nat_le 1 count && nat_le count MOST_UNITS)) BadCount _ size.1 in
-    let room = none_of (nat_lt MOST_RECEIVED (totals.received + w * h * count)) TooMuch _ number.1 in
-    let last = none_of (nat_lt MOST_NUMBERS act) NumbersSpent _ room.1 in
+    let number = none_of (not (nat_le 1 count && nat_le count MAX_RECEIVED_UNITS)) BadCount _ size.1 in
+    let room = none_of (nat_lt MAX_RECEIVED (totals.received + w * h * count)) TooMuch _ number.1 in
+    let last = none_of (nat_lt MAX_NUMBERS act) NumbersSpent _ room.1 in
     record {
       material = m;
       is_known = refl;
       size = sized m.kind w h (not-false (is_size m.kind w h) size.0);
       one_high = flat m.kind w h (not-false (is_size m.kind w h) size.0);
-      few = leb-true count MOST_UNITS (and_parts (nat_le 1 count) (nat_le count MOST_UNITS) (not-false (nat_le 1 count && nat_le count MOST_UNITS) number.0)).1;
-      room = ltb-false MOST_RECEIVED (totals.received + w * h * count) room.0;
-      number = ltb-false MOST_NUMBERS act last.0;
+      few = leb-true count MAX_RECEIVED_UNITS (and_parts (nat_le 1 count) (nat_le count MAX_RECEIVED_UNITS) (not-false (nat_le 1 count && nat_le count MAX_RECEIVED_UNITS) number.0)).1;
+      room = ltb-false MAX_RECEIVED (totals.received + w * h * count) room.0;
+      number = ltb-false MAX_NUMBERS act last.0;
     }
 
 pub receipt : (m : Content) (material batch : List ℕ) (w h count : ℕ) (read : Reading) → refusal_of m (Receive material batch w h count) read ≡ None
@@ -190,7 +190,7 @@ module _ (m : Content) (stock : IsStock m) (material batch : List ℕ) (w h coun
         by true = refl
         by false = refl
 
-    received_by : (code : List ℕ) (b : Bool) → is_eq (code_cmp material code) ≡ b → cells_in Received code (values after.parts) ≤ MOST_RECEIVED
+    received_by : (code : List ℕ) (b : Bool) → is_eq (code_cmp material code) ≡ b → cells_in Received code (values after.parts) ≤ MAX_RECEIVED
     received_by code true e =
         let same : material ≡ code = codes_same material code (equal (code_cmp material code) e) in
         let before : (totals_of m code).received ≡ (totals_of m material).received = ap (λ c. (totals_of m c).received) (sym same) in
@@ -198,7 +198,7 @@ module _ (m : Content) (stock : IsStock m) (material batch : List ℕ) (w h coun
         let new = sum_units (cells_as Received code) (w * h) (unit_received code true e) in
         within (cells_in Received code (values after.parts)) (totals_of m code).received (totals_of m material).received (sum_by (cells_as Received code) units) (w * h) count sum before new receipt.room
       where
-        within : (n r s p q c : ℕ) → n ≡ r + p → r ≡ s → p ≡ c * q → s + q * c ≤ MOST_RECEIVED → n ≤ MOST_RECEIVED
+        within : (n r s p q c : ℕ) → n ≡ r + p → r ≡ s → p ≡ c * q → s + q * c ≤ MAX_RECEIVED → n ≤ MAX_RECEIVED
         within n r s p q c a b d e = omega (arith, a, b, d, e)
     received_by code false e =
         let sum = sum_after (cells_as Received code) in
@@ -371,6 +371,6 @@ pub receive_agrees : (known : Option Material) (totals : Totals) (act w h count 
 receive_agrees None totals act w h count le = λ e. cc
 receive_agrees (Some m) totals act w h count le =
     other (not (is_size m.kind w h)) _ _ (λ e. cc)
-    (other (not (nat_le 1 count && nat_le count MOST_UNITS)) _ _ (λ e. cc)
-    (other (nat_lt MOST_RECEIVED (totals.received + w * h * count)) _ _ (λ e. cc)
-    (other (nat_lt MOST_NUMBERS act) _ _ (λ e. cc) (no_such (nat_le totals.stock totals.received) (le-leb totals.stock totals.received le)))))
+    (other (not (nat_le 1 count && nat_le count MAX_RECEIVED_UNITS)) _ _ (λ e. cc)
+    (other (nat_lt MAX_RECEIVED (totals.received + w * h * count)) _ _ (λ e. cc)
+    (other (nat_lt MAX_NUMBERS act) _ _ (λ e. cc) (no_such (nat_le totals.stock totals.received) (le-leb totals.stock totals.received le)))))

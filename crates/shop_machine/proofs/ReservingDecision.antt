@@ -3,7 +3,7 @@ use Rattle.std.proofs.Common.{◌≡◌, ℕ, nat_eq, nat_lt, Bool, true, false,
 use Rattle.std.specs.Prelude.{Option, Some, None, is_some, not}
 use Rattle.std.specs.Option.{option_or}
 use Rattle.std.proofs.lemmas.List.{length-map}
-use Rattle.cut_measure.specs.declared.ranges.TheConstants.{MOST_NUMBERS}
+use Rattle.cut_measure.specs.declared.ranges.TheConstants.{MAX_NUMBERS}
 use Rattle.cut_tree.specs.Patterns.{Pattern}
 use Rattle.shop_records.specs.declared.records.Material.{Material}
 use Rattle.shop_machine.specs.declared.recounts.FoundLeaf.{FoundLeaf}
@@ -20,12 +20,12 @@ has_leaves plan leaves same some = ap (λ n. nat_eq n 0) (ap length (sym same) �
 
 -- a tree with pieces, none of which is refused
 pub plan_refused : (part : Part) (plan : Pattern) (at : ℕ → Option Demand) (act : ℕ) (many spent : Bool)
-    → nat_eq (length (plan_leaves plan)) 0 ≡ false → leaves_refusal at part.material (plan_leaves plan) ≡ None → is_too_many at plan ≡ many → nat_lt MOST_NUMBERS act ≡ spent
+    → nat_eq (length (plan_leaves plan)) 0 ≡ false → leaves_refusal at part.material (plan_leaves plan) ≡ None → is_too_many at plan ≡ many → nat_lt MAX_NUMBERS act ≡ spent
     → plan_refusal part (Some plan) at act ≡ first_of ((many, TooMany) ∷ (spent, NumbersSpent) ∷ [])
 plan_refused part plan at act many spent some none m n =
-    ap (λ b. option_or (first_of ((b, BadTree) ∷ [])) (option_or (leaves_refusal at part.material (plan_leaves plan)) (first_of ((is_too_many at plan, TooMany) ∷ (nat_lt MOST_NUMBERS act, NumbersSpent) ∷ [])))) some
-    ∙ ap (λ o. option_or o (first_of ((is_too_many at plan, TooMany) ∷ (nat_lt MOST_NUMBERS act, NumbersSpent) ∷ []))) none
-    ∙ ap (λ b. first_of ((b, TooMany) ∷ (nat_lt MOST_NUMBERS act, NumbersSpent) ∷ [])) m
+    ap (λ b. option_or (first_of ((b, BadTree) ∷ [])) (option_or (leaves_refusal at part.material (plan_leaves plan)) (first_of ((is_too_many at plan, TooMany) ∷ (nat_lt MAX_NUMBERS act, NumbersSpent) ∷ [])))) some
+    ∙ ap (λ o. option_or o (first_of ((is_too_many at plan, TooMany) ∷ (nat_lt MAX_NUMBERS act, NumbersSpent) ∷ []))) none
+    ∙ ap (λ b. first_of ((b, TooMany) ∷ (nat_lt MAX_NUMBERS act, NumbersSpent) ∷ [])) m
     ∙ ap (λ b. first_of ((many, TooMany) ∷ (b, NumbersSpent) ∷ [])) n
 
 -- a reservation that isn't refused

@@ -7,7 +7,7 @@ use Rattle.std.specs.FinMap.{insert, nat_cmp-IsAntisymmetric}
 use Rattle.std.proofs.lemmas.Bool.{not-false, ltb-false}
 use Rattle.cut_measure.specs.Codes.{code_cmp}
 use Rattle.cut_measure.specs.Names.{IsName, Name}
-use Rattle.cut_measure.specs.declared.ranges.TheConstants.{MOST_NUMBERS}
+use Rattle.cut_measure.specs.declared.ranges.TheConstants.{MAX_NUMBERS}
 use Rattle.cut_tree.specs.declared.token.Token.{Token}
 use Rattle.cut_tree.specs.Tree.{Tree, Piece, Rest, Trim, Cut, count_of, cut_count}
 use Rattle.cut_tree.specs.Patterns.{Pattern, HasDemands, IsPlan}
@@ -60,7 +60,7 @@ pub record IsFitting (row : Part) (material : Option Material) (plan : Pattern) 
   pub free : is_free row.state ≡ true
   pub known : IsSome material
   pub demands : (number : ℕ) → 1 ≤ count_of plan.tree number → HasOpenPieces row.material (count_of plan.tree number) (at number)
-  pub number : act ≤ MOST_NUMBERS
+  pub number : act ≤ MAX_NUMBERS
 
 has_room : (code : List ℕ) (leaf : Leaf) (n : ℕ) (o : Option Demand) → leaf_refusal code leaf o ≡ None → is_over n o ≡ false → HasOpenPieces code n o
 has_room code leaf n None e f = cc
@@ -83,7 +83,7 @@ fitting_of row material plan at act e =
     let some = or_none (first_of ((length (plan_leaves plan) == 0, BadTree) ∷ [])) _ outer.1 in
     let leaves = or_none (leaves_refusal at row.material (plan_leaves plan)) _ some.1 in
     let few = none_of (is_too_many at plan) TooMany _ leaves.1 in
-    let last = none_of (nat_lt MOST_NUMBERS act) NumbersSpent _ few.1 in
+    let last = none_of (nat_lt MAX_NUMBERS act) NumbersSpent _ few.1 in
     record {
       free = not-false (is_free row.state) free.0;
       known = not-false (is_some material) known.0;
@@ -92,7 +92,7 @@ fitting_of row material plan at act e =
           subst (λ n. HasOpenPieces row.material (count_of plan.tree n) (at n)) r.2
           (has_room row.material r.0 (count_of plan.tree r.0.demand) (at r.0.demand) (leaf_allowed at row.material (plan_leaves plan) leaves.0 r.0 r.1)
           (any_none (λ (leaf : Leaf). is_over (count_of plan.tree leaf.demand) (at leaf.demand)) (plan_leaves plan) few.0 r.0 r.1));
-      number = ltb-false MOST_NUMBERS act last.0;
+      number = ltb-false MAX_NUMBERS act last.0;
     }
 
 pub reading : (texts : Texts) (m : Content) (part : Name) (text : List ℕ) (read : Reading) (plan : Pattern) → read ≡ Plan plan → Reads texts m (Reserve part text) read → IsReading m part text plan
@@ -322,7 +322,7 @@ plan_agrees part None at act = λ e. cc
 plan_agrees part (Some plan) at act =
     either _ _ (other (length (plan_leaves plan) == 0) _ _ (λ e. cc) nothing)
     (either _ _ (leaves_agree at part.material (plan_leaves plan))
-    (other (is_too_many at plan) _ _ (λ e. cc) (other (nat_lt MOST_NUMBERS act) _ _ (λ e. cc) nothing)))
+    (other (is_too_many at plan) _ _ (λ e. cc) (other (nat_lt MAX_NUMBERS act) _ _ (λ e. cc) nothing)))
 
 pub reserve_agrees : (part : Option Part) (material : Option Material) (read : Option Pattern) (at : ℕ → Option Demand) (act : ℕ) → ((p : Part) → part ≡ Some p → IsSome material)
     → NoFault (reserve_refusal part material read at act)

@@ -11,7 +11,7 @@ use Rattle.cut_measure.specs.Codes.{code_cmp}
 use Rattle.cut_measure.specs.Names.{Name, IsName, name_cmp}
 use Rattle.cut_tree.specs.declared.halts.Stop.TheVariants as stop
 use Rattle.cut_tree.specs.Stops.{halted}
-use Rattle.shop_records.specs.declared.records.TheConstants.{MOST_RECEIVED}
+use Rattle.shop_records.specs.declared.records.TheConstants.{MAX_RECEIVED}
 use Rattle.shop_records.specs.declared.records.Material.{Material}
 use Rattle.shop_records.specs.declared.imports.ImportRow.{ImportRow}
 use Rattle.shop_records.specs.declared.records.Part.{Part}
@@ -608,7 +608,7 @@ fresh_sound texts = record {
     acts = λ name part is. absurd (not_both _ part (get-empty name_cmp name) is);
     last = omega arith;
     last_demand = omega arith;
-    received = λ code. subst (λ (ps : List Part). (totals_in code ps).received ≤ MOST_RECEIVED) (sym no_values) (omega arith);
+    received = λ code. subst (λ (ps : List Part). (totals_in code ps).received ≤ MAX_RECEIVED) (sym no_values) (omega arith);
     adds_up = λ code. subst (λ (ps : List Part). AddsUp (totals_in code ps)) (sym no_values) refl;
   };
   materials = λ code material is. absurd (not_both _ material (get-empty code_cmp code) is);

@@ -6,7 +6,7 @@ use Rattle.std.specs.FinMap.{FinMap, get, values}
 use Rattle.std.proofs.lemmas.Bool.{le-leb, lt-ltb}
 use Rattle.std.proofs.lemmas.List.Sums.{sum_by-cons, sum_by-le-sum_by}
 use Rattle.std.proofs.lemmas.Nat.{mul-le}
-use Rattle.cut_measure.specs.declared.ranges.TheConstants.{MOST_WIDTH, MOST_HEIGHT}
+use Rattle.cut_measure.specs.declared.ranges.TheConstants.{MAX_WIDTH, MAX_HEIGHT}
 use Rattle.cut_measure.specs.Codes.{code_cmp}
 use Rattle.cut_measure.specs.Measures.{Extent}
 use Rattle.cut_measure.specs.Names.{name_cmp}
@@ -203,7 +203,7 @@ held m stock part there =
     let old = stock.parts part.name part there in
     let right = old.right in
     let bottom = old.bottom in
-    let few = mul-le part.size.w part.size.h MOST_WIDTH MOST_HEIGHT (omega (arith, right)) (omega (arith, bottom)) in
+    let few = mul-le part.size.w part.size.h MAX_WIDTH MAX_HEIGHT (omega (arith, right)) (omega (arith, bottom)) in
     let most = stock.in_range.received part.material in
     let all = stock.in_range.adds_up part.material in
     let t : Totals = totals_of m part.material in

@@ -3,7 +3,7 @@ use Rattle.std.proofs.Common.{◌≡◌, ◌+◌, ◌*◌, ℕ, Bool, true, List
 use Rattle.std.specs.Prelude.{nat_le, ◌==◌, ◌&&◌, not, Option, Some, None, MatchOption, IfSome}
 use Rattle.std.specs.List.{list_all}
 use Rattle.std.proofs.lemmas.Bool.{and_parts, leb-true, eqb-true, le-leb, eq-eqb}
-use Rattle.cut_measure.specs.declared.ranges.TheConstants.{MOST_WIDTH, MOST_HEIGHT, MOST_NUMBERS}
+use Rattle.cut_measure.specs.declared.ranges.TheConstants.{MAX_WIDTH, MAX_HEIGHT, MAX_NUMBERS}
 use Rattle.cut_measure.specs.Measures.{Rule}
 use Rattle.cut_tree.specs.declared.halts.Stop.{Stop}
 use Rattle.cut_tree.specs.declared.lay.Row.{Row}
@@ -33,25 +33,25 @@ use Rattle.shop_machine.proofs.Tallied.{six}
 -- what the test of its part says
 pub part_fits : (j : Job) (part : Part) → fits_part j part ≡ true → HasPart j part
 part_fits j part e =
-    let f = and_parts _ (nat_le (part.y + part.size.h) MOST_HEIGHT) e in
-    let d = and_parts _ (nat_le (part.x + part.size.w) MOST_WIDTH) f.0 in
+    let f = and_parts _ (nat_le (part.y + part.size.h) MAX_HEIGHT) e in
+    let d = and_parts _ (nat_le (part.x + part.size.w) MAX_WIDTH) f.0 in
     let c = and_parts _ (nat_eq part.size.h j.plan.h) d.0 in
     let b = and_parts _ (nat_eq part.size.w j.plan.w) c.0 in
     let n = and_parts _ _ b.0 in
     record {
       least = leb-true 1 j.act n.0;
-      most = leb-true j.act MOST_NUMBERS n.1;
+      most = leb-true j.act MAX_NUMBERS n.1;
       width = eqb-true part.size.w j.plan.w b.1;
       height = eqb-true part.size.h j.plan.h c.1;
-      right = leb-true (part.x + part.size.w) MOST_WIDTH d.1;
-      bottom = leb-true (part.y + part.size.h) MOST_HEIGHT f.1;
+      right = leb-true (part.x + part.size.w) MAX_WIDTH d.1;
+      bottom = leb-true (part.y + part.size.h) MAX_HEIGHT f.1;
     }
 
 pub fits_as_part : (j : Job) (part : Part) → HasPart j part → fits_part j part ≡ true
 fits_as_part j part h =
-    six (nat_le 1 j.act) (nat_le j.act MOST_NUMBERS) (part.size.w == j.plan.w) (part.size.h == j.plan.h) (nat_le (part.x + part.size.w) MOST_WIDTH) (nat_le (part.y + part.size.h) MOST_HEIGHT)
-    (le-leb 1 j.act h.least) (le-leb j.act MOST_NUMBERS h.most) (eq-eqb part.size.w j.plan.w h.width) (eq-eqb part.size.h j.plan.h h.height)
-    (le-leb (part.x + part.size.w) MOST_WIDTH h.right) (le-leb (part.y + part.size.h) MOST_HEIGHT h.bottom)
+    six (nat_le 1 j.act) (nat_le j.act MAX_NUMBERS) (part.size.w == j.plan.w) (part.size.h == j.plan.h) (nat_le (part.x + part.size.w) MAX_WIDTH) (nat_le (part.y + part.size.h) MAX_HEIGHT)
+    (le-leb 1 j.act h.least) (le-leb j.act MAX_NUMBERS h.most) (eq-eqb part.size.w j.plan.w h.width) (eq-eqb part.size.h j.plan.h h.height)
+    (le-leb (part.x + part.size.w) MAX_WIDTH h.right) (le-leb (part.y + part.size.h) MAX_HEIGHT h.bottom)
 
 -- ---- a job that is over, with its rows
 

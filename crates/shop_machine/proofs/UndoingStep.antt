@@ -9,7 +9,7 @@ use Rattle.std.specs.List.{list_all}
 use Rattle.std.proofs.lemmas.Bool.{le-leb, eq-eqb}
 use Rattle.std.proofs.lemmas.List.Elements.{All-nil}
 use Rattle.std.proofs.lemmas.Nat.{mul-le}
-use Rattle.cut_measure.specs.declared.ranges.TheConstants.{MOST_WIDTH, MOST_HEIGHT, MOST_NUMBERS}
+use Rattle.cut_measure.specs.declared.ranges.TheConstants.{MAX_WIDTH, MAX_HEIGHT, MAX_NUMBERS}
 use Rattle.cut_measure.specs.Codes.{code_cmp}
 use Rattle.cut_measure.specs.Names.{Name, name_cmp}
 use Rattle.cut_measure.specs.Measures.{Rule, Extent, is_kept}
@@ -215,7 +215,7 @@ module _ (m : Content) (stock : IsStock m) (j : Job) (row : Part) (material : Ma
       let old = stock.parts row.name row u.on in
       let right = old.right in
       let bottom = old.bottom in
-      let few = mul-le row.size.w row.size.h MOST_WIDTH MOST_HEIGHT (omega (arith, right)) (omega (arith, bottom)) in
+      let few = mul-le row.size.w row.size.h MAX_WIDTH MAX_HEIGHT (omega (arith, right)) (omega (arith, bottom)) in
       let most = stock.in_range.received row.material in
       let all_of = stock.in_range.adds_up row.material in
       let t : Totals = totals_of m row.material in
@@ -460,13 +460,13 @@ module _ (m : Content) (stock : IsStock m) where
 
       fits : fits_part j row ≡ true
       fits =
-          six (nat_le 1 j.act) (nat_le j.act MOST_NUMBERS) (row.size.w == j.plan.w) (row.size.h == j.plan.h) (nat_le (row.x + row.size.w) MOST_WIDTH) (nat_le (row.y + row.size.h) MOST_HEIGHT)
+          six (nat_le 1 j.act) (nat_le j.act MAX_NUMBERS) (row.size.w == j.plan.w) (row.size.h == j.plan.h) (nat_le (row.x + row.size.w) MAX_WIDTH) (nat_le (row.y + row.size.h) MAX_HEIGHT)
           (le-leb 1 j.act (subst (λ n. 1 ≤ n) (sym is_job.numbered) is_job.least))
-          (le-leb j.act MOST_NUMBERS (omega (arith, is_job.so_far, is_job.numbered, stock.in_range.last)))
+          (le-leb j.act MAX_NUMBERS (omega (arith, is_job.so_far, is_job.numbered, stock.in_range.last)))
           (eq-eqb row.size.w j.plan.w (sym (is_job.on.width ∙ ap (λ (p : Part). p.size.w) same)))
           (eq-eqb row.size.h j.plan.h (sym (is_job.on.height ∙ ap (λ (p : Part). p.size.h) same)))
-          (le-leb (row.x + row.size.w) MOST_WIDTH placed.right)
-          (le-leb (row.y + row.size.h) MOST_HEIGHT placed.bottom)
+          (le-leb (row.x + row.size.w) MAX_WIDTH placed.right)
+          (le-leb (row.y + row.size.h) MAX_HEIGHT placed.bottom)
 
       by : (f b : Bool) → f ≡ true → are_as_left end j row material.limits (parts_named m j.act) ≡ b
           → NoFault (if not f then Some StoreFault else (if not b then Some PartsMoved else (if not (can_take_back end j row material.limits (demand_at m) (totals_of m row.material)) then Some StoreFault else None)))

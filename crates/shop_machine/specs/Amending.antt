@@ -1,6 +1,6 @@
 -- Amending a demand: how many of its pieces are wanted from now on.
 use Rattle.std.specs.Prelude.{ℕ, ◌+◌, [], ◌∷◌, not, nat_le, nat_lt, Option, Some, None}
-use Rattle.cut_measure.specs.declared.ranges.TheConstants.{MOST_COUNT}
+use Rattle.cut_measure.specs.declared.ranges.TheConstants.{MAX_COUNT}
 use Rattle.shop_records.specs.declared.records.Demand.{Demand}
 use Rattle.shop_records.specs.declared.changes.Change.{Change}
 use Rattle.shop_records.specs.declared.refusals.Refusal.{Refusal}
@@ -12,7 +12,7 @@ use Rattle.shop_machine.specs.Decisions.{first_of, no_change}
 abbrev pub amend_refusal : Option Demand → (wanted : ℕ) → Option Refusal
 amend_refusal None wanted = Some NoDemand
 amend_refusal (Some demand) wanted =
-    first_of ((not (nat_le wanted MOST_COUNT), BadLine) ∷ (nat_lt wanted (demand.reserved + demand.made), TooMany) ∷ [])
+    first_of ((not (nat_le wanted MAX_COUNT), BadLine) ∷ (nat_lt wanted (demand.reserved + demand.made), TooMany) ∷ [])
 
 -- the demand of which so many pieces are wanted, and all else as it is
 abbrev pub amended : (wanted : ℕ) → Demand → Demand

@@ -1,7 +1,7 @@
 -- The end of a job: all its cuts are made, or some of them, or it is released.
 use Rattle.std.specs.Prelude.{◌≡◌, ℕ, ◌+◌, ◌&&◌, ◌==◌, List, [], ◌∷◌, map, Bool, false, not, nat_le, if◌then◌else◌, Option, Some, None, length, is_some, true, ◌||◌}
 use Rattle.std.specs.List.{list_all}
-use Rattle.cut_measure.specs.declared.ranges.TheConstants.{MOST_WIDTH, MOST_HEIGHT, MOST_NUMBERS}
+use Rattle.cut_measure.specs.declared.ranges.TheConstants.{MAX_WIDTH, MAX_HEIGHT, MAX_NUMBERS}
 use Rattle.cut_measure.specs.Measures.{Extent, Rule, is_kept}
 use Rattle.cut_tree.specs.declared.lay.Owner.{Owner}
 use Rattle.cut_tree.specs.declared.lay.Owner.TheVariants as owner
@@ -43,15 +43,15 @@ has_reserved n (Some demand) = nat_le n demand.reserved && nat_le (demand.reserv
 -- the job has an act's number, and the part is reserved for it, has the sides of its plan, and lies in a unit
 abbrev pub is_part_of : Job → Part → Bool
 is_part_of j part =
-    nat_le 1 j.act && nat_le j.act MOST_NUMBERS && is_reserved_for j.act part.state && part.size.w == j.plan.w && part.size.h == j.plan.h
-    && nat_le (part.x + part.size.w) MOST_WIDTH && nat_le (part.y + part.size.h) MOST_HEIGHT
+    nat_le 1 j.act && nat_le j.act MAX_NUMBERS && is_reserved_for j.act part.state && part.size.w == j.plan.w && part.size.h == j.plan.h
+    && nat_le (part.x + part.size.w) MAX_WIDTH && nat_le (part.y + part.size.h) MAX_HEIGHT
 
 -- The same of the part alone: the job has an act's number, and the part has the sides of its plan and lies in a unit. So it is in
 -- each content that a history gives, whatever the job's state.
 abbrev pub fits_part : Job → Part → Bool
 fits_part j part =
-    nat_le 1 j.act && nat_le j.act MOST_NUMBERS && part.size.w == j.plan.w && part.size.h == j.plan.h && nat_le (part.x + part.size.w) MOST_WIDTH
-    && nat_le (part.y + part.size.h) MOST_HEIGHT
+    nat_le 1 j.act && nat_le j.act MAX_NUMBERS && part.size.w == j.plan.w && part.size.h == j.plan.h && nat_le (part.x + part.size.w) MAX_WIDTH
+    && nat_le (part.y + part.size.h) MAX_HEIGHT
 
 -- the part is the job's, and its material's totals hold it
 abbrev pub is_held : Job → Part → Totals → Bool

@@ -1,8 +1,8 @@
 -- Extending an order: lines behind its last one.
 use Rattle.std.specs.Prelude.{ℕ, ◌+◌, ◌-◌, ◌&&◌, List, [], ◌∷◌, length, Bool, not, nat_le, nat_lt, Option, Some}
 use Rattle.std.specs.Option.{option_or}
-use Rattle.cut_measure.specs.declared.ranges.TheConstants.{MOST_NUMBERS}
-use Rattle.shop_files.specs.declared.limits.TheConstants.{MOST_LINES}
+use Rattle.cut_measure.specs.declared.ranges.TheConstants.{MAX_NUMBERS}
+use Rattle.shop_files.specs.declared.limits.TheConstants.{MAX_LINES}
 use Rattle.shop_files.specs.declared.orders.OrderLine.{OrderLine}
 use Rattle.shop_records.specs.declared.records.Material.{Material}
 use Rattle.shop_records.specs.declared.records.Demand.{Demand}
@@ -20,8 +20,8 @@ use Rattle.shop_machine.specs.Ordering.{lines_refusal, new_demands}
 abbrev pub extend_refusal : (known : Bool) → (List ℕ → Option Material) → (there : List Demand) → List OrderLine → (first : ℕ) → Option Refusal
 extend_refusal known at there lines first =
     option_or
-    (first_of ((not known, NoOrder) ∷ (not (nat_le 1 (length lines) && nat_le (length there + length lines) MOST_LINES), BadLine) ∷ []))
-    (option_or (lines_refusal at (last_line there) lines) (first_of ((nat_lt (MOST_NUMBERS + 1) (first + length lines), NumbersSpent) ∷ [])))
+    (first_of ((not known, NoOrder) ∷ (not (nat_le 1 (length lines) && nat_le (length there + length lines) MAX_LINES), BadLine) ∷ []))
+    (option_or (lines_refusal at (last_line there) lines) (first_of ((nat_lt (MAX_NUMBERS + 1) (first + length lines), NumbersSpent) ∷ [])))
 
 -- the order gets these lines, and the reply tells how many, and the first one's demand
 abbrev pub extend_change : List ℕ → List OrderLine → (first : ℕ) → Change

@@ -1,11 +1,11 @@
 -- Adding an order.
 use Rattle.std.specs.Prelude.{◌≡◌, ℕ, suc, ◌+◌, ◌-◌, ◌&&◌, List, [], ◌∷◌, map, length, Bool, true, false, not, nat_le, nat_lt, Option, Some, None, All}
 use Rattle.std.specs.Option.{option_or}
-use Rattle.cut_measure.specs.declared.ranges.TheConstants.{MOST_NUMBERS, MOST_COUNT, MOST_WORTH}
+use Rattle.cut_measure.specs.declared.ranges.TheConstants.{MAX_NUMBERS, MAX_COUNT, MAX_WORTH}
 use Rattle.cut_measure.specs.declared.sizes.Kind.{Kind}
 use Rattle.cut_measure.specs.declared.sizes.Kind.TheVariants.{Bar, Sheet}
 use Rattle.cut_measure.specs.Measures.{is_size}
-use Rattle.shop_files.specs.declared.limits.TheConstants.{MOST_LINES}
+use Rattle.shop_files.specs.declared.limits.TheConstants.{MAX_LINES}
 use Rattle.shop_records.specs.declared.records.Material.{Material}
 use Rattle.shop_records.specs.declared.records.Demand.{Demand}
 use Rattle.shop_records.specs.declared.changes.Change.{Change}
@@ -24,8 +24,8 @@ is_bar Sheet = false
 -- its worth are in range, and a bar's pieces don't turn.
 abbrev pub is_good_line : ℕ → OrderLine → Kind → Bool
 is_good_line last line kind =
-    nat_lt last line.line && is_size kind line.w line.h && nat_le 1 line.count && nat_le line.count MOST_COUNT
-    && nat_le 1 line.worth && nat_le line.worth MOST_WORTH && not (is_bar kind && line.turn)
+    nat_lt last line.line && is_size kind line.w line.h && nat_le 1 line.count && nat_le line.count MAX_COUNT
+    && nat_le 1 line.worth && nat_le line.worth MAX_WORTH && not (is_bar kind && line.turn)
 
 abbrev pub line_refusal : ℕ → OrderLine → Option Material → Option Refusal
 line_refusal last line None = Some NoMaterial
@@ -39,8 +39,8 @@ lines_refusal at last (line ∷ lines) = option_or (line_refusal last line (at l
 -- of an order: whether its code is used, where its materials are found, its lines, and its first demand's number
 abbrev pub order_refusal : Bool → (List ℕ → Option Material) → List OrderLine → ℕ → Option Refusal
 order_refusal used at lines first =
-    option_or (first_of ((used, OrderExists) ∷ (not (nat_le 1 (length lines) && nat_le (length lines) MOST_LINES), BadLine) ∷ []))
-    (option_or (lines_refusal at 0 lines) (first_of ((nat_lt (MOST_NUMBERS + 1) (first + length lines), NumbersSpent) ∷ [])))
+    option_or (first_of ((used, OrderExists) ∷ (not (nat_le 1 (length lines) && nat_le (length lines) MAX_LINES), BadLine) ∷ []))
+    (option_or (lines_refusal at 0 lines) (first_of ((nat_lt (MAX_NUMBERS + 1) (first + length lines), NumbersSpent) ∷ [])))
 
 -- nothing of it is reserved or made yet
 abbrev pub new_demand : List ℕ → ℕ → OrderLine → Demand

@@ -1,9 +1,9 @@
 -- Receiving units.
 use Rattle.std.specs.Prelude.{ℕ, ◌+◌, ◌*◌, ◌&&◌, List, [], ◌∷◌, map, not, nat_le, nat_lt, Option, Some, None}
-use Rattle.cut_measure.specs.declared.ranges.TheConstants.{MOST_NUMBERS}
+use Rattle.cut_measure.specs.declared.ranges.TheConstants.{MAX_NUMBERS}
 use Rattle.cut_measure.specs.Measures.{Extent, is_size, below}
-use Rattle.shop_records.specs.declared.records.TheConstants.{MOST_RECEIVED}
-use Rattle.shop_machine.specs.declared.receiving.TheConstants.{MOST_UNITS}
+use Rattle.shop_records.specs.declared.records.TheConstants.{MAX_RECEIVED}
+use Rattle.shop_machine.specs.declared.receiving.TheConstants.{MAX_RECEIVED_UNITS}
 use Rattle.shop_records.specs.declared.records.Material.{Material}
 use Rattle.shop_records.specs.declared.records.Part.{Part}
 use Rattle.shop_records.specs.declared.records.Totals.{Totals}
@@ -19,8 +19,8 @@ use Rattle.shop_machine.specs.Decisions.{first_of, no_change}
 abbrev pub receive_refusal : Option Material → Totals → ℕ → ℕ → ℕ → ℕ → Option Refusal
 receive_refusal None totals act w h count = Some NoMaterial
 receive_refusal (Some m) totals act w h count =
-    first_of ((not (is_size m.kind w h), BadSize) ∷ (not (nat_le 1 count && nat_le count MOST_UNITS), BadCount)
-    ∷ (nat_lt MOST_RECEIVED (totals.received + w * h * count), TooMuch) ∷ (nat_lt MOST_NUMBERS act, NumbersSpent)
+    first_of ((not (is_size m.kind w h), BadSize) ∷ (not (nat_le 1 count && nat_le count MAX_RECEIVED_UNITS), BadCount)
+    ∷ (nat_lt MAX_RECEIVED (totals.received + w * h * count), TooMuch) ∷ (nat_lt MAX_NUMBERS act, NumbersSpent)
     ∷ (not (nat_le totals.stock totals.received), StoreFault) ∷ [])
 
 -- the unit of this index: it stands, and is its own root

@@ -2,9 +2,9 @@
 use Rattle.std.specs.Prelude.{◌≡◌, ℕ, ◌+◌, ◌≤◌, ◌&&◌, ◌==◌, List, [], ◌∷◌, length, Bool, true, false, not, nat_lt, if◌then◌else◌, Option, Some, None, is_some}
 use Rattle.std.specs.List.{list_any}
 use Rattle.std.specs.Option.{option_or}
-use Rattle.cut_measure.specs.declared.ranges.TheConstants.{MOST_NUMBERS}
+use Rattle.cut_measure.specs.declared.ranges.TheConstants.{MAX_NUMBERS}
 use Rattle.cut_measure.specs.Names.{Name}
-use Rattle.cut_tree.specs.declared.token.TheConstants.{MOST_CUTS}
+use Rattle.cut_tree.specs.declared.token.TheConstants.{MAX_CUTS}
 use Rattle.cut_tree.specs.declared.leaves.Leaf.{Leaf}
 use Rattle.cut_tree.specs.Tree.{count_of, cut_count}
 use Rattle.cut_tree.specs.Patterns.{Pattern}
@@ -36,7 +36,7 @@ pub record IsReading (old : Content) (part : Name) (text : List ℕ) (plan : Pat
   pub height : plan.h ≡ row.size.h
   pub kerf : plan.kerf ≡ material.limits.kerf
   pub spelled : IsSpelling text plan.tree plan.w plan.h plan.kerf
-  pub few_cuts : cut_count plan.tree ≤ MOST_CUTS
+  pub few_cuts : cut_count plan.tree ≤ MAX_CUTS
 
 -- the text is read as a plan without a piece
 abbrev pub HasNoPiece : Content → Name → List ℕ → Type 0
@@ -72,7 +72,7 @@ plan_refusal part None at act = Some BadTree
 plan_refusal part (Some plan) at act =
     option_or (first_of ((length (plan_leaves plan) == 0, BadTree) ∷ []))
     (option_or (leaves_refusal at part.material (plan_leaves plan))
-    (first_of ((is_too_many at plan, TooMany) ∷ (nat_lt MOST_NUMBERS act, NumbersSpent) ∷ [])))
+    (first_of ((is_too_many at plan, TooMany) ∷ (nat_lt MAX_NUMBERS act, NumbersSpent) ∷ [])))
 
 -- Of a reservation: the part's row, the row of its material, which is there in each content that a history gives, the plan
 -- that was read, where the demands are found, and the act's number.

@@ -7,7 +7,7 @@ ghost use Rattle.shop_machine.specs.Amending.{amend_refusal, amend_change};
 
 use crate::decisions::no_change;
 use crate::recounts::wide;
-use cut_measure::MOST_COUNT;
+use cut_measure::MAX_COUNT;
 use shop_records::{Change, Demand, DemandList, Refusal, Reply};
 use std::alloc::{AllocError, Global};
 
@@ -38,7 +38,7 @@ pub fn decide_amend(alloc: Global, demand: Option<Demand>, wanted: u32) -> Resul
     let Some(demand) = demand else {
         return Err(Refusal::NoDemand);
     };
-    if wanted > MOST_COUNT {
+    if wanted > MAX_COUNT {
         return Err(Refusal::BadLine);
     }
     if wide(wanted) < wide(demand.reserved) + wide(demand.made) {

@@ -2,7 +2,7 @@
 
 ghost use Rattle.std.specs.Prelude.{◌≡◌, ◌*◌, ◌≤◌, IfOk, IfErr, IsTrue, ◌+◌, ◌∷◌, ℕ, Option, None, All, map, ◌<◌, ◌^◌, Some, IfSome, MatchOption};
 ghost use Rattle.std.specs.List.{list_all};
-ghost use Rattle.cut_measure.specs.declared.ranges.TheConstants.{MOST_HEIGHT, MOST_NUMBERS, MOST_WIDTH};
+ghost use Rattle.cut_measure.specs.declared.ranges.TheConstants.{MAX_HEIGHT, MAX_NUMBERS, MAX_WIDTH};
 ghost use Rattle.cut_tree.specs.Tree.{count_of};
 ghost use Rattle.cut_tree.specs.Laying.{IsLaid};
 ghost use Rattle.cut_tree.specs.Stops.{outcome_of, halted, IsStopOf};
@@ -20,7 +20,7 @@ ghost use Rattle.shop_machine.specs.Moving.{has_cells, tally, AreFew};
 use crate::decisions::no_change;
 use crate::moving::{has_cells, moved_totals, tally};
 use crate::recounts::{FoundLeaf, Recount, recounted_rows, stands_again, wide};
-use cut_measure::{Kind, Limits, MOST_HEIGHT, MOST_NUMBERS, MOST_WIDTH, PartName, Size};
+use cut_measure::{Kind, Limits, MAX_HEIGHT, MAX_NUMBERS, MAX_WIDTH, PartName, Size};
 use cut_tree::{Halt, Owner, Plan, Row, Stop, halted};
 use shop_records::{
     Change, Demand, DemandList, Job, JobHalt, JobState, Material, MaterialTotals, Part, PartList,
@@ -48,9 +48,9 @@ fn fate(limits: Limits, owner: Owner, size: Size) -> State
 
 // The part that a laid row of a job on a part becomes.
 fn row_part(part: &Part, limits: Limits, act: u32, row: &Row) -> Part
-    requires act { (1 ≤ act) × (act ≤ MOST_NUMBERS) }
-    requires across { (1 ≤ row.now.w) × (part.now.x + row.now.x + row.now.w ≤ MOST_WIDTH) }
-    requires down { (1 ≤ row.now.h) × (part.now.y + row.now.y + row.now.h ≤ MOST_HEIGHT) }
+    requires act { (1 ≤ act) × (act ≤ MAX_NUMBERS) }
+    requires across { (1 ≤ row.now.w) × (part.now.x + row.now.x + row.now.w ≤ MAX_WIDTH) }
+    requires down { (1 ≤ row.now.h) × (part.now.y + row.now.y + row.now.h ≤ MAX_HEIGHT) }
     ensures { result ≡ row_part part.now limits act row.now }
 {
     let Some(size) = Size::new(Kind::Sheet, row.w, row.h) else {
@@ -76,10 +76,10 @@ fn cut_parts(
     act: u32,
     rows: &[Row],
 ) -> Result<PartList, AllocError>
-    requires act { (1 ≤ act) × (act ≤ MOST_NUMBERS) }
+    requires act { (1 ≤ act) × (act ≤ MAX_NUMBERS) }
     requires across { All (λ row. (1 ≤ row.w)
-        × (part.now.x + row.x + row.w ≤ MOST_WIDTH)) rows.now }
-    requires down { All (λ row. (1 ≤ row.h) × (part.now.y + row.y + row.h ≤ MOST_HEIGHT)) rows.now }
+        × (part.now.x + row.x + row.w ≤ MAX_WIDTH)) rows.now }
+    requires down { All (λ row. (1 ≤ row.h) × (part.now.y + row.y + row.h ≤ MAX_HEIGHT)) rows.now }
     ensures { IfOk result (λ parts. parts ≡ map (row_part part.now limits act) rows.now) }
 {
     let mut parts = PartList::new(alloc);
@@ -129,12 +129,12 @@ fn is_part_of(job: &Job, part: &Part) -> bool
     let w = part.size.w();
     let h = part.size.h();
     1 <= job.act
-        && job.act <= MOST_NUMBERS
+        && job.act <= MAX_NUMBERS
         && part.state.is_reserved_for(job.act)
         && w == size.w()
         && h == size.h()
-        && wide(part.x) + wide(w) <= wide(MOST_WIDTH)
-        && wide(part.y) + wide(h) <= wide(MOST_HEIGHT)
+        && wide(part.x) + wide(w) <= wide(MAX_WIDTH)
+        && wide(part.y) + wide(h) <= wide(MAX_HEIGHT)
 }
 
 fn is_held(job: &Job, part: &Part, totals: &Totals) -> bool

@@ -1,7 +1,7 @@
 //! An order gets further lines: what is decided on them.
 
 ghost use Rattle.std.specs.Prelude.{◌≡◌, ◌≤◌, IfOk, IsTrue, ℕ, List, Option, length};
-ghost use Rattle.shop_files.specs.declared.limits.TheConstants.{MOST_LINES};
+ghost use Rattle.shop_files.specs.declared.limits.TheConstants.{MAX_LINES};
 ghost use Rattle.shop_records.specs.declared.records.Material.{Material as MaterialOf};
 ghost use Rattle.shop_records.specs.declared.records.Demand.{Demand as DemandOf};
 ghost use Rattle.shop_records.specs.Content.{last_line};
@@ -12,8 +12,8 @@ ghost use Rattle.shop_machine.specs.Extending.{extend_refusal, extend_change};
 
 use crate::decisions::no_change;
 use crate::ordering::{FoundLine, lines_refusal, new_demands};
-use cut_measure::{Code, MOST_NUMBERS};
-use shop_files::MOST_LINES;
+use cut_measure::{Code, MAX_NUMBERS};
+use shop_files::MAX_LINES;
 use shop_records::{Change, Refusal, Reply};
 use std::alloc::Global;
 
@@ -35,19 +35,19 @@ pub fn decide_extend(
         → Decides (extend_refusal known at there (lines_in lines.now) first)
         (λ change. change ≡ extend_change order (lines_in lines.now) first) result }
     ensures told { IfOk result (λ change. IsTrue (is_accepted change.reply)) }
-    ensures few { IfOk result (λ _. length lines.now ≤ MOST_LINES) }
+    ensures few { IfOk result (λ _. length lines.now ≤ MAX_LINES) }
 {
     if !known {
         return Err(Refusal::NoOrder);
     }
-    if lines.is_empty() || has > MOST_LINES || lines.len() > MOST_LINES - has {
+    if lines.is_empty() || has > MAX_LINES || lines.len() > MAX_LINES - has {
         return Err(Refusal::BadLine);
     }
     if let Some(refusal) = lines_refusal(last, lines) {
         return Err(refusal);
     }
     let count = lines.len() as u32;
-    if first > MOST_NUMBERS + 1 - count {
+    if first > MAX_NUMBERS + 1 - count {
         return Err(Refusal::NumbersSpent);
     }
     let Ok(demands) = new_demands(alloc, order, first, lines) else {

@@ -1,7 +1,7 @@
 //! An order is made from the text of an order file or of a problem file: what is decided on it.
 
 ghost use Rattle.std.specs.Prelude.{◌≡◌, ◌≤◌, ℕ, List, [], Option, Some, IfOk, IfSome, IsTrue, ◌↔◌, MatchOption, length};
-ghost use Rattle.shop_files.specs.declared.limits.TheConstants.{MOST_PIECES};
+ghost use Rattle.shop_files.specs.declared.limits.TheConstants.{MAX_PIECES};
 ghost use Rattle.shop_records.specs.declared.records.Material.{Material as MaterialOf};
 ghost use Rattle.shop_records.specs.Messages.{is_accepted};
 ghost use Rattle.shop_machine.specs.Decisions.{Decides, no_change};
@@ -54,7 +54,7 @@ pub fn problem_lines(
     material: Code,
     pieces: &[Piece],
 ) -> Result<LineList, AllocError>
-    requires { length pieces.now ≤ MOST_PIECES }
+    requires { length pieces.now ≤ MAX_PIECES }
     ensures { IfOk result (λ lines. lines ≡ problem_lines material pieces.now) }
 {
     let mut lines = LineList::new(alloc);

@@ -27,7 +27,7 @@ pub use laws::{
     time_decides_nothing,
 };
 pub use recounts::{FoundLeaf, wide};
-pub use shop_files::MOST_LINES;
+pub use shop_files::MAX_LINES;
 pub use shop_records::{
     Change, CodeList, Column, Command, Demand, DemandList, DemandRow, DemandRows, Entry, Form,
     ImportRow, Job, JobBegin, JobHalt, JobList, JobRow, JobState, Kept, KeptMessage, LineList,

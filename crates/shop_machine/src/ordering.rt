@@ -1,9 +1,9 @@
 //! An order is added: what its lines have to be, and the demands that they become.
 
 ghost use Rattle.std.specs.Prelude.{◌≡◌, ◌≤◌, IfOk, IsTrue, ◌+◌, ℕ, List, Option, IfNone, All, length};
-ghost use Rattle.cut_measure.specs.declared.ranges.TheConstants.{MOST_NUMBERS};
+ghost use Rattle.cut_measure.specs.declared.ranges.TheConstants.{MAX_NUMBERS};
 ghost use Rattle.cut_measure.specs.Measures.{is_size};
-ghost use Rattle.shop_files.specs.declared.limits.TheConstants.{MOST_LINES};
+ghost use Rattle.shop_files.specs.declared.limits.TheConstants.{MAX_LINES};
 ghost use Rattle.cut_measure.specs.declared.sizes.Kind.TheVariants.{Sheet};
 ghost use Rattle.shop_records.specs.declared.records.Material.{Material as MaterialOf};
 ghost use Rattle.shop_records.specs.Messages.{is_accepted};
@@ -11,8 +11,8 @@ ghost use Rattle.shop_machine.specs.Decisions.{Decides};
 ghost use Rattle.shop_machine.specs.Ordering.{is_good_line, line_refusal, lines_refusal, order_refusal, order_change, new_demand, new_demands, lines_in, AreMaterialsFound};
 
 use crate::decisions::no_change;
-use cut_measure::{Code, Kind, MOST_COUNT, MOST_NUMBERS, MOST_WORTH, Size};
-use shop_files::{MOST_LINES, OrderLine};
+use cut_measure::{Code, Kind, MAX_COUNT, MAX_NUMBERS, MAX_WORTH, Size};
+use shop_files::{MAX_LINES, OrderLine};
 use shop_records::{Change, Demand, DemandList, Material, Refusal, Reply};
 use std::alloc::{AllocError, Global};
 
@@ -33,9 +33,9 @@ fn is_good_line(last: u32, line: &OrderLine, kind: Kind) -> bool
     last < line.line
         && Size::new(kind, line.w, line.h).is_some()
         && 1 <= line.count
-        && line.count <= MOST_COUNT
+        && line.count <= MAX_COUNT
         && 1 <= line.worth
-        && line.worth <= MOST_WORTH
+        && line.worth <= MAX_WORTH
         && !turns
 }
 
@@ -97,7 +97,7 @@ pub(crate) fn new_demands(
     first: u32,
     lines: &[FoundLine],
 ) -> Result<DemandList, AllocError>
-    requires range { first + length lines.now ≤ MOST_NUMBERS + 1 }
+    requires range { first + length lines.now ≤ MAX_NUMBERS + 1 }
     requires sized { All (λ f. IsTrue (is_size Sheet f.line.w f.line.h)) lines.now }
     ensures { IfOk result (λ rows. rows ≡ new_demands order first (lines_in lines.now)) }
 {
@@ -125,19 +125,19 @@ pub fn decide_order(
         → Decides (order_refusal used at (lines_in lines.now) first)
         (λ change. change ≡ order_change order (lines_in lines.now) first) result }
     ensures told { IfOk result (λ change. IsTrue (is_accepted change.reply)) }
-    ensures few { IfOk result (λ _. length lines.now ≤ MOST_LINES) }
+    ensures few { IfOk result (λ _. length lines.now ≤ MAX_LINES) }
 {
     if used {
         return Err(Refusal::OrderExists);
     }
-    if lines.is_empty() || lines.len() > MOST_LINES {
+    if lines.is_empty() || lines.len() > MAX_LINES {
         return Err(Refusal::BadLine);
     }
     if let Some(refusal) = lines_refusal(0, lines) {
         return Err(refusal);
     }
     let count = lines.len() as u32;
-    if first > MOST_NUMBERS + 1 - count {
+    if first > MAX_NUMBERS + 1 - count {
         return Err(Refusal::NumbersSpent);
     }
     let Ok(demands) = new_demands(alloc, order, first, lines) else {

@@ -1,20 +1,20 @@
 //! Units are received: what is decided on a receipt, and its new parts.
 
 ghost use Rattle.std.specs.Prelude.{◌≡◌, ◌≤◌, IfOk, IsTrue};
-ghost use Rattle.cut_measure.specs.declared.ranges.TheConstants.{MOST_NUMBERS};
+ghost use Rattle.cut_measure.specs.declared.ranges.TheConstants.{MAX_NUMBERS};
 ghost use Rattle.shop_records.specs.Messages.{is_accepted};
 ghost use Rattle.shop_machine.specs.Decisions.{Decides};
 ghost use Rattle.shop_machine.specs.Receiving.{receive_refusal, receive_change, unit_parts};
 
 use crate::decisions::no_change;
-use cut_measure::{Code, MOST_NUMBERS, PartName, Size};
+use cut_measure::{Code, MAX_NUMBERS, PartName, Size};
 use shop_records::{
-    Change, MOST_RECEIVED, Material, MaterialTotals, Part, PartList, Refusal, Reply, State, Totals,
+    Change, MAX_RECEIVED, Material, MaterialTotals, Part, PartList, Refusal, Reply, State, Totals,
 };
 use std::alloc::{AllocError, Global};
 
 /// The most units of one receipt.
-pub const MOST_UNITS: u32 = 100;
+pub const MAX_RECEIVED_UNITS: u32 = 100;
 
 // The parts of units that were just received.
 fn received_parts(
@@ -26,7 +26,7 @@ fn received_parts(
     count: u32,
 ) -> Result<PartList, AllocError>
     requires least { 1 ≤ act }
-    requires most { act ≤ MOST_NUMBERS }
+    requires most { act ≤ MAX_NUMBERS }
     ensures { IfOk result (λ rows. rows ≡ unit_parts material batch size act count) }
 {
     let mut rows = PartList::new(alloc);
@@ -71,14 +71,14 @@ pub fn decide_receive(
     let Some(size) = Size::new(known.kind, w, h) else {
         return Err(Refusal::BadSize);
     };
-    if count < 1 || count > MOST_UNITS {
+    if count < 1 || count > MAX_RECEIVED_UNITS {
         return Err(Refusal::BadCount);
     }
     let cells = size.cells() * u64::from(count);
-    if totals.received > MOST_RECEIVED || cells > MOST_RECEIVED - totals.received {
+    if totals.received > MAX_RECEIVED || cells > MAX_RECEIVED - totals.received {
         return Err(Refusal::TooMuch);
     }
-    if act > MOST_NUMBERS {
+    if act > MAX_NUMBERS {
         return Err(Refusal::NumbersSpent);
     }
     if totals.stock > totals.received {

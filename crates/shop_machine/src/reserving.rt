@@ -12,7 +12,7 @@ ghost use Rattle.shop_machine.specs.Reserving.{IsReservation, fits_demand, is_ov
 
 use crate::decisions::no_change;
 use crate::recounts::{FoundLeaf, Recount, recounted_rows, stands_again, wide};
-use cut_measure::{Code, MOST_NUMBERS};
+use cut_measure::{Code, MAX_NUMBERS};
 use cut_tree::{Leaf, Plan};
 use shop_records::{Change, Demand, Job, JobState, Material, Part, Refusal, Reply, State};
 use std::alloc::{AllocError, Global};
@@ -150,7 +150,7 @@ fn plan_refusal(part: &Part, plan: &Plan, leaves: &[FoundLeaf], act: u32) -> Opt
     if is_too_many(plan, leaves) {
         return Some(Refusal::TooMany);
     }
-    if act > MOST_NUMBERS {
+    if act > MAX_NUMBERS {
         return Some(Refusal::NumbersSpent);
     }
     None

@@ -23,7 +23,7 @@ use crate::decisions::no_change;
 use crate::ending::{can_end, ended_parts};
 use crate::moving::{can_move, moved_total, tally_one};
 use crate::recounts::{FoundLeaf, Recount, pieces_in, recounted_rows, wide};
-use cut_measure::{Code, Limits, MOST_HEIGHT, MOST_NUMBERS, MOST_WIDTH, PartName, Size};
+use cut_measure::{Code, Limits, MAX_HEIGHT, MAX_NUMBERS, MAX_WIDTH, PartName, Size};
 use cut_tree::{Row, Stop, halted};
 use shop_records::{
     Change, Demand, Job, JobHalt, JobState, Material, MaterialTotals, Part, PartList, Refusal,
@@ -132,11 +132,11 @@ fn fits_part(job: &Job, part: &Part) -> bool
     let w = part.size.w();
     let h = part.size.h();
     1 <= job.act
-        && job.act <= MOST_NUMBERS
+        && job.act <= MAX_NUMBERS
         && w == size.w()
         && h == size.h()
-        && wide(part.x) + wide(w) <= wide(MOST_WIDTH)
-        && wide(part.y) + wide(h) <= wide(MOST_HEIGHT)
+        && wide(part.x) + wide(w) <= wide(MAX_WIDTH)
+        && wide(part.y) + wide(h) <= wide(MAX_HEIGHT)
 }
 
 // A job that is over, with how the work on it ended, its part, and the limits of that one's material.

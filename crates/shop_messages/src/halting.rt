@@ -10,7 +10,7 @@ ghost use Rattle.shop_forms.specs.Forms.{sent_data};
 ghost use Rattle.shop_forms.specs.Members.{IsAt};
 ghost use Rattle.shop_forms.specs.Tokens.{AddsValue};
 
-use cut_tree::{Halt, MOST_CUTS};
+use cut_tree::{Halt, MAX_CUTS};
 use json::Writer;
 use serde_json::Value;
 use shop_forms::{Member, flag_at, has_keys, number_at, rows_at, wide, write_object};
@@ -122,7 +122,7 @@ pub(crate) fn has_few_cuts(command: &Command) -> bool
         Command::Break {
             halt: Halt::Listed { cuts, .. },
             ..
-        } => cuts.as_slice().len() <= MOST_CUTS as usize,
+        } => cuts.as_slice().len() <= MAX_CUTS as usize,
         _ => true,
     }
 }

@@ -4,7 +4,7 @@ ghost use Rattle.std.specs.Prelude.{◌≡◌, ◌≢◌, ◌≤◌, length, Err
 ghost use Rattle.shop_desk.specs.Faults.{CountsUp};
 ghost use Rattle.shop_desk.specs.Handled.{AreHandledAt};
 ghost use Rattle.shop_forms.specs.Forms.{json_texts};
-ghost use Rattle.shop_files.specs.declared.limits.TheConstants.{MOST_ENTRIES};
+ghost use Rattle.shop_files.specs.declared.limits.TheConstants.{MAX_ENTRIES};
 ghost use Rattle.shop_records.specs.Messages.{refusal_in};
 ghost use Rattle.shop_records.specs.declared.messages.Reply.{Reply as ReplyOf};
 ghost use Rattle.shop_opening.specs.Shops as spec;
@@ -63,7 +63,7 @@ fn message_of(number: u32, entry: &MaterialEntry) -> Message
 
 // What the entries say, numbered from 1 on.
 fn messages_of(alloc: Global, entries: &[MaterialEntry]) -> Result<Vec<Message>, AllocError>
-    requires { length entries.now ≤ MOST_ENTRIES }
+    requires { length entries.now ≤ MAX_ENTRIES }
     ensures { IfOk result (λ messages. messages.items ≡ spec.shop_messages entries.now) }
 {
     let mut messages = Vec::new(alloc);
@@ -114,7 +114,7 @@ pub fn add_shop<B: Book>(
     entries: &[MaterialEntry],
     at: u64,
 ) -> Result<(), AddFault>
-    requires { length entries.now ≤ MOST_ENTRIES }
+    requires { length entries.now ≤ MAX_ENTRIES }
     ensures ok { OnOk result (HasShop B.Book book.old book.new entries.now (All IsAccepted)) }
     ensures err { IfErr result (ShopFailed B.Book book.old book.new entries.now) }
     ensures timed { result ≢ Err NoMemory → (replies : List ReplyOf)

@@ -8,7 +8,7 @@ use Rattle.std.proofs.lemmas.List.{map_more}
 use Rattle.std.proofs.lemmas.List.Elements.{All-head, All-more, All-tail, All-weaker}
 use Rattle.std.proofs.lemmas.List.Sorted.{sum_by-IsPermutation}
 use Rattle.std.proofs.lemmas.List.Sums.{sum_by-cons}
-use Rattle.cut_bound.specs.declared.limits.TheConstants.{MOST_ORDER_WANTS}
+use Rattle.cut_bound.specs.declared.limits.TheConstants.{MAX_ORDER_WANTS}
 use Rattle.shop_records.specs.declared.records.Demand.{Demand}
 use Rattle.shop_records.specs.Content.{Content}
 use Rattle.shop_records.specs.Lists.{due_of, is_due_before}
@@ -89,10 +89,10 @@ got s k None P some match = none_at s k match
 got s k (Some x) P some match = ap Some some ∙ sym (slice_get-get_or s k x.now match.0)
 
 -- the 100th of the turns in order is the last
-pub last_is : (turns sorted : List ℕ) → IsPermutation turns sorted → IsNonDecreasing sorted → IsLast (slice_get sorted (MOST_ORDER_WANTS - 1)) turns
+pub last_is : (turns sorted : List ℕ) → IsPermutation turns sorted → IsNonDecreasing sorted → IsLast (slice_get sorted (MAX_ORDER_WANTS - 1)) turns
 last_is turns sorted moved up turn =
-    last_in turn sorted (MOST_ORDER_WANTS - 1) up
-    ∙ ap (λ n. nat_lt n MOST_ORDER_WANTS) (sum_by-IsPermutation (λ other. cond {A = ℕ} (nat_lt other turn) 1 0) turns sorted moved)
+    last_in turn sorted (MAX_ORDER_WANTS - 1) up
+    ∙ ap (λ n. nat_lt n MAX_ORDER_WANTS) (sum_by-IsPermutation (λ other. cond {A = ℕ} (nat_lt other turn) 1 0) turns sorted moved)
 
 -- ---- turns are the order by day
 
@@ -171,9 +171,9 @@ pub taken_by_day : (m : Content) (rows : List Demand) (turns : List Turn) (last 
     → map (λ (t : Turn). with_row t.row) (filter (λ (t : Turn). is_taken last t.turn) turns) ≡ map with_row (first_by_day m rows)
 taken_by_day m rows turns last have is =
     ap (λ l. map (λ (t : Turn). with_row t.row) (filter (λ (t : Turn). is_taken last t.turn) l)) have.0
-    ∙ chosen m last (λ d. nat_lt (before_it m rows d) MOST_ORDER_WANTS) rows
-    (All-weaker (HasTurn m) (λ d. is_taken last (turn_of m d) ≡ nat_lt (before_it m rows d) MOST_ORDER_WANTS)
-    (λ d has. is (turn_of m d) ∙ ap (λ l. nat_lt (below (turn_of m d) (turns_in l)) MOST_ORDER_WANTS) have.0 ∙ ap (λ n. nat_lt n MOST_ORDER_WANTS) (counted m d has rows have.1)) rows have.1)
+    ∙ chosen m last (λ d. nat_lt (before_it m rows d) MAX_ORDER_WANTS) rows
+    (All-weaker (HasTurn m) (λ d. is_taken last (turn_of m d) ≡ nat_lt (before_it m rows d) MAX_ORDER_WANTS)
+    (λ d has. is (turn_of m d) ∙ ap (λ l. nat_lt (below (turn_of m d) (turns_in l)) MAX_ORDER_WANTS) have.0 ∙ ap (λ n. nat_lt n MAX_ORDER_WANTS) (counted m d has rows have.1)) rows have.1)
 
 -- ---- one turn more
 

@@ -9,7 +9,7 @@ use Rattle.cut_bound.specs.declared.stock.StockSize.{StockSize}
 use Rattle.cut_bound.specs.Cuttings.{units_at}
 use Rattle.cut_bound.specs.Planned.{cutting_of}
 use Rattle.shop_plans.specs.declared.answers.MissingPieces.{MissingPieces}
-use Rattle.shop_planning.specs.declared.posed.StockPart.{StockPart}
+use Rattle.shop_planning.specs.declared.instance.StockPart.{StockPart}
 use Rattle.shop_planning.specs.declared.telling.Entry.{Entry}
 use Rattle.shop_planning.specs.Answers.{missing_rows}
 use Rattle.shop_planning.specs.Entries.{entries_from, entry_of}

@@ -19,8 +19,8 @@ use Rattle.shop_records.specs.Same.{same_name}
 use Rattle.shop_plans.specs.declared.limits.TheConstants.{UNIT_COST}
 use Rattle.shop_plans.specs.declared.answers.ToldPlan.{ToldPlan}
 use Rattle.shop_plans.specs.declared.questions.BuySize.{BuySize}
-use Rattle.shop_planning.specs.declared.posed.Posed.{Posed}
-use Rattle.shop_planning.specs.declared.posed.StockPart.{StockPart}
+use Rattle.shop_planning.specs.declared.instance.PlanInstance.{PlanInstance}
+use Rattle.shop_planning.specs.declared.instance.StockPart.{StockPart}
 use Rattle.shop_planning.specs.declared.telling.Entry.{Entry}
 use Rattle.shop_planning.specs.Entries.{AreToldPlans, entries_from, entries_of, entry_by, entry_of, is_of}
 use Rattle.shop_planning.specs.Naming.{parts_named, times_named}
@@ -177,22 +177,22 @@ module _ (ranked : List StockPart) (name : Name) where
               ∙ whole are_alike likeness one parts,
         )
 
-pub named_once : (posed : Posed) (kind : Kind) (buy : List BuySize) (units : List PlannedUnit) (told : List ToldPlan) (name : Name)
-    → posed.sizes.items ≡ sizes_of kind posed.parts.items buy → AreToldPlans posed units told → times_named told name ≤ parts_named posed.parts.items name
-named_once posed kind buy units told name sizes is =
-    let parts = posed.parts.items in
+pub named_once : (instance : PlanInstance) (kind : Kind) (buy : List BuySize) (units : List PlannedUnit) (told : List ToldPlan) (name : Name)
+    → instance.sizes.items ≡ sizes_of kind instance.parts.items buy → AreToldPlans instance units told → times_named told name ≤ parts_named instance.parts.items name
+named_once instance kind buy units told name sizes is =
+    let parts = instance.parts.items in
     let count : Entry → ℕ = λ e. sum_by (λ n. cond (same_name n name) 1 0) e.told.parts in
     let plans : times_named told name ≡ sum_by count is.list =
     ap (λ ts. times_named ts name) is.plans ∙ mapped_sum (λ (t : ToldPlan). sum_by (λ n. cond (same_name n name) 1 0) t.parts) (λ (e : Entry). e.told) is.list in
-    let moved : sum_by count is.list ≡ sum_by count (entries_of posed.sizes.items is.ranked (shares_of units)) =
-    sum_by-IsPermutation count (entries_of posed.sizes.items is.ranked (shares_of units)) is.list is.each in
-    let all : sum_by (λ (s : StockSize). among_all is.ranked name s.limit s) posed.sizes.items ≡ parts_named parts name =
+    let moved : sum_by count is.list ≡ sum_by count (entries_of instance.sizes.items is.ranked (shares_of units)) =
+    sum_by-IsPermutation count (entries_of instance.sizes.items is.ranked (shares_of units)) is.list is.each in
+    let all : sum_by (λ (s : StockSize). among_all is.ranked name s.limit s) instance.sizes.items ≡ parts_named parts name =
     ap (sum_by (λ (s : StockSize). among_all is.ranked name s.limit s)) sizes ∙ all_sizes is.ranked name parts is.parts.all kind buy in
     omega (
       arith,
       plans,
       moved,
-      plans_take is.ranked name posed.sizes.items [] (shares_of units),
-      took_few is.ranked name (units_at (cutting_of (shares_of units))) posed.sizes.items,
+      plans_take is.ranked name instance.sizes.items [] (shares_of units),
+      took_few is.ranked name (units_at (cutting_of (shares_of units))) instance.sizes.items,
       all,
     )

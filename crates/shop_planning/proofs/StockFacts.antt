@@ -11,12 +11,12 @@ use Rattle.std.proofs.lemmas.List.Elements.{All-map, All-weaker}
 use Rattle.std.proofs.lemmas.List.Sums.{sum_by-append, sum_by-cons}
 use Rattle.cut_measure.specs.declared.sizes.Kind.{Kind}
 use Rattle.cut_bound.specs.declared.stock.StockSize.{StockSize}
-use Rattle.cut_bound.specs.declared.limits.TheConstants.{MOST_BOUGHT_SIZES, MOST_PARTS}
-use Rattle.cut_order.specs.declared.question.TheConstants.{MOST_COST}
+use Rattle.cut_bound.specs.declared.limits.TheConstants.{MAX_BOUGHT_SIZES, MAX_PARTS}
+use Rattle.cut_order.specs.declared.question.TheConstants.{MAX_COST}
 use Rattle.cut_order.specs.Stocks.{IsStock, parts_of}
 use Rattle.shop_plans.specs.declared.limits.TheConstants.{UNIT_COST}
 use Rattle.shop_plans.specs.declared.questions.BuySize.{BuySize}
-use Rattle.shop_planning.specs.declared.posed.StockPart.{StockPart}
+use Rattle.shop_planning.specs.declared.instance.StockPart.{StockPart}
 use Rattle.shop_planning.specs.Stock.{IsStockPart, IsStockSize, are_alike, bought_size, firsts, part_size, part_sizes, sizes_of}
 use Rattle.shop_planning.proofs.Firsts.{all_firsts, few_firsts}
 use Rattle.shop_planning.proofs.Grouped.{IsLikeness, like_keys, whole}
@@ -71,7 +71,7 @@ all_sizes kind parts all =
     All-map (IsStockSize kind) (part_size parts) (firsts are_alike [] parts)
     (All-weaker (IsStockPart kind) (λ p. IsStockSize kind (part_size parts p)) (λ p is. record { cheap = is.cheap; flat = is.flat }) (firsts are_alike [] parts) (all_firsts are_alike (IsStockPart kind) [] parts all))
 
-pub is_stock : (kind : Kind) (parts : List StockPart) (buy : List BuySize) (sizes : List StockSize) → length parts ≤ MOST_PARTS → length buy ≤ MOST_BOUGHT_SIZES
+pub is_stock : (kind : Kind) (parts : List StockPart) (buy : List BuySize) (sizes : List StockSize) → length parts ≤ MAX_PARTS → length buy ≤ MAX_BOUGHT_SIZES
     → sizes ≡ sizes_of kind parts buy → All (IsStockSize kind) sizes → IsStock kind sizes
 is_stock kind parts buy sizes few_parts few_buy is all =
     record {
@@ -93,7 +93,7 @@ is_stock kind parts buy sizes few_parts few_buy is all =
         none_at_hand kind buy,
         few_parts,
       );
-      cheap = All-weaker (IsStockSize kind) (λ s. s.cost ≤ MOST_COST) (λ s x. x.cheap) sizes all;
+      cheap = All-weaker (IsStockSize kind) (λ s. s.cost ≤ MAX_COST) (λ s x. x.cheap) sizes all;
       flat = λ bar. All-weaker (IsStockSize kind) (λ s. s.size.h ≡ 1) (λ s x. x.flat bar) sizes all;
     }
 

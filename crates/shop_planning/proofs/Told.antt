@@ -12,11 +12,11 @@ use Rattle.shop_records.specs.declared.refusals.Refusal.{Refusal}
 use Rattle.shop_records.specs.Content.{Content}
 use Rattle.shop_plans.specs.declared.answers.MissingPieces.{MissingPieces}
 use Rattle.shop_plans.specs.declared.questions.PlansQuery.{PlansQuery}
-use Rattle.shop_planning.specs.declared.posed.Posed.{Posed}
+use Rattle.shop_planning.specs.declared.instance.PlanInstance.{PlanInstance}
 use Rattle.shop_planning.specs.declared.telling.Entry.{Entry}
 use Rattle.shop_planning.specs.Answers.{AreToldMissing, IsPlansText, missing_rows}
 use Rattle.shop_planning.specs.Entries.{in_order}
-use Rattle.shop_planning.specs.Questions.{AnswersPlans, IsQuestionAnswered, IsPosed}
+use Rattle.shop_planning.specs.Questions.{AnswersPlans, IsQuestionAnswered, IsInstance}
 use Rattle.shop_planning.specs.Shares.{are_alike, times_of}
 
 -- by places and then by texts is an order
@@ -32,9 +32,9 @@ missing_told wants missing rows sorted told made moved rising is =
     }
 
 -- an answer that is told
-pub answer_told : (m : Content) (q : PlansQuery) (posed : Posed) (text : List ℕ) → IsPosed m q posed → IsPlansText posed text → AnswersPlans m q (Ok text)
-answer_told m q posed text asks told n s =
-    let is : IsQuestionAnswered m q (Ok text) = record { posed = posed; asks = asks; text = text; told = told; is = refl } in
+pub answer_told : (m : Content) (q : PlansQuery) (instance : PlanInstance) (text : List ℕ) → IsInstance m q instance → IsPlansText instance text → AnswersPlans m q (Ok text)
+answer_told m q instance text asks told n s =
+    let is : IsQuestionAnswered m q (Ok text) = record { instance = instance; asks = asks; text = text; told = told; is = refl } in
     subst (λ o. MatchOption o (IsQuestionAnswered m q (Ok text)) (λ x. let answer : Result (List ℕ) Refusal = Ok text in answer ≡ Err x)) (sym asks.allowed) is
 
 -- no more are planned like one than there are

@@ -9,13 +9,13 @@ use Rattle.shop_plans.specs.declared.answers.DemandPrice.{DemandPrice}
 use Rattle.shop_plans.specs.declared.answers.MissingPieces.{MissingPieces}
 use Rattle.shop_plans.specs.declared.answers.PlansReply.{PlansReply}
 use Rattle.shop_plans.specs.Told.{plans_text}
-use Rattle.shop_planning.specs.declared.posed.Posed.{Posed}
+use Rattle.shop_planning.specs.declared.instance.PlanInstance.{PlanInstance}
 use Rattle.shop_planning.specs.Entries.{AreToldPlans}
 use Rattle.shop_planning.specs.Rests.{IsLargestRest}
 
 -- a plan of the order that is asked for
-abbrev pub IsPlanOf : Posed → OrderPlan → Type 0
-IsPlanOf posed plan = IsAnswerOf posed.kind posed.kerf posed.step posed.stages posed.sizes.items posed.wants.items plan
+abbrev pub IsPlanOf : PlanInstance → OrderPlan → Type 0
+IsPlanOf instance plan = IsAnswerOf instance.kind instance.kerf instance.step instance.stages instance.sizes.items instance.wants.items plan
 
 -- how many pieces are missing, of each want of which any is
 abbrev pub missing_rows : List Want → (missing : List ℕ) → List MissingPieces
@@ -33,21 +33,21 @@ told_price p = record { demand = p.demand; worth = p.worth }
 
 -- The answer tells a plan of the order: its units with the parts that are cut, what is missing, its cost and its bound with
 -- the prices, whether it is proved best, the largest rest that is kept, and whether all parts fall short.
-pub record IsPlansReply (posed : Posed) (reply : PlansReply) : Type 0 where
+pub record IsPlansReply (instance : PlanInstance) (reply : PlansReply) : Type 0 where
   pub plan : OrderPlan
-  pub answers : IsPlanOf posed plan
-  pub plans : AreToldPlans posed plan.units.items reply.plans.items
-  pub missing : AreToldMissing posed.wants.items plan.missing.items reply.missing
+  pub answers : IsPlanOf instance plan
+  pub plans : AreToldPlans instance plan.units.items reply.plans.items
+  pub missing : AreToldMissing instance.wants.items plan.missing.items reply.missing
   pub prices : reply.prices ≡ map told_price plan.prices.items
   pub cost : reply.cost ≡ plan.cost
   pub bound : reply.bound ≡ plan.bound
   pub proved : reply.proved ≡ plan.proved
-  pub rest : IsLargestRest posed.limits plan.units.items reply.rest
+  pub rest : IsLargestRest instance.limits plan.units.items reply.rest
   pub short : reply.short ≡ plan.short
-  pub step : reply.step ≡ unwrap_or posed.step 0
+  pub step : reply.step ≡ unwrap_or instance.step 0
 
 -- the text of an answer
-pub record IsPlansText (posed : Posed) (text : List ℕ) : Type 0 where
+pub record IsPlansText (instance : PlanInstance) (text : List ℕ) : Type 0 where
   pub reply : PlansReply
-  pub answer : IsPlansReply posed reply
+  pub answer : IsPlansReply instance reply
   pub says : text ≡ plans_text reply

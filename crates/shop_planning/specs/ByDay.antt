@@ -1,6 +1,6 @@
 -- How demands are taken by the day on which their order is due.
 use Rattle.std.specs.Prelude.{◌≡◌, ◌<◌, ◌+◌, ◌-◌, ◌*◌, ◌==◌, ℕ, nat_le, nat_lt, Bool, true, List, All, count_by, if◌then◌else◌, map, Option, Some, None}
-use Rattle.cut_bound.specs.declared.limits.TheConstants.{MOST_ORDER_WANTS}
+use Rattle.cut_bound.specs.declared.limits.TheConstants.{MAX_ORDER_WANTS}
 use Rattle.shop_records.specs.declared.records.Demand.{Demand}
 use Rattle.shop_records.specs.Content.{Content}
 use Rattle.shop_records.specs.Lists.{due_of}
@@ -34,4 +34,4 @@ is_taken (Some last) turn = nat_le turn last
 
 -- up to the last are those that fewer than 100 of the turns come before
 abbrev pub IsLast : Option ℕ → List ℕ → Type 0
-IsLast last turns = (turn : ℕ) → is_taken last turn ≡ nat_lt (count_by (λ other. nat_lt other turn) turns) MOST_ORDER_WANTS
+IsLast last turns = (turn : ℕ) → is_taken last turn ≡ nat_lt (count_by (λ other. nat_lt other turn) turns) MAX_ORDER_WANTS

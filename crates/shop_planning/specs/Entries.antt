@@ -7,14 +7,14 @@ use Rattle.std.specs.Ordering.{nat_cmp, ordering_then}
 use Rattle.std.specs.Cmp.Lexicographic.{slice_cmp}
 use Rattle.cut_measure.specs.Names.{name_cmp}
 use Rattle.cut_tree.specs.Spelling.{text_of}
-use Rattle.cut_bound.specs.declared.limits.TheConstants.{MOST_PARTS}
+use Rattle.cut_bound.specs.declared.limits.TheConstants.{MAX_PARTS}
 use Rattle.cut_bound.specs.declared.planned.PlannedUnit.{PlannedUnit}
 use Rattle.cut_bound.specs.declared.stock.StockSize.{StockSize}
 use Rattle.cut_bound.specs.Cuttings.{units_at}
 use Rattle.cut_bound.specs.Planned.{cutting_of}
 use Rattle.shop_plans.specs.declared.answers.ToldPlan.{ToldPlan}
-use Rattle.shop_planning.specs.declared.posed.Posed.{Posed}
-use Rattle.shop_planning.specs.declared.posed.StockPart.{StockPart}
+use Rattle.shop_planning.specs.declared.instance.PlanInstance.{PlanInstance}
+use Rattle.shop_planning.specs.declared.instance.StockPart.{StockPart}
 use Rattle.shop_planning.specs.declared.telling.Entry.{Entry}
 use Rattle.shop_planning.specs.Shares.{shares_of}
 
@@ -33,7 +33,7 @@ is_of s part = part.size.w == s.size.w && part.size.h == s.size.h && part.cost =
 
 -- the place in the stock's list of the part that stands there first
 abbrev pub first_place : List StockPart → ℕ
-first_place parts = fold (λ first part. min first part.place) MOST_PARTS parts
+first_place parts = fold (λ first part. min first part.place) MAX_PARTS parts
 
 -- so many parts of a size, by rising name, after those that other plans took
 abbrev pub taken : List StockPart → (before : ℕ) → PlannedUnit → StockSize → List StockPart
@@ -51,7 +51,7 @@ part_entry ranked before u s =
 abbrev pub bought_entry : PlannedUnit → StockSize → Entry
 bought_entry u s =
     record {
-      place = MOST_PARTS + u.place;
+      place = MAX_PARTS + u.place;
       told = record { buy = u.times; h = s.size.h; parts = []; tree = text_of u.plan.tree; w = s.size.w };
     }
 
@@ -78,10 +78,10 @@ in_order a b = ordering_then (nat_cmp a.place b.place) (slice_cmp nat_cmp a.told
 -- A plan for each size and each plan of a unit, with the parts of that size that are cut by it, or how many bought units
 -- are: first those with parts, by the place in the stock's list of the part that stands there first, and then the others,
 -- by the place of their size and then by the text.
-pub record AreToldPlans (posed : Posed) (units : List PlannedUnit) (told : List ToldPlan) : Type 0 where
+pub record AreToldPlans (instance : PlanInstance) (units : List PlannedUnit) (told : List ToldPlan) : Type 0 where
   pub ranked : List StockPart
-  pub parts : IsRanked posed.parts.items ranked
+  pub parts : IsRanked instance.parts.items ranked
   pub list : List Entry
-  pub each : IsPermutation (entries_of posed.sizes.items ranked (shares_of units)) list
+  pub each : IsPermutation (entries_of instance.sizes.items ranked (shares_of units)) list
   pub ordered : IsSorted in_order list
   pub plans : told ≡ map (λ (e : Entry). e.told) list

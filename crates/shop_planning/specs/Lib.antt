@@ -9,4 +9,4 @@ pub mod Naming
 pub mod Rests
 pub mod Answers
 pub mod Questions
-pub mod Thoughts
+pub mod PlanTasks

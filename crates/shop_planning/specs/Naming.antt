@@ -3,7 +3,7 @@ use Rattle.std.specs.Prelude.{ℕ, List, count_by, sum_by}
 use Rattle.cut_measure.specs.Names.{Name}
 use Rattle.shop_records.specs.Same.{same_name}
 use Rattle.shop_plans.specs.declared.answers.ToldPlan.{ToldPlan}
-use Rattle.shop_planning.specs.declared.posed.StockPart.{StockPart}
+use Rattle.shop_planning.specs.declared.instance.StockPart.{StockPart}
 
 -- how often plans name a part
 abbrev pub times_named : List ToldPlan → Name → ℕ

@@ -19,7 +19,7 @@ use Rattle.shop_answers.specs.declared.planning.FoundDemand.{FoundDemand}
 use Rattle.shop_answers.specs.Planning.{found_refusal, found_wants, planner_refusal}
 use Rattle.shop_plans.specs.declared.questions.BuySize.{BuySize}
 use Rattle.shop_plans.specs.declared.questions.PlansQuery.{PlansQuery}
-use Rattle.shop_planning.specs.declared.posed.Posed.{Posed}
+use Rattle.shop_planning.specs.declared.instance.PlanInstance.{PlanInstance}
 use Rattle.shop_planning.specs.declared.posing.Gathered.{Gathered}
 use Rattle.shop_planning.specs.Lists.{has_bad_list, is_in_range}
 use Rattle.shop_planning.specs.Asked.{demands_for, parts_for}
@@ -83,51 +83,51 @@ pub record IsGathered (q : PlansQuery) (kind : Kind) (demands : List FoundDemand
   pub wants_are : stock.wants.items ≡ found_wants demands
 
 -- a stock and wants that the planner has no fault with
-pub record IsPosedOn (q : PlansQuery) (material : Material) (stock : Gathered) (posed : Posed) : Type 0 where
+pub record IsInstanceOn (q : PlansQuery) (material : Material) (stock : Gathered) (instance : PlanInstance) : Type 0 where
   pub allowed : stock_refusal q material stock.sizes.items stock.wants.items ≡ None
-  pub kind : posed.kind ≡ material.kind
-  pub kerf : posed.kerf ≡ material.limits.kerf
-  pub step : posed.step ≡ step_for material.kind q.step
-  pub calls : posed.calls ≡ q.calls
-  pub stages : posed.stages ≡ q.stages
-  pub limits : posed.limits ≡ material.limits
-  pub parts : posed.parts.items ≡ stock.parts.items
-  pub sizes : posed.sizes.items ≡ stock.sizes.items
-  pub wants : posed.wants.items ≡ stock.wants.items
+  pub kind : instance.kind ≡ material.kind
+  pub kerf : instance.kerf ≡ material.limits.kerf
+  pub step : instance.step ≡ step_for material.kind q.step
+  pub calls : instance.calls ≡ q.calls
+  pub stages : instance.stages ≡ q.stages
+  pub limits : instance.limits ≡ material.limits
+  pub parts : instance.parts.items ≡ stock.parts.items
+  pub sizes : instance.sizes.items ≡ stock.sizes.items
+  pub wants : instance.wants.items ≡ stock.wants.items
 
 -- Of rows that aren't refused: the stock's parts in the order of the rows, their sizes and those that may be bought, what is
 -- left of the demands, and the step.
-pub record IsPosedBy (q : PlansQuery) (material : Material) (demands : List FoundDemand) (rows : List (Option Part)) (posed : Posed) : Type 0 where
+pub record IsInstanceBy (q : PlansQuery) (material : Material) (demands : List FoundDemand) (rows : List (Option Part)) (instance : PlanInstance) : Type 0 where
   pub allowed : material_refusal q material demands rows ≡ None
-  pub kind : posed.kind ≡ material.kind
-  pub kerf : posed.kerf ≡ material.limits.kerf
-  pub step : posed.step ≡ step_for material.kind q.step
-  pub calls : posed.calls ≡ q.calls
-  pub stages : posed.stages ≡ q.stages
-  pub limits : posed.limits ≡ material.limits
-  pub parts : posed.parts.items ≡ stock_parts material.kind q.remnant rows
-  pub sizes : posed.sizes.items ≡ sizes_of material.kind posed.parts.items q.buy
-  pub wants : posed.wants.items ≡ found_wants demands
+  pub kind : instance.kind ≡ material.kind
+  pub kerf : instance.kerf ≡ material.limits.kerf
+  pub step : instance.step ≡ step_for material.kind q.step
+  pub calls : instance.calls ≡ q.calls
+  pub stages : instance.stages ≡ q.stages
+  pub limits : instance.limits ≡ material.limits
+  pub parts : instance.parts.items ≡ stock_parts material.kind q.remnant rows
+  pub sizes : instance.sizes.items ≡ sizes_of material.kind instance.parts.items q.buy
+  pub wants : instance.wants.items ≡ found_wants demands
 
 -- the same of the rows of a content
-abbrev pub IsPosedOf : Content → PlansQuery → Material → Posed → Type 0
-IsPosedOf content q material posed = IsPosedBy q material (demands_for content q.material q.demands) (parts_for content q.material material.kind q.parts) posed
+abbrev pub IsInstanceOf : Content → PlansQuery → Material → PlanInstance → Type 0
+IsInstanceOf content q material instance = IsInstanceBy q material (demands_for content q.material q.demands) (parts_for content q.material material.kind q.parts) instance
 
 -- what a question that isn't refused asks of a content
-pub record IsPosed (content : Content) (q : PlansQuery) (posed : Posed) : Type 0 where
+pub record IsInstance (content : Content) (q : PlansQuery) (instance : PlanInstance) : Type 0 where
   pub allowed : plans_refusal content q ≡ None
   pub material : Material
   pub known : material_at content q.material ≡ Some material
-  pub is : IsPosedOf content q material posed
+  pub is : IsInstanceOf content q material instance
 
 -- ---- what is answered
 
 -- the text of an answer to what is asked
 pub record IsQuestionAnswered (content : Content) (q : PlansQuery) (result : Result (List ℕ) Refusal) : Type 0 where
-  pub posed : Posed
-  pub asks : IsPosed content q posed
+  pub instance : PlanInstance
+  pub asks : IsInstance content q instance
   pub text : List ℕ
-  pub told : IsPlansText posed text
+  pub told : IsPlansText instance text
   pub is : result ≡ Ok text
 
 -- an answer, or the first refusal that holds; memory and the store aside

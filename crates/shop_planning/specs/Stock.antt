@@ -5,13 +5,13 @@ use Rattle.cut_measure.specs.declared.sizes.Kind.{Kind}
 use Rattle.cut_measure.specs.declared.sizes.Kind.TheVariants.{Bar, Sheet}
 use Rattle.cut_measure.specs.Measures.{Extent, size_of}
 use Rattle.cut_bound.specs.declared.stock.StockSize.{StockSize}
-use Rattle.cut_order.specs.declared.question.TheConstants.{MOST_COST}
+use Rattle.cut_order.specs.declared.question.TheConstants.{MAX_COST}
 use Rattle.shop_records.specs.declared.records.Part.{Part}
 use Rattle.shop_records.specs.Columns.{is_whole}
 use Rattle.shop_answers.specs.Planning.{planned_size}
 use Rattle.shop_plans.specs.declared.limits.TheConstants.{UNIT_COST}
 use Rattle.shop_plans.specs.declared.questions.BuySize.{BuySize}
-use Rattle.shop_planning.specs.declared.posed.StockPart.{StockPart}
+use Rattle.shop_planning.specs.declared.instance.StockPart.{StockPart}
 
 -- ---- parts
 
@@ -35,7 +35,7 @@ stock_parts kind remnant rows = parts_from kind remnant 0 rows
 
 -- a part isn't too dear, and a bar has height 1
 pub record IsStockPart (kind : Kind) (part : StockPart) : Type 0 where
-  pub cheap : part.cost ≤ MOST_COST
+  pub cheap : part.cost ≤ MAX_COST
   pub flat : kind ≡ Bar → part.size.h ≡ 1
 
 -- ---- sizes
@@ -67,7 +67,7 @@ sizes_of kind parts buy = part_sizes parts ++ filter_map (bought_size kind) buy
 
 -- a size isn't too dear, and one of a bar has height 1
 pub record IsStockSize (kind : Kind) (s : StockSize) : Type 0 where
-  pub cheap : s.cost ≤ MOST_COST
+  pub cheap : s.cost ≤ MAX_COST
   pub flat : kind ≡ Bar → s.size.h ≡ 1
 
 -- ---- the step

@@ -1,7 +1,7 @@
 //! The demands and the parts that a question asks for, found in a book.
 
 ghost use Rattle.std.specs.Prelude.{◌≡◌, ◌≤◌, ◌++◌, ◌∷◌, [], IfOk, OnOk, filter, length, map, take, Some, None};
-ghost use Rattle.cut_bound.specs.declared.limits.TheConstants.{MOST_PARTS};
+ghost use Rattle.cut_bound.specs.declared.limits.TheConstants.{MAX_PARTS};
 ghost use Rattle.shop_records.specs.Content.{part_at};
 ghost use Rattle.shop_records.specs.Lists.{parts_after};
 ghost use Rattle.shop_book.specs.Failures.{CountsFailure};
@@ -9,9 +9,9 @@ ghost use Rattle.shop_book.specs.Kept.{Unchanged, OnContent};
 ghost use Rattle.shop_planning.specs.Asked as asked;
 
 use crate::by_day::first_demands;
-use cut_bound::MOST_PARTS;
-use cut_measure::{Code, Kind, MOST_NUMBERS, PartName};
-use cut_plan::LONGEST_BAR;
+use cut_bound::MAX_PARTS;
+use cut_measure::{Code, Kind, MAX_NUMBERS, PartName};
+use cut_plan::MAX_BAR_LENGTH;
 use shop_answers::{FoundDemand, left_of};
 use shop_book::{Book, BookFault};
 use shop_plans::{NameList, PlansQuery};
@@ -22,7 +22,7 @@ use std::alloc::{AllocError, Global};
 const FIRST_ROWS: usize = 2000;
 
 /// As many rows as there may be of a list.
-const ALL_ROWS: usize = MOST_NUMBERS as usize;
+const ALL_ROWS: usize = MAX_NUMBERS as usize;
 
 /// The demands and the parts that a question asks for, as far as they were found.
 #[derive(Drop)]
@@ -115,7 +115,7 @@ fn is_long(kind: Kind, part: &Part) -> bool
     ensures { result ≡ asked.is_long kind part.now }
 {
     match kind {
-        Kind::Bar => part.size.w() > LONGEST_BAR,
+        Kind::Bar => part.size.w() > MAX_BAR_LENGTH,
         Kind::Sheet => false,
     }
 }
@@ -130,11 +130,11 @@ fn can_be_planned(kind: Kind, part: &Part) -> bool
 // The first of the rows that may be planned.
 fn first_planned(alloc: Global, kind: Kind, rows: &[Part]) -> Result<Vec<Option<Part>>, AllocError>
     ensures found { IfOk result (λ found. found.items ≡ asked.first_planned kind rows.now) }
-    ensures few { IfOk result (λ found. length found.items ≤ MOST_PARTS) }
+    ensures few { IfOk result (λ found. length found.items ≤ MAX_PARTS) }
 {
     rows.iter()
         .filter(|part| can_be_planned(kind, part))
-        .take(MOST_PARTS as usize)
+        .take(MAX_PARTS as usize)
         .map(|part| Some(*part))
         .collect(alloc)
 }
@@ -149,7 +149,7 @@ fn first_standing<B: Book>(
 ) -> Result<Vec<Option<Part>>, BookFault>
     ensures found { OnContent B.Book book.old book.new (λ m. IfOk result (λ found. found.items
         ≡ asked.first_planned kind (take most (parts_after m material None)))) }
-    ensures few { IfOk result (λ found. length found.items ≤ MOST_PARTS) }
+    ensures few { IfOk result (λ found. length found.items ≤ MAX_PARTS) }
     ensures keeps { Unchanged B.Book (CountsFailure result) book.old book.new }
 {
     let rows = book.first_parts(alloc, material, None, most)?;
@@ -166,11 +166,11 @@ fn planned_parts<B: Book>(
 ) -> Result<Vec<Option<Part>>, BookFault>
     ensures found { OnContent B.Book book.old book.new
         (λ m. IfOk result (λ found. found.items ≡ asked.parts_for m material kind None)) }
-    ensures few { IfOk result (λ found. length found.items ≤ MOST_PARTS) }
+    ensures few { IfOk result (λ found. length found.items ≤ MAX_PARTS) }
     ensures keeps { Unchanged B.Book (CountsFailure result) book.old book.new }
 {
     let found = first_standing(alloc, book, material, kind, FIRST_ROWS)?;
-    if found.len() == MOST_PARTS as usize {
+    if found.len() == MAX_PARTS as usize {
         return Ok(found);
     }
     first_standing(alloc, book, material, kind, ALL_ROWS)
@@ -213,7 +213,7 @@ fn parts_for<B: Book>(
     requires { asked.AreFewNames parts.now }
     ensures found { OnContent B.Book book.old book.new
         (λ m. IfOk result (λ found. found.items ≡ asked.parts_for m material kind parts.now)) }
-    ensures few { IfOk result (λ found. length found.items ≤ MOST_PARTS) }
+    ensures few { IfOk result (λ found. length found.items ≤ MAX_PARTS) }
     ensures keeps { Unchanged B.Book (CountsFailure result) book.old book.new }
 {
     match parts {
@@ -231,7 +231,7 @@ pub fn asked_rows<B: Book>(
 ) -> Result<AskedRows, BookFault>
     requires { asked.AreFewNames query.now.parts }
     ensures rows { OnContent B.Book book.old book.new (λ m. IfOk result (asked.AreAsked m kind query.now)) }
-    ensures few { IfOk result (λ rows. length rows.parts.items ≤ MOST_PARTS) }
+    ensures few { IfOk result (λ rows. length rows.parts.items ≤ MAX_PARTS) }
     ensures keeps { Unchanged B.Book (CountsFailure result) book.old book.new }
 {
     let demands = demands_for(alloc, book, query.material, &query.demands)?;

@@ -7,7 +7,7 @@ ghost use Rattle.shop_planning.specs.Asked.{first_by_day, with_row};
 ghost use Rattle.shop_planning.specs.ByDay.{HaveTurns, IsLast, turn_by, turns_in};
 ghost use Rattle.shop_planning.specs.ByDay as by_day;
 
-use cut_bound::MOST_ORDER_WANTS;
+use cut_bound::MAX_ORDER_WANTS;
 use shop_answers::FoundDemand;
 use shop_book::{Book, BookFault};
 use shop_records::Demand;
@@ -64,7 +64,7 @@ fn last_turn(alloc: Global, turns: &[Turn]) -> Result<Option<u64>, AllocError>
 {
     let mut numbers = numbers_of(alloc, turns)?;
     numbers.sort()?;
-    Ok(numbers.get(MOST_ORDER_WANTS - 1).copied())
+    Ok(numbers.get(MAX_ORDER_WANTS - 1).copied())
 }
 
 fn is_taken(last: Option<u64>, turn: u64) -> bool

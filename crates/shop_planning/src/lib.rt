@@ -4,19 +4,19 @@
 
 mod asking;
 mod by_day;
+mod instance;
 mod laws;
 mod lists;
 mod planning;
-mod posed;
 mod posing;
 mod rests;
 mod shares;
 mod stock;
+mod task;
 mod telling;
-mod thought;
 
+pub use instance::{PlanInstance, StockPart};
 pub use laws::parts_are_named_once;
 pub use planning::plan_all;
-pub use posed::{Posed, StockPart};
-pub use posing::pose;
-pub use thought::Thought;
+pub use posing::build_instance;
+pub use task::PlanTask;

@@ -6,7 +6,7 @@ ghost use Rattle.shop_plans.specs.declared.limits.TheConstants.{UNIT_COST};
 ghost use Rattle.cut_order.specs.Stocks.{IsStageLimit};
 ghost use Rattle.shop_planning.specs.Lists as lists;
 
-use cut_bound::{MOST_BOUGHT_SIZES, MOST_CALLS, MOST_ORDER_WANTS, MOST_PARTS};
+use cut_bound::{MAX_BOUGHT_SIZES, MAX_CALLS, MAX_ORDER_WANTS, MAX_PARTS};
 use cut_order::is_stage_limit;
 use shop_plans::{NameList, PlansQuery, UNIT_COST};
 use shop_records::NumberList;
@@ -20,7 +20,7 @@ pub fn is_in_range(query: &PlansQuery) -> bool
     1 <= query.remnant
         && query.remnant <= UNIT_COST
         && 1 <= query.calls
-        && query.calls <= MOST_CALLS
+        && query.calls <= MAX_CALLS
         && is_stage_limit(query.stages)
 }
 
@@ -44,7 +44,7 @@ fn are_bad_demands(demands: &Option<NumberList>) -> bool
         None => false,
         Some(numbers) => {
             let numbers = numbers.as_slice();
-            numbers.is_empty() || numbers.len() > MOST_ORDER_WANTS || has_twice(numbers)
+            numbers.is_empty() || numbers.len() > MAX_ORDER_WANTS || has_twice(numbers)
         }
     }
 }
@@ -57,7 +57,7 @@ fn are_bad_parts(parts: &Option<NameList>) -> bool
         None => false,
         Some(names) => {
             let names = names.as_slice();
-            names.len() > MOST_PARTS as usize || has_twice(names)
+            names.len() > MAX_PARTS as usize || has_twice(names)
         }
     }
 }
@@ -69,6 +69,6 @@ pub fn has_bad_list(query: &PlansQuery) -> bool
     let buy = query.buy.as_slice();
     are_bad_demands(&query.demands)
         || are_bad_parts(&query.parts)
-        || buy.len() > MOST_BOUGHT_SIZES
+        || buy.len() > MAX_BOUGHT_SIZES
         || has_twice(buy)
 }

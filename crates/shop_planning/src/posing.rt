@@ -1,9 +1,9 @@
 //! What a question asks of a book's content, or why it isn't answered.
 
 ghost use Rattle.std.specs.Prelude.{◌≡◌, ◌≢◌, ◌≤◌, All, Err, IfErr, IfNone, IfOk, None, Some, false, length};
-ghost use Rattle.cut_measure.specs.declared.ranges.TheConstants.{MOST_KERF};
+ghost use Rattle.cut_measure.specs.declared.ranges.TheConstants.{MAX_KERF};
 ghost use Rattle.cut_plan.specs.Proposals.{AreDemands};
-ghost use Rattle.cut_bound.specs.declared.limits.TheConstants.{MOST_BOUGHT_SIZES, MOST_PARTS};
+ghost use Rattle.cut_bound.specs.declared.limits.TheConstants.{MAX_BOUGHT_SIZES, MAX_PARTS};
 ghost use Rattle.cut_order.specs.Stocks.{IsStageLimit, IsStock};
 ghost use Rattle.shop_records.specs.declared.refusals.Refusal.TheVariants.{NoMemory, StoreFault};
 ghost use Rattle.shop_answers.specs.Planning.{HasNumber};
@@ -13,14 +13,14 @@ ghost use Rattle.shop_planning.specs.Asked as asked;
 ghost use Rattle.shop_planning.specs.Faults.{CountsRefusal};
 ghost use Rattle.shop_planning.specs.Lists.{has_bad_list};
 ghost use Rattle.shop_planning.specs.Questions as question;
-ghost use Rattle.shop_planning.specs.Questions.{AnswersPlans, IsPosed};
-ghost use Rattle.shop_planning.specs.Thoughts.{posed_in};
+ghost use Rattle.shop_planning.specs.Questions.{AnswersPlans, IsInstance};
+ghost use Rattle.shop_planning.specs.PlanTasks.{instance_in};
 
 use crate::asking::{AskedRows, asked_rows};
+use crate::instance::{PlanInstance, StockPart};
 use crate::lists::{has_bad_list, is_in_range};
-use crate::posed::{Posed, StockPart};
 use crate::stock::{sizes_of, step_for, stock_parts};
-use crate::thought::Thought;
+use crate::task::PlanTask;
 use cut_bound::{StockSize, cost_fault, order_fault};
 use cut_measure::{Code, Kind, Size};
 use cut_plan::{PlanFault, Want};
@@ -106,8 +106,8 @@ fn gather(
     rows: &AskedRows,
 ) -> Result<Gathered, AllocError>
     requires remnant { query.now.remnant ≤ UNIT_COST }
-    requires parts { length rows.now.parts.items ≤ MOST_PARTS }
-    requires buy { length query.now.buy ≤ MOST_BOUGHT_SIZES }
+    requires parts { length rows.now.parts.items ≤ MAX_PARTS }
+    requires buy { length query.now.buy ≤ MAX_BOUGHT_SIZES }
     requires numbers { All HasNumber rows.now.demands.items }
     ensures is { IfOk result (question.IsGathered query.now kind rows.now.demands.items rows.now.parts.items) }
     ensures stock { IfOk result (λ stock. IsStock kind stock.sizes.items) }
@@ -132,7 +132,7 @@ fn planner_fault(
     sizes: &[StockSize],
     wants: &[Want],
 ) -> Option<PlanFault>
-    requires { kerf ≤ MOST_KERF }
+    requires { kerf ≤ MAX_KERF }
     ensures value { result ≡ question.planner_fault kind kerf given step sizes.now wants.now }
 {
     match given {
@@ -142,11 +142,15 @@ fn planner_fault(
 }
 
 // What is asked of a stock, or the planner's fault.
-fn posed_on(query: &PlansQuery, material: &Material, stock: Gathered) -> Result<Posed, Refusal>
+fn instance_on(
+    query: &PlansQuery,
+    material: &Material,
+    stock: Gathered,
+) -> Result<PlanInstance, Refusal>
     requires stages { IsStageLimit query.now.stages }
     requires stock { IsStock material.now.kind stock.sizes.items }
     requires demands { AreDemands stock.wants.items }
-    ensures ok { IfOk result (question.IsPosedOn query.now material.now stock) }
+    ensures ok { IfOk result (question.IsInstanceOn query.now material.now stock) }
     ensures err { IfErr result (λ refusal. question.stock_refusal query.now material.now stock.sizes.items stock.wants.items ≡ Some refusal) }
     ensures store { IfErr result (λ refusal. refusal ≢ StoreFault) }
 {
@@ -154,7 +158,7 @@ fn posed_on(query: &PlansQuery, material: &Material, stock: Gathered) -> Result<
     let step = step_for(kind, query.step);
     match planner_fault(kind, kerf, query.step, step, &stock.sizes, &stock.wants) {
         Some(fault) => Err(planner_refusal(fault)),
-        None => Ok(Posed {
+        None => Ok(PlanInstance {
             kind,
             kerf,
             step,
@@ -169,17 +173,17 @@ fn posed_on(query: &PlansQuery, material: &Material, stock: Gathered) -> Result<
 }
 
 // What is asked of the rows that were found.
-fn posed_of(
+fn instance_of(
     alloc: Global,
     query: &PlansQuery,
     material: &Material,
     rows: &AskedRows,
-) -> Result<Posed, Refusal>
+) -> Result<PlanInstance, Refusal>
     requires remnant { query.now.remnant ≤ UNIT_COST }
     requires stages { IsStageLimit query.now.stages }
-    requires parts { length rows.now.parts.items ≤ MOST_PARTS }
-    requires buy { length query.now.buy ≤ MOST_BOUGHT_SIZES }
-    ensures ok { IfOk result (question.IsPosedBy query.now material.now rows.now.demands.items rows.now.parts.items) }
+    requires parts { length rows.now.parts.items ≤ MAX_PARTS }
+    requires buy { length query.now.buy ≤ MAX_BOUGHT_SIZES }
+    ensures ok { IfOk result (question.IsInstanceBy query.now material.now rows.now.demands.items rows.now.parts.items) }
     ensures err { IfErr result (λ refusal. refusal ≢ NoMemory
         → question.material_refusal query.now material.now rows.now.demands.items rows.now.parts.items ≡ Some refusal) }
     ensures store { IfErr result (λ refusal. refusal ≢ StoreFault) }
@@ -188,36 +192,40 @@ fn posed_of(
         return Err(refusal);
     }
     match gather(alloc, query, material.kind, rows) {
-        Ok(stock) => posed_on(query, material, stock),
+        Ok(stock) => instance_on(query, material, stock),
         Err(_) => Err(Refusal::NoMemory),
     }
 }
 
 // What a question whose lists are planned asks of a material that is there.
-fn posed_for<B: Book>(
+fn instance_for<B: Book>(
     alloc: Global,
     book: &mut B,
     query: &PlansQuery,
     material: &Material,
-) -> Result<Posed, Refusal>
+) -> Result<PlanInstance, Refusal>
     requires remnant { query.now.remnant ≤ UNIT_COST }
     requires stages { IsStageLimit query.now.stages }
     requires lists { has_bad_list query.now ≡ false }
-    ensures ok { OnContent B.Book book.old book.new (λ m. IfOk result (question.IsPosedOf m query.now material.now)) }
+    ensures ok { OnContent B.Book book.old book.new (λ m. IfOk result (question.IsInstanceOf m query.now material.now)) }
     ensures err { OnContent B.Book book.old book.new
         (λ m. IfErr result (λ refusal. refusal ≢ NoMemory → refusal ≢ StoreFault
         → question.refusal_of m query.now material.now ≡ Some refusal)) }
     ensures keeps { Unchanged B.Book (CountsRefusal result) book.old book.new }
 {
     match asked_rows(alloc, book, query, material.kind) {
-        Ok(rows) => posed_of(alloc, query, material, &rows),
+        Ok(rows) => instance_of(alloc, query, material, &rows),
         Err(fault) => Err(Refusal::from(fault)),
     }
 }
 
 // What a question asks, or its refusal.
-fn what_is_asked<B: Book>(alloc: Global, book: &mut B, query: &PlansQuery) -> Result<Posed, Refusal>
-    ensures ok { OnContent B.Book book.old book.new (λ m. IfOk result (IsPosed m query.now)) }
+fn what_is_asked<B: Book>(
+    alloc: Global,
+    book: &mut B,
+    query: &PlansQuery,
+) -> Result<PlanInstance, Refusal>
+    ensures ok { OnContent B.Book book.old book.new (λ m. IfOk result (IsInstance m query.now)) }
     ensures err { OnContent B.Book book.old book.new
         (λ m. IfErr result (λ refusal. refusal ≢ NoMemory → refusal ≢ StoreFault
         → question.plans_refusal m query.now ≡ Some refusal)) }
@@ -230,20 +238,24 @@ fn what_is_asked<B: Book>(alloc: Global, book: &mut B, query: &PlansQuery) -> Re
         Err(fault) => Err(Refusal::from(fault)),
         Ok(None) => Err(Refusal::NoMaterial),
         Ok(Some(_)) if has_bad_list(query) => Err(Refusal::BadWant),
-        Ok(Some(material)) => posed_for(alloc, book, query, &material),
+        Ok(Some(material)) => instance_for(alloc, book, query, &material),
     }
 }
 
-/// What a question asks of a book's content: it may be thought about from then on, whatever becomes of the content. Refused
+/// What a question asks of a book's content: it may be searched from then on, whatever becomes of the content. Refused
 /// in this order: `BadMessage` for numbers out of their ranges; `NoMaterial`; `BadWant` for a list that is too long or has
 /// something twice, or one of no demand; demand by demand `NoDemand`, `WrongMaterial`; part by part `NoPart`, `NotStanding`,
 /// `WrongMaterial`; `BadSize`; `BadWant` where nothing is left; `BadStep` for a step that is given; `TableTooLarge`;
 /// `NothingFits`. Want of memory and a failed store may come at any point.
-pub fn pose<B: Book>(alloc: Global, book: &mut B, query: &PlansQuery) -> Result<Thought, Refusal>
-    ensures answer { OnContent B.Book book.old book.new (λ m. IfOk result (λ thought. IsPosed m query.now (posed_in thought))) }
+pub fn build_instance<B: Book>(
+    alloc: Global,
+    book: &mut B,
+    query: &PlansQuery,
+) -> Result<PlanTask, Refusal>
+    ensures answer { OnContent B.Book book.old book.new (λ m. IfOk result (λ task. IsInstance m query.now (instance_in task))) }
     ensures refused { OnContent B.Book book.old book.new (λ m. IfErr result (λ refusal. AnswersPlans m query.now (Err refusal))) }
     ensures keeps { Unchanged B.Book (CountsRefusal result) book.old book.new }
 {
-    let posed = what_is_asked(alloc, book, query)?;
-    Ok(Thought::new(posed))
+    let instance = what_is_asked(alloc, book, query)?;
+    Ok(PlanTask::new(instance))
 }

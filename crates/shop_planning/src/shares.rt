@@ -2,7 +2,7 @@
 
 ghost use Rattle.std.specs.Prelude.{◌≡◌, ◌≤◌, IfOk};
 ghost use Rattle.std.specs.List.{list_any};
-ghost use Rattle.cut_bound.specs.declared.limits.TheConstants.{MOST_UNITS};
+ghost use Rattle.cut_bound.specs.declared.limits.TheConstants.{MAX_ORDER_UNITS};
 ghost use Rattle.cut_order.specs.Places.{unit_count};
 ghost use Rattle.shop_planning.specs.Shares as spec;
 
@@ -42,7 +42,7 @@ fn share_of(
     units: &[PlannedUnit],
     unit: &PlannedUnit,
 ) -> Result<PlannedUnit, AllocError>
-    requires { unit_count units.now ≤ MOST_UNITS }
+    requires { unit_count units.now ≤ MAX_ORDER_UNITS }
     ensures { IfOk result (λ share. share ≡ spec.share_of units.now unit.now) }
 {
     let plan = unit.plan.copy(alloc)?;
@@ -56,7 +56,7 @@ fn share_of(
 
 /// The units, those of one size and one plan together, in the order in which the first of each stands.
 pub fn shares_of(alloc: Global, units: &[PlannedUnit]) -> Result<Vec<PlannedUnit>, AllocError>
-    requires { unit_count units.now ≤ MOST_UNITS }
+    requires { unit_count units.now ≤ MAX_ORDER_UNITS }
     ensures { IfOk result (λ shares. shares.items ≡ spec.shares_of units.now) }
 {
     let mut shares = Vec::new(alloc);

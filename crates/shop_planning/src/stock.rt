@@ -2,14 +2,14 @@
 
 ghost use Rattle.std.specs.Prelude.{◌≡◌, ◌≤◌, ◌++◌, All, IfOk, IfSome, OnOk, filter_map, length};
 ghost use Rattle.std.specs.List.{list_any};
-ghost use Rattle.cut_bound.specs.declared.limits.TheConstants.{MOST_BOUGHT_SIZES, MOST_PARTS};
+ghost use Rattle.cut_bound.specs.declared.limits.TheConstants.{MAX_BOUGHT_SIZES, MAX_PARTS};
 ghost use Rattle.cut_order.specs.Stocks.{IsStock};
-ghost use Rattle.cut_order.specs.declared.question.TheConstants.{MOST_COST};
+ghost use Rattle.cut_order.specs.declared.question.TheConstants.{MAX_COST};
 ghost use Rattle.shop_plans.specs.declared.limits.TheConstants.{UNIT_COST};
 ghost use Rattle.shop_answers.specs.Planning.{planned_size};
 ghost use Rattle.shop_planning.specs.Stock as spec;
 
-use crate::posed::StockPart;
+use crate::instance::StockPart;
 use cut_bound::StockSize;
 use cut_measure::{Kind, Size};
 use shop_plans::{BuySize, UNIT_COST};
@@ -33,7 +33,7 @@ fn planned_size(kind: Kind, size: Size) -> Size
 fn part_cost(part: &Part, size: Size, remnant: u32) -> u64
     requires { remnant ≤ UNIT_COST }
     ensures value { result ≡ spec.part_cost remnant part.now size }
-    ensures most { result ≤ MOST_COST }
+    ensures most { result ≤ MAX_COST }
 {
     let cells = size.cells();
     if part.is_whole() {
@@ -96,7 +96,7 @@ fn is_among(part: &StockPart, parts: &[StockPart]) -> bool
 
 // The size of a part, with how many of the parts have it.
 fn part_size(parts: &[StockPart], part: &StockPart) -> StockSize
-    requires { length parts.now ≤ MOST_PARTS }
+    requires { length parts.now ≤ MAX_PARTS }
     ensures { result ≡ spec.part_size parts.now part.now }
 {
     let count = parts.iter().filter(|other| are_alike(part, other)).count();
@@ -109,7 +109,7 @@ fn part_size(parts: &[StockPart], part: &StockPart) -> StockSize
 
 // The sizes of parts, each once, in the order in which the first part of each stands.
 fn part_sizes(alloc: Global, parts: &[StockPart]) -> Result<Vec<StockSize>, AllocError>
-    requires { length parts.now ≤ MOST_PARTS }
+    requires { length parts.now ≤ MAX_PARTS }
     ensures { IfOk result (λ sizes. sizes.items ≡ spec.part_sizes parts.now) }
 {
     let mut sizes = Vec::new(alloc);
@@ -156,9 +156,9 @@ pub fn sizes_of(
     parts: &[StockPart],
     buy: &[BuySize],
 ) -> Result<Vec<StockSize>, AllocError>
-    requires parts { length parts.now ≤ MOST_PARTS }
+    requires parts { length parts.now ≤ MAX_PARTS }
     requires sound { All (spec.IsStockPart kind) parts.now }
-    requires buy { length buy.now ≤ MOST_BOUGHT_SIZES }
+    requires buy { length buy.now ≤ MAX_BOUGHT_SIZES }
     ensures sizes { IfOk result (λ sizes. sizes.items ≡ spec.sizes_of kind parts.now buy.now) }
     ensures stock { IfOk result (λ sizes. IsStock kind sizes.items) }
 {

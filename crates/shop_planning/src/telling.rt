@@ -2,16 +2,16 @@
 
 ghost use Rattle.std.specs.Prelude.{◌≡◌, ◌≤◌, ◌<◌, ◌+◌, IfOk, IfSome, OnOk, drop, filter, length, map, slice_get, take};
 ghost use Rattle.std.specs.List.Sorted.{IsPermutation, IsSorted};
-ghost use Rattle.cut_bound.specs.declared.limits.TheConstants.{MOST_BOUGHT_SIZES, MOST_PARTS, MOST_UNITS};
+ghost use Rattle.cut_bound.specs.declared.limits.TheConstants.{MAX_BOUGHT_SIZES, MAX_PARTS, MAX_ORDER_UNITS};
 ghost use Rattle.cut_order.specs.Places.{unit_count};
 ghost use Rattle.shop_planning.specs.Answers.{IsPlanOf, IsPlansReply, IsPlansText};
 ghost use Rattle.shop_planning.specs.Answers as answers;
 ghost use Rattle.shop_planning.specs.Entries as entries;
 
-use crate::posed::{Posed, StockPart};
+use crate::instance::{PlanInstance, StockPart};
 use crate::rests::largest_rest;
 use crate::shares::shares_of;
-use cut_bound::{MOST_PARTS, PlannedUnit, Price, StockSize, units_at};
+use cut_bound::{MAX_PARTS, PlannedUnit, Price, StockSize, units_at};
 use cut_order::OrderPlan;
 use cut_plan::Want;
 use shop_answers::tree_text;
@@ -81,7 +81,7 @@ fn names_of(alloc: Global, parts: &[StockPart]) -> Result<NameList, AllocError>
 fn first_place(parts: &[StockPart]) -> usize
     ensures { result ≡ entries.first_place parts.now }
 {
-    let mut first = MOST_PARTS as usize;
+    let mut first = MAX_PARTS as usize;
     for part in parts {
         first = first.min(part.place);
     }
@@ -116,12 +116,12 @@ fn part_entry(
 
 // A plan by which bought units are cut.
 fn bought_entry(alloc: Global, stock: &StockSize, unit: &PlannedUnit) -> Result<Entry, AllocError>
-    requires { unit.now.place ≤ MOST_PARTS + MOST_BOUGHT_SIZES }
+    requires { unit.now.place ≤ MAX_PARTS + MAX_BOUGHT_SIZES }
     ensures { IfOk result (λ entry. entry ≡ entries.bought_entry unit.now stock.now) }
 {
     let tree = tree_text(alloc, &unit.plan)?;
     Ok(Entry {
-        place: MOST_PARTS as usize + unit.place,
+        place: MAX_PARTS as usize + unit.place,
         told: ToldPlan {
             buy: unit.times,
             h: stock.size.h(),
@@ -140,7 +140,7 @@ fn entry_of(
     before: u128,
     unit: &PlannedUnit,
 ) -> Result<Entry, AllocError>
-    requires { unit.now.place ≤ MOST_PARTS + MOST_BOUGHT_SIZES }
+    requires { unit.now.place ≤ MAX_PARTS + MAX_BOUGHT_SIZES }
     ensures { IfOk result (λ entry. entry ≡ entries.entry_of ranked.now before unit.now stock.now) }
 {
     match stock.limit {
@@ -164,7 +164,7 @@ fn entries_of(
     ranked: &[StockPart],
     shares: &[PlannedUnit],
 ) -> Result<Vec<Entry>, AllocError>
-    requires { length sizes.now ≤ MOST_PARTS + MOST_BOUGHT_SIZES }
+    requires { length sizes.now ≤ MAX_PARTS + MAX_BOUGHT_SIZES }
     ensures { IfOk result (λ list. list.items ≡ entries.entries_of sizes.now ranked.now shares.now) }
 {
     let mut list = Vec::new(alloc);
@@ -208,15 +208,15 @@ fn told_entries(alloc: Global, list: Vec<Entry>) -> Result<Vec<ToldPlan>, AllocE
 // The plans with the parts that are cut by each.
 fn told_plans(
     alloc: Global,
-    posed: &Posed,
+    instance: &PlanInstance,
     units: &[PlannedUnit],
 ) -> Result<Vec<ToldPlan>, AllocError>
-    requires { unit_count units.now ≤ MOST_UNITS }
-    ensures { IfOk result (λ plans. entries.AreToldPlans posed.now units.now plans.items) }
+    requires { unit_count units.now ≤ MAX_ORDER_UNITS }
+    ensures { IfOk result (λ plans. entries.AreToldPlans instance.now units.now plans.items) }
 {
-    let ranked = ranked(alloc, &posed.parts)?;
+    let ranked = ranked(alloc, &instance.parts)?;
     let shares = shares_of(alloc, units)?;
-    let mut list = entries_of(alloc, &posed.sizes, &ranked, &shares)?;
+    let mut list = entries_of(alloc, &instance.sizes, &ranked, &shares)?;
     sort_entries(&mut list)?;
     let plans = told_entries(alloc, list)?;
     Ok(plans)
@@ -284,14 +284,18 @@ fn told_prices(alloc: Global, prices: &[Price]) -> Result<RowList<DemandPrice>, 
 }
 
 // The answer that tells a plan.
-fn told_reply(alloc: Global, posed: &Posed, plan: &OrderPlan) -> Result<PlansReply, AllocError>
-    requires { IsPlanOf posed.now plan.now }
-    ensures { IfOk result (IsPlansReply posed.now) }
+fn told_reply(
+    alloc: Global,
+    instance: &PlanInstance,
+    plan: &OrderPlan,
+) -> Result<PlansReply, AllocError>
+    requires { IsPlanOf instance.now plan.now }
+    ensures { IfOk result (IsPlansReply instance.now) }
 {
-    let missing = told_missing(alloc, &posed.wants, &plan.missing)?;
+    let missing = told_missing(alloc, &instance.wants, &plan.missing)?;
     let prices = told_prices(alloc, &plan.prices)?;
-    let plans = told_plans(alloc, posed, &plan.units)?;
-    let rest = largest_rest(alloc, posed.limits, &plan.units)?;
+    let plans = told_plans(alloc, instance, &plan.units)?;
+    let rest = largest_rest(alloc, instance.limits, &plan.units)?;
     Ok(PlansReply {
         bound: plan.bound,
         cost: plan.cost,
@@ -301,16 +305,20 @@ fn told_reply(alloc: Global, posed: &Posed, plan: &OrderPlan) -> Result<PlansRep
         proved: plan.proved,
         rest,
         short: plan.short,
-        step: posed.step.unwrap_or(0),
+        step: instance.step.unwrap_or(0),
     })
 }
 
 /// The text of the answer that tells a plan.
-pub fn told_text(alloc: Global, posed: &Posed, plan: &OrderPlan) -> Result<Text, AllocError>
-    requires { IsPlanOf posed.now plan.now }
-    ensures { IfOk result (IsPlansText posed.now) }
+pub fn told_text(
+    alloc: Global,
+    instance: &PlanInstance,
+    plan: &OrderPlan,
+) -> Result<Text, AllocError>
+    requires { IsPlanOf instance.now plan.now }
+    ensures { IfOk result (IsPlansText instance.now) }
 {
-    let reply = told_reply(alloc, posed, plan)?;
+    let reply = told_reply(alloc, instance, plan)?;
     let text = plans_text(alloc, &reply)?;
     Ok(text)
 }

@@ -4,7 +4,7 @@ use Rattle.cut_measure.specs.Names.{Name, spelled_name}
 use Rattle.serde_json.specs.Data.{Data}
 use Rattle.serde_json.specs.Find.{get, as_str}
 use Rattle.shop_forms.specs.Fields.{number_at, number_of, code_at, word_at, elements_at, all_of, row}
-use Rattle.shop_plans.specs.declared.limits.TheConstants.{LEAST_STAGES, MOST_CALLS, MOST_STAGES, UNIT_COST, USUAL_CALLS, USUAL_REMNANT}
+use Rattle.shop_plans.specs.declared.limits.TheConstants.{MIN_STAGES, MAX_CALLS, MAX_STAGES, UNIT_COST, DEFAULT_CALLS, DEFAULT_REMNANT}
 use Rattle.shop_plans.specs.declared.questions.BuySize.{BuySize}
 use Rattle.shop_plans.specs.declared.questions.PlansQuery.{PlansQuery}
 
@@ -60,18 +60,18 @@ abbrev pub buy_of : Data → Option (List BuySize)
 buy_of d = option_map (λ sizes. unwrap_or sizes []) (given (rows_in size_of) (codes "buy") d)
 
 abbrev pub remnant_of : Data → Option ℕ
-remnant_of d = number_within 1 UNIT_COST USUAL_REMNANT (codes "remnant") d
+remnant_of d = number_within 1 UNIT_COST DEFAULT_REMNANT (codes "remnant") d
 
 abbrev pub step_of : Data → Option (Option ℕ)
 step_of d = given number_at (codes "step") d
 
 abbrev pub calls_of : Data → Option ℕ
-calls_of d = number_within 1 MOST_CALLS USUAL_CALLS (codes "calls") d
+calls_of d = number_within 1 MAX_CALLS DEFAULT_CALLS (codes "calls") d
 
 -- a limit of stages, if there is one, is 2 to 255
 abbrev pub is_stage_limit : Option ℕ → Bool
 is_stage_limit None = true
-is_stage_limit (Some most) = nat_le LEAST_STAGES most && nat_le most MOST_STAGES
+is_stage_limit (Some most) = nat_le MIN_STAGES most && nat_le most MAX_STAGES
 
 abbrev pub stages_of : Data → Option (Option ℕ)
 stages_of d = option_and_then (λ stages. if is_stage_limit stages then Some stages else None) (given number_at (codes "stages") d)

@@ -4,16 +4,16 @@
 pub const UNIT_COST: u32 = 100;
 
 /// What a cell of a remnant costs where a question doesn't say.
-pub const USUAL_REMNANT: u32 = 90;
+pub const DEFAULT_REMNANT: u32 = 90;
 
 /// The least limit of a plan's stages that a question may set.
-pub const LEAST_STAGES: u32 = 2;
+pub const MIN_STAGES: u32 = 2;
 
 /// The greatest limit of a plan's stages that a question may set.
-pub const MOST_STAGES: u32 = 255;
+pub const MAX_STAGES: u32 = 255;
 
 /// The most tables that a question may let the search make.
-pub const MOST_CALLS: u32 = 5000;
+pub const MAX_CALLS: u32 = 5000;
 
 /// How many tables the search may make where a question doesn't say.
-pub const USUAL_CALLS: u32 = 500;
+pub const DEFAULT_CALLS: u32 = 500;

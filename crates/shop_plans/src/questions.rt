@@ -6,7 +6,7 @@ ghost use Rattle.shop_records.specs.declared.refusals.Refusal.TheVariants.{BadMe
 ghost use Rattle.shop_forms.specs.Fields.{all_of, elements_at, number_at as number_there};
 ghost use Rattle.shop_plans.specs.Questions as form;
 
-use crate::limits::{LEAST_STAGES, MOST_CALLS, MOST_STAGES, UNIT_COST, USUAL_CALLS, USUAL_REMNANT};
+use crate::limits::{DEFAULT_CALLS, DEFAULT_REMNANT, MAX_CALLS, MAX_STAGES, MIN_STAGES, UNIT_COST};
 use cut_measure::{Code, PartName, RowList};
 use serde_json::Value;
 use shop_forms::{Read, code_at, has_keys, number_at, rows_at, word_at};
@@ -164,7 +164,7 @@ fn is_stage_limit(stages: Option<u32>) -> bool
 {
     match stages {
         None => true,
-        Some(most) => LEAST_STAGES <= most && most <= MOST_STAGES,
+        Some(most) => MIN_STAGES <= most && most <= MAX_STAGES,
     }
 }
 
@@ -215,9 +215,9 @@ fn plans_fields(alloc: Global, value: &Value) -> Result<Option<PlansQuery>, Allo
 {
     let (Some(material), Some(remnant), Some(step), Some(calls), Some(stages)) = (
         code_at(value, "material"),
-        number_within(value, "remnant", 1, UNIT_COST, USUAL_REMNANT),
+        number_within(value, "remnant", 1, UNIT_COST, DEFAULT_REMNANT),
         given_number(value, "step"),
-        number_within(value, "calls", 1, MOST_CALLS, USUAL_CALLS),
+        number_within(value, "calls", 1, MAX_CALLS, DEFAULT_CALLS),
         given_stages(value),
     ) else {
         return Ok(None);

@@ -6,7 +6,7 @@ use Rattle.std.proofs.lemmas.List.Elements.{All-cons, All-nil}
 use Rattle.std.proofs.lemmas.List.Filters.{length-filter_both}
 use Rattle.cut_plan.specs.Proposals.{AreDemands, HasDemandNumber}
 use Rattle.shop_files.specs.declared.orders.OrderLine.{OrderLine}
-use Rattle.shop_files.specs.declared.limits.TheConstants.{MOST_LINES}
+use Rattle.shop_files.specs.declared.limits.TheConstants.{MAX_LINES}
 use Rattle.shop_problems.specs.Orders.{lines_of, want_of, wants_from, wants_in}
 
 -- demands numbered one after another are in range
@@ -17,7 +17,7 @@ demands_of demand (line ∷ lines) some few =
     (demands_of (suc demand) lines (omega arith) (omega (arith, few)))
 
 -- those for the lines of a material are
-pub demands_in : (material : List ℕ) (lines : List OrderLine) → length lines ≤ MOST_LINES → AreDemands (wants_in material lines)
+pub demands_in : (material : List ℕ) (lines : List OrderLine) → length lines ≤ MAX_LINES → AreDemands (wants_in material lines)
 demands_in material lines few =
     let own : OrderLine → Bool = λ line. bytes_eq line.material material in
     let parts = length-filter_both own (λ line. not (own line)) (λ line. refl) lines in

@@ -2,7 +2,7 @@
 use Rattle.std.specs.Prelude.{ℕ, suc, ◌==◌, ◌&&◌, Bool, false, not, nat_le, List, [], ◌∷◌, All, find, if◌then◌else◌, IsTrue, Option, Some, None, option_map}
 use Rattle.std.specs.Str.{bytes_eq}
 use Rattle.cut_measure.specs.Measures.{is_size}
-use Rattle.cut_measure.specs.declared.ranges.TheConstants.{MOST_COUNT, MOST_HEIGHT, MOST_WIDTH, MOST_WORTH}
+use Rattle.cut_measure.specs.declared.ranges.TheConstants.{MAX_COUNT, MAX_HEIGHT, MAX_WIDTH, MAX_WORTH}
 use Rattle.cut_measure.specs.declared.sizes.Kind.{Kind}
 use Rattle.cut_measure.specs.declared.sizes.Kind.TheVariants.{Bar, Sheet}
 use Rattle.shop_files.specs.declared.orders.OrderLine.{OrderLine}
@@ -16,7 +16,7 @@ kind_in entries material = option_map (λ (e : MaterialEntry). e.kind) (find (λ
 -- a width that pieces of this kind may have
 abbrev pub is_height : Kind → ℕ → Bool
 is_height Bar h = h == 1
-is_height Sheet h = nat_le 1 h && nat_le h MOST_HEIGHT
+is_height Sheet h = nat_le 1 h && nat_le h MAX_HEIGHT
 
 -- a bar's piece that may be turned
 abbrev pub is_turned : Kind → Bool → Bool
@@ -29,8 +29,8 @@ is_in most n = nat_le 1 n && nat_le n most
 -- the first bad field behind a line's material, which is of this kind
 abbrev pub bad_measure : Kind → OrderLine → Option ℕ
 bad_measure kind line =
-    if not (is_in MOST_WIDTH line.w) then Some 2 else if not (is_height kind line.h) then Some 3 else if is_turned kind line.turn then Some 4
-    else if not (is_in MOST_COUNT line.count) then Some 5 else if not (is_in MOST_WORTH line.worth) then Some 6 else None
+    if not (is_in MAX_WIDTH line.w) then Some 2 else if not (is_height kind line.h) then Some 3 else if is_turned kind line.turn then Some 4
+    else if not (is_in MAX_COUNT line.count) then Some 5 else if not (is_in MAX_WORTH line.worth) then Some 6 else None
 
 -- of a line whose material is of this kind, or is unknown
 abbrev pub bad_of : Option Kind → OrderLine → Option ℕ

@@ -6,7 +6,7 @@ use Rattle.cut_measure.specs.declared.sizes.Kind.{Kind}
 use Rattle.cut_wants.specs.declared.wants.Want.{Want}
 use Rattle.cut_plan.specs.declared.faults.PlanFault.{PlanFault}
 use Rattle.cut_plan.specs.declared.faults.PlanFault.TheVariants.{BadWant, NoMemory}
-use Rattle.cut_bound.specs.declared.limits.TheConstants.{MOST_BOUGHT_SIZES}
+use Rattle.cut_bound.specs.declared.limits.TheConstants.{MAX_BOUGHT_SIZES}
 use Rattle.cut_bound.specs.Orders.{order_fault}
 use Rattle.cut_bound.specs.declared.planned.PlannedUnit.{PlannedUnit}
 use Rattle.cut_order.specs.declared.answer.OrderPlan.{OrderPlan}
@@ -43,12 +43,12 @@ wants_in material lines = wants_from 1 (lines_of material lines)
 -- the first fault: over 10 sizes, or one that stands twice, or that of the order
 abbrev pub plan_fault : StockMaterial → List Extent → List Want → Option PlanFault
 plan_fault m sizes wants =
-    if nat_lt MOST_BOUGHT_SIZES (length sizes) || has_twice sizes then Some BadWant
+    if nat_lt MAX_BOUGHT_SIZES (length sizes) || has_twice sizes then Some BadWant
     else order_fault m.kind m.limits.kerf None (stock_of sizes) wants
 
 -- an answer to the order of these wants, from units of these sizes, of at most so many stages
 pub record IsPlanned (m : StockMaterial) (sizes : List Extent) (stages : Option ℕ) (wants : List Want) (plan : OrderPlan) : Type 0 where
-  pub few : length sizes ≤ MOST_BOUGHT_SIZES
+  pub few : length sizes ≤ MAX_BOUGHT_SIZES
   pub answers : IsAnswerOf m.kind m.limits.kerf None stages (stock_of sizes) wants plan
 
 -- ---- what is told of it

@@ -4,7 +4,7 @@ use Rattle.cut_measure.specs.Measures.{Extent}
 use Rattle.cut_measure.specs.declared.sizes.Kind.{Kind}
 use Rattle.cut_measure.specs.declared.sizes.Kind.TheVariants.{Bar, Sheet}
 use Rattle.shop_files.specs.declared.problems.Piece.{Piece}
-use Rattle.shop_problems.specs.declared.steps.TheConstants.{LONGEST_GIVEN}
+use Rattle.shop_problems.specs.declared.steps.TheConstants.{MAX_GIVEN_STEP}
 use Rattle.shop_problems.specs.declared.steps.StepHelp.{StepHelp}
 use Rattle.shop_problems.specs.declared.steps.StepHelp.TheVariants as help
 use Rattle.shop_problems.specs.declared.steps.Steps.{Steps}
@@ -12,12 +12,12 @@ use Rattle.shop_problems.specs.Wholes.{kind_of, least_for}
 
 -- the shortest side of pieces, at most the longest step
 abbrev pub shortest : List Piece → ℕ
-shortest [] = LONGEST_GIVEN
+shortest [] = MAX_GIVEN_STEP
 shortest (p ∷ ps) = min (min p.w p.h) (shortest ps)
 
 -- From the least step by which no side has over 500 steps to the longest that is over no piece's side and a kerf, and may be given.
 abbrev pub steps_of : Extent → List Piece → (kerf : ℕ) → Steps
-steps_of size pieces k = record { least = least_for size k; most = min (shortest pieces + k) LONGEST_GIVEN }
+steps_of size pieces k = record { least = least_for size k; most = min (shortest pieces + k) MAX_GIVEN_STEP }
 
 -- this step serves, or none does
 abbrev pub help_beside : Steps → Option ℕ → StepHelp

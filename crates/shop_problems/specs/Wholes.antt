@@ -8,8 +8,8 @@ use Rattle.cut_wants.specs.declared.wants.Want.{Want}
 use Rattle.cut_plan.specs.declared.faults.PlanFault.{PlanFault}
 use Rattle.cut_plan.specs.declared.faults.PlanFault.TheVariants.{BadWant, BadStep, NoMemory}
 use Rattle.cut_plan.specs.Faults.{are_bad_wants, is_bad_step}
-use Rattle.cut_sheets.specs.declared.sheet.TheConstants.{MOST_STEPS}
-use Rattle.cut_bound.specs.declared.limits.TheConstants.{MOST_ORDER_WANTS}
+use Rattle.cut_sheets.specs.declared.sheet.TheConstants.{MAX_STEPS}
+use Rattle.cut_bound.specs.declared.limits.TheConstants.{MAX_ORDER_WANTS}
 use Rattle.cut_bound.specs.declared.stock.StockSize.{StockSize}
 use Rattle.cut_bound.specs.Orders.{order_fault}
 use Rattle.cut_order.specs.declared.answer.OrderPlan.{OrderPlan}
@@ -25,7 +25,7 @@ kind_of size pieces = if size.h == 1 && list_all (λ p. p.h == 1) pieces then Ba
 
 -- the least step by which no side has over 500 steps
 abbrev pub least_for : Extent → (kerf : ℕ) → ℕ
-least_for size k = (max size.w size.h + k) / (MOST_STEPS + 1) + 1
+least_for size k = (max size.w size.h + k) / (MAX_STEPS + 1) + 1
 
 -- the rectangle, as often as is wanted; each costs 1, so that costs are numbers of rectangles
 abbrev pub stock_of : Extent → List StockSize
@@ -35,7 +35,7 @@ stock_of size = record { size = size; cost = 1; limit = None } ∷ []
 abbrev pub step_fault : Kind → (kerf : ℕ) → Option ℕ → List Want → Option PlanFault
 step_fault kind k None wants = None
 step_fault kind k (Some step) wants =
-    if are_bad_wants MOST_ORDER_WANTS kind wants then Some BadWant else if is_bad_step kind k step wants then Some BadStep else None
+    if are_bad_wants MAX_ORDER_WANTS kind wants then Some BadWant else if is_bad_step kind k step wants then Some BadStep else None
 
 abbrev pub fault_or : Option PlanFault → Option PlanFault → Option PlanFault
 fault_or None other = other

@@ -2,11 +2,11 @@
 
 ghost use Rattle.std.specs.Prelude.{◌≡◌, ◌≤◌, IfNone, IsTrue, option_map};
 ghost use Rattle.cut_measure.specs.Measures.{is_size};
-ghost use Rattle.cut_measure.specs.declared.ranges.TheConstants.{MOST_HEIGHT};
+ghost use Rattle.cut_measure.specs.declared.ranges.TheConstants.{MAX_HEIGHT};
 ghost use Rattle.cut_measure.specs.declared.sizes.Kind.TheVariants.{Sheet};
 ghost use Rattle.shop_problems.specs.Judged as spec;
 
-use cut_measure::{Code, Kind, MOST_COUNT, MOST_HEIGHT, MOST_WIDTH, MOST_WORTH};
+use cut_measure::{Code, Kind, MAX_COUNT, MAX_HEIGHT, MAX_WIDTH, MAX_WORTH};
 use shop_files::{MaterialEntry, OrderLine};
 
 /// A bad row of an order file, from 1, and its first bad field, from 0; field 7 stands for the row as a whole.
@@ -30,11 +30,11 @@ pub(crate) fn kind_in(entries: &[MaterialEntry], material: Code) -> Option<Kind>
 
 fn is_height(kind: Kind, h: u32) -> bool
     ensures is { result ≡ spec.is_height kind h }
-    ensures sized { IsTrue result → (1 ≤ h) × (h ≤ MOST_HEIGHT) }
+    ensures sized { IsTrue result → (1 ≤ h) × (h ≤ MAX_HEIGHT) }
 {
     match kind {
         Kind::Bar => h == 1,
-        Kind::Sheet => 1 <= h && h <= MOST_HEIGHT,
+        Kind::Sheet => 1 <= h && h <= MAX_HEIGHT,
     }
 }
 
@@ -52,7 +52,7 @@ fn bad_measure(kind: Kind, line: &OrderLine) -> Option<usize>
     ensures first { result ≡ spec.bad_measure kind line.now }
     ensures sized { IfNone result (IsTrue (is_size Sheet line.now.w line.now.h)) }
 {
-    if !(1 <= line.w && line.w <= MOST_WIDTH) {
+    if !(1 <= line.w && line.w <= MAX_WIDTH) {
         return Some(2);
     }
     if !is_height(kind, line.h) {
@@ -61,10 +61,10 @@ fn bad_measure(kind: Kind, line: &OrderLine) -> Option<usize>
     if is_turned(kind, line.turn) {
         return Some(4);
     }
-    if !(1 <= line.count && line.count <= MOST_COUNT) {
+    if !(1 <= line.count && line.count <= MAX_COUNT) {
         return Some(5);
     }
-    if !(1 <= line.worth && line.worth <= MOST_WORTH) {
+    if !(1 <= line.worth && line.worth <= MAX_WORTH) {
         return Some(6);
     }
     None

@@ -11,7 +11,7 @@ mod wholes;
 
 pub use judging::{BadField, first_bad_field};
 pub use orders::{LinesAsked, LinesFault, plan_lines};
-pub use steps::{LONGEST_GIVEN, StepHelp, Steps, help_of_all, help_of_one};
+pub use steps::{MAX_GIVEN_STEP, StepHelp, Steps, help_of_all, help_of_one};
 pub use stock::{BadEntry, EntryFault, first_bad_entry};
 pub use wants::{want_of, wants_of};
-pub use wholes::{USUAL_CALLS, WholePlan, plan_whole};
+pub use wholes::{DEFAULT_CALLS, WholePlan, plan_whole};

@@ -3,11 +3,11 @@
 ghost use Rattle.std.specs.Prelude.{◌≡◌, ◌≤◌, ◌⊎◌, All, IfErr, IfOk, IsTrue, Some, length, map, string_bytes};
 ghost use Rattle.cut_measure.specs.Measures.{is_size};
 ghost use Rattle.cut_measure.specs.declared.sizes.Kind.TheVariants.{Bar, Sheet};
-ghost use Rattle.cut_bound.specs.declared.limits.TheConstants.{MOST_BOUGHT_SIZES, MOST_UNITS};
+ghost use Rattle.cut_bound.specs.declared.limits.TheConstants.{MAX_BOUGHT_SIZES, MAX_ORDER_UNITS};
 ghost use Rattle.cut_plan.specs.Proposals.{AreDemands};
 ghost use Rattle.cut_plan.specs.declared.faults.PlanFault.TheVariants.{NoMemory};
 ghost use Rattle.cut_order.specs.Stocks.{IsStageLimit};
-ghost use Rattle.shop_files.specs.declared.limits.TheConstants.{MOST_LINES};
+ghost use Rattle.shop_files.specs.declared.limits.TheConstants.{MAX_LINES};
 ghost use Rattle.shop_problems.specs.Judged.{AreSized};
 ghost use Rattle.shop_problems.specs.Stock.{size_text};
 ghost use Rattle.shop_problems.specs.Orders as spec;
@@ -16,7 +16,7 @@ use crate::stock::{
     StockFault, StockMaterial, has_twice, material_in, size_text, sizes_in, stock_of,
 };
 use crate::wholes::missing_of;
-use cut_bound::{MOST_BOUGHT_SIZES, PlannedUnit};
+use cut_bound::{MAX_BOUGHT_SIZES, PlannedUnit};
 use cut_lines::{OrderSummary, order_lines, sized_lines};
 use cut_measure::{Kind, Size};
 use cut_order::{OrderPlan, plan_order};
@@ -76,7 +76,7 @@ fn want_of(demand: u32, line: &OrderLine) -> Want
 
 // The wants of a material's lines, the demand of the first being 1.
 fn wants_in(alloc: Global, material: &str, lines: &[OrderLine]) -> Result<Vec<Want>, AllocError>
-    requires few { length lines.now ≤ MOST_LINES }
+    requires few { length lines.now ≤ MAX_LINES }
     requires sized { AreSized lines.now }
     ensures { IfOk result (λ wants. wants.items ≡ spec.wants_in material.now lines.now) }
 {
@@ -106,7 +106,7 @@ fn planned(
     ensures err { IfErr result (λ f. (f ≡ NoMemory)
         ⊎ (spec.plan_fault material.now sizes.now wants.now ≡ Some f)) }
 {
-    if sizes.len() > MOST_BOUGHT_SIZES || has_twice(sizes) {
+    if sizes.len() > MAX_BOUGHT_SIZES || has_twice(sizes) {
         return Err(PlanFault::BadWant);
     }
     let kerf = material.limits.kerf();
@@ -138,7 +138,7 @@ fn count_of(units: &[PlannedUnit]) -> u128
 
 // What sums a plan up.
 fn summary_of(plan: &OrderPlan) -> OrderSummary
-    requires { spec.count_of plan.now.units.items ≤ MOST_UNITS }
+    requires { spec.count_of plan.now.units.items ≤ MAX_ORDER_UNITS }
     ensures { result ≡ spec.summary_of plan.now }
 {
     OrderSummary {
@@ -167,8 +167,8 @@ fn lines_of(
     sizes: &[Size],
     plan: &OrderPlan,
 ) -> Result<String, AllocError>
-    requires sizes { length sizes.now ≤ MOST_BOUGHT_SIZES }
-    requires units { spec.count_of plan.now.units.items ≤ MOST_UNITS }
+    requires sizes { length sizes.now ≤ MAX_BOUGHT_SIZES }
+    requires units { spec.count_of plan.now.units.items ≤ MAX_ORDER_UNITS }
     ensures { IfOk result (λ text. spec.ArePlanLines kind sizes.now plan.now (string_bytes text)) }
 {
     let summary = summary_of(plan);
@@ -189,7 +189,7 @@ fn text_from(
     search: LinesSearch,
 ) -> Result<String, PlanFault>
     requires limit { IsStageLimit search.stages }
-    requires few { length lines.now ≤ MOST_LINES }
+    requires few { length lines.now ≤ MAX_LINES }
     requires sized { AreSized lines.now }
     requires flat { material.now.kind ≡ Bar → All (λ size. size.h ≡ 1) sizes.now }
     ensures ok { IfOk result (λ text.
@@ -220,7 +220,7 @@ pub fn plan_lines(
     lines: &[OrderLine],
     asked: LinesAsked<'_>,
 ) -> Result<String, LinesFault>
-    requires few { length lines.now ≤ MOST_LINES }
+    requires few { length lines.now ≤ MAX_LINES }
     requires sized { AreSized lines.now }
     requires limit { IsStageLimit asked.stages }
     ensures ok { IfOk result (λ text. spec.IsLinesText lines.now

@@ -3,7 +3,7 @@
 ghost use Rattle.std.specs.Prelude.{◌≡◌, ◌≤◌, ◌⊎◌, All, IfErr, IfOk, MatchOption, map, option_map, string_bytes};
 ghost use Rattle.std.specs.List.{list_any};
 ghost use Rattle.cut_measure.specs.Measures.{Extent};
-ghost use Rattle.cut_order.specs.declared.question.TheConstants.{MOST_COST};
+ghost use Rattle.cut_order.specs.declared.question.TheConstants.{MAX_COST};
 ghost use Rattle.shop_problems.specs.Stock as spec;
 ghost use Rattle.shop_problems.specs.declared.stock.StockFault.TheVariants as fault;
 
@@ -202,7 +202,7 @@ pub fn has_twice(sizes: &[Size]) -> bool
 // What a unit of a size costs: 1 where there is no other size, and else its cells.
 fn cost_of(size: Size, single: bool) -> u64
     ensures cost { result ≡ spec.cost_of size single }
-    ensures most { result ≤ MOST_COST }
+    ensures most { result ≤ MAX_COST }
 {
     if single { 1 } else { size.cells() }
 }
@@ -210,7 +210,7 @@ fn cost_of(size: Size, single: bool) -> u64
 /// The stock of these sizes, as many units of each as are wanted.
 pub fn stock_of(alloc: Global, sizes: &[Size]) -> Result<Vec<StockSize>, AllocError>
     ensures stock { IfOk result (λ stock. stock.items ≡ spec.stock_of sizes.now) }
-    ensures cheap { IfOk result (λ stock. All (λ s. s.cost ≤ MOST_COST) stock.items) }
+    ensures cheap { IfOk result (λ stock. All (λ s. s.cost ≤ MAX_COST) stock.items) }
 {
     let single = sizes.len() == 1;
     let mut stock = Vec::new(alloc);

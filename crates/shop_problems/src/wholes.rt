@@ -11,17 +11,17 @@ ghost use Rattle.shop_files.specs.Problems.{ArePieces};
 ghost use Rattle.shop_problems.specs.Wholes as spec;
 
 use crate::wants::wants_of;
-use cut_bound::{MOST_ORDER_WANTS, StockSize};
+use cut_bound::{MAX_ORDER_WANTS, StockSize};
 use cut_lines::{OrderSummary, order_lines};
-use cut_measure::{Kind, MOST_KERF, Size};
+use cut_measure::{Kind, MAX_KERF, Size};
 use cut_order::{OrderPlan, plan_order};
 use cut_plan::{PlanFault, Want, are_bad_wants, is_bad_step};
-use cut_sheets::sheet::MOST_STEPS;
+use cut_sheets::sheet::MAX_STEPS;
 use shop_files::{Piece, Problem};
 use std::alloc::{AllocError, Global};
 
 /// So many tables the search makes at most where no number is given.
-pub const USUAL_CALLS: u32 = 500;
+pub const DEFAULT_CALLS: u32 = 500;
 
 /// How all pieces are planned.
 #[derive(Clone, Copy, Debug, PartialEq, Eq)]
@@ -57,19 +57,19 @@ pub(crate) fn kind_of(size: Size, pieces: &[Piece]) -> Kind
 
 // The least step by which no side has over 500 steps.
 pub(crate) fn least_for(size: Size, kerf: u32) -> u32
-    requires { kerf ≤ MOST_KERF }
+    requires { kerf ≤ MAX_KERF }
     ensures { result ≡ spec.least_for size kerf }
 {
-    (size.w().max(size.h()) + kerf) / (MOST_STEPS + 1) + 1
+    (size.w().max(size.h()) + kerf) / (MAX_STEPS + 1) + 1
 }
 
 // What is wrong with the wants and the step, where one is given.
 fn step_fault(kind: Kind, how: WholePlan, wants: &[Want]) -> Option<PlanFault>
-    requires { how.kerf ≤ MOST_KERF }
+    requires { how.kerf ≤ MAX_KERF }
     ensures { result ≡ spec.step_fault kind how.kerf how.step wants.now }
 {
     let step = how.step?;
-    if are_bad_wants(MOST_ORDER_WANTS, kind, wants) {
+    if are_bad_wants(MAX_ORDER_WANTS, kind, wants) {
         return Some(PlanFault::BadWant);
     }
     if is_bad_step(kind, wants, how.kerf, step) {
@@ -86,7 +86,7 @@ fn planned(
     how: WholePlan,
     wants: &[Want],
 ) -> Result<OrderPlan, PlanFault>
-    requires kerf { how.kerf ≤ MOST_KERF }
+    requires kerf { how.kerf ≤ MAX_KERF }
     requires limit { IsStageLimit how.stages }
     requires flat { kind ≡ Bar → size.h ≡ 1 }
     requires demands { AreDemands wants.now }
@@ -141,7 +141,7 @@ fn lines_of(alloc: Global, plan: &OrderPlan) -> Result<String, AllocError>
 /// Faults in the order of `PlanFault`, with 100 wants at most; a step that is given is judged as for one rectangle. Want of memory may come at any point. The kerf is at most 200.
 pub fn plan_whole(alloc: Global, problem: &Problem, how: WholePlan) -> Result<String, PlanFault>
     requires pieces { ArePieces problem.now.pieces }
-    requires kerf { how.kerf ≤ MOST_KERF }
+    requires kerf { how.kerf ≤ MAX_KERF }
     requires limit { IsStageLimit how.stages }
     ensures ok { IfOk result (λ text. spec.IsWholeText problem.now.size problem.now.pieces how.kerf
         how.step how.stages (string_bytes text)) }

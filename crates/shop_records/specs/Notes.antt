@@ -1,6 +1,6 @@
 -- What may be said of an order: a day of the calendar, and a text.
 use Rattle.std.specs.Prelude.{ℕ, ◌/◌, ◌%◌, ◌&&◌, ◌||◌, ◌==◌, List, [], ◌∷◌, length, Bool, false, not, nat_le, nat_lt, if◌then◌else◌}
-use Rattle.shop_records.specs.declared.notes.TheConstants.{LONGEST_NOTE}
+use Rattle.shop_records.specs.declared.notes.TheConstants.{MAX_NOTE_LEN}
 
 -- a year of the calendar with a 29th of February
 abbrev pub is_leap : (year : ℕ) → Bool
@@ -39,7 +39,7 @@ has_control (b ∷ bytes) = begins_control b bytes || has_control bytes
 
 -- up to 200 bytes, and no control character
 abbrev pub is_note_text : List ℕ → Bool
-is_note_text text = nat_le (length text) LONGEST_NOTE && not (has_control text)
+is_note_text text = nat_le (length text) MAX_NOTE_LEN && not (has_control text)
 
 abbrev pub is_note : (due : ℕ) → (text : List ℕ) → Bool
 is_note due text = is_due due && is_note_text text

@@ -4,14 +4,14 @@ use Rattle.std.specs.declared.cmp.Ordering.TheVariants.{Less}
 use Rattle.std.specs.FinMap as map
 use Rattle.std.specs.FinSet as set
 use Rattle.std.specs.Ordering.{nat_cmp}
-use Rattle.cut_measure.specs.declared.ranges.TheConstants.{MOST_WIDTH, MOST_HEIGHT, MOST_NUMBERS}
+use Rattle.cut_measure.specs.declared.ranges.TheConstants.{MAX_WIDTH, MAX_HEIGHT, MAX_NUMBERS}
 use Rattle.cut_measure.specs.declared.sizes.Kind.TheVariants.{Bar}
 use Rattle.cut_measure.specs.Codes.{code_cmp}
 use Rattle.cut_measure.specs.Names.{Name, IsName, name_cmp}
 use Rattle.cut_measure.specs.Measures.{is_rule}
 use Rattle.cut_tree.specs.Tree.{count_of}
 use Rattle.cut_tree.specs.Patterns.{IsPlan}
-use Rattle.shop_records.specs.declared.records.TheConstants.{MOST_RECEIVED}
+use Rattle.shop_records.specs.declared.records.TheConstants.{MAX_RECEIVED}
 use Rattle.shop_records.specs.declared.records.Material.{Material}
 use Rattle.shop_records.specs.declared.records.Part.{Part}
 use Rattle.shop_records.specs.declared.records.State.TheVariants.{Reserved}
@@ -41,9 +41,9 @@ use Rattle.shop_records.specs.Keeping.{TellsKept, KeepsReply}
 -- all of which is accounted for.
 pub record IsInRange (content : Content) : Type 0 where
   pub acts : (name : Name) (part : Part) → part_at content name ≡ Some part → name.act ≤ content.last_act
-  pub last : content.last_act ≤ MOST_NUMBERS
-  pub last_demand : content.last_demand ≤ MOST_NUMBERS
-  pub received : (code : List ℕ) → (totals_of content code).received ≤ MOST_RECEIVED
+  pub last : content.last_act ≤ MAX_NUMBERS
+  pub last_demand : content.last_demand ≤ MAX_NUMBERS
+  pub received : (code : List ℕ) → (totals_of content code).received ≤ MAX_RECEIVED
   pub adds_up : (code : List ℕ) → AddsUp (totals_of content code)
 
 -- a row keeps an accepted message of the pair and its reply
@@ -73,8 +73,8 @@ pub record IsPlaced (content : Content) (name : Name) (part : Part) : Type 0 whe
   pub known : IsSome (material_at content part.material)
   pub some_width : 1 ≤ part.size.w
   pub some_height : 1 ≤ part.size.h
-  pub right : part.x + part.size.w ≤ MOST_WIDTH
-  pub bottom : part.y + part.size.h ≤ MOST_HEIGHT
+  pub right : part.x + part.size.w ≤ MAX_WIDTH
+  pub bottom : part.y + part.size.h ≤ MAX_HEIGHT
   pub flat : (material : Material) → material_at content part.material ≡ Some material → material.kind ≡ Bar → part.size.h ≡ 1
   pub asked : (number : ℕ) → is_piece_for number part.state ≡ true → IsSome (demand_at content number)
 
@@ -273,8 +273,8 @@ pub record Fits (content : Content) (change : Change) : Type 0 where
   pub lines : IfSome (lines_for change) (λ code. AllPairs (λ a b. a.line ≢ b.line) change.demands)
   pub totals : TotalsFit content change.material change.totals
   pub sums : (code : List ℕ) → totals_of (changed content change) code ≡ with_totals change.totals code (totals_of content code)
-  pub act : IfSome change.act (λ act. (content.last_act < act) × (act ≤ MOST_NUMBERS))
-  pub demand : IfSome change.demand (λ demand. (content.last_demand < demand) × (demand ≤ MOST_NUMBERS))
+  pub act : IfSome change.act (λ act. (content.last_act < act) × (act ≤ MAX_NUMBERS))
+  pub demand : IfSome change.demand (λ demand. (content.last_demand < demand) × (demand ≤ MAX_NUMBERS))
   pub import : IfSome change.import (λ row. (import_at content row.order ≡ None) × (change.order ≡ Some row.order))
   pub kept : IfSome change.kept (λ row. kept_at content row.pair ≡ None)
   pub entry : IfSome change.entry (IsNewEntry content change.kept)

@@ -20,10 +20,10 @@ pub use messages::{
     CodeList, Command, DemandRows, EntryList, EntryRows, JobList, LineList, Message, NumberList,
     OrderList, PieceList, Query, RackList, Reply, StepList,
 };
-pub use notes::{LONGEST_NOTE, OrderNote, is_note};
+pub use notes::{MAX_NOTE_LEN, OrderNote, is_note};
 pub use pieces::{PieceRow, PieceSource, StepRow};
 pub use records::{
-    Column, Demand, DemandRow, Job, JobBegin, JobHalt, JobRow, JobState, MOST_RECEIVED, Material,
+    Column, Demand, DemandRow, Job, JobBegin, JobHalt, JobRow, JobState, MAX_RECEIVED, Material,
     OrderRow, Part, RackRow, State, StateWord, Totals, no_totals,
 };
 pub use refusals::Refusal;

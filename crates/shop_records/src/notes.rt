@@ -8,7 +8,7 @@ use cut_measure::Code;
 use std::alloc::{AllocError, Global};
 
 /// The most bytes of the text that is said of an order.
-pub const LONGEST_NOTE: usize = 200;
+pub const MAX_NOTE_LEN: usize = 200;
 
 /// What is said of an order.
 #[derive(Debug, Drop, PartialEq)]
@@ -107,7 +107,7 @@ fn has_control(bytes: &[u8]) -> bool
 fn is_note_text(text: &str) -> bool
     ensures { result ≡ is_note_text text.now }
 {
-    text.len() <= LONGEST_NOTE && !has_control(text.as_bytes())
+    text.len() <= MAX_NOTE_LEN && !has_control(text.as_bytes())
 }
 
 /// Whether this may be said of an order: a day of the calendar from 19700101 to 99991231, or 0, and a text of up to 200 bytes

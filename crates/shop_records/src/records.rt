@@ -10,7 +10,7 @@ use std::alloc::{AllocError, Global};
 use std::cmp::Ordering;
 
 /// The most cells of a material that may be received in all.
-pub const MOST_RECEIVED: u64 = 1_000_000_000_000_000;
+pub const MAX_RECEIVED: u64 = 1_000_000_000_000_000;
 
 /// A material that was added, with limits of its kind.
 #[derive(Clone, Copy, Debug, PartialEq)]

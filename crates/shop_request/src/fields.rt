@@ -11,7 +11,7 @@ ghost use Rattle.shop_request.specs.Reading.{AreValues, IsSaid};
 use crate::faults::RequestFault;
 use httparse::spans::HeaderSpan;
 
-const LONGEST_BODY: usize = 131_072;
+const MAX_BODY_LEN: usize = 131_072;
 
 /// The values of the fields with one name.
 #[derive(Clone, Copy)]
@@ -104,7 +104,7 @@ fn short_number(digits: &[u8]) -> Option<usize>
     let mut value: usize = 0;
     for digit in digits {
         value = value * 10 + usize::from(*digit - b'0');
-        if value > LONGEST_BODY {
+        if value > MAX_BODY_LEN {
             return None;
         }
     }

@@ -10,9 +10,9 @@ use crate::routes::Routes;
 use httparse::spans::{EMPTY_HEADER_SPAN, HeaderSpan, RequestSpans, parse_request};
 use httparse::{Error, Status};
 
-pub(crate) const LONGEST_HEAD: usize = 8192;
+pub(crate) const MAX_HEAD_LEN: usize = 8192;
 
-pub(crate) const MOST_FIELDS: usize = 64;
+pub(crate) const MAX_FIELDS: usize = 64;
 
 // How a prefix was read.
 #[derive(Clone, Copy)]
@@ -43,8 +43,8 @@ pub struct Head {
 pub(crate) fn prefix_of(received: &[u8]) -> &[u8]
     ensures { result.now ≡ prefix received.now }
 {
-    if received.len() > LONGEST_HEAD {
-        return &received[..LONGEST_HEAD];
+    if received.len() > MAX_HEAD_LEN {
+        return &received[..MAX_HEAD_LEN];
     }
     received
 }
@@ -90,7 +90,7 @@ impl Head {
     /// Nothing was read yet.
     pub fn new() -> Head {
         Head {
-            headers: [EMPTY_HEADER_SPAN; MOST_FIELDS],
+            headers: [EMPTY_HEADER_SPAN; MAX_FIELDS],
             found: Found::Unfinished,
         }
     }
@@ -99,7 +99,7 @@ impl Head {
     pub fn read(routes: &Routes, received: &[u8]) -> Head
         ensures { IsHeadIn received.now result }
     {
-        let mut headers = [EMPTY_HEADER_SPAN; MOST_FIELDS];
+        let mut headers = [EMPTY_HEADER_SPAN; MAX_FIELDS];
         let prefix = prefix_of(received);
         let parsed = parse_prefix(prefix, &mut headers);
         let found = found_in(routes, prefix, &headers, parsed);

@@ -11,7 +11,7 @@ ghost use Rattle.shop_request.specs.declared.heads.Found.TheVariants.{Asks};
 ghost use Rattle.shop_request.specs.declared.faults.StreamFault.TheVariants.{Read, NoMemory};
 
 use crate::faults::{RequestFault, StreamFault};
-use crate::heads::{Found, Head, LONGEST_HEAD, prefix_of};
+use crate::heads::{Found, Head, MAX_HEAD_LEN, prefix_of};
 use crate::judging::{Asked, part_at};
 use crate::pieces::read_piece;
 use crate::routes::{Route, Routes};
@@ -35,7 +35,7 @@ fn part_fault(received: &[u8]) -> RequestFault
     ensures long { most_head ≤ length received.now → result ≡ LargeHead }
     ensures short { length received.now < most_head → result ≡ BadRequest }
 {
-    if received.len() >= LONGEST_HEAD {
+    if received.len() >= MAX_HEAD_LEN {
         RequestFault::LargeHead
     } else {
         RequestFault::BadRequest

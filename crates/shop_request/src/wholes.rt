@@ -5,7 +5,7 @@ ghost use Rattle.shop_request.specs.Reading.{HasEnough, IsHeadIn};
 ghost use Rattle.shop_request.specs.Requests.{most_request_reads};
 ghost use Rattle.shop_request.specs.Parses.{IsDetermined, IsUnfinished};
 
-use crate::heads::{Found, Head, LONGEST_HEAD};
+use crate::heads::{Found, Head, MAX_HEAD_LEN};
 
 /// How many bytes have to come, those that came among them, before they make a whole request, or a fault, whatever follows:
 /// no more than came where they do. With fewer the request is unfinished. It is one more than came while the head isn't whole,
@@ -33,7 +33,7 @@ pub fn least_bytes(head: &Head, received: &[u8]) -> usize
         }
         Found::Faulty(_, _) => 0,
         Found::Unfinished => {
-            if received.len() >= LONGEST_HEAD {
+            if received.len() >= MAX_HEAD_LEN {
                 return 0;
             }
             received.len() + 1

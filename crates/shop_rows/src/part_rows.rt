@@ -15,7 +15,7 @@ use shop_records::{Part, PartList, State};
 use std::alloc::{AllocError, Global};
 
 // The most origins, whose numbers 32 bits hold.
-const MOST_ORIGINS: usize = 4_294_967_296;
+const MAX_ORIGINS: usize = 4_294_967_296;
 
 /// What a part was received as, which it keeps: a cut hands it on to each piece.
 #[derive(Clone, Copy, Debug)]
@@ -248,7 +248,7 @@ impl PartRows {
         ensures known { AreKnown self.old → AreKnown self.new }
         ensures room { OnOk result (HasCapacity count self.new) }
     {
-        if MOST_ORIGINS < self.origins.len().saturating_add(count) {
+        if MAX_ORIGINS < self.origins.len().saturating_add(count) {
             return Err(AllocError);
         }
         reserve_rows(&mut self.origins, count)?;

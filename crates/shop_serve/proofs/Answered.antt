@@ -10,14 +10,14 @@ use Rattle.shop_book.specs.declared.books.Book.{Ghosts}
 use Rattle.shop_request.specs.Reading.{IsReadOn}
 use Rattle.shop_request.specs.Parses.{IsUnfinished}
 use Rattle.shop_serve.specs.declared.connections.Connection.{Ghosts as ConnectionGhosts}
-use Rattle.shop_serve.specs.declared.clients.Fate.{Fate}
-use Rattle.shop_serve.specs.declared.clients.Fate.TheVariants.{NoMemory}
+use Rattle.shop_serve.specs.declared.clients.ConnectionStatus.{ConnectionStatus}
+use Rattle.shop_serve.specs.declared.clients.ConnectionStatus.TheVariants.{NoMemory}
 use Rattle.shop_serve.specs.declared.clients.Client.{Client}
 use Rattle.shop_serve.specs.declared.sites.Site.{Site}
 use Rattle.shop_serve.specs.Known.{TellsAll, BringsRequest, HasOwnAnswer, HasOwnQuestion}
 use Rattle.shop_serve.specs.Times.{Times}
 use Rattle.shop_serve.specs.Clients.{AwaitsMore, IsAnsweredWhole, IsAttended, IsAttendedAt, IsBegunWhole, IsClosedBy, IsFresh, IsHeard, IsMute, IsSpent, IsSpoiled}
-use Rattle.shop_planning.specs.Thoughts.{posed_in}
+use Rattle.shop_planning.specs.PlanTasks.{instance_in}
 use Rattle.shop_serve.proofs.Turns.{answered-then}
 
 module _ {C : Type 0} (connection : ConnectionGhosts C) (site : Site) {B : Type 0} (book : Ghosts B)
@@ -89,24 +89,24 @@ module _ {C : Type 0} (connection : ConnectionGhosts C) (site : Site) {B : Type 
       heard : IsHeard connection site book client left before after seen seeing
       heard = attended.2 fresh.waits fresh.asks
 
-      by_thought : left.answer ≡ None → (t : Option _) → left.thought ≡ t → HasOwn place
-      by_thought none None e =
+      by_task : left.answer ≡ None → (t : Option _) → left.task ≡ t → HasOwn place
+      by_task none None e =
           let w = heard.waits none e in
           absurd (not_waiting left.received.items left.needed left.stream w.read w.drained (w.awaits awaits))
-      by_thought none (Some t) e =
+      by_task none (Some t) e =
           let whole = subst (λ o. IfSome o (IsBegunWhole connection site book client left heard.rest before after seen seeing)) e heard.begun in
           let part = first_part heard.rest left.received.items (read_of heard.rest left.received.items heard.read) in
           inr (record {
             received = left.received.items;
             rest = part.0;
-            posed = posed_in t.thought;
+            instance = instance_in t.task;
             split = part.2;
             whole = elim whole.whole [ inl determined ↦ inl determined | inr end ↦ inr (subst IsAtEnd part.1 end) ];
             asked = whole.asked;
           })
 
       by_answer : (o : Option _) → left.answer ≡ o → HasOwn place
-      by_answer None e = by_thought e left.thought refl
+      by_answer None e = by_task e left.task refl
       by_answer (Some a) e =
           let whole = subst (λ o. IfSome o (λ answer. IsAnsweredWhole connection site book client left heard.rest before after seen seeing answer.items)) e heard.answered in
           let part = first_part heard.rest left.received.items (read_of heard.rest left.received.items heard.read) in
@@ -126,11 +126,11 @@ module _ {C : Type 0} (connection : ConnectionGhosts C) (site : Site) {B : Type 
             goes = is_gone place left a e at;
           })
 
-  pub whole_is_answered : (fate : Fate) (key : ℕ) (old new : Slab (Client C)) → get old key ≡ Some client → fate ≢ NoMemory
-      → IsAttendedAt connection site book fate key old new before after seen seeing → HasOwn (get new key)
-  whole_is_answered fate key old new is known attended = by_place (get new key) refl
+  pub whole_is_answered : (status : ConnectionStatus) (key : ℕ) (old new : Slab (Client C)) → get old key ≡ Some client → status ≢ NoMemory
+      → IsAttendedAt connection site book status key old new before after seen seeing → HasOwn (get new key)
+  whole_is_answered status key old new is known attended = by_place (get new key) refl
     where
-      by_reason : IsClosedBy connection site book fate client before after seen seeing → HasOwn None
+      by_reason : IsClosedBy connection site book status client before after seen seeing → HasOwn None
       by_reason (inl wanting) = absurd (known wanting)
       by_reason (inr (left, inl spent)) = answered None left spent.1 spent.0
       by_reason (inr (left, inr spoiled)) = absurd (not_spoiled left spoiled)

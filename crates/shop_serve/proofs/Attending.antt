@@ -10,14 +10,14 @@ use Rattle.shop_book.specs.declared.books.Book.{Ghosts}
 use Rattle.shop_request.specs.Reading.{IsReadOn}
 use Rattle.shop_request.specs.Parses.{IsDetermined}
 use Rattle.shop_serve.specs.declared.connections.Connection.{Ghosts as ConnectionGhosts}
-use Rattle.shop_serve.specs.declared.clients.Fate.{Fate}
+use Rattle.shop_serve.specs.declared.clients.ConnectionStatus.{ConnectionStatus}
 use Rattle.shop_serve.specs.declared.clients.Client.{Client}
 use Rattle.shop_serve.specs.declared.sites.Site.{Site}
 use Rattle.shop_serve.specs.declared.transfers.Given.{Given}
 use Rattle.shop_serve.specs.declared.transfers.Given.TheVariants as given
-use Rattle.shop_planning.specs.Thoughts.{posed_in}
+use Rattle.shop_planning.specs.PlanTasks.{instance_in}
 use Rattle.shop_serve.specs.declared.answers.Made.{Made}
-use Rattle.shop_serve.specs.declared.answers.Made.TheVariants.{Answer, Thought}
+use Rattle.shop_serve.specs.declared.answers.Made.TheVariants.{Answer, PlanTask}
 use Rattle.shop_serve.specs.Making.{IsAsked, IsMadeMeanwhile, put_made}
 use Rattle.shop_serve.specs.Clients.{is_unanswered, unanswered, StopsAt, TakesAnswer, IsHandedOn, IsAnsweredWhole, IsBegunWhole, IsHeard, IsAttended, IsAttendedAt, IsClosedBy, IsSpent, IsSpoiled}
 use Rattle.shop_serve.specs.Serving.{Advances, HasServed, IsAnsweredThen}
@@ -43,7 +43,7 @@ module _ {C : Type 0} (connection : ConnectionGhosts C) (site : Site) {B : Type 
 
   -- it took its whole answer and was told the end of it, and what still came was dropped
   pub attended-ended : (old mid new : Client C) (before after : B) (seen seeing : Times)
-      → (new.received ≡ mid.received) × (new.answer ≡ mid.answer) × (new.sent ≡ mid.sent) → new.since ≡ mid.since → new.thought ≡ mid.thought
+      → (new.received ≡ mid.received) × (new.answer ≡ mid.answer) × (new.sent ≡ mid.sent) → new.since ≡ mid.since → new.task ≡ mid.task
       → connection.contents new.stream ≡ connection.contents mid.stream → (connection.has_ended mid.stream → connection.has_ended new.stream) → IsSomeAnd mid.answer (λ answer. mid.sent ≡ length answer.items)
       → IsAttended connection site book old mid before after seen seeing → IsAttended connection site book old new before after seen seeing
   attended-ended old mid new before after seen seeing kept since asks contents keeps whole attended = (
@@ -57,13 +57,13 @@ module _ {C : Type 0} (connection : ConnectionGhosts C) (site : Site) {B : Type 
       takes = takes-ended answer.items old.stream mid.stream new.stream old.sent mid.sent new.sent kept.2 contents handed.takes;
       stops = stops-ended answer.items mid.stream new.stream mid.sent new.sent kept.2 (subst (λ o. IsSomeAnd o (λ a. mid.sent ≡ length a.items)) (handed.kept ∙ is) whole) keeps handed.stops;
     }) attended.0,
-    λ none thinks. absurd (some_answer (ap (λ (l : Client C). l.answer) (attended.1 none thinks).kept ∙ none)),
+    λ none steps_search. absurd (some_answer (ap (λ (l : Client C). l.answer) (attended.1 none steps_search).kept ∙ none)),
     λ none rests. let heard = attended.2 none rests in record {
       rest = heard.rest;
       read = subst (λ received. IsReadOn (connection.remaining old.stream) heard.rest old.received.items received.items) (sym kept.0) heard.read;
       waits = λ waits idle. absurd (some_answer (sym kept.1 ∙ waits));
       begun = subst (λ o. IfSome o (IsBegunWhole connection site book old new heard.rest before after seen seeing)) (sym asks)
-          (if_some_at mid.thought _ _ (λ thinking is b. absurd (some_answer b.none)) heard.begun);
+          (if_some_at mid.task _ _ (λ searching is b. absurd (some_answer b.none)) heard.begun);
       answered = if_some_at new.answer _ _ (λ answer is whole_answer. record {
         whole = subst (λ received. IsDetermined received.items ⊎ IsAtEnd heard.rest) (sym kept.0) whole_answer.whole;
         answered = subst (λ at. IsAnsweredThen site book before after seen seeing at new.received.items answer.items) (sym since)
@@ -78,28 +78,28 @@ module _ {C : Type 0} (connection : ConnectionGhosts C) (site : Site) {B : Type 
       some_answer none = subst (λ o. IsSomeAnd o (λ a. mid.sent ≡ length a.items)) none whole
 
   -- it was answered or its question begun, and its answer handed over as far as that went
-  pub attended-first : (old mid new : Client C) (before after : B) (seen seeing : Times) (r : Given) → old.answer ≡ None → old.thought ≡ None
+  pub attended-first : (old mid new : Client C) (before after : B) (seen seeing : Times) (r : Given) → old.answer ≡ None → old.task ≡ None
       → IsReadOn (connection.remaining old.stream) (connection.remaining mid.stream) old.received.items mid.received.items
       → connection.contents mid.stream ≡ connection.contents old.stream
-      → ((IsSome mid.answer × (mid.thought ≡ None)) ⊎ (IsSome mid.thought × (mid.answer ≡ None))) × (mid.sent ≡ 0)
+      → ((IsSome mid.answer × (mid.task ≡ None)) ⊎ (IsSome mid.task × (mid.answer ≡ None))) × (mid.sent ≡ 0)
       → IsDetermined mid.received.items ⊎ IsAtEnd (connection.remaining mid.stream)
       → IfSome mid.answer (λ answer. IsAnsweredThen site book before after seen seeing mid.since mid.received.items answer.items)
-      → IfSome mid.thought (λ t. (t.last ≡ None) × IsAsked site book before after mid.received.items (posed_in t.thought))
-      → (IsSome mid.thought → Tells seen seeing mid.since) → (new.received ≡ mid.received) × (new.answer ≡ mid.answer) → new.since ≡ mid.since → new.thought ≡ mid.thought
+      → IfSome mid.task (λ t. (t.last ≡ None) × IsAsked site book before after mid.received.items (instance_in t.task))
+      → (IsSome mid.task → Tells seen seeing mid.since) → (new.received ≡ mid.received) × (new.answer ≡ mid.answer) → new.since ≡ mid.since → new.task ≡ mid.task
       → (mid.answer ≡ None → (new ≡ mid) × (r ≡ given.Waits)) → r ≢ given.Lost
       → (r ≢ given.Lost → IfSome mid.answer (λ answer. TakesAnswer connection answer.items mid.stream mid.sent new.stream new.sent))
       → (r ≢ given.Lost → IfSome mid.answer (λ answer. StopsAt connection answer.items new.stream new.sent)) → IsAttended connection site book old new before after seen seeing
   attended-first old mid new before after seen seeing r none rests read contents begins whole own asked timed kept since asks idle stays takes stops = (
     subst (λ o. IfSome o (λ answer. IsHandedOn connection site book old new before after seen seeing answer.items)) (sym none) tt,
-    λ none thinks. absurd (cc (subst IsSome rests thinks)),
+    λ none steps_search. absurd (cc (subst IsSome rests steps_search)),
     λ none rests. heard mid.answer refl,
   )
     where
-      asks_nothing : (answer : _) → mid.answer ≡ Some answer → mid.thought ≡ None
-      asks_nothing answer e = elim begins.0 [ inl answered ↦ answered.1 | inr thinks ↦ absurd (cc (thinks.1, e)) ]
+      asks_nothing : (answer : _) → mid.answer ≡ Some answer → mid.task ≡ None
+      asks_nothing answer e = elim begins.0 [ inl answered ↦ answered.1 | inr steps_search ↦ absurd (cc (steps_search.1, e)) ]
 
-      thinks_then : mid.answer ≡ None → IsSome mid.thought
-      thinks_then e = elim begins.0 [ inl answered ↦ absurd (cc (subst IsSome e answered.0)) | inr thinks ↦ thinks.0 ]
+      thinks_then : mid.answer ≡ None → IsSome mid.task
+      thinks_then e = elim begins.0 [ inl answered ↦ absurd (cc (subst IsSome e answered.0)) | inr steps_search ↦ steps_search.0 ]
 
       heard : (o : Option _) → mid.answer ≡ o → IsHeard connection site book old new before after seen seeing
       heard None e =
@@ -108,7 +108,7 @@ module _ {C : Type 0} (connection : ConnectionGhosts C) (site : Site) {B : Type 
             rest = connection.remaining mid.stream;
             read = read;
             waits = λ waits idle. absurd (cc (subst IsSome idle (thinks_then e)));
-            begun = if_some_at mid.thought _ _ (λ thinking is so. record {
+            begun = if_some_at mid.task _ _ (λ searching is so. record {
               since = timed (thinks_then e);
               whole = whole;
               asked = so.1;
@@ -142,30 +142,30 @@ module _ {C : Type 0} (connection : ConnectionGhosts C) (site : Site) {B : Type 
     pub made-own : (made : Made) (now : Instant) → IsMadeMeanwhile site book before after seen between client.received.items made → Tells between seeing now
         → IfSome (put_made client made now).answer (λ answer. IsAnsweredThen site book before after seen seeing (put_made client made now).since (put_made client made now).received.items answer.items)
     made-own (Answer answer) now is tells = (between, is, tells)
-    made-own (Thought thought) now is tells = tt
+    made-own (PlanTask task) now is tells = tt
 
     pub made-asked : (made : Made) (now : Instant) → IsMadeMeanwhile site book before after seen between client.received.items made
-        → IfSome (put_made client made now).thought (λ t. (t.last ≡ None) × IsAsked site book before after (put_made client made now).received.items (posed_in t.thought))
+        → IfSome (put_made client made now).task (λ t. (t.last ≡ None) × IsAsked site book before after (put_made client made now).received.items (instance_in t.task))
     made-asked (Answer answer) now is = tt
-    made-asked (Thought thought) now is = (refl, is.0)
+    made-asked (PlanTask task) now is = (refl, is.0)
 
     pub made-timed : (made : Made) (now : Instant) → IsMadeMeanwhile site book before after seen between client.received.items made → Tells between seeing now
-        → IsSome (put_made client made now).thought → Tells seen seeing (put_made client made now).since
+        → IsSome (put_made client made now).task → Tells seen seeing (put_made client made now).since
     made-timed (Answer answer) now is tells some = absurd (cc some)
-    made-timed (Thought thought) now is tells some = subst (λ t. Tells t seeing now) is.1 tells
+    made-timed (PlanTask task) now is tells some = subst (λ t. Tells t seeing now) is.1 tells
 
   pub made-whole : (client : Client C) (made : Made) (now : Instant) → IsDetermined client.received.items ⊎ IsAtEnd (connection.remaining client.stream)
       → IsDetermined (put_made client made now).received.items ⊎ IsAtEnd (connection.remaining (put_made client made now).stream)
   made-whole client (Answer answer) now whole = whole
-  made-whole client (Thought thought) now whole = whole
+  made-whole client (PlanTask task) now whole = whole
 
-  -- its question is thought about
-  pub attended-heeded : (old new : Client C) (before : B) (seen : Times) → old.answer ≡ None → IsSome old.thought → new ≡ record old { stream = new.stream }
+  -- its question is searched
+  pub attended-heeded : (old new : Client C) (before : B) (seen : Times) → old.answer ≡ None → IsSome old.task → new ≡ record old { stream = new.stream }
       → connection.contents new.stream ≡ connection.contents old.stream → IsAttended connection site book old new before before seen seen
-  attended-heeded old new before seen none thinks kept contents = (
+  attended-heeded old new before seen none steps_search kept contents = (
     subst (λ o. IfSome o (λ answer. IsHandedOn connection site book old new before before seen seen answer.items)) (sym none) tt,
-    λ none thinks. record { same = refl; unread = refl; kept = kept; took = contents },
-    λ none rests. absurd (cc (subst IsSome rests thinks)),
+    λ none steps_search. record { same = refl; unread = refl; kept = kept; took = contents },
+    λ none rests. absurd (cc (subst IsSome rests steps_search)),
   )
 
   -- it took its whole answer
@@ -188,7 +188,7 @@ module _ {C : Type 0} (connection : ConnectionGhosts C) (site : Site) {B : Type 
       by_answer None some why = absurd (cc some)
       by_answer (Some answer) some why = why
 
-  pub spoiled-first : (old mid new : Client C) → old.answer ≡ None → old.thought ≡ None → mid.sent ≡ 0
+  pub spoiled-first : (old mid new : Client C) → old.answer ≡ None → old.task ≡ None → mid.sent ≡ 0
       → connection.is_lost new.stream ⊎ IsSomeAnd mid.answer (λ answer. length answer.items < mid.sent) → IsSpoiled connection site book old new
   spoiled-first old mid new none rests begins (inl lost) = inl (none, rests, inl lost)
   spoiled-first old mid new none rests begins (inr over) = by_answer mid.answer refl over
@@ -202,14 +202,14 @@ module _ {C : Type 0} (connection : ConnectionGhosts C) (site : Site) {B : Type 
       → IsAttended connection site book client left before after seen seeing → is_unanswered (Some left) ≡ false
   keeps-own client left before after seen seeing own attended = by_answer client.answer refl
     where
-      by_thought : client.answer ≡ None → (t : Option _) → client.thought ≡ t → is_unanswered (Some left) ≡ false
-      by_thought none None e = absurd (cc (own, none, e))
-      by_thought none (Some x) e =
+      by_task : client.answer ≡ None → (t : Option _) → client.task ≡ t → is_unanswered (Some left) ≡ false
+      by_task none None e = absurd (cc (own, none, e))
+      by_task none (Some x) e =
           let heeded = attended.1 none (subst IsSome (sym e) refl) in
-          has-question left (subst IsSome (sym (ap (λ (l : Client C). l.thought) heeded.kept ∙ e)) refl)
+          has-question left (subst IsSome (sym (ap (λ (l : Client C). l.task) heeded.kept ∙ e)) refl)
 
       by_answer : (o : Option _) → client.answer ≡ o → is_unanswered (Some left) ≡ false
-      by_answer None e = by_thought e client.thought refl
+      by_answer None e = by_task e client.task refl
       by_answer (Some a) e =
           let handed = subst (λ o. IfSome o (λ a. IsHandedOn connection site book client left before after seen seeing a.items)) e attended.0 in
           has-answer left (subst IsSome (sym (handed.kept ∙ e)) refl)
@@ -263,26 +263,26 @@ module _ {C : Type 0} (connection : ConnectionGhosts C) (site : Site) {B : Type 
       once tt one
 
   -- the connection of a key is closed
-  pub attended-closed : (fate : Fate) (key : ℕ) (clients new : Slab (Client C)) (client left : Client C) (before after : B) (seen seeing : Times) → get clients key ≡ Some client
+  pub attended-closed : (status : ConnectionStatus) (key : ℕ) (clients new : Slab (Client C)) (client left : Client C) (before after : B) (seen seeing : Times) → get clients key ≡ Some client
       → Updates (with_value clients key left) new key None → (is_unanswered (Some client) ≡ false → after ≡ before) → HasServed site book before after 1 → (book.has_clean_disk after → book.has_clean_disk before)
-      → IsClosedBy connection site book fate client before after seen seeing → IsAttendedAt connection site book fate key clients new before after seen seeing
-  attended-closed fate key clients new client left before after seen seeing is removed once one clean_disk closed =
+      → IsClosedBy connection site book status client before after seen seeing → IsAttendedAt connection site book status key clients new before after seen seeing
+  attended-closed status key clients new client left before after seen seeing is removed once one clean_disk closed =
       let written = Updates-with_value clients key left (subst IsSome (sym is) refl) in
       record {
         others = λ other differs. removed.others other differs ∙ written.others other differs;
         absent = λ none. absurd (cc (is, none));
         there = λ l e. subst (λ slot. IfSome slot (λ left. IsAttended connection site book l left before after seen seeing)) (sym removed.changed) tt;
-        closed = λ l e none. let same : client ≡ l = cc (is, e) in subst (λ l. IsClosedBy connection site book fate l before after seen seeing) same closed;
+        closed = λ l e none. let same : client ≡ l = cc (is, e) in subst (λ l. IsClosedBy connection site book status l before after seen seeing) same closed;
         once = λ l e. let same : client ≡ l = cc (is, e) in subst (λ (l : Client C). is_unanswered (Some l) ≡ false → after ≡ before) same once;
         one = one;
         clean_disk = clean_disk;
       }
 
   -- it stays
-  pub attended-stays : (fate : Fate) (key : ℕ) (clients : Slab (Client C)) (client left : Client C) (before after : B) (seen seeing : Times) → get clients key ≡ Some client
+  pub attended-stays : (status : ConnectionStatus) (key : ℕ) (clients : Slab (Client C)) (client left : Client C) (before after : B) (seen seeing : Times) → get clients key ≡ Some client
       → (is_unanswered (Some client) ≡ false → after ≡ before) → HasServed site book before after 1 → (book.has_clean_disk after → book.has_clean_disk before)
-      → IsAttended connection site book client left before after seen seeing → IsAttendedAt connection site book fate key clients (with_value clients key left) before after seen seeing
-  attended-stays fate key clients client left before after seen seeing is once one clean_disk attended =
+      → IsAttended connection site book client left before after seen seeing → IsAttendedAt connection site book status key clients (with_value clients key left) before after seen seeing
+  attended-stays status key clients client left before after seen seeing is once one clean_disk attended =
       let written = Updates-with_value clients key left (subst IsSome (sym is) refl) in
       record {
         others = λ other differs. written.others other differs;

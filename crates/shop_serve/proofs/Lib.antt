@@ -7,7 +7,7 @@ pub mod Gathered
 pub mod Awaiting
 pub mod Answered
 pub mod Few
-pub mod Thoughts
+pub mod PlanTasks
 pub mod Owned
 pub mod Dated
 pub mod Unserved

@@ -6,7 +6,7 @@ use Rattle.std.specs.declared.time.Instant.{Instant}
 use Rattle.slab.specs.Slab.{Slab, get, slab_len, entries}
 use Rattle.slab.proofs.SlabLemmas.{Contains-cons, Contains-cons_cases, Contains-entries}
 use Rattle.shop_serve.specs.declared.clients.Client.{Client}
-use Rattle.shop_serve.specs.declared.clients.TheConstants.{MOST_CLIENTS}
+use Rattle.shop_serve.specs.declared.clients.TheConstants.{MAX_CLIENTS}
 use Rattle.shop_serve.specs.Clients.{CanOpenOne, IsOldest, MayGo, NoneMayGo}
 
 module _ {C : Type 0} (clients : Slab (Client C)) where
@@ -87,7 +87,7 @@ module _ {C : Type 0} (clients : Slab (Client C)) where
       | inr before ↦ subst (λ o. IsSomeAnd o (λ f. instant_nanos f.1 ≤ instant_nanos client.since)) is before
     ]
 
-module _ {C : Type 0} (clients : Slab (Client C)) (full : slab_len clients < MOST_CLIENTS → ⊥) where
+module _ {C : Type 0} (clients : Slab (Client C)) (full : slab_len clients < MAX_CLIENTS → ⊥) where
   -- as many are open as may be, and none may go
   pub cannot_open_one : NoneMayGo clients → CanOpenOne clients → ⊥
   cannot_open_one none (inl few) = full few

@@ -5,19 +5,19 @@ use Rattle.std.specs.Prelude.{Option, Some, None, IfSome, IsSome, nat_eq, if◌t
 use Rattle.std.specs.declared.time.Instant.{Instant}
 use Rattle.slab.specs.Slab.{Slab, get}
 use Rattle.shop_book.specs.declared.books.Book.{Ghosts}
-use Rattle.shop_planning.specs.Thoughts.{posed_in}
+use Rattle.shop_planning.specs.PlanTasks.{instance_in}
 use Rattle.shop_serve.specs.declared.connections.Connection.{Ghosts as ConnectionGhosts}
 use Rattle.shop_serve.specs.declared.ports.Port.{Ghosts as PortGhosts}
-use Rattle.shop_serve.specs.declared.clients.Fate.{Fate}
+use Rattle.shop_serve.specs.declared.clients.ConnectionStatus.{ConnectionStatus}
 use Rattle.shop_serve.specs.declared.clients.Client.{Client}
 use Rattle.shop_serve.specs.declared.sites.Site.{Site}
-use Rattle.shop_serve.specs.declared.thinking.Thinking.{Thinking as ThinkingOf}
-use Rattle.shop_serve.specs.declared.thinking.Progress.{Progress}
-use Rattle.shop_serve.specs.declared.thinking.Progress.TheVariants.{GoesOn, Answered, NoMemory}
+use Rattle.shop_serve.specs.declared.searching.RunningTask.{RunningTask as RunningTaskOf}
+use Rattle.shop_serve.specs.declared.searching.Progress.{Progress}
+use Rattle.shop_serve.specs.declared.searching.Progress.TheVariants.{GoesOn, Answered, NoMemory}
 use Rattle.shop_serve.specs.Clients.{AreAttended, IsAttended, IsAttendedAt, IsHandedOn, IsOpened, IsTurnedAway, MakesRoom, in_time, is_late}
 use Rattle.shop_serve.specs.Own.{Leads, WasDone, WasAsked, WasAnswered, HasItsOwn, EachHasItsOwn}
 use Rattle.shop_serve.specs.Rounds.{AreReceived, AreRounds, IsReceived, IsRound, Round}
-use Rattle.shop_serve.specs.Thinking.{IsThoughtAt, Thinks}
+use Rattle.shop_serve.specs.RunningTask.{IsSteppedAt, StepsSearch}
 use Rattle.shop_serve.specs.Times.{Times}
 use Rattle.shop_serve.proofs.Turns.{answered-then, none_served, more_served}
 
@@ -46,15 +46,15 @@ module _ (site : Site) {B : Type 0} (book : Ghosts B) where
   module _ {C : Type 0} where
     later-own : (a b c : B) (client : Client C) → Leads site book b c → HasItsOwn site book a b client → HasItsOwn site book a c client
     later-own a b c client more own = (
-      if_some client.thought _ _ (λ t was. later-done a b c _ more was) own.0,
+      if_some client.task _ _ (λ t was. later-done a b c _ more was) own.0,
       if_some client.answer _ _ (λ answer was. later-answer a b c client.received.items answer.items more was) own.1,
     )
 
     -- another connection with the same
-    same-own : (a b : B) (client other : Client C) → other.thought ≡ client.thought → other.answer ≡ client.answer → other.received ≡ client.received → HasItsOwn site book a b client → HasItsOwn site book a b other
-    same-own a b client other thought answer received own = (
-      subst (λ o. IfSome o (λ t. WasAsked site book a b other.received.items (posed_in t.thought))) (sym thought)
-          (subst (λ c. IfSome client.thought (λ t. WasAsked site book a b c.items (posed_in t.thought))) (sym received) own.0),
+    same-own : (a b : B) (client other : Client C) → other.task ≡ client.task → other.answer ≡ client.answer → other.received ≡ client.received → HasItsOwn site book a b client → HasItsOwn site book a b other
+    same-own a b client other task answer received own = (
+      subst (λ o. IfSome o (λ t. WasAsked site book a b other.received.items (instance_in t.task))) (sym task)
+          (subst (λ c. IfSome client.task (λ t. WasAsked site book a b c.items (instance_in t.task))) (sym received) own.0),
       subst (λ o. IfSome o (λ x. WasAnswered site book a b other.received.items x.items)) (sym answer)
           (subst (λ c. IfSome client.answer (λ x. WasAnswered site book a b c.items x.items)) (sym received) own.1),
     )
@@ -103,25 +103,25 @@ module _ {C : Type 0} (connection : ConnectionGhosts C) (site : Site) {B : Type 
       was : HasItsOwn site book a c old
       was = later-own site book a b c old more own
 
-      by_thought : old.answer ≡ None → (t : Option _) → old.thought ≡ t → HasItsOwn site book a c new
-      by_thought none (Some t) e =
+      by_task : old.answer ≡ None → (t : Option _) → old.task ≡ t → HasItsOwn site book a c new
+      by_task none (Some t) e =
           let heeded = attended.1 none (subst IsSome (sym e) refl) in
-          same-own site book a c old new (ap (λ (l : Client C). l.thought) heeded.kept) (ap (λ (l : Client C). l.answer) heeded.kept) (ap (λ (l : Client C). l.received) heeded.kept) was
-      by_thought none None e =
+          same-own site book a c old new (ap (λ (l : Client C). l.task) heeded.kept) (ap (λ (l : Client C). l.answer) heeded.kept) (ap (λ (l : Client C). l.received) heeded.kept) was
+      by_task none None e =
           let heard = attended.2 none e in (
-            if_some new.thought _ _ (λ t begun. record { old = b; new = c; earlier = so_far; step = begun.asked; clean_disk = clean_disk; later = stays site book c }) heard.begun,
+            if_some new.task _ _ (λ t begun. record { old = b; new = c; earlier = so_far; step = begun.asked; clean_disk = clean_disk; later = stays site book c }) heard.begun,
             if_some new.answer _ _ (λ answer whole. inl (record { old = b; new = c; earlier = so_far; step = answered-then site book b c seen seeing new.since new.received.items answer.items whole.answered; clean_disk = clean_disk; later = stays site book c })) heard.answered,
           )
 
       by_answer : (o : Option _) → old.answer ≡ o → HasItsOwn site book a c new
-      by_answer None e = by_thought e old.thought refl
+      by_answer None e = by_task e old.task refl
       by_answer (Some x) e =
           let handed = subst (λ o. IfSome o (λ x. IsHandedOn connection site book old new b c seen seeing x.items)) e attended.0 in
           same-own site book a c old new handed.asks handed.kept handed.received was
 
-  attended-own : (fate : Fate) (key : ℕ) (old new : Slab (Client C)) (a b c : B) (seen seeing : Times) → IsAttendedAt connection site book fate key old new b c seen seeing
+  attended-own : (status : ConnectionStatus) (key : ℕ) (old new : Slab (Client C)) (a b c : B) (seen seeing : Times) → IsAttendedAt connection site book status key old new b c seen seeing
       → Open a b old → Open a c new
-  attended-own fate key old new a b c seen seeing attended (so_far, own) = (
+  attended-own status key old new a b c seen seeing attended (so_far, own) = (
     on site book a b c so_far more,
     at-key site book a b c old new key more attended.others (λ client is. by_slot client is (get old key) refl) own,
   )
@@ -140,34 +140,34 @@ module _ {C : Type 0} (connection : ConnectionGhosts C) (site : Site) {B : Type 
   each-own (key ∷ keys) old new a b c seen seeing run here =
       each-own keys run.1 new a run.2 c run.3 seeing run.5 (attended-own run.0 key old run.1 a b run.2 seen run.3 run.4 here)
 
-  -- a question is thought on
-  thought-own : (crowded : Bool) (progress : Progress) (now : Instant) (key : ℕ) (old new : Slab (Client C)) (a b : B) (seen seeing : Times) → IsThoughtAt connection crowded progress now key old new seen seeing
+  -- a question takes a search step
+  task-own : (crowded : Bool) (progress : Progress) (now : Instant) (key : ℕ) (old new : Slab (Client C)) (a b : B) (seen seeing : Times) → IsSteppedAt connection crowded progress now key old new seen seeing
       → Own site book a b old → Own site book a b new
-  thought-own crowded progress now key old new a b seen seeing t own = at-key site book a b b old new key (stays site book b) t.others (λ client is. by_progress client is progress refl) own
+  task-own crowded progress now key old new a b seen seeing t own = at-key site book a b b old new key (stays site book b) t.others (λ client is. by_progress client is progress refl) own
     where
       was : HasItsOwn site book a b t.client
       was = own key t.client t.there
 
-      asked : (thinking : ThinkingOf) → t.client.thought ≡ Some thinking → WasAsked site book a b t.client.received.items (posed_in thinking.thought)
-      asked thinking is = subst (λ o. IfSome o (λ t2. WasAsked site book a b t.client.received.items (posed_in t2.thought))) is was.0
+      asked : (searching : RunningTaskOf) → t.client.task ≡ Some searching → WasAsked site book a b t.client.received.items (instance_in searching.task)
+      asked searching is = subst (λ o. IfSome o (λ t2. WasAsked site book a b t.client.received.items (instance_in t2.task))) is was.0
 
       by_progress : (client : Client C) → get new key ≡ Some client → (p : Progress) → progress ≡ p → HasItsOwn site book a b client
       by_progress client is GoesOn e =
           let (left, at, once, unread) = t.goes_on e in
           let same : left ≡ client = cc (at, is) in
-          subst (HasItsOwn site book a b) (sym once.kept ∙ same) (subst (WasAsked site book a b t.client.received.items) (sym once.same) (asked once.thinking once.asks), was.1)
+          subst (HasItsOwn site book a b) (sym once.kept ∙ same) (subst (WasAsked site book a b t.client.received.items) (sym once.same) (asked once.searching once.asks), was.1)
       by_progress client is Answered e =
           let (left, at, out) = t.answered e in
           let same : left ≡ client = cc (at, is) in
-          subst (HasItsOwn site book a b) (sym out.kept ∙ same) (tt, inr (posed_in out.thinking.thought, asked out.thinking out.asks, out.told))
+          subst (HasItsOwn site book a b) (sym out.kept ∙ same) (tt, inr (instance_in out.searching.task, asked out.searching out.asks, out.told))
       by_progress client is NoMemory e = absurd (cc (is, (t.closed e).0))
 
-  thinks-own : (now : Instant) (old new : Slab (Client C)) (a b c : B) (seen seeing : Times) → Thinks connection site book now old new b c seen seeing → Open a b old → Open a c new
-  thinks-own now old new a b c seen seeing (inl idle) here = subst (λ (n : Slab (Client C)). Open a c n) (sym idle.1) (subst (λ (d : B). Open a d old) (sym idle.2) here)
-  thinks-own now old new a b c seen seeing (inr t) (so_far, own) = by_progress t.progress refl
+  steps_search-own : (now : Instant) (old new : Slab (Client C)) (a b c : B) (seen seeing : Times) → StepsSearch connection site book now old new b c seen seeing → Open a b old → Open a c new
+  steps_search-own now old new a b c seen seeing (inl idle) here = subst (λ (n : Slab (Client C)). Open a c n) (sym idle.1) (subst (λ (d : B). Open a d old) (sym idle.2) here)
+  steps_search-own now old new a b c seen seeing (inr t) (so_far, own) = by_progress t.progress refl
     where
       once : Own site book a b t.clients
-      once = thought-own t.crowded t.progress now t.key old t.clients a b seen t.between t.thought own
+      once = task-own t.crowded t.progress now t.key old t.clients a b seen t.between t.task own
 
       rests : t.progress ≢ Answered → Open a c new
       rests other =
@@ -187,9 +187,9 @@ module _ {C : Type 0} (connection : ConnectionGhosts C) (site : Site) {B : Type 
       (λ client is. let same : o.client ≡ client = cc (o.there.changed, is) in subst (HasItsOwn site book a b) same (nothing o.client o.fresh.asks o.fresh.waits))
       (fewer-own site book a b b old o.room (stays site book b) (room-own site book old o.room o.made) own)
     where
-      nothing : (client : Client C) → client.thought ≡ None → client.answer ≡ None → HasItsOwn site book a b client
+      nothing : (client : Client C) → client.task ≡ None → client.answer ≡ None → HasItsOwn site book a b client
       nothing client asks waits = (
-        subst (λ o. IfSome o (λ t. WasAsked site book a b client.received.items (posed_in t.thought))) (sym asks) tt,
+        subst (λ o. IfSome o (λ t. WasAsked site book a b client.received.items (instance_in t.task))) (sym asks) tt,
         subst (λ o. IfSome o (λ x. WasAnswered site book a b client.received.items x.items)) (sym waits) tt,
       )
 
@@ -211,8 +211,8 @@ module _ {C : Type 0} (connection : ConnectionGhosts C) (site : Site) {B : Type 
   round-own round old new a b c seen seeing r here =
       let first = each-own round.keys old r.attended a b r.mid seen r.first r.each here in
       let kept = fewer-own site book a r.mid r.mid r.attended r.kept (stays site book r.mid) (λ key client is. late-own site book round.now (get r.attended key) client (sym (r.late key) ∙ is)) first.1 in
-      arrived-own round.arrived r.thought new a c r.third seeing r.received
-      (thinks-own round.now r.kept r.thought a r.mid c r.second r.third r.thinks (first.0, kept))
+      arrived-own round.arrived r.task new a c r.third seeing r.received
+      (steps_search-own round.now r.kept r.task a r.mid c r.second r.third r.steps_search (first.0, kept))
 
   rounds-own : (rounds : List (Round C)) (old new : Slab (Client C)) (a b c : B) (seen seeing : Times) → AreRounds connection site book port rounds old new b c seen seeing → Open a b old → Open a c new
   rounds-own [] old new a b c seen seeing run here = subst (λ (n : Slab (Client C)). Open a c n) (sym run.0) (subst (λ (d : B). Open a d old) (sym run.1) here)

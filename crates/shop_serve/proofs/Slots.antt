@@ -2,7 +2,7 @@
 use Rattle.std.proofs.Common.{◌≡◌, ◌∙◌, ℕ, zero, suc, ◌+◌, ◌≤◌, Bool, true, false, not, is_none, is_some, ◌&&◌, cond, MutBor, List, [], ◌∷◌, get_or, count_by, inr, refl, sym, ap, subst, arith}
 use Rattle.std.proofs.lemmas.List.Sums.{sum_by-cons}
 use Rattle.std.specs.declared.alloc.Global.{Global}
-use Rattle.shop_serve.specs.declared.thinking.Thinking.{Thinking}
+use Rattle.shop_serve.specs.declared.searching.RunningTask.{RunningTask}
 use Rattle.std.specs.Prelude.{Vec, Option, Some, None, Result, Ok, Err, IfOk, IfSome, IsSome, IsOk, OnErr, if◌then◌else◌}
 use Rattle.std.specs.Result.{result_ok}
 use Rattle.slab.specs.Slab.{Slab, get, Updates, HasRoomFor, CalledAt, RetainsFrom}
@@ -36,22 +36,22 @@ module _ {C : Type 0} where
   pub has-answer : (client : Client C) → IsSome client.answer → is_unanswered (Some client) ≡ false
   has-answer client some = by_answer client.answer some
     where
-      by_answer : (o : Option (Vec ℕ Global)) → IsSome o → (is_none o && is_none client.thought) ≡ false
+      by_answer : (o : Option (Vec ℕ Global)) → IsSome o → (is_none o && is_none client.task) ≡ false
       by_answer None some = absurd (cc some)
       by_answer (Some a) some = refl
 
-  pub has-question : (client : Client C) → IsSome client.thought → is_unanswered (Some client) ≡ false
-  has-question client some = by_both client.answer client.thought some
+  pub has-question : (client : Client C) → IsSome client.task → is_unanswered (Some client) ≡ false
+  has-question client some = by_both client.answer client.task some
     where
-      by_both : (o : Option (Vec ℕ Global)) (t : Option Thinking) → IsSome t → (is_none o && is_none t) ≡ false
+      by_both : (o : Option (Vec ℕ Global)) (t : Option RunningTask) → IsSome t → (is_none o && is_none t) ≡ false
       by_both o None some = absurd (cc some)
       by_both None (Some t) some = refl
       by_both (Some a) (Some t) some = refl
 
-  pub has-neither : (client : Client C) → is_unanswered (Some client) ≡ true → (client.answer ≡ None) × (client.thought ≡ None)
-  has-neither client e = by_both client.answer client.thought refl refl e
+  pub has-neither : (client : Client C) → is_unanswered (Some client) ≡ true → (client.answer ≡ None) × (client.task ≡ None)
+  has-neither client e = by_both client.answer client.task refl refl e
     where
-      by_both : (o : Option (Vec ℕ Global)) (t : Option Thinking) → client.answer ≡ o → client.thought ≡ t → (is_none o && is_none t) ≡ true → (client.answer ≡ None) × (client.thought ≡ None)
+      by_both : (o : Option (Vec ℕ Global)) (t : Option RunningTask) → client.answer ≡ o → client.task ≡ t → (is_none o && is_none t) ≡ true → (client.answer ≡ None) × (client.task ≡ None)
       by_both None None a t e = (a, t)
       by_both None (Some x) a t e = absurd (cc e)
       by_both (Some x) o a t e = absurd (cc e)

@@ -19,12 +19,12 @@ use Rattle.shop_request.specs.declared.guards.Ruling.{Ruling}
 use Rattle.shop_request.specs.declared.guards.Ruling.TheVariants.{Routed, Forbidden, OtherRun, Page, Health, OnlyGet, NoBackups}
 use Rattle.shop_forms.specs.Forms.{json_texts}
 use Rattle.shop_book.specs.declared.books.Book.{Ghosts}
-use Rattle.shop_planning.specs.declared.posed.Posed.{Posed}
+use Rattle.shop_planning.specs.declared.instance.PlanInstance.{PlanInstance}
 use Rattle.shop_wire.specs.Replays.{ExchangesLead}
 use Rattle.shop_wire.specs.Serves.{exchanged, IsBegun, IsServed}
 use Rattle.shop_wire.proofs.Crashes.{leads_join}
 use Rattle.shop_serve.specs.declared.answers.Made.{Made}
-use Rattle.shop_serve.specs.declared.answers.Made.TheVariants.{Answer, Thought}
+use Rattle.shop_serve.specs.declared.answers.Made.TheVariants.{Answer, PlanTask}
 use Rattle.shop_serve.specs.Making.{IsMadeOf, IsMadeMeanwhile}
 use Rattle.shop_serve.specs.declared.sites.Site.{Site}
 use Rattle.shop_serve.specs.Sites.{is_routed, own_bytes}
@@ -159,12 +159,12 @@ module _ (site : Site) {B : Type 0} (book : Ghosts B) where
   one_done before after input left old new Same is some goes up (inr s) = one_served before after input left old new s.0 is some goes up s.1
 
   -- a question was begun
-  begun_once : (before after : B) (input : List ℕ) (posed : Posed) → 0 < length input → GoesToRoute input → CountsUp (book.failed before) (book.failed after)
-      → IsBegun book before after (Some input) posed → HasServed site book before after 1
-  begun_once before after input posed some goes up b clean_disk m held sound =
+  begun_once : (before after : B) (input : List ℕ) (instance : PlanInstance) → 0 < length input → GoesToRoute input → CountsUp (book.failed before) (book.failed after)
+      → IsBegun book before after (Some input) instance → HasServed site book before after 1
+  begun_once before after input instance some goes up b clean_disk m held sound =
       let done = b.run clean_disk m held sound in
-      let turn : Turn = record { input = input; handling = begun b.body b.query posed; answer = [] } in
-      let once : IsServedOnce book before after m (begun b.body b.query posed) m =
+      let turn : Turn = record { input = input; handling = begun b.body b.query instance; answer = [] } in
+      let once : IsServedOnce book before after m (begun b.body b.query instance) m =
       record { step = (refl, done.1); clean_disk = clean_disk; held = done.0; crash = (refl, b.keeps.crash clean_disk m held); failures = up; blame = λ none. absurd none } in
       record {
         served = turn ∷ [];
@@ -179,9 +179,9 @@ module _ (site : Site) {B : Type 0} (book : Ghosts B) where
         account = account_same json_texts m m refl;
       }
 
-  pub one_begun : (before after : B) (input : List ℕ) (left : Option (List ℕ)) (posed : Posed) → left ≡ Some input → 0 < length input → GoesToRoute input
-      → CountsUp (book.failed before) (book.failed after) → IsBegun book before after left posed → HasServed site book before after 1
-  one_begun before after input left posed is some goes up b = begun_once before after input posed some goes up (subst (λ l. IsBegun book before after l posed) is b)
+  pub one_begun : (before after : B) (input : List ℕ) (left : Option (List ℕ)) (instance : PlanInstance) → left ≡ Some input → 0 < length input → GoesToRoute input
+      → CountsUp (book.failed before) (book.failed after) → IsBegun book before after left instance → HasServed site book before after 1
+  one_begun before after input left instance is some goes up b = begun_once before after input instance some goes up (subst (λ l. IsBegun book before after l instance) is b)
 
   -- a backup was made or not, and this came of it
   pub one_copied : (here : B) (input answer : List ℕ) (outcome : Result ℕ Refusal) → 0 < length input → IsBackupAnswer site input answer outcome → HasServed site book here here 1
@@ -207,7 +207,7 @@ module _ (site : Site) {B : Type 0} (book : Ghosts B) where
   -- what was made without a backup
   pub made-alone : (before after : B) (seen : Times) (received : List ℕ) (made : Made) → IsMadeOf site book before after received made → IsMadeMeanwhile site book before after seen seen received made
   made-alone before after seen received (Answer answer) is = inl (is, refl)
-  made-alone before after seen received (Thought thought) is = (is, refl)
+  made-alone before after seen received (PlanTask task) is = (is, refl)
 
   -- what was answered meanwhile was answered
   pub answered-then : (before after : B) (seen seeing : Times) (now : Instant) (received answer : List ℕ) → IsAnsweredThen site book before after seen seeing now received answer

@@ -10,12 +10,12 @@ use Rattle.shop_request.specs.Requests.{most_request_reads}
 use Rattle.shop_request.specs.Parses.{IsDetermined, IsUnfinished}
 use Rattle.shop_serve.specs.declared.connections.Connection.{Ghosts as ConnectionGhosts}
 use Rattle.shop_serve.specs.declared.ports.Port.{Ghosts as PortGhosts}
-use Rattle.shop_serve.specs.declared.clients.Fate.{Fate}
-use Rattle.shop_serve.specs.declared.clients.Fate.TheVariants.{NoMemory}
+use Rattle.shop_serve.specs.declared.clients.ConnectionStatus.{ConnectionStatus}
+use Rattle.shop_serve.specs.declared.clients.ConnectionStatus.TheVariants.{NoMemory}
 use Rattle.shop_serve.specs.declared.clients.Client.{Client}
-use Rattle.shop_serve.specs.declared.clients.TheConstants.{PATIENCE, MOST_CLIENTS}
-use Rattle.shop_serve.specs.declared.thinking.Thinking.{Thinking}
-use Rattle.shop_planning.specs.Thoughts.{posed_in}
+use Rattle.shop_serve.specs.declared.clients.TheConstants.{PATIENCE, MAX_CLIENTS}
+use Rattle.shop_serve.specs.declared.searching.RunningTask.{RunningTask}
+use Rattle.shop_planning.specs.PlanTasks.{instance_in}
 use Rattle.shop_serve.specs.Making.{IsAsked}
 use Rattle.shop_serve.specs.declared.sites.Site.{Site}
 use Rattle.shop_serve.specs.Serving.{HasServed, IsAnsweredThen}
@@ -26,31 +26,31 @@ pub record AwaitsMore (received : List ℕ) (needed : ℕ) : Type 0 where
   pub here : IsUnfinished received
   pub later : (more : List ℕ) → length (received ++ more) < needed → IsUnfinished (received ++ more)
 
--- a question was thought on
-abbrev pub was_thought_on : Option Thinking → Bool
-was_thought_on None = false
-was_thought_on (Some thinking) = is_some thinking.last
+-- a question has had a search step
+abbrev pub was_stepped : Option RunningTask → Bool
+was_stepped None = false
+was_stepped (Some searching) = is_some searching.last
 
 module _ {C : Type 0} where
   -- a connection that is open and has no answer yet, and no question
   abbrev pub is_unanswered : Option (Client C) → Bool
   is_unanswered None = false
-  is_unanswered (Some client) = is_none client.answer && is_none client.thought
+  is_unanswered (Some client) = is_none client.answer && is_none client.task
 
   -- how many of these connections have no answer yet, and no question
   abbrev pub unanswered : Slab (Client C) → ℕ
   unanswered clients = count_by is_unanswered clients.slots
 
   abbrev pub is_begun : Client C → Bool
-  is_begun client = was_thought_on client.thought
+  is_begun client = was_stepped client.task
 
   -- it had its seconds, from the time when it was accepted or its answer was made; a question has none
   abbrev pub is_late : Instant → Client C → Bool
-  is_late now client = is_none client.thought && leb (PATIENCE * 1000000000) (instant_nanos now - instant_nanos client.since)
+  is_late now client = is_none client.task && leb (PATIENCE * 1000000000) (instant_nanos now - instant_nanos client.since)
 
   -- a connection of this key has a question
   abbrev pub AsksAt : Slab (Client C) → ℕ → Type 0
-  AsksAt clients key = (client : Client C) × (get clients key ≡ Some client) × IsSome client.thought
+  AsksAt clients key = (client : Client C) × (get clients key ≡ Some client) × IsSome client.task
 
   -- none has one
   abbrev pub NoneAsks : Slab (Client C) → Type 0
@@ -69,11 +69,11 @@ module _ {C : Type 0} where
   abbrev pub IsSpent : Client C → Type 0
   IsSpent client = IsSomeAnd client.answer (λ answer. length answer.items ≤ client.sent)
 
-  -- no answer of it is on its way: it has none yet, and its question wasn't thought on; or it took all of it
+  -- no answer of it is on its way: it has none yet, and its question has had no search step; or it took all of it
   abbrev pub MayGo : Client C → Type 0
   MayGo client = ((client.answer ≡ None) × (is_begun client ≡ false)) ⊎ IsSpent client
 
-  -- each that is open has an answer on its way, or its question was thought on
+  -- each that is open has an answer on its way, or its question has had a search step
   abbrev pub NoneMayGo : Slab (Client C) → Type 0
   NoneMayGo clients = (key : ℕ) (client : Client C) → get clients key ≡ Some client → MayGo client → ⊥
 
@@ -86,12 +86,12 @@ module _ {C : Type 0} where
 
   -- one connection more may be open, be it in another's place
   abbrev pub CanOpenOne : Slab (Client C) → Type 0
-  CanOpenOne clients = (slab_len clients < MOST_CLIENTS) ⊎ ((key : ℕ) × IsOldest clients key)
+  CanOpenOne clients = (slab_len clients < MAX_CLIENTS) ⊎ ((key : ℕ) × IsOldest clients key)
 
   -- none is closed while fewer than may be are open; else the oldest that may go is, and no other
   abbrev pub MakesRoom : Slab (Client C) → Slab (Client C) → Type 0
   MakesRoom old new =
-      ((slab_len old < MOST_CLIENTS) × (new.slots ≡ old.slots)) ⊎ ((MOST_CLIENTS ≤ slab_len old) × (key : ℕ) × IsOldest old key × Updates old new key None)
+      ((slab_len old < MAX_CLIENTS) × (new.slots ≡ old.slots)) ⊎ ((MAX_CLIENTS ≤ slab_len old) × (key : ℕ) × IsOldest old key × Updates old new key None)
 
   -- It isn't opened, though room was made: it can't be watched, or memory for one more is wanting.
   pub record IsTurnedAway {P : Type 0} (port : PortGhosts P C) (old new : Slab (Client C)) : Type 0 where
@@ -106,7 +106,7 @@ module _ {C : Type 0} where
     pub since : client.since ≡ now
     pub received : client.received.items ≡ []
     pub needed : client.needed ≡ 0
-    pub asks : client.thought ≡ None
+    pub asks : client.task ≡ None
     pub waits : client.answer ≡ None
 
   -- it is open under a key that was free, once room was made for it, and is watched under this key
@@ -144,7 +144,7 @@ module _ {C : Type 0} (connection : ConnectionGhosts C) (site : Site) {B : Type 
     pub unread : TellsNone seen seeing
     pub since : new.since ≡ old.since
     pub received : new.received ≡ old.received
-    pub asks : new.thought ≡ old.thought
+    pub asks : new.task ≡ old.task
     pub kept : new.answer ≡ old.answer
     pub takes : TakesAnswer connection answer old.stream old.sent new.stream new.sent
     pub stops : StopsAt connection answer new.stream new.sent
@@ -158,16 +158,16 @@ module _ {C : Type 0} (connection : ConnectionGhosts C) (site : Site) {B : Type 
     pub stops : StopsAt connection answer new.stream new.sent
 
   -- The question that is all that came of a connection, once that was whole or at its end: this is what it asks of the content.
-  -- It waits to be thought on, since the time that is read then. Nothing is done, and the connection took nothing.
-  pub record IsBegunWhole (old new : Client C) (rest : Option (List ℕ)) (before after : B) (seen seeing : Times) (thinking : Thinking) : Type 0 where
+  -- It waits for its search, since the time that is read then. Nothing is done, and the connection took nothing.
+  pub record IsBegunWhole (old new : Client C) (rest : Option (List ℕ)) (before after : B) (seen seeing : Times) (searching : RunningTask) : Type 0 where
     pub since : Tells seen seeing new.since
     pub whole : IsDetermined new.received.items ⊎ IsAtEnd rest
-    pub asked : IsAsked site book before after new.received.items (posed_in thinking.thought)
-    pub waits : thinking.last ≡ None
+    pub asked : IsAsked site book before after new.received.items (instance_in searching.task)
+    pub waits : searching.last ≡ None
     pub none : new.answer ≡ None
     pub took : connection.contents new.stream ≡ connection.contents old.stream
 
-  -- A connection whose question is thought about: it keeps that and waits, and what still came of it was dropped. Nothing is done.
+  -- A connection whose question is searched: it keeps that and waits, and what still came of it was dropped. Nothing is done.
   pub record IsHeeded (old new : Client C) (before after : B) (seen seeing : Times) : Type 0 where
     pub same : after ≡ before
     pub unread : TellsNone seen seeing
@@ -190,36 +190,36 @@ module _ {C : Type 0} (connection : ConnectionGhosts C) (site : Site) {B : Type 
   pub record IsHeard (old new : Client C) (before after : B) (seen seeing : Times) : Type 0 where
     pub rest : Option (List ℕ)
     pub read : IsReadOn (connection.remaining old.stream) rest old.received.items new.received.items
-    pub waits : new.answer ≡ None → new.thought ≡ None → IsLeftWaiting old new before after seen seeing
-    pub begun : IfSome new.thought (IsBegunWhole old new rest before after seen seeing)
+    pub waits : new.answer ≡ None → new.task ≡ None → IsLeftWaiting old new before after seen seeing
+    pub begun : IfSome new.task (IsBegunWhole old new rest before after seen seeing)
     pub answered : IfSome new.answer (λ answer. IsAnsweredWhole old new rest before after seen seeing answer.items)
 
   -- a connection was attended to, and stays open
   abbrev pub IsAttended : Client C → Client C → B → B → (seen seeing : Times) → Type 0
   IsAttended old new before after seen seeing =
       IfSome old.answer (λ answer. IsHandedOn old new before after seen seeing answer.items)
-      × (old.answer ≡ None → IsSome old.thought → IsHeeded old new before after seen seeing)
-      × (old.answer ≡ None → old.thought ≡ None → IsHeard old new before after seen seeing)
+      × (old.answer ≡ None → IsSome old.task → IsHeeded old new before after seen seeing)
+      × (old.answer ≡ None → old.task ≡ None → IsHeard old new before after seen seeing)
 
   -- No request can come of it, or it can't take its answer: it is lost, or told to have taken more than that.
   abbrev pub IsSpoiled : Client C → Client C → Type 0
   IsSpoiled old new =
-      ((old.answer ≡ None) × (old.thought ≡ None) × IsMute connection old.stream old.received.items new.stream new.received.items)
+      ((old.answer ≡ None) × (old.task ≡ None) × IsMute connection old.stream old.received.items new.stream new.received.items)
       ⊎ IsSomeAnd old.answer (λ answer. connection.is_lost new.stream ⊎ (length answer.items < old.sent))
-      ⊎ IsSome old.thought × connection.is_lost new.stream
+      ⊎ IsSome old.task × connection.is_lost new.stream
 
   -- why a connection is closed that is attended to: it took its whole answer, or is spoiled; or memory was wanting
-  abbrev pub IsClosedBy : Fate → Client C → B → B → (seen seeing : Times) → Type 0
-  IsClosedBy fate client before after seen seeing =
-      (fate ≡ NoMemory) ⊎ ((left : Client C) × (IsAttended client left before after seen seeing × IsSpent left ⊎ IsSpoiled client left))
+  abbrev pub IsClosedBy : ConnectionStatus → Client C → B → B → (seen seeing : Times) → Type 0
+  IsClosedBy status client before after seen seeing =
+      (status ≡ NoMemory) ⊎ ((left : Client C) × (IsAttended client left before after seen seeing × IsSpent left ⊎ IsSpoiled client left))
 
   -- The connection of a key was attended to, if there is one, and is closed or stays; no other was. At most one request was
   -- served, and none where it had an answer or a question.
-  pub record IsAttendedAt (fate : Fate) (key : ℕ) (old new : Slab (Client C)) (before after : B) (seen seeing : Times) : Type 0 where
+  pub record IsAttendedAt (status : ConnectionStatus) (key : ℕ) (old new : Slab (Client C)) (before after : B) (seen seeing : Times) : Type 0 where
     pub others : (other : ℕ) → other ≢ key → get new other ≡ get old other
     pub absent : get old key ≡ None → (get new key ≡ None) × (after ≡ before)
     pub there : (client : Client C) → get old key ≡ Some client → IfSome (get new key) (λ left. IsAttended client left before after seen seeing)
-    pub closed : (client : Client C) → get old key ≡ Some client → get new key ≡ None → IsClosedBy fate client before after seen seeing
+    pub closed : (client : Client C) → get old key ≡ Some client → get new key ≡ None → IsClosedBy status client before after seen seeing
     pub once : (client : Client C) → get old key ≡ Some client → is_unanswered (Some client) ≡ false → after ≡ before
     pub one : HasServed site book before after 1
     pub clean_disk : book.has_clean_disk after → book.has_clean_disk before
@@ -228,5 +228,5 @@ module _ {C : Type 0} (connection : ConnectionGhosts C) (site : Site) {B : Type 
   abbrev pub AreAttended : List ℕ → Slab (Client C) → Slab (Client C) → B → B → (seen seeing : Times) → Type 0
   AreAttended [] old new before after seen seeing = (new ≡ old) × (after ≡ before) × TellsNone seen seeing
   AreAttended (key ∷ keys) old new before after seen seeing =
-      (fate : Fate) × (clients : Slab (Client C)) × (mid : B) × (between : Times) × IsAttendedAt fate key old clients before mid seen between
+      (status : ConnectionStatus) × (clients : Slab (Client C)) × (mid : B) × (between : Times) × IsAttendedAt status key old clients before mid seen between
       × AreAttended keys clients new mid after between seeing

@@ -7,12 +7,12 @@ use Rattle.shop_book.specs.declared.books.Book.{Ghosts}
 use Rattle.shop_request.specs.Requests.{most_request_reads}
 use Rattle.shop_request.specs.Parses.{IsDetermined, IsUnfinished}
 use Rattle.shop_serve.specs.declared.connections.Connection.{Ghosts as ConnectionGhosts}
-use Rattle.shop_serve.specs.declared.clients.Fate.{Fate}
-use Rattle.shop_serve.specs.declared.clients.Fate.TheVariants.{NoMemory}
+use Rattle.shop_serve.specs.declared.clients.ConnectionStatus.{ConnectionStatus}
+use Rattle.shop_serve.specs.declared.clients.ConnectionStatus.TheVariants.{NoMemory}
 use Rattle.shop_serve.specs.declared.clients.Client.{Client}
 use Rattle.shop_serve.specs.declared.sites.Site.{Site}
 use Rattle.shop_serve.specs.Clients.{IsAttendedAt, IsFresh, StopsAt}
-use Rattle.shop_planning.specs.declared.posed.Posed.{Posed}
+use Rattle.shop_planning.specs.declared.instance.PlanInstance.{PlanInstance}
 use Rattle.shop_serve.specs.Making.{IsAsked}
 use Rattle.shop_serve.specs.Serving.{IsAnswered}
 use Rattle.shop_serve.specs.Times.{Times}
@@ -52,14 +52,14 @@ module _ {C : Type 0} (connection : ConnectionGhosts C) where
     pub record HasOwnQuestion (input : List ℕ) (before after : B) : Type 0 where
       pub received : List ℕ
       pub rest : List ℕ
-      pub posed : Posed
+      pub instance : PlanInstance
       pub split : input ≡ received ++ rest
       pub whole : IsDetermined received ⊎ (rest ≡ [])
-      pub asked : IsAsked site book before after received posed
+      pub asked : IsAsked site book before after received instance
 
     -- one that came now with a whole request, and is attended to, has its answer or its question, where memory isn't wanting
     abbrev pub WholeIsAnswered : Type 0
     WholeIsAnswered =
-        (now : Instant) (stream : C) (input : List ℕ) (client : Client C) (fate : Fate) (key : ℕ) (old new : Slab (Client C)) (before after : B) (seen seeing : Times)
-        → TellsAll → BringsRequest stream input → IsFresh now stream client → get old key ≡ Some client → fate ≢ NoMemory
-        → IsAttendedAt connection site book fate key old new before after seen seeing → HasOwnAnswer input (get new key) before after ⊎ HasOwnQuestion input before after
+        (now : Instant) (stream : C) (input : List ℕ) (client : Client C) (status : ConnectionStatus) (key : ℕ) (old new : Slab (Client C)) (before after : B) (seen seeing : Times)
+        → TellsAll → BringsRequest stream input → IsFresh now stream client → get old key ≡ Some client → status ≢ NoMemory
+        → IsAttendedAt connection site book status key old new before after seen seeing → HasOwnAnswer input (get new key) before after ⊎ HasOwnQuestion input before after

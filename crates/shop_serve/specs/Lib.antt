@@ -7,7 +7,7 @@ pub mod Watches
 pub mod Lines
 pub mod Ports
 pub mod Clients
-pub mod Thinking
+pub mod RunningTask
 pub mod Rounds
 pub mod Known
 pub mod Own

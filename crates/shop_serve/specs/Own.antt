@@ -2,8 +2,8 @@
 use Rattle.std.specs.Prelude.{◌≡◌, ◌⊎◌, ℕ, List, Some, None, IfSome}
 use Rattle.slab.specs.Slab.{Slab, get}
 use Rattle.shop_book.specs.declared.books.Book.{Ghosts}
-use Rattle.shop_planning.specs.Thoughts.{posed_in}
-use Rattle.shop_planning.specs.declared.posed.Posed.{Posed}
+use Rattle.shop_planning.specs.PlanTasks.{instance_in}
+use Rattle.shop_planning.specs.declared.instance.PlanInstance.{PlanInstance}
 use Rattle.shop_serve.specs.declared.connections.Connection.{Ghosts as ConnectionGhosts}
 use Rattle.shop_serve.specs.declared.ports.Port.{Ghosts as PortGhosts}
 use Rattle.shop_serve.specs.declared.clients.Client.{Client}
@@ -30,19 +30,19 @@ module _ (site : Site) {B : Type 0} (book : Ghosts B) where
     pub later : Leads new after
 
   -- these bytes are a question that was asked then, and this is what it asks of the content that the book had
-  abbrev pub WasAsked : B → B → List ℕ → Posed → Type 0
-  WasAsked before after received posed = WasDone before after (λ old new. IsAsked site book old new received posed)
+  abbrev pub WasAsked : B → B → List ℕ → PlanInstance → Type 0
+  WasAsked before after received instance = WasDone before after (λ old new. IsAsked site book old new received instance)
 
   -- this is the answer to these bytes that was made then; or they are a question, and it is the answer to that
   abbrev pub WasAnswered : B → B → List ℕ → List ℕ → Type 0
   WasAnswered before after received answer =
       WasDone before after (λ old new. IsAnswered site book old new received answer)
-      ⊎ ((posed : Posed) × WasAsked before after received posed × IsPlansAnswer posed answer)
+      ⊎ ((instance : PlanInstance) × WasAsked before after received instance × IsPlansAnswer instance answer)
 
   -- a connection's question and its answer are those of its own bytes
   abbrev pub HasItsOwn : {C : Type 0} → B → B → Client C → Type 0
   HasItsOwn before after client =
-      IfSome client.thought (λ t. WasAsked before after client.received.items (posed_in t.thought))
+      IfSome client.task (λ t. WasAsked before after client.received.items (instance_in t.task))
       × IfSome client.answer (λ answer. WasAnswered before after client.received.items answer.items)
 
 -- where none is open at first, each that is open after the turns has its own

@@ -7,11 +7,11 @@ use Rattle.shop_book.specs.declared.books.Book.{Ghosts}
 use Rattle.shop_serve.specs.declared.connections.Connection.{Ghosts as ConnectionGhosts}
 use Rattle.shop_serve.specs.declared.ports.Port.{Ghosts as PortGhosts}
 use Rattle.shop_serve.specs.declared.clients.Client.{Client}
-use Rattle.shop_serve.specs.declared.clients.TheConstants.{MOST_CLIENTS}
+use Rattle.shop_serve.specs.declared.clients.TheConstants.{MAX_CLIENTS}
 use Rattle.shop_serve.specs.declared.sites.Site.{Site}
 use Rattle.shop_serve.specs.Times.{Adds, Looks, Times, Tells, TellsNone}
 use Rattle.shop_serve.specs.Clients.{AreAttended, ClosesLate, IsOpened, IsTurnedAway}
-use Rattle.shop_serve.specs.Thinking.{Thinks}
+use Rattle.shop_serve.specs.RunningTask.{StepsSearch}
 
 -- a turn of a server: the keys that were reported, when those that had their time were closed, and the connections that came
 pub record Round (C : Type 0) : Type 0 where
@@ -39,7 +39,7 @@ module _ {C : Type 0} {P : Type 0} (port : PortGhosts P C) where
 
 module _ {C : Type 0} (connection : ConnectionGhosts C) (site : Site) {B : Type 0} (book : Ghosts B) {P : Type 0} (port : PortGhosts P C) where
   -- Those that are reported are attended to, one after another; the time is read, and those that had theirs are closed; a question
-  -- is thought on, once, where there is any; those that come are received, and nothing is done for them before the next turn.
+  -- takes one search step, where there is any; those that come are received, and nothing is done for them before the next turn.
   pub record IsRound (round : Round C) (old new : Slab (Client C)) (before after : B) (seen seeing : Times) : Type 0 where
     pub attended : Slab (Client C)
     pub mid : B
@@ -49,10 +49,10 @@ module _ {C : Type 0} (connection : ConnectionGhosts C) (site : Site) {B : Type 
     pub second : Times
     pub read : Tells first second round.now
     pub late : ClosesLate round.now attended kept
-    pub thought : Slab (Client C)
+    pub task : Slab (Client C)
     pub third : Times
-    pub thinks : Thinks connection site book round.now kept thought mid after second third
-    pub received : AreReceived port round.arrived thought new third seeing
+    pub steps_search : StepsSearch connection site book round.now kept task mid after second third
+    pub received : AreReceived port round.arrived task new third seeing
 
   -- turn after turn; before each it was looked, and the store's names led to the files that are open
   abbrev pub AreRounds : List (Round C) → Slab (Client C) → Slab (Client C) → B → B → (seen seeing : Times) → Type 0
@@ -65,7 +65,7 @@ module _ {C : Type 0} (connection : ConnectionGhosts C) (site : Site) {B : Type 
   abbrev pub FewAreOpen : Type 0
   FewAreOpen =
       (rounds : List (Round C)) (first last : Slab (Client C)) (before after : B) (seen seeing : Times) → AreRounds rounds first last before after seen seeing
-      → ((key : ℕ) → get first key ≡ None) → slab_len last ≤ MOST_CLIENTS
+      → ((key : ℕ) → get first key ≡ None) → slab_len last ≤ MAX_CLIENTS
 
   -- As many connections came as the limit says, and each is closed: each key that was reported was attended to, turn after turn,
   -- and each connection that was given was received. The time was read where that says so, and nowhere else.

@@ -17,8 +17,8 @@ use Rattle.shop_request.specs.declared.guards.Ruling.TheVariants.{Routed}
 use Rattle.shop_request.specs.Requests.{ParseResult, silent, faulty, asking, ParsesTo}
 use Rattle.shop_request.specs.declared.routes.Route.{Route}
 use Rattle.shop_request.specs.declared.routes.Route.TheVariants.{Message, Plans, Backup}
-use Rattle.shop_planning.specs.Questions.{IsPosed}
-use Rattle.shop_planning.specs.declared.posed.Posed.{Posed}
+use Rattle.shop_planning.specs.Questions.{IsInstance}
+use Rattle.shop_planning.specs.declared.instance.PlanInstance.{PlanInstance}
 use Rattle.shop_plans.specs.declared.questions.PlansQuery.{PlansQuery}
 use Rattle.shop_forms.specs.Forms.{json_texts}
 use Rattle.shop_serve.specs.declared.faults.ServeFault.{ServeFault}
@@ -28,19 +28,19 @@ use Rattle.shop_book.specs.Kept.{OnContent, Unchanged}
 use Rattle.shop_wire.specs.Replays.{ExchangesLead}
 use Rattle.shop_wire.specs.AnswerBytes.{Telling, answer_bytes, backup_answer, replied, bytes_of}
 use Rattle.shop_wire.specs.Serves.{HandlesInputAt, ParsedStep, exchanged, body_plans, IsServed}
-use Rattle.shop_serve.specs.declared.serving.TheConstants.{MOST_SERVED}
+use Rattle.shop_serve.specs.declared.serving.TheConstants.{MAX_SERVED}
 use Rattle.shop_serve.specs.Sites.{is_health, own_bytes}
 use Rattle.shop_serve.specs.declared.sites.Site.{Site}
 use Rattle.shop_serve.specs.Times.{Times, Copies, Tells, TellsNone}
 use Rattle.std.specs.declared.time.Instant.{Instant}
 
 -- What is done with a request: it goes to its route, with this parse, and this is told; or the site answers by itself, and may
--- tell how many entries there are; or its body is a question, and this is what it asks of the content, which is thought about; or it asks for a backup, by this body, and
+-- tell how many entries there are; or its body is a question, and this is what it asks of the content, which is searched; or it asks for a backup, by this body, and
 -- this came of it.
 pub data Handling : Type 0 where
   routed : ParseResult → Telling → Handling
   ruled : Ruling → Option ℕ → Handling
-  begun : List ℕ → PlansQuery → Posed → Handling
+  begun : List ℕ → PlansQuery → PlanInstance → Handling
   copied : List ℕ → Result ℕ Refusal → Handling
 
 -- whether a backup is asked for
@@ -77,7 +77,7 @@ IsHandling site input answer (routed parsed telling) =
     HasRuling site.guard input Routed × ParsesTo input parsed
     × ((unwritten : List ℕ) × (answer ++ unwritten ≡ bytes_of parsed telling))
 IsHandling site input answer (ruled r entries) = HasRuling site.guard input r × (r ≢ Routed) × (answer ≡ own_bytes site entries r)
-IsHandling site input answer (begun body query posed) =
+IsHandling site input answer (begun body query instance) =
     HasRuling site.guard input Routed × ParsesTo input (asking Plans body) × (body_plans body ≡ Some query) × (answer ≡ [])
 IsHandling site input answer (copied body outcome) =
     HasRuling site.guard input Routed × ParsesTo input (asking Backup body) × (answer ≡ answer_bytes (backup_answer outcome))
@@ -95,14 +95,14 @@ IsCount content entries = IfSome entries (λ count. count ≡ entry_count conten
 abbrev pub HandlingStep : Content → Handling → Content → Type 0
 HandlingStep old (routed parsed telling) new = ParsedStep old parsed telling new
 HandlingStep old (ruled r entries) new = (new ≡ old) × IsCount old entries
-HandlingStep old (begun body query posed) new = (new ≡ old) × IsPosed old query posed
+HandlingStep old (begun body query instance) new = (new ≡ old) × IsInstance old query instance
 HandlingStep old (copied body outcome) new = new ≡ old
 
 -- the message that was read, with its reply
 abbrev pub exchange_of : Handling → List (ShopMessage × Reply)
 exchange_of (routed parsed telling) = exchanged parsed telling
 exchange_of (ruled r entries) = []
-exchange_of (begun body query posed) = []
+exchange_of (begun body query instance) = []
 exchange_of (copied body outcome) = []
 
 -- the messages among them, each with its reply
@@ -113,7 +113,7 @@ exchanges = flat_map (λ t. exchange_of t.handling)
 abbrev pub TellsFailure : Handling → Type 0
 TellsFailure (routed parsed telling) = telling ≡ replied (Refused StoreFault)
 TellsFailure (ruled r entries) = ⊥
-TellsFailure (begun body query posed) = ⊥
+TellsFailure (begun body query instance) = ⊥
 TellsFailure (copied body outcome) = ⊥
 
 -- One that was served leads from one book, which held old, to the next, which holds new. A crash leaves what it may leave after the
@@ -163,7 +163,7 @@ Advances site book before after from to = (n : ℕ) × (n + to ≤ from) × HasS
 -- as many connections as a limit says; without one, more than come in the life of a machine
 abbrev pub most_served : Option ℕ → ℕ
 most_served (Some limit) = limit
-most_served None = MOST_SERVED
+most_served None = MAX_SERVED
 
 -- memory was wanting before the first connection, or at most as many as the limit says were served until the port failed, or the
 -- store's names led to other files

@@ -1,5 +1,5 @@
 //! What is made of the bytes of a request: its route's answer, what the site answers by itself, a question that is to be
-//! thought about, or a backup that is to be made.
+//! searched, or a backup that is to be made.
 
 ghost use Rattle.std.specs.Prelude.{◌≡◌, ◌≢◌, ◌⊎◌, ◌<◌, ◌++◌, ℕ, Result, length, IfErr, IfOk, IfSome, None, Ok, Option, Some, true, [], string_bytes, decimal};
 ghost use Rattle.shop_records.specs.declared.refusals.Refusal.{Refusal as RefusalOf};
@@ -17,7 +17,7 @@ ghost use Rattle.shop_serve.specs.Sites.{health_bytes, health_text, is_health, i
 use crate::sites::Site;
 use crate::watches::Watch;
 use shop_book::{Book, BookFault};
-use shop_planning::Thought;
+use shop_planning::PlanTask;
 use shop_request::{Head, Inbound, Route, Ruling, inbound_of};
 use shop_rules::Refusal;
 use shop_text::{Failed, Sink};
@@ -46,11 +46,11 @@ const JSON_START: &str = "HTTP/1.1 200 OK\r\nContent-Type: application/json\r\nC
 
 const JSON_FIELDS: &str = "\r\nConnection: close\r\n\r\n";
 
-/// What is made of a request: its whole answer, or what it asks, which is to be thought about.
+/// What is made of a request: its whole answer, or what it asks, which is to be searched.
 #[derive(Drop)]
 pub(crate) enum Made {
     Answer(Vec<u8>),
-    Thought(Thought),
+    PlanTask(PlanTask),
 }
 
 /// What is next with a request: what was made of it is there, or a backup is to be made.
@@ -137,7 +137,7 @@ fn routed_answer<B: Book>(
     };
     match begin_inbound(alloc, &inbound, &mut sink, book, at) {
         Ok(None) => Some(Next::Made(Made::Answer(sink.bytes))),
-        Ok(Some(thought)) => Some(Next::Made(Made::Thought(thought))),
+        Ok(Some(task)) => Some(Next::Made(Made::PlanTask(task))),
         Err(_) => None,
     }
 }

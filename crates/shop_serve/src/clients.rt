@@ -7,9 +7,9 @@ ghost use Rattle.std.specs.Io.KnownBytes.{IsAtEnd};
 ghost use Rattle.shop_request.specs.Reading.{IsReadOn};
 ghost use Rattle.shop_request.specs.Parses.{IsDetermined};
 ghost use Rattle.shop_serve.specs.Clients.{AwaitsMore, ClosesLate, IsAttended, IsAttendedAt, CanOpenOne, IsClosedBy, IsMute, IsOldest, IsOpened, IsSpoiled, IsTurnedAway, MakesRoom, MayGo, NoneMayGo, StopsAt, TakesAnswer, is_begun, is_late, is_unanswered, unanswered};
-ghost use Rattle.shop_serve.specs.Making.{IsAsked, put_answer, put_made, put_thought};
-ghost use Rattle.shop_planning.specs.Thoughts.{posed_in};
-ghost use Rattle.shop_serve.specs.declared.clients.Fate.TheVariants as fate;
+ghost use Rattle.shop_serve.specs.Making.{IsAsked, put_answer, put_made, put_task};
+ghost use Rattle.shop_planning.specs.PlanTasks.{instance_in};
+ghost use Rattle.shop_serve.specs.declared.clients.ConnectionStatus.TheVariants as status;
 ghost use Rattle.shop_serve.specs.Serving.{Advances, HasServed, IsAnsweredThen};
 ghost use Rattle.shop_serve.specs.Times.{Tells, TellsNone};
 ghost use Rattle.shop_serve.specs.declared.transfers.Given.TheVariants as given;
@@ -18,12 +18,12 @@ ghost use Rattle.shop_serve.specs.declared.transfers.Taken.TheVariants as taken;
 use crate::answers::{Made, made_of};
 use crate::connections::Connection;
 use crate::ports::Port;
+use crate::searching::{FAIR_CALLS, RunningTask};
 use crate::sites::Site;
-use crate::thinking::{FAIR_CALLS, Thinking};
 use crate::transfers::{Given, Rest, Taken, drop_rest, hand_over, take_bytes};
 use crate::watches::Watch;
 use shop_book::Book;
-use shop_planning::Thought;
+use shop_planning::PlanTask;
 use shop_request::Head;
 use slab::Slab;
 use std::alloc::Global;
@@ -36,24 +36,24 @@ pub const PATIENCE: u64 = 10;
 const DONE: &[u8] = b"HTTP/1.1 200 ";
 
 /// The most connections that are open at once.
-pub const MOST_CLIENTS: usize = 256;
+pub const MAX_CLIENTS: usize = 256;
 
 /// An open connection: when it was accepted, its question was read or its answer was made, the bytes that came, how many are
-/// needed at least, the question that is thought about, and the answer with how much of it was handed over.
+/// needed at least, the question that is searched, and the answer with how much of it was handed over.
 #[derive(Drop)]
 pub(crate) struct Client<C> {
     pub(crate) stream: C,
     pub(crate) since: Instant,
     pub(crate) received: Vec<u8>,
     pub(crate) needed: usize,
-    pub(crate) thought: Option<Thinking>,
+    pub(crate) task: Option<RunningTask>,
     pub(crate) answer: Option<Vec<u8>>,
     pub(crate) sent: usize,
 }
 
 /// What comes of a connection that is attended to: it stays, or is closed, since it is over or memory was wanting.
 #[derive(Clone, Copy, PartialEq, Eq)]
-pub(crate) enum Fate {
+pub(crate) enum ConnectionStatus {
     Stays,
     Over,
     NoMemory,
@@ -63,7 +63,7 @@ pub(crate) enum Fate {
 fn answer_on<C: Connection>(client: &mut Client<C>) -> Given
     ensures kept { (client.new.received ≡ client.old.received) × (client.new.answer ≡ client.old.answer) }
     ensures since { client.new.since ≡ client.old.since }
-    ensures thought { client.new.thought ≡ client.old.thought }
+    ensures task { client.new.task ≡ client.old.task }
     ensures idle { client.old.answer ≡ None → (client.new ≡ client.old) × (result ≡ given.Waits) }
     ensures takes { result ≢ given.Lost
         → IfSome client.old.answer (λ answer.
@@ -92,19 +92,19 @@ fn answer_on<C: Connection>(client: &mut Client<C>) -> Given
 pub(crate) fn put_answer<C>(client: &mut Client<C>, answer: Vec<u8>, now: Instant)
     ensures { client.new ≡ put_answer client.old answer now }
 {
-    drop(client.thought.take());
+    drop(client.task.take());
     client.answer = Some(answer);
     client.sent = 0;
     client.since = now;
 }
 
-// Puts a question into a connection, which waits to be thought on.
-fn put_thought<C>(client: &mut Client<C>, thought: Thought, now: Instant)
-    ensures { client.new ≡ put_thought client.old thought now }
+// Puts a question into a connection, which waits for its search.
+fn put_task<C>(client: &mut Client<C>, task: PlanTask, now: Instant)
+    ensures { client.new ≡ put_task client.old task now }
 {
     drop(
-        client.thought.replace(Thinking {
-            thought,
+        client.task.replace(RunningTask {
+            task,
             last: None,
             left: FAIR_CALLS,
         }),
@@ -120,7 +120,7 @@ fn put_made<C>(client: &mut Client<C>, made: Made, now: Instant)
 {
     match made {
         Made::Answer(answer) => put_answer(client, answer, now),
-        Made::Thought(thought) => put_thought(client, thought, now),
+        Made::PlanTask(task) => put_task(client, task, now),
     }
 }
 
@@ -133,32 +133,32 @@ fn ask<C: Connection, K: Watch, B: Book>(
     book: &mut B,
 ) -> Taken
     requires waits { client.old.answer ≡ None }
-    requires asks { client.old.thought ≡ None }
+    requires asks { client.old.task ≡ None }
     ensures read { result ≢ taken.Over → result ≢ taken.NoMemory
         → IsReadOn (C.remaining client.old.stream)
         (C.remaining client.new.stream) client.old.received.items client.new.received.items }
     ensures kept { C.contents client.new.stream ≡ C.contents client.old.stream }
     ensures waits { result ≡ taken.Waits → (client.new.answer ≡ None)
-        × (client.new.thought ≡ None) × (book.new ≡ book.old) × C.is_drained client.new.stream }
+        × (client.new.task ≡ None) × (book.new ≡ book.old) × C.is_drained client.new.stream }
     ensures goes_on { result ≡ taken.Waits → (client.new.since ≡ client.old.since)
         × TellsNone (K.times watch.old) (K.times watch.new) }
-    ensures since { result ≡ taken.Whole → IsSome client.new.thought
+    ensures since { result ≡ taken.Whole → IsSome client.new.task
         → Tells (K.times watch.old) (K.times watch.new) client.new.since }
     ensures awaits { result ≡ taken.Waits → AwaitsMore client.old.received.items client.old.needed
         → AwaitsMore client.new.received.items client.new.needed }
     ensures over { result ≡ taken.Over
         → IsMute C.Connection client.old.stream client.old.received.items client.new.stream
         client.new.received.items }
-    ensures begins { result ≡ taken.Whole → (IsSome client.new.answer × (client.new.thought ≡ None)
-        ⊎ IsSome client.new.thought × (client.new.answer ≡ None)) × (client.new.sent ≡ 0) }
+    ensures begins { result ≡ taken.Whole → (IsSome client.new.answer × (client.new.task ≡ None)
+        ⊎ IsSome client.new.task × (client.new.answer ≡ None)) × (client.new.sent ≡ 0) }
     ensures whole { result ≡ taken.Whole → IsDetermined client.new.received.items
         ⊎ IsAtEnd (C.remaining client.new.stream) }
     ensures own { IfSome client.new.answer
         (λ answer. IsAnsweredThen site.now B.Book book.old book.new (K.times watch.old)
         (K.times watch.new) client.new.since client.new.received.items answer.items) }
-    ensures asked { IfSome client.new.thought
+    ensures asked { IfSome client.new.task
         (λ t. (t.last ≡ None) × IsAsked site.now B.Book book.old book.new client.new.received.items
-        (posed_in t.thought)) }
+        (instance_in t.task)) }
     ensures one { HasServed site.now B.Book book.old book.new 1 }
     ensures clean_disk { B.has_clean_disk book.new → B.has_clean_disk book.old }
 {
@@ -183,8 +183,8 @@ fn ask<C: Connection, K: Watch, B: Book>(
     Taken::Whole
 }
 
-// Drops what still comes of a connection whose question is thought about. Where its input ends it waits: its question is told as
-// far as it was thought about.
+// Drops what still comes of a connection whose question is searched. Where its input ends it waits: its question is told as
+// far as it was searched.
 fn heed<C: Connection>(client: &mut Client<C>) -> Given
     ensures kept { client.new ≡ record client.old { stream = client.new.stream } }
     ensures contents { C.contents client.new.stream ≡ C.contents client.old.stream }
@@ -198,7 +198,7 @@ fn heed<C: Connection>(client: &mut Client<C>) -> Given
 }
 
 // Takes what has come of a request, has it answered once it is whole, and hands over its answer as far as it is taken. One
-// whose question is thought about waits.
+// whose question is searched waits.
 fn attend<C: Connection, K: Watch, B: Book>(
     alloc: Global,
     site: &Site,
@@ -220,7 +220,7 @@ fn attend<C: Connection, K: Watch, B: Book>(
     if client.answer.is_some() {
         return answer_on(client);
     }
-    if client.thought.is_some() {
+    if client.task.is_some() {
         return heed(client);
     }
     match ask(alloc, site, client, watch, book) {
@@ -234,21 +234,21 @@ fn attend<C: Connection, K: Watch, B: Book>(
 
 // Drops what still comes after an answer that was handed over and ended. The connection stays while more of the request may
 // come: to close before its end would lose the answer.
-fn finish<C: Connection>(client: &mut Client<C>) -> Fate
+fn finish<C: Connection>(client: &mut Client<C>) -> ConnectionStatus
     ensures kept { (client.new.received ≡ client.old.received) × (client.new.answer ≡ client.old.answer)
         × (client.new.sent ≡ client.old.sent) }
     ensures since { client.new.since ≡ client.old.since }
-    ensures thought { client.new.thought ≡ client.old.thought }
+    ensures task { client.new.task ≡ client.old.task }
     ensures contents { C.contents client.new.stream ≡ C.contents client.old.stream }
     ensures ended { C.has_ended client.old.stream → C.has_ended client.new.stream }
 {
     match drop_rest(&mut client.stream) {
-        Rest::Ended | Rest::Lost => return Fate::Over,
+        Rest::Ended | Rest::Lost => return ConnectionStatus::Over,
         Rest::MayCome | Rest::Comes => (),
     }
     match &client.answer {
-        Some(answer) if !answer.starts_with(DONE) => Fate::Stays,
-        _ => Fate::Over,
+        Some(answer) if !answer.starts_with(DONE) => ConnectionStatus::Stays,
+        _ => ConnectionStatus::Over,
     }
 }
 
@@ -259,21 +259,21 @@ fn attend_once<C: Connection, K: Watch, B: Book>(
     client: &mut Client<C>,
     watch: &mut K,
     book: &mut B,
-) -> Fate
-    ensures attended { result ≡ fate.Stays
+) -> ConnectionStatus
+    ensures attended { result ≡ status.Stays
         → IsAttended C.Connection site.now B.Book client.old client.new book.old book.new
         (K.times watch.old) (K.times watch.new) }
-    ensures over { result ≡ fate.Over
-        → IsClosedBy C.Connection site.now B.Book fate.Over client.old book.old book.new
+    ensures over { result ≡ status.Over
+        → IsClosedBy C.Connection site.now B.Book status.Over client.old book.old book.new
         (K.times watch.old) (K.times watch.new) }
     ensures once { is_unanswered (Some client.old) ≡ false → book.new ≡ book.old }
     ensures one { HasServed site.now B.Book book.old book.new 1 }
     ensures clean_disk { B.has_clean_disk book.new → B.has_clean_disk book.old }
 {
     match attend(alloc, site, client, watch, book) {
-        Given::Waits => Fate::Stays,
-        Given::Lost => Fate::Over,
-        Given::NoMemory => Fate::NoMemory,
+        Given::Waits => ConnectionStatus::Stays,
+        Given::Lost => ConnectionStatus::Over,
+        Given::NoMemory => ConnectionStatus::NoMemory,
         Given::Whole => finish(client),
     }
 }
@@ -286,7 +286,7 @@ pub(crate) fn attend_at<C: Connection + Drop, K: Watch, B: Book>(
     key: usize,
     watch: &mut K,
     book: &mut B,
-) -> Fate
+) -> ConnectionStatus
     ensures at { IsAttendedAt C.Connection site.now B.Book result key clients.old clients.new book.old
         book.new (K.times watch.old) (K.times watch.new) }
     ensures run { Advances site.now B.Book book.old book.new (unanswered clients.old)
@@ -294,32 +294,32 @@ pub(crate) fn attend_at<C: Connection + Drop, K: Watch, B: Book>(
     ensures clean_disk { B.has_clean_disk book.new → B.has_clean_disk book.old }
 {
     let Some(client) = clients.get_mut(key) else {
-        return Fate::Stays;
+        return ConnectionStatus::Stays;
     };
     match attend_once(alloc, site, client, watch, book) {
-        Fate::Stays => Fate::Stays,
-        Fate::Over => {
+        ConnectionStatus::Stays => ConnectionStatus::Stays,
+        ConnectionStatus::Over => {
             drop(clients.try_remove(key));
-            Fate::Over
+            ConnectionStatus::Over
         }
-        Fate::NoMemory => {
+        ConnectionStatus::NoMemory => {
             drop(clients.try_remove(key));
-            Fate::NoMemory
+            ConnectionStatus::NoMemory
         }
     }
 }
 
-/// Whether a connection's question was thought on already.
+/// Whether a connection's question has had a search step already.
 pub(crate) fn is_begun<C>(client: &Client<C>) -> bool
     ensures { result ≡ is_begun client.now }
 {
-    match &client.thought {
-        Some(thinking) => thinking.last.is_some(),
+    match &client.task {
+        Some(searching) => searching.last.is_some(),
         None => false,
     }
 }
 
-// Whether a connection may be closed for another: its answer isn't on its way, and its question wasn't thought on.
+// Whether a connection may be closed for another: its answer isn't on its way, and its question has had no search step.
 fn may_go<C>(client: &Client<C>) -> bool
     ensures { result ≡ true ↔ MayGo client.now }
 {
@@ -359,7 +359,7 @@ fn oldest<C>(clients: &Slab<Client<C>>) -> Option<usize>
 pub(crate) fn can_open_one<C>(clients: &Slab<Client<C>>) -> bool
     ensures { result ≡ true ↔ CanOpenOne clients.now }
 {
-    clients.len() < MOST_CLIENTS || oldest(clients).is_some()
+    clients.len() < MAX_CLIENTS || oldest(clients).is_some()
 }
 
 /// Closes the oldest connection that may go, where there are as many as may be.
@@ -368,7 +368,7 @@ fn make_room<C: Drop>(clients: &mut Slab<Client<C>>)
     ensures room { MakesRoom clients.old clients.new }
     ensures fewer { unanswered clients.new ≤ unanswered clients.old }
 {
-    if clients.len() < MOST_CLIENTS {
+    if clients.len() < MAX_CLIENTS {
         return;
     }
     if let Some(key) = oldest(clients) {
@@ -402,18 +402,18 @@ pub(crate) fn open_client<C: Drop, P: Port<C>>(
         since: now,
         received: Vec::new(alloc),
         needed: 0,
-        thought: None,
+        task: None,
         answer: None,
         sent: 0,
     };
     clients.insert(client).ok()
 }
 
-// Whether a connection has had its time. While its question is thought about it has none.
+// Whether a connection has had its time. While its question is searched it has none.
 fn is_late<C>(client: &Client<C>, now: Instant) -> bool
     ensures { result ≡ is_late now client.now }
 {
-    client.thought.is_none() && now.duration_since(client.since) >= Duration::from_secs(PATIENCE)
+    client.task.is_none() && now.duration_since(client.since) >= Duration::from_secs(PATIENCE)
 }
 
 /// Closes the connections that have had their time.

@@ -9,7 +9,7 @@ use std::io::{ErrorKind, Read, Write};
 use std::net::Shutdown;
 
 // How often a call is made that is interrupted each time.
-const MOST_TRIES: u32 = 1000;
+const MAX_TRIES: u32 = 1000;
 
 /// Why a call moved no byte.
 #[derive(Clone, Copy, PartialEq, Eq)]
@@ -78,7 +78,7 @@ impl Connection for TcpStream {
 
     // A call that is interrupted is made again.
     fn read_some(&mut self, buffer: &mut [u8]) -> Result<usize, Stall> {
-        for _ in 0..MOST_TRIES {
+        for _ in 0..MAX_TRIES {
             match self.read(buffer) {
                 Ok(count) => return Ok(count),
                 Err(error) => match error.kind() {
@@ -93,7 +93,7 @@ impl Connection for TcpStream {
 
     // A call that is interrupted is made again. A socket that takes none of the bytes is lost.
     fn write_some(&mut self, bytes: &[u8]) -> Result<usize, Stall> {
-        for _ in 0..MOST_TRIES {
+        for _ in 0..MAX_TRIES {
             match self.write(bytes) {
                 Ok(0) => return Err(Stall::Lost),
                 Ok(count) => return Ok(count),

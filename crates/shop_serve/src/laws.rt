@@ -11,7 +11,7 @@ use shop_book::Book;
 
 /// A connection that brings a whole request, and is attended to when it comes, has its answer: it took the whole answer to its
 /// own bytes, and was told its end; or first bytes of it, until it took no more. Or its own bytes are a question, which is
-/// thought about.
+/// searched.
 pub(crate) fn whole_is_answered<C: Connection, B: Book>()
     ensures { (site : SiteGhost) → WholeIsAnswered C.Connection site B.Book }
 {}
@@ -21,7 +21,7 @@ pub(crate) fn few_are_open<C: Connection, P: Port<C>, B: Book>()
     ensures { (site : SiteGhost) → FewAreOpen C.Connection site B.Book P.Port }
 {}
 
-/// Turn after turn, from none open on, each open connection has its own: what is thought about for it is what its own bytes ask
+/// Turn after turn, from none open on, each open connection has its own: what is searched for it is what its own bytes ask
 /// of the content that the book had when they were read, and its answer is the one to its own bytes.
 pub(crate) fn each_has_its_own<C: Connection, P: Port<C>, B: Book>()
     ensures { (site : SiteGhost) → EachHasItsOwn C.Connection site B.Book P.Port }

@@ -1,5 +1,5 @@
 //! Connections of a listener, many at once: whichever has bytes is read, and each request is answered whole, one after
-//! another, from a book. Questions for plans are thought about beside that.
+//! another, from a book. Questions for plans are searched beside that.
 #![tactic(auto)]
 
 mod answers;
@@ -11,9 +11,9 @@ mod laws;
 mod lines;
 mod ports;
 mod runs;
+mod searching;
 mod serving;
 mod sites;
-mod thinking;
 mod transfers;
 mod watches;
 

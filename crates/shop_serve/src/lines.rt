@@ -14,10 +14,10 @@ use std::time::{Clock, Duration, Instant};
 const STANDARD_ERROR: i32 = 2;
 
 // The most bytes that are written at once: a pipe that takes any takes as many.
-const MOST_BYTES: usize = 4096;
+const MAX_BYTES: usize = 4096;
 
 // How many different lines are known at once.
-const MOST_KNOWN: usize = 256;
+const MAX_KNOWN: usize = 256;
 
 // After how many seconds an equal line is written again.
 const MINUTE: u64 = 60;
@@ -117,7 +117,7 @@ fn takes(length: usize) -> bool {
         events: POLLOUT,
         revents: 0,
     }];
-    length <= MOST_BYTES && poll(&mut asked, 0) == 1 && asked[0].revents == POLLOUT
+    length <= MAX_BYTES && poll(&mut asked, 0) == 1 && asked[0].revents == POLLOUT
 }
 
 // Writes a text, where it can be written at once, and tells whether it was.
@@ -127,7 +127,7 @@ fn is_written<R: Eprint>(rt: &R, text: &str) -> bool {
 
 // Forgets the first of the lines, where as many are known as may be.
 fn make_room(known: &mut Vec<Known>) {
-    if known.len() >= MOST_KNOWN {
+    if known.len() >= MAX_KNOWN {
         drop(known.remove(0));
     }
 }

@@ -16,10 +16,10 @@ use std::os::fd::AsRawFd;
 use std::time::Duration;
 
 // How many are reported at once.
-const MOST_EVENTS: usize = 256;
+const MAX_EVENTS: usize = 256;
 
 // How often it is tried to accept one, where those that waited went away.
-const MOST_TRIES: u32 = 1000;
+const MAX_TRIES: u32 = 1000;
 
 // The token of the listener. No connection has it.
 const LISTENER: Token = Token(usize::MAX);
@@ -120,8 +120,8 @@ impl<'a> WatchedListener<'a> {
         alloc: Global,
         listener: &'a Listener,
     ) -> Result<WatchedListener<'a>, ServeFault> {
-        let events = Events::with_capacity(alloc, MOST_EVENTS)?;
-        let keys = Vec::with_capacity(alloc, MOST_EVENTS)?;
+        let events = Events::with_capacity(alloc, MAX_EVENTS)?;
+        let keys = Vec::with_capacity(alloc, MAX_EVENTS)?;
         let poll = watched(rt, listener)?;
         Ok(WatchedListener {
             listener,
@@ -171,7 +171,7 @@ fn is_gone(error: &io::Error) -> bool {
 
 // The next connection that a listener has, where one waits and can be accepted now.
 fn next_stream(listener: &Listener) -> Result<Option<Stream>, ServeFault> {
-    for _ in 0..MOST_TRIES {
+    for _ in 0..MAX_TRIES {
         match listener.socket.accept() {
             Ok((stream, _)) => return Ok(Some(stream)),
             Err(error) => match error.kind() {

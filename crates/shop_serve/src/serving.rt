@@ -1,4 +1,4 @@
-//! The turns of a server: it waits, attends to connections, closes late ones, thinks once on a question and accepts those that
+//! The turns of a server: it waits, attends to connections, closes late ones, takes one search step of a question and accepts those that
 //! wait.
 
 ghost use Rattle.std.specs.Prelude.{◌≡◌, ◌≤◌, ◌+◌, ◌⊎◌, ℕ, List, length, IfErr, IfSome, OnOk};
@@ -15,8 +15,8 @@ use crate::connections::Connection;
 use crate::faults::ServeFault;
 use crate::lines::Lines;
 use crate::ports::{Listener, Port, WatchedListener};
+use crate::searching::{next_wait, step_search};
 use crate::sites::Site;
-use crate::thinking::{next_wait, think};
 use crate::watches::{Stopwatch, Watch};
 use shop_backup::{Backups, Names};
 use shop_book::Book;
@@ -28,13 +28,13 @@ use std::net::Net;
 use std::time::{Clock, Duration};
 
 // How many connections are accepted before others are attended to.
-const MOST_ACCEPTED: u32 = 64;
+const MAX_ACCEPTED: u32 = 64;
 
 // How many seconds are waited at most before it is looked which connections have had their time.
 const TURN: u64 = 1;
 
 /// How many connections are served without a limit.
-pub const MOST_SERVED: u64 = u64::MAX;
+pub const MAX_SERVED: u64 = u64::MAX;
 
 // Opens a connection. The next turn attends to it, behind its own look at the store's names.
 fn receive<C: Drop, P: Port<C>, K: Watch>(
@@ -73,7 +73,7 @@ fn accept_waiting<C: Drop, P: Port<C>, K: Watch>(
     ensures fewer { unanswered clients.new + accepted.old ≤ unanswered clients.old + accepted.new }
     ensures bound { accepted.new ≤ limit }
 {
-    for _ in 0..MOST_ACCEPTED {
+    for _ in 0..MAX_ACCEPTED {
         if *accepted >= limit {
             return Some(Duration::from_secs(TURN));
         }
@@ -111,7 +111,7 @@ fn attend_reported<C: Connection + Drop, K: Watch, B: Book>(
     }
 }
 
-// One turn: attends to what is reported, closes what had its time, thinks once on a question, and accepts what waits, to which
+// One turn: attends to what is reported, closes what had its time, takes one search step of a question, and accepts what waits, to which
 // the next turn attends. Gives how long that one may wait, or `None` where none can be accepted for good.
 fn turn<C: Connection + Drop, P: Port<C>, K: Watch, B: Book>(
     alloc: Global,
@@ -140,7 +140,7 @@ fn turn<C: Connection + Drop, P: Port<C>, K: Watch, B: Book>(
     attend_reported(alloc, site, port.keys(), watch, clients, book);
     let moment = watch.now();
     close_late(clients, moment);
-    think(alloc, site, clients, moment, watch, book);
+    step_search(alloc, site, clients, moment, watch, book);
     let wait = accept_waiting(alloc, port, watch, limit, clients, accepted);
     next_wait(clients, wait)
 }
@@ -200,7 +200,7 @@ fn most_served(limit: Option<u32>) -> u64
 {
     match limit {
         Some(limit) => u64::from(limit),
-        None => MOST_SERVED,
+        None => MAX_SERVED,
     }
 }
 
@@ -208,7 +208,7 @@ fn most_served(limit: Option<u32>) -> u64
 /// it serves on, to 18446744073709551615. Whichever has bytes is read; a request is answered once it is whole, one after
 /// another. A fault of one ends that one alone. Each has 10 seconds from when it was accepted to the last byte of its request,
 /// and 10 more to take its answer; the time in which a request is answered isn't counted. Where 256 are open, the oldest that
-/// has no answer on its way and whose question wasn't thought on makes room for the next; where there is none, the next
+/// has no answer on its way and whose question has had no search step makes room for the next; where there is none, the next
 /// waits. A backup that is asked for is made between two requests.
 ///
 /// `NoMemory` before the first connection; `Port` where none can be accepted for good, or waited for, and `Moved` where the names

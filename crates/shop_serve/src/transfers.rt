@@ -16,10 +16,10 @@ use shop_request::{Head, Routes, is_whole, least_bytes};
 const BUFFER_SIZE: usize = 8192;
 
 // More bytes than come of any request: fewer than 139264, and a piece.
-const MOST_BYTES: usize = 150_000;
+const MAX_BYTES: usize = 150_000;
 
 // How often is read at once of what is dropped: more than a socket keeps.
-const MOST_DROPS: u32 = 1024;
+const MAX_DROPS: u32 = 1024;
 
 /// What a read brought.
 #[derive(Clone, Copy, PartialEq, Eq)]
@@ -103,7 +103,7 @@ pub(crate) fn take_bytes<C: Connection>(
         → IsMute C.Connection stream.old received.old.items stream.new received.new.items }
     ensures kept { C.contents stream.new ≡ C.contents stream.old }
 {
-    while received.len() < MOST_BYTES {
+    while received.len() < MAX_BYTES {
         match take_piece(stream, received) {
             ReadOutcome::NoMemory => return Taken::NoMemory,
             ReadOutcome::Lost => return Taken::Over,
@@ -179,7 +179,7 @@ pub(crate) fn drop_rest<C: Connection>(stream: &mut C) -> Rest
     ensures told { C.has_ended stream.old → C.has_ended stream.new }
 {
     let mut buffer = [0; BUFFER_SIZE];
-    for _ in 0..MOST_DROPS {
+    for _ in 0..MAX_DROPS {
         match stream.read_some(&mut buffer) {
             Ok(0) => return Rest::Ended,
             Ok(_) => (),

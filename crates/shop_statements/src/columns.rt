@@ -3,13 +3,13 @@
 ghost use Rattle.std.specs.Prelude.{◌≡◌, ◌<◌, ◌+◌, pos, IfOk, IfSome};
 ghost use Rattle.sqlite_value.specs.declared.value.Value.TheVariants.{Int, Text as Word};
 ghost use Rattle.sqlite_value.specs.Order.{column};
-ghost use Rattle.cut_measure.specs.declared.ranges.TheConstants.{MOST_NUMBERS};
+ghost use Rattle.cut_measure.specs.declared.ranges.TheConstants.{MAX_NUMBERS};
 ghost use Rattle.shop_records.specs.Columns.{state_of};
 ghost use Rattle.shop_statements.specs.Rows.{kind_number, state_number, job_state_number, turn_number, form_number, form_material, order_text, act_number, node_number};
 ghost use Rattle.shop_records.specs.Journal.{word_name};
 
 use crate::TableFault;
-use cut_measure::{Code, Kind, Limits, MOST_NUMBERS, PartName, Size};
+use cut_measure::{Code, Kind, Limits, MAX_NUMBERS, PartName, Size};
 use shop_records::{Form, JobState, State, Text, Word as CommandWord};
 use sqlite::Row;
 use sqlite::types::ValueRef;
@@ -60,7 +60,7 @@ pub fn name_in(row: &Row, at: usize) -> Result<PartName, TableFault>
 {
     let act = number_in(row, at)?;
     let node = number_in(row, at + 1)?;
-    if act < 1 || act > MOST_NUMBERS {
+    if act < 1 || act > MAX_NUMBERS {
         return Err(TableFault::Store);
     }
     Ok(PartName::new(act, node))

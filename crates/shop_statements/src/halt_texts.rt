@@ -7,7 +7,7 @@ ghost use Rattle.shop_statements.specs.Halts.{AreCutValues, IsHaltValue, IsSmall
 
 use crate::TableFault;
 use cut_measure::read_number;
-use cut_tree::{CutList, Halt, MOST_CUTS};
+use cut_tree::{CutList, Halt, MAX_CUTS};
 use shop_records::JobHalt;
 use std::alloc::{AllocError, Global};
 
@@ -155,7 +155,7 @@ fn list_of(alloc: Global, text: &str) -> Result<CutList, TableFault> {
         return Ok(cuts);
     }
     for word in text.as_bytes().split(|byte| *byte == b',') {
-        if cuts.as_slice().len() >= MOST_CUTS as usize {
+        if cuts.as_slice().len() >= MAX_CUTS as usize {
             return Err(TableFault::Store);
         }
         let number = number_of(word)?;

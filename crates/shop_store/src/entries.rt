@@ -13,7 +13,7 @@ ghost use Rattle.shop_store.specs.Entries.{IsFiledOn, IsFoundOf, IsLastOf, IsNex
 ghost use Rattle.shop_store.specs.Storing.{IsRemembered};
 
 use crate::remembered::Remembered;
-use crate::stories::MOST_STEPS;
+use crate::stories::MAX_STEPS;
 use shop_book::{JobEnds, NumberIndex};
 use shop_tables::{TableFault, entries_after, find_last_entry, stray_entry};
 use sqlite::{Alter, Connection};
@@ -74,7 +74,7 @@ fn find_trail<S: Alter>(
     let mut ends = JobEnds::new(alloc);
     let mut index = NumberIndex::new(alloc);
     let mut at = 0;
-    'steps: for _ in 0..MOST_STEPS {
+    'steps: for _ in 0..MAX_STEPS {
         match step(alloc, conn, at, &mut ends, &mut index)? {
             Some(next) => at = next,
             None => return Ok((ends, index)),

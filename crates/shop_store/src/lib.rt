@@ -26,7 +26,7 @@ pub use loading::{load_earlier_ledger, load_ledger, load_second_ledger};
 pub use mem_book::MemBook;
 pub use posted::LedgerBook;
 pub use reopening::{left_commits_are_found, left_renewals_are_found, reopen_book};
-pub use shop_book::{Book, BookFault, FoundJob, JobHead, MOST_FAILURES};
+pub use shop_book::{Book, BookFault, FoundJob, JobHead, MAX_FAILURES};
 pub use shop_records::PartVisitor;
 pub use sql::SqlBook;
 pub use sql_storage::SqlStorage;

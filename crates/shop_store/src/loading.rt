@@ -30,7 +30,7 @@ use sqlite::{Alter, Connection};
 use std::alloc::Global;
 
 /// More orders than a shop has.
-const MOST_ORDERS: usize = 4294967295;
+const MAX_ORDERS: usize = 4294967295;
 
 fn load_materials<S: Alter>(
     alloc: Global,
@@ -65,8 +65,8 @@ fn load_orders<S: Alter>(
     ensures leaves { Leaves (state S.Store conn.old) (state S.Store conn.new) }
     ensures mode { conn.old.in_transaction ≡ false → conn.new.in_transaction ≡ false }
 {
-    let rows = order_rows(conn, MOST_ORDERS)?;
-    if rows.len() >= MOST_ORDERS {
+    let rows = order_rows(conn, MAX_ORDERS)?;
+    if rows.len() >= MAX_ORDERS {
         return Err(TableFault::Store);
     }
     load_each::<Code>(alloc, ledger, &rows)

@@ -23,7 +23,7 @@ use std::alloc::Global;
 const ROWS_AT_ONCE: usize = 1000;
 
 /// More times than a table of numbers has rows.
-const MOST_CHUNKS: u64 = 4294967296;
+const MAX_CHUNKS: u64 = 4294967296;
 
 /// Where the rows after some go on.
 #[derive(Clone, Copy, Debug)]
@@ -159,7 +159,7 @@ pub(crate) fn load_numbered<S: Alter, T: Numbered>(
     ensures mode { conn.old.in_transaction ≡ false → conn.new.in_transaction ≡ false }
 {
     let mut from = 0;
-    'chunks: for _ in 0..MOST_CHUNKS {
+    'chunks: for _ in 0..MAX_CHUNKS {
         let rows = T::rows_from(conn, from, ROWS_AT_ONCE)?;
         match load_chunk::<T>(alloc, ledger, &rows)? {
             Chunk::End => return Ok(None),

@@ -17,7 +17,7 @@ use shop_rows::push_copy;
 use std::alloc::{AllocError, Global};
 
 /// More times than there are entries.
-pub(crate) const MOST_STEPS: u64 = 18446744073709551615;
+pub(crate) const MAX_STEPS: u64 = 18446744073709551615;
 
 // Appends the entries about a subject, up to so many in all.
 fn push_about(
@@ -102,7 +102,7 @@ pub(crate) fn scan<S: Storage>(
     let acts = ledger.acts_about(alloc, about, numbers.as_slice())?;
     let mut rows = EntryRows::new(alloc);
     let mut at = after;
-    'steps: for _ in 0..MOST_STEPS {
+    'steps: for _ in 0..MAX_STEPS {
         match step(
             alloc,
             ledger,

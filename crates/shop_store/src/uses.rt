@@ -4,7 +4,7 @@ ghost use Rattle.std.specs.Prelude.{◌≡◌, false};
 ghost use Rattle.sqlite.specs.Held.{state};
 ghost use Rattle.shop_statements.specs.Shown.{Leaves};
 
-use crate::stories::MOST_STEPS;
+use crate::stories::MAX_STEPS;
 use cut_measure::Code;
 use shop_book::{Ledger, ListedUse, StrayUse};
 use shop_records::RowList;
@@ -110,7 +110,7 @@ fn list_uses<S: Alter>(alloc: Global, conn: &mut Connection<S>) -> Result<UseLis
 {
     let mut uses = UseList::new(alloc);
     let mut from = i64::MIN;
-    'steps: for _ in 0..MOST_STEPS {
+    'steps: for _ in 0..MAX_STEPS {
         match step(conn, from, &mut uses)? {
             Some(next) => from = next,
             None => return Ok(uses),

@@ -9,7 +9,7 @@ mod writes;
 use crate::streams::Failed;
 use std::marker::Model;
 
-const MOST_TRIES: u32 = 1000;
+const MAX_TRIES: u32 = 1000;
 
 /// A source over any reader, or a sink over any writer: it tells the bytes that the reader or the writer tells. An
 /// error, Interrupted 1000 times in a row, and a write that takes 0 bytes are failures.

@@ -24,7 +24,7 @@ use sqlite::{Alter, Connection, Error, Row, params};
 use std::alloc::Global;
 
 /// As SQLite counts them, fewer rows than this.
-const MOST_ENTRIES: u64 = 9223372036854775807;
+const MAX_ENTRIES: u64 = 9223372036854775807;
 
 // Adds the entry of a row, with its number after its columns.
 fn add_entry(entries: &mut EntryRows, row: &Row) -> Result<(), TableFault>
@@ -117,7 +117,7 @@ pub(crate) fn counted(rows: &[Row]) -> Result<u64, TableFault>
         return Err(TableFault::Store);
     };
     let number = count_in(row, 0)?;
-    if number >= MOST_ENTRIES {
+    if number >= MAX_ENTRIES {
         return Err(TableFault::Store);
     }
     Ok(number)

@@ -23,7 +23,7 @@ ghost use Rattle.shop_statements.specs.Rows.{job_state_number, kind_number, part
 ghost use Rattle.shop_tables.specs.Invalid.{HasCounts, HasValue};
 ghost use Rattle.shop_statements.specs.Values.{IsPartValue};
 
-use cut_measure::{Code, MOST_HEIGHT, MOST_NUMBERS, MOST_WIDTH};
+use cut_measure::{Code, MAX_HEIGHT, MAX_NUMBERS, MAX_WIDTH};
 use sqlite::Row;
 use sqlite::types::ValueRef;
 
@@ -97,7 +97,7 @@ fn has_name(row: &Row, at: usize) -> bool
     ensures { (name : Name) → IsName name → HasValue row.now at (Int (pos name.act))
         → HasValue row.now (at + 1) (Int (pos name.node)) → IsTrue result }
 {
-    has_number(row, at, 1, MOST_NUMBERS) && has_number(row, at + 1, 0, u32::MAX)
+    has_number(row, at, 1, MAX_NUMBERS) && has_number(row, at + 1, 0, u32::MAX)
 }
 
 // A width and a height, side by side.
@@ -106,7 +106,7 @@ fn has_size(row: &Row, at: usize) -> bool
     ensures { (w h : ℕ) → IsTrue (is_size Sheet w h) → HasValue row.now at (Int (pos w))
         → HasValue row.now (at + 1) (Int (pos h)) → IsTrue result }
 {
-    has_number(row, at, 1, MOST_WIDTH) && has_number(row, at + 1, 1, MOST_HEIGHT)
+    has_number(row, at, 1, MAX_WIDTH) && has_number(row, at + 1, 1, MAX_HEIGHT)
 }
 
 fn has_count(row: &Row, at: usize) -> bool

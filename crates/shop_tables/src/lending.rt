@@ -19,7 +19,7 @@ use sqlite::types::ValueRef;
 use sqlite::{Alter, Connection, Row};
 
 /// More rows than a table has.
-const MOST_ROWS: u64 = 18446744073709551615;
+const MAX_ROWS: u64 = 18446744073709551615;
 
 /// How the rows of a query were gone through.
 #[derive(Clone, Copy, Debug, PartialEq, Eq)]
@@ -74,7 +74,7 @@ fn lend<S: Alter, V: PartVisitor>(
     ensures mode { conn.old.in_transaction ≡ false → conn.new.in_transaction ≡ false }
 {
     let mut rows = conn.query(sql, params)?;
-    'rows: for _ in 0..MOST_ROWS {
+    'rows: for _ in 0..MAX_ROWS {
         rows.advance()?;
         let Some(row) = rows.get() else {
             return Ok(Lent::All);

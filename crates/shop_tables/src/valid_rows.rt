@@ -3,7 +3,7 @@
 ghost use Rattle.std.specs.Prelude.{◌≡◌, ◌≤◌, Some, IfOk};
 ghost use Rattle.sqlite_value.specs.declared.value.Value.TheVariants.{Text as Word};
 ghost use Rattle.sqlite_value.specs.Order.{column};
-ghost use Rattle.cut_measure.specs.declared.ranges.TheConstants.{MOST_KERF};
+ghost use Rattle.cut_measure.specs.declared.ranges.TheConstants.{MAX_KERF};
 ghost use Rattle.cut_tree.specs.declared.token.Cause.TheVariants.{NoMemory};
 ghost use Rattle.cut_tree.specs.Patterns.{IsPlan, Pattern};
 ghost use Rattle.cut_tree.specs.Spelling.{text_of};
@@ -22,7 +22,7 @@ use crate::invalid::{
     int_in, may_be_begun, may_be_demand, may_be_job, may_be_material, may_be_note,
 };
 use crate::listed_rows::Listed;
-use cut_measure::{Code, MOST_KERF, PartName, Size};
+use cut_measure::{Code, MAX_KERF, PartName, Size};
 use cut_tree::{Cause, Plan};
 use shop_records::{Demand, JobBegin, JobState, Material, OrderNote};
 use shop_statements::{TableFault, code_in, name_in, number_in, read_begun, read_note};
@@ -177,7 +177,7 @@ fn plan_of_text(
     size: Size,
     kerf: u32,
 ) -> Result<Option<Plan>, TableFault>
-    requires { kerf ≤ MOST_KERF }
+    requires { kerf ≤ MAX_KERF }
     ensures { (plan : Pattern) → IsPlan plan → text.now ≡ text_of plan.tree → plan.w ≡ size.w
         → plan.h ≡ size.h → plan.kerf ≡ kerf → IfOk result (λ read. read ≡ Some plan) }
 {
@@ -194,7 +194,7 @@ pub fn plan_of_row(
     size: Size,
     kerf: u32,
 ) -> Result<Option<Plan>, TableFault>
-    requires { kerf ≤ MOST_KERF }
+    requires { kerf ≤ MAX_KERF }
     ensures { (plan : Pattern) → IsPlan plan → HasValue row.now 2 (Word (text_of plan.tree))
         → plan.w ≡ size.w → plan.h ≡ size.h → plan.kerf ≡ kerf
         → IfOk result (λ read. read ≡ Some plan) }

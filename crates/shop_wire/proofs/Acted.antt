@@ -15,7 +15,7 @@ use Rattle.shop_answers.specs.Queries.{Answers}
 use Rattle.shop_records.specs.Soundness.{IsSound}
 use Rattle.shop_forms.specs.Forms.{json_texts}
 use Rattle.shop_book.specs.declared.books.Book.{Ghosts}
-use Rattle.shop_book.specs.declared.books.TheConstants.{MOST_FAILURES}
+use Rattle.shop_book.specs.declared.books.TheConstants.{MAX_FAILURES}
 use Rattle.shop_book.specs.Failures.{one_more_failure}
 use Rattle.shop_desk.specs.Faults.{CountsUp, StoreFailed}
 use Rattle.shop_desk.specs.Handled.{HasAccount, LeftBy}
@@ -66,12 +66,12 @@ printed_step m None telling a b is = subst (λ t. PrintStep m None t m) (sym is)
 printed_step m (Some said) telling a b h = (tells_text said telling a b h, refl)
 
 -- one more failure
-failed_by : (a b : ℕ) (t : Bool) → nat_lt a MOST_FAILURES ≡ t → b ≡ (if t then a + 1 else MOST_FAILURES) → StoreFailed a b
+failed_by : (a b : ℕ) (t : Bool) → nat_lt a MAX_FAILURES ≡ t → b ≡ (if t then a + 1 else MAX_FAILURES) → StoreFailed a b
 failed_by a b true e is = inl (omega (arith, is))
 failed_by a b false e is = inr is
 
 pub store_failed : (a b : ℕ) → b ≡ one_more_failure a → StoreFailed a b
-store_failed a b is = failed_by a b (nat_lt a MOST_FAILURES) refl is
+store_failed a b is = failed_by a b (nat_lt a MAX_FAILURES) refl is
 
 text_blame : (said : Result (List ℕ) Refusal) (refusal : Refusal) (a b : ℕ) → said ≢ Err StoreFault → (said ≡ Err refusal) ⊎ IsFailure refusal a b → refusal ≡ StoreFault → StoreFailed a b
 text_blame said refusal a b agrees (inl is) e = absurd (agrees (is ∙ ap Err e))

@@ -12,10 +12,10 @@ use Rattle.shop_book.specs.Kept.{OnContent, Unchanged}
 use Rattle.shop_desk.specs.Faults.{CountsUp, StoreFailed}
 use Rattle.shop_desk.proofs.Blame.{up_reply}
 use Rattle.shop_plans.specs.declared.questions.PlansQuery.{PlansQuery}
-use Rattle.shop_planning.specs.declared.thought.Thought.{Thought}
+use Rattle.shop_planning.specs.declared.task.PlanTask.{PlanTask}
 use Rattle.shop_planning.specs.Faults.{CountsRefusal}
-use Rattle.shop_planning.specs.Questions.{AnswersPlans, IsPosed}
-use Rattle.shop_planning.specs.Thoughts.{posed_in}
+use Rattle.shop_planning.specs.Questions.{AnswersPlans, IsInstance}
+use Rattle.shop_planning.specs.PlanTasks.{instance_in}
 use Rattle.shop_request.specs.declared.routes.Route.TheVariants.{Plans}
 use Rattle.shop_request.specs.Requests.{ParsesTo, asking}
 use Rattle.shop_wire.specs.AnswerBytes.{Telling, replied}
@@ -49,22 +49,22 @@ plans_blame T refusal a b is counts = store_failed a b (counts.store_fault (ap E
 pub unread_counts : {B : Type 0} (T : Type 0) (refusal : Refusal) (o : Option B) (n : ℕ) → IsUnread refusal o → CountsRefusal {T = T} (Err refusal) n n
 unread_counts T refusal o n why = record { store_fault = λ e. absurd (unread_not_store refusal o why cc); others = λ _. refl }
 
--- ---- a question that was posed, or is refused
+-- ---- a question whose instance was built, or is refused
 
 module _ {B : Type 0} (book : Ghosts B) (before after : B) (body : List ℕ) where
-  pub posed_begun : (question : PlansQuery) (left : Option (List ℕ)) (r : Result Thought Refusal) → body_plans body ≡ Some question → IfSome left (λ input. ParsesTo input (asking Plans body))
-      → OnContent book before after (λ m. IfOk r (λ thought. IsPosed m question (posed_in thought))) → Unchanged book (CountsRefusal r) before after
-      → IfOk r (λ thought. IsBegun book before after left (posed_in thought))
-  posed_begun question left (Ok thought) asks parsed poses keeps =
+  pub posed_begun : (question : PlansQuery) (left : Option (List ℕ)) (r : Result PlanTask Refusal) → body_plans body ≡ Some question → IfSome left (λ input. ParsesTo input (asking Plans body))
+      → OnContent book before after (λ m. IfOk r (λ task. IsInstance m question (instance_in task))) → Unchanged book (CountsRefusal r) before after
+      → IfOk r (λ task. IsBegun book before after left (instance_in task))
+  posed_begun question left (Ok task) asks parsed builds keeps =
       record {
         body = body;
         query = question;
         parsed = parsed;
         asks = asks;
-        run = λ clean_disk m held sound. (keeps.stays clean_disk m held, poses clean_disk m held);
+        run = λ clean_disk m held sound. (keeps.stays clean_disk m held, builds clean_disk m held);
         keeps = record { clean_disk = keeps.clean_disk; stays = keeps.stays; crash = keeps.crash; failures = keeps.failures.others (λ e. cc) };
       }
-  posed_begun question left (Err refusal) asks parsed poses keeps = tt
+  posed_begun question left (Err refusal) asks parsed builds keeps = tt
 
   refused_served : (question : PlansQuery) (refusal : Refusal) (m : Content) → body_plans body ≡ Some question → AnswersPlans m question (Err refusal) → book.holds after m → IsSound json_texts m
       → ((left : book.Left) → book.may_leave after left → book.may_leave before left) → (refusal ≡ StoreFault → StoreFailed (book.failed before) (book.failed after)) → HasServedInput book before after m (asking Plans body) (replied (Refused refusal))
@@ -73,12 +73,12 @@ module _ {B : Type 0} (book : Ghosts B) (before after : B) (body : List ℕ) whe
       (plans_answered_to m (body_plans body) question (replied (Refused refusal)) asks (tells_refusal m question refusal (replied (Refused refusal)) refl answers))
       (λ e. blame (told_refusal refusal StoreFault (replied (Refused refusal)) refl e))
 
-  pub posed_refused : (question : PlansQuery) (r : Result Thought Refusal) → body_plans body ≡ Some question
+  pub posed_refused : (question : PlansQuery) (r : Result PlanTask Refusal) → body_plans body ≡ Some question
       → OnContent book before after (λ m. IfErr r (λ refusal. AnswersPlans m question (Err refusal))) → Unchanged book (CountsRefusal r) before after
       → IfErr r (λ refusal. OnContent book before after (λ m. IsSound json_texts m → HasServedInput book before after m (asking Plans body) (replied (Refused refusal))))
-  posed_refused question (Ok thought) asks answers keeps = tt
+  posed_refused question (Ok task) asks answers keeps = tt
   posed_refused question (Err refusal) asks answers keeps = λ clean_disk m held sound.
-      refused_served question refusal m asks (answers clean_disk m held) (keeps.stays clean_disk m held) sound (keeps.crash clean_disk m held) (λ is. plans_blame Thought refusal (book.failed before) (book.failed after) is keeps.failures)
+      refused_served question refusal m asks (answers clean_disk m held) (keeps.stays clean_disk m held) sound (keeps.crash clean_disk m held) (λ is. plans_blame PlanTask refusal (book.failed before) (book.failed after) is keeps.failures)
 
   pub unread_served : (refusal : Refusal) (m : Content) → IsUnread refusal (body_plans body) → book.holds after m → IsSound json_texts m
       → ((left : book.Left) → book.may_leave after left → book.may_leave before left) → HasServedInput book before after m (asking Plans body) (replied (Refused refusal))

@@ -1,6 +1,6 @@
 -- The lines of an input, and what is kept of one while it is read.
 use Rattle.std.specs.Prelude.{◌≡◌, ℕ, ◌+◌, ◌-◌, ◌==◌, List, [], ◌∷◌, take, drop, false, if◌then◌else◌, Option, Some, None, ⊤}
-use Rattle.shop_wire.specs.declared.limits.TheConstants.{LONGEST_LINE}
+use Rattle.shop_wire.specs.declared.limits.TheConstants.{MAX_LINE_LEN}
 
 -- a byte goes onto the first line of the rest
 abbrev pub onto_first : ℕ → List (List ℕ) → List (List ℕ)
@@ -24,7 +24,7 @@ AreLines (Some input) lines = lines ≡ lines_of input
 
 -- the longest line that is read
 abbrev pub longest_line : ℕ
-longest_line = LONGEST_LINE
+longest_line = MAX_LINE_LEN
 
 -- of a line, one byte more than the longest has shows that it is too long
 abbrev pub kept_of : List ℕ → List ℕ

@@ -5,7 +5,7 @@ use Rattle.std.specs.List.{after_first, before_first}
 use Rattle.std.specs.Str.{is_utf8}
 use Rattle.std.specs.Str.Parse.{digits_value}
 use Rattle.std.specs.Io.KnownBytes.{Appends}
-use Rattle.cut_measure.specs.declared.ranges.TheConstants.{MOST_NUMBERS}
+use Rattle.cut_measure.specs.declared.ranges.TheConstants.{MAX_NUMBERS}
 use Rattle.cut_measure.specs.Codes.{code_of}
 use Rattle.cut_measure.specs.Names.{Name, spelled_name}
 use Rattle.shop_records.specs.declared.journal.Subject.TheVariants as subject
@@ -24,8 +24,8 @@ use Rattle.shop_records.specs.Soundness.{IsSound}
 use Rattle.shop_forms.specs.Forms.{query_of, json_texts}
 use Rattle.shop_plans.specs.declared.questions.PlansQuery.{PlansQuery}
 use Rattle.shop_plans.specs.Questions.{plans_query_of}
-use Rattle.shop_planning.specs.declared.posed.Posed.{Posed}
-use Rattle.shop_planning.specs.Questions.{IsPosed}
+use Rattle.shop_planning.specs.declared.instance.PlanInstance.{PlanInstance}
+use Rattle.shop_planning.specs.Questions.{IsInstance}
 use Rattle.shop_book.specs.declared.books.Book.{Ghosts}
 use Rattle.shop_book.specs.Kept.{OnContent, Unchanged}
 use Rattle.shop_desk.specs.Faults.{StoreFailed}
@@ -48,11 +48,11 @@ ranged least most text =
 
 -- one from 1 to 2147483647
 abbrev pub numbered : List ℕ → Option ℕ
-numbered text = ranged 1 MOST_NUMBERS text
+numbered text = ranged 1 MAX_NUMBERS text
 
 -- one after which numbers are asked for: from 0 to 2147483647
 abbrev pub number_before : List ℕ → Option ℕ
-number_before text = ranged 0 MOST_NUMBERS text
+number_before text = ranged 0 MAX_NUMBERS text
 
 -- a terminal: from 0 to 4294967295
 abbrev pub terminal_of : List ℕ → Option ℕ
@@ -299,12 +299,12 @@ abbrev pub HandlesReadAt : {B : Type 0} → Ghosts B → B → B → (at : ℕ) 
 HandlesReadAt book before after at left =
     (parsed : ParseResult) × IfSome left (λ input. ParsesTo input parsed) × HandlesInputAt book before after at parsed
 
--- The question for plans that an input asks at /plans, for whoever thinks about it: a book with a clean disk holds what it
+-- The question for plans that an input asks at /plans, for whoever searches it: a book with a clean disk holds what it
 -- held, each such content was asked it, and the book is left as it was.
-pub record IsBegun {B : Type 0} (book : Ghosts B) (before after : B) (left : Option (List ℕ)) (posed : Posed) : Type 0 where
+pub record IsBegun {B : Type 0} (book : Ghosts B) (before after : B) (left : Option (List ℕ)) (instance : PlanInstance) : Type 0 where
   pub body : List ℕ
   pub query : PlansQuery
   pub parsed : IfSome left (λ input. ParsesTo input (asking Plans body))
   pub asks : body_plans body ≡ Some query
-  pub run : OnContent book before after (λ m. IsSound json_texts m → book.holds after m × IsPosed m query posed)
+  pub run : OnContent book before after (λ m. IsSound json_texts m → book.holds after m × IsInstance m query instance)
   pub keeps : Unchanged book (λ old new. new ≡ old) before after

@@ -1,11 +1,11 @@
 -- How far a source was read, and when a source or a sink failed.
 use Rattle.std.specs.Prelude.{ℕ, ◌+◌, ◌-◌, ◌*◌, ◌≤◌, ◌⊎◌, List, length, Option, Some, None, ⊤, IfSome}
 use Rattle.shop_streams.specs.Streams.{most_counted}
-use Rattle.shop_wire.specs.declared.limits.TheConstants.{MOST_READS, BUFFER_SIZE}
+use Rattle.shop_wire.specs.declared.limits.TheConstants.{MAX_READS, BUFFER_SIZE}
 
 -- the most reads of a replay
 abbrev pub most_reads : ℕ
-most_reads = MOST_READS
+most_reads = MAX_READS
 
 -- so many reads were made, as far as a source counts them
 abbrev pub AreReads : ℕ → ℕ → ℕ → Type 0

@@ -9,7 +9,7 @@ ghost use Rattle.shop_desk.specs.Faults.{CountsUp};
 ghost use Rattle.shop_wire.specs.Replays.{HasAnswered, LineStep, ValueStep, data_of, line_message, telling_line};
 ghost use Rattle.shop_wire.specs.Tellings.{HasPrintedText, IsRead, telling_of};
 
-use crate::limits::LONGEST_LINE;
+use crate::limits::MAX_LINE_LEN;
 use crate::plans::plans_told;
 use crate::told::{Told, refused, text_told};
 use serde_json::Value;
@@ -65,7 +65,7 @@ fn value_told<B: Book>(alloc: Global, book: &mut B, value: &Value) -> Told
 pub(crate) fn value_in(alloc: Global, line: &[u8]) -> Result<Value, Refusal>
     ensures { IsRead view result (data_of line.now) }
 {
-    if line.len() > LONGEST_LINE {
+    if line.len() > MAX_LINE_LEN {
         return Err(Refusal::BadMessage);
     }
     match Value::from_slice(alloc, line) {

@@ -3,10 +3,10 @@
 ghost use Rattle.std.specs.Prelude.{◌≡◌, ◌≤◌, IfSome};
 ghost use Rattle.shop_wire.specs.Serves as serves;
 ghost use Rattle.shop_wire.specs.Serves.{after_slash, before_slash, path_query, ranged};
-ghost use Rattle.cut_measure.specs.declared.ranges.TheConstants.{MOST_NUMBERS};
+ghost use Rattle.cut_measure.specs.declared.ranges.TheConstants.{MAX_NUMBERS};
 ghost use Rattle.shop_request.specs.declared.routes.Route.TheVariants.{BatchPiecesAfter, DemandsOf, JobStory, OrderPiecesAfter, OrderStory, PartStory, PartsAfter, UnitPiecesAfter};
 
-use cut_measure::{MOST_NUMBERS, read_number};
+use cut_measure::{MAX_NUMBERS, read_number};
 use shop_rules::{Code, PartName, PieceSource, Query, Subject};
 use std::str;
 
@@ -26,15 +26,15 @@ pub(crate) fn number_of(part: &[u8], least: u32, most: u32) -> Option<u32>
 pub(crate) fn number_before(part: &[u8]) -> Option<u32>
     ensures { result ≡ serves.number_before part.now }
 {
-    number_of(part, 0, MOST_NUMBERS)
+    number_of(part, 0, MAX_NUMBERS)
 }
 
 /// The number from 1 on that a path says.
 pub(crate) fn number_in(part: &[u8]) -> Option<u32>
     ensures value { result ≡ serves.numbered part.now }
-    ensures range { IfSome result (λ number. (1 ≤ number) × (number ≤ MOST_NUMBERS)) }
+    ensures range { IfSome result (λ number. (1 ≤ number) × (number ≤ MAX_NUMBERS)) }
 {
-    number_of(part, 1, MOST_NUMBERS)
+    number_of(part, 1, MAX_NUMBERS)
 }
 
 /// The terminal that a path says.

@@ -1,4 +1,4 @@
-//! Questions for plans of a whole order: answered at once, or posed for whoever thinks about them.
+//! Questions for plans of a whole order: answered at once, or built for whoever searches them.
 
 ghost use Rattle.std.specs.Prelude.{◌≡◌, ℕ, List, Option, IfErr, IfOk, IfSome};
 ghost use Rattle.shop_records.specs.declared.messages.Reply.TheVariants.{Refused};
@@ -9,7 +9,7 @@ ghost use Rattle.shop_book.specs.Kept.{OnContent, Unchanged};
 ghost use Rattle.shop_desk.specs.Faults.{CountsUp, StoreFailed};
 ghost use Rattle.shop_plans.specs.declared.questions.PlansQuery.{PlansQuery as PlansQueryOf};
 ghost use Rattle.shop_planning.specs.Faults.{CountsRefusal};
-ghost use Rattle.shop_planning.specs.Thoughts.{posed_in};
+ghost use Rattle.shop_planning.specs.PlanTasks.{instance_in};
 ghost use Rattle.shop_request.specs.Requests.{ParsesTo, asking};
 ghost use Rattle.shop_request.specs.declared.routes.Route.TheVariants.{Plans as AtPlans};
 ghost use Rattle.shop_wire.specs.AnswerBytes.{replied};
@@ -20,7 +20,7 @@ ghost use Rattle.shop_wire.specs.Tellings.{HasPrintedText, IsRead, telling_of};
 use crate::answers::value_in;
 use crate::told::{Told, refused};
 use shop_book::Book;
-use shop_planning::{Thought, plan_all, pose};
+use shop_planning::{PlanTask, build_instance, plan_all};
 use shop_plans::{PlansQuery, read_plans};
 use shop_rules::Refusal;
 use std::alloc::Global;
@@ -82,14 +82,14 @@ pub(crate) fn body_told<B: Book>(alloc: Global, book: &mut B, body: &[u8]) -> To
 }
 
 /// What a body asks of a book's content as a question for plans, or why it is refused.
-pub(crate) fn pose_body<B: Book>(
+pub(crate) fn build_body<B: Book>(
     alloc: Global,
     book: &mut B,
     body: &[u8],
-) -> Result<Thought, Refusal>
-    ensures posed { (left : Option (List ℕ))
+) -> Result<PlanTask, Refusal>
+    ensures instance { (left : Option (List ℕ))
         → IfSome left (λ input. ParsesTo input (asking AtPlans body.now))
-        → IfOk result (λ thought. IsBegun B.Book book.old book.new left (posed_in thought)) }
+        → IfOk result (λ task. IsBegun B.Book book.old book.new left (instance_in task)) }
     ensures refused { IfErr result
         (λ refusal. OnContent B.Book book.old book.new
         (λ m. IsSound json_texts m
@@ -98,7 +98,7 @@ pub(crate) fn pose_body<B: Book>(
     ensures keeps { Unchanged B.Book (CountsRefusal result) book.old book.new }
 {
     match plans_in(alloc, body) {
-        Ok(question) => pose(alloc, book, &question),
+        Ok(question) => build_instance(alloc, book, &question),
         Err(refusal) => Err(refusal),
     }
 }

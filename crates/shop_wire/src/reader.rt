@@ -9,7 +9,7 @@ ghost use Rattle.shop_wire.specs.declared.limits.TheConstants.{BUFFER_SIZE};
 ghost use Rattle.shop_wire.specs.declared.faults.ReplayFault.TheVariants.{Read, NoMemory};
 
 use crate::faults::ReplayFault;
-use crate::limits::{BUFFER_SIZE, LONGEST_LINE, MOST_READS};
+use crate::limits::{BUFFER_SIZE, MAX_LINE_LEN, MAX_READS};
 use memchr::memchr;
 use shop_text::Source;
 use std::alloc::AllocError;
@@ -32,7 +32,7 @@ fn append_kept(line: &mut Vec<u8>, part: &[u8]) -> Result<(), AllocError>
     ensures { OnOk result (line.new.items ≡ line.old.items
         ++ take (longest_line + 1 - length line.old.items) part.now) }
 {
-    let room = LONGEST_LINE + 1 - line.len();
+    let room = MAX_LINE_LEN + 1 - line.len();
     if part.len() <= room {
         line.extend_from_slice(part)
     } else {
@@ -126,7 +126,7 @@ impl LineReader {
         if self.ended {
             return Ok(false);
         }
-        if self.reads == MOST_READS {
+        if self.reads == MAX_READS {
             return Err(ReplayFault::Read);
         }
         self.reads += 1;

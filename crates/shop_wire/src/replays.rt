@@ -7,12 +7,12 @@ ghost use Rattle.shop_wire.specs.Lines.{AreLines, HasNoFeed, pending};
 ghost use Rattle.shop_wire.specs.Replays.{IsReplayed};
 ghost use Rattle.shop_streams.specs.Streams.{HasFailed};
 ghost use Rattle.shop_wire.specs.Streams.{AreReads, IsLong, most_reads};
-ghost use Rattle.shop_wire.specs.declared.limits.TheConstants.{MOST_HELD};
+ghost use Rattle.shop_wire.specs.declared.limits.TheConstants.{MAX_HELD};
 ghost use Rattle.shop_wire.specs.declared.faults.ReplayFault.TheVariants.{Read, Write, NoMemory};
 
 use crate::answers::{answer, hold_told};
 use crate::faults::ReplayFault;
-use crate::limits::{LONGEST_LINE, MOST_HELD};
+use crate::limits::{MAX_HELD, MAX_LINE_LEN};
 use crate::reader::LineReader;
 use shop_book::Book;
 use shop_text::{Sink, Source, write_all};
@@ -76,7 +76,7 @@ fn flush_if_due<W: Sink>(
     ensures waiting { OnOk result
         (HasNoFeed (pending reader.now.buffer reader.now.start reader.now.end)
         → held.new.items ≡ []) }
-    ensures few { OnOk result (length held.new.items < MOST_HELD) }
+    ensures few { OnOk result (length held.new.items < MAX_HELD) }
     ensures none { OnErr result (held.new.items ≡ []) }
     ensures err { OnErr result
         ((done : List ℕ) × (rest : List ℕ) × (done ++ rest ≡ held.old.items)
@@ -85,7 +85,7 @@ fn flush_if_due<W: Sink>(
         (λ fault. (fault ≡ Write) × HasFailed (W.failed sink.old) (W.failed sink.new)) }
     ensures worked { OnOk result (W.failed sink.new ≡ W.failed sink.old) }
 {
-    if held.len() < MOST_HELD && reader.has_line() {
+    if held.len() < MAX_HELD && reader.has_line() {
         return Ok(());
     }
     pass_on(sink, held)?;
@@ -121,7 +121,7 @@ fn answer_lines<S: Source, W: Sink, B: Book>(
     ensures worked { (W.failed sink.new ≡ W.failed sink.old) ⊎ (held.new.items ≡ []) }
 {
     let mut reader = LineReader::new();
-    let Ok(mut line) = Vec::with_capacity(alloc, LONGEST_LINE + 1) else {
+    let Ok(mut line) = Vec::with_capacity(alloc, MAX_LINE_LEN + 1) else {
         return Err(ReplayFault::NoMemory);
     };
     let mut count = 0u64;
@@ -162,7 +162,7 @@ pub fn replay<S: Source, W: Sink, B: Book>(
         × IsLong 0 (S.left source.old)) }
     ensures write { result ≡ Err Write → HasFailed (W.failed sink.old) (W.failed sink.new) }
 {
-    let Ok(mut held) = Vec::with_capacity(alloc, MOST_HELD + LONGEST_LINE) else {
+    let Ok(mut held) = Vec::with_capacity(alloc, MAX_HELD + MAX_LINE_LEN) else {
         return Err(ReplayFault::NoMemory);
     };
     let outcome = answer_lines(alloc, source, sink, book, &mut held);

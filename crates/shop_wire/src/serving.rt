@@ -6,19 +6,19 @@ ghost use Rattle.shop_desk.specs.Faults.{CountsUp};
 ghost use Rattle.shop_streams.specs.Streams.{HasFailed};
 ghost use Rattle.shop_request.specs.Requests.{ParsesTo, asking, most_request_reads, parse_of};
 ghost use Rattle.shop_wire.specs.AnswerBytes.{answer_bytes, fault_answer};
-ghost use Rattle.shop_planning.specs.Thoughts.{posed_in};
-ghost use Rattle.shop_planning.specs.declared.thought.Thought.{Thought as ThoughtOf};
+ghost use Rattle.shop_planning.specs.PlanTasks.{instance_in};
+ghost use Rattle.shop_planning.specs.declared.task.PlanTask.{PlanTask as PlanTaskOf};
 ghost use Rattle.shop_request.specs.declared.routes.Route.TheVariants.{Plans as AtPlans};
 ghost use Rattle.shop_wire.specs.Serves.{HandlesInputAt, HandlesReadAt, IsBegun, IsServed, IsServedAs};
 ghost use Rattle.shop_wire.specs.declared.faults.WireFault.TheVariants.{Read, Write, NoMemory};
 
 use crate::asking::respond;
 use crate::faults::WireFault;
-use crate::plans::pose_body;
+use crate::plans::build_body;
 use crate::telling::{fault_text, told_text};
 use crate::told::refused;
 use shop_book::Book;
-use shop_planning::Thought;
+use shop_planning::PlanTask;
 use shop_request::{Inbound, RequestFault, Route, Routes, StreamFault, read_request};
 use shop_text::{Sink, Source, write_all};
 use std::alloc::{AllocError, Global};
@@ -182,11 +182,11 @@ fn begin_plans<W: Sink, B: Book>(
     body: &[u8],
     sink: &mut W,
     book: &mut B,
-) -> Result<Option<Thought>, WireFault>
+) -> Result<Option<PlanTask>, WireFault>
     ensures begun { (left : Option (List ℕ))
         → IfSome left (λ input. ParsesTo input (asking AtPlans body.now))
-        → (thought : ThoughtOf) → result ≡ Ok (Some thought)
-        → IsBegun B.Book book.old book.new left (posed_in thought) × (sink.new ≡ sink.old) }
+        → (task : PlanTaskOf) → result ≡ Ok (Some task)
+        → IsBegun B.Book book.old book.new left (instance_in task) × (sink.new ≡ sink.old) }
     ensures answered { result ≡ Ok None
         → IsServedAs B.Book book.old book.new (W.held sink.old) (W.held sink.new)
         (asking AtPlans body.now) [] }
@@ -200,8 +200,8 @@ fn begin_plans<W: Sink, B: Book>(
         × HasFailed (W.failed sink.old) (W.failed sink.new)) }
     ensures worked { OnOk result (W.failed sink.new ≡ W.failed sink.old) }
 {
-    match pose_body(alloc, book, body) {
-        Ok(thought) => Ok(Some(thought)),
+    match build_body(alloc, book, body) {
+        Ok(task) => Ok(Some(task)),
         Err(refusal) => {
             match write_made(sink, told_text(alloc, Route::Plans, refused(refusal))) {
                 Ok(()) => Ok(None),
@@ -224,8 +224,8 @@ fn plans_body<'b>(inbound: &Inbound<'b>) -> Option<&'b [u8]>
     }
 }
 
-/// Does what was read of a request and writes the answer, as `serve_request`; but a question at `/plans` that was posed isn't
-/// answered: it is given to whoever thinks about it, and nothing is written.
+/// Does what was read of a request and writes the answer, as `serve_request`; but a question at `/plans` whose instance was built isn't
+/// answered: it is given to whoever searches it, and nothing is written.
 ///
 /// `Write` and `NoMemory` as there.
 pub fn begin_inbound<W: Sink, B: Book>(
@@ -234,11 +234,11 @@ pub fn begin_inbound<W: Sink, B: Book>(
     sink: &mut W,
     book: &mut B,
     at: u64,
-) -> Result<Option<Thought>, WireFault>
+) -> Result<Option<PlanTask>, WireFault>
     ensures begun { (left : Option (List ℕ))
         → IfSome left (λ input. ParsesTo input (parse_of inbound.now))
-        → (thought : ThoughtOf) → result ≡ Ok (Some thought)
-        → IsBegun B.Book book.old book.new left (posed_in thought) × (sink.new ≡ sink.old) }
+        → (task : PlanTaskOf) → result ≡ Ok (Some task)
+        → IsBegun B.Book book.old book.new left (instance_in task) × (sink.new ≡ sink.old) }
     ensures answered { result ≡ Ok None
         → IsServedAs B.Book book.old book.new (W.held sink.old) (W.held sink.new)
         (parse_of inbound.now) [] }
@@ -262,7 +262,7 @@ pub fn begin_inbound<W: Sink, B: Book>(
     }
 }
 
-/// As `serve_request`, but that a question at `/plans` that was posed isn't answered: it is given to whoever thinks about it,
+/// As `serve_request`, but that a question at `/plans` whose instance was built isn't answered: it is given to whoever searches it,
 /// and nothing is written.
 ///
 /// `Read`, `Write` and `NoMemory` as there.
@@ -273,9 +273,9 @@ pub fn begin_request<S: Source, W: Sink, B: Book>(
     sink: &mut W,
     book: &mut B,
     at: u64,
-) -> Result<Option<Thought>, WireFault>
-    ensures begun { (thought : ThoughtOf) → result ≡ Ok (Some thought)
-        → IsBegun B.Book book.old book.new (S.left source.old) (posed_in thought)
+) -> Result<Option<PlanTask>, WireFault>
+    ensures begun { (task : PlanTaskOf) → result ≡ Ok (Some task)
+        → IsBegun B.Book book.old book.new (S.left source.old) (instance_in task)
         × (sink.new ≡ sink.old) }
     ensures answered { result ≡ Ok None
         → IsServed B.Book book.old book.new (S.left source.old) (W.held sink.old)

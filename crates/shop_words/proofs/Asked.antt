@@ -3,7 +3,7 @@ use Rattle.std.proofs.Common.{◌≡◌, ◌∙◌, ◌⊎◌, ℕ, List, [], Op
 use Rattle.std.specs.Prelude.{◌==◌, Bool, is_some, option_map, IfSome, MatchOption, slice_index, unwrap_or, if◌then◌else◌}
 use Rattle.clap.specs.Words.{Row, Text, first_of, one_of}
 use Rattle.cut_measure.specs.Codes.{code_of}
-use Rattle.cut_measure.specs.declared.ranges.TheConstants.{MOST_KERF}
+use Rattle.cut_measure.specs.declared.ranges.TheConstants.{MAX_KERF}
 use Rattle.shop_words.specs.declared.words.OrderPlan.{OrderPlan}
 use Rattle.shop_words.specs.declared.words.Serving.{Serving}
 use Rattle.shop_words.specs.declared.words.Request.{Request}
@@ -11,7 +11,7 @@ use Rattle.shop_words.specs.declared.words.Request.TheVariants.{Replay, Plan, Pl
 use Rattle.shop_words.specs.declared.words.Word.{Word}
 use Rattle.shop_words.specs.declared.words.Word.TheVariants as word
 use Rattle.shop_words.specs.declared.words.ImportAs.{ImportAs}
-use Rattle.shop_words.specs.declared.words.TheConstants.{MOST_AFTER, MOST_CONNECTIONS}
+use Rattle.shop_words.specs.declared.words.TheConstants.{MAX_AFTER, MAX_CONNECTIONS}
 use Rattle.shop_words.specs.CommandLine.{names_message, names_stock, AsAsked, HasNumber, IsLimit, IsNumber, IsWhole, IsWholeAsked, IsSingleAsked, IsImportAs, IsLinesAsked, MayHaveNumber, IsOrderPlan, IsOrdersAsked, IsPlanAsked, IsProblemAsked, IsAuditAsked, IsHistoryAsked, IsRestoreAsked, IsServeAsked, IsServing, IsTicketAsked, IsYieldAsked, IsCode, IsAsked, AsksFor, AsksNothing, word_text}
 
 nothing : {X : Type 0} (found : Option X) (x : X) → found ≡ None → found ≡ Some x → ⊥
@@ -56,9 +56,9 @@ without_flag : {W A B : Type 0} → (W → ⊥) → (W × A) ⊎ ((W → ⊥) ×
 without_flag none (inl p) = absurd (none p.0)
 without_flag none (inr p) = p.1
 
-module _ (rows : List Row) (path : Text) (kerf : ℕ) (file : first_of (codes "FILE") rows ≡ Some path) (number : HasNumber (codes "kerf") rows 0 MOST_KERF kerf) where
+module _ (rows : List Row) (path : Text) (kerf : ℕ) (file : first_of (codes "FILE") rows ≡ Some path) (number : HasNumber (codes "kerf") rows 0 MAX_KERF kerf) where
   -- what is asked of file and kerf is asked of these
-  of_these : (P : Text → ℕ → Type 0) (t : Text) (k : ℕ) → first_of (codes "FILE") rows ≡ Some t → HasNumber (codes "kerf") rows 0 MOST_KERF k → P t k → P path kerf
+  of_these : (P : Text → ℕ → Type 0) (t : Text) (k : ℕ) → first_of (codes "FILE") rows ≡ Some t → HasNumber (codes "kerf") rows 0 MAX_KERF k → P t k → P path kerf
   of_these P t k file_too number_too is =
       let same_path = some_is t path (sym file_too ∙ file) in
       let same_kerf = one_number (one_of (codes "kerf") rows) k kerf number_too.0 number.0 in
@@ -162,7 +162,7 @@ no_orders_message rows some none (Audit store read_only) asked = asked
 no_orders_message rows some none (Restore store from) asked = asked
 
 -- the limit's number is out of range
-pub no_limit : (rows : List Row) → is_some (first_of (codes "limit") rows) ≡ true → ((n : ℕ) → HasNumber (codes "limit") rows 1 MOST_CONNECTIONS n → ⊥) → (limit : Option ℕ) → IsLimit rows limit → ⊥
+pub no_limit : (rows : List Row) → is_some (first_of (codes "limit") rows) ≡ true → ((n : ℕ) → HasNumber (codes "limit") rows 1 MAX_CONNECTIONS n → ⊥) → (limit : Option ℕ) → IsLimit rows limit → ⊥
 no_limit rows some none None asked = absurd (cc (sym asked.0 ∙ some))
 no_limit rows some none (Some n) (inl has) = none n has
 no_limit rows some none (Some n) (inr is) = absurd (cc (sym is.0 ∙ some))
@@ -224,7 +224,7 @@ no_history_store rows none (Audit store read_only) asked = asked
 no_history_store rows none (Restore store from) asked = asked
 
 -- the number behind which entries are asked for is out of range
-pub no_history_after : (rows : List Row) → ((after : Option ℕ) → MayHaveNumber (codes "after") rows 0 MOST_AFTER after → ⊥) → (request : Request) → IsHistoryAsked rows request → ⊥
+pub no_history_after : (rows : List Row) → ((after : Option ℕ) → MayHaveNumber (codes "after") rows 0 MAX_AFTER after → ⊥) → (request : Request) → IsHistoryAsked rows request → ⊥
 no_history_after rows none Replay asked = asked
 no_history_after rows none (Plan file kerf step) asked = asked
 no_history_after rows none (PlanOrder file kerf step calls stages) asked = asked

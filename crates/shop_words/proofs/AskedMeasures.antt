@@ -1,8 +1,8 @@
 -- Kerf and stages of what the words ask for are in range.
 use Rattle.std.proofs.Common.{◌≡◌, ◌≤◌, ◌⊎◌, ℕ, List, Option, Some, None, Bor, codes, inl, inr, subst, sym}
 use Rattle.clap.specs.Words.{Row, Text}
-use Rattle.cut_measure.specs.declared.ranges.TheConstants.{MOST_KERF}
-use Rattle.shop_words.specs.declared.words.TheConstants.{LEAST_STAGES, MOST_STAGES}
+use Rattle.cut_measure.specs.declared.ranges.TheConstants.{MAX_KERF}
+use Rattle.shop_words.specs.declared.words.TheConstants.{MIN_STAGES, MAX_STAGES}
 use Rattle.shop_words.specs.declared.words.OrderPlan.{OrderPlan}
 use Rattle.shop_words.specs.declared.words.Request.{Request}
 use Rattle.shop_words.specs.declared.words.Request.TheVariants.{Replay, Plan, PlanOrder, PlanLines, Orders, Serve, Ticket, Yield, History, Audit, Restore}
@@ -10,20 +10,20 @@ use Rattle.shop_words.specs.declared.words.Word.{Word}
 use Rattle.shop_words.specs.declared.words.Word.TheVariants as word
 use Rattle.shop_words.specs.CommandLine.{AsksFor, HasMeasures, HasStages, IsAsked, IsProblemAsked, MayHaveNumber}
 
-stages_of : (rows : List Row) (stages : Option ℕ) → MayHaveNumber (codes "stages") rows LEAST_STAGES MOST_STAGES stages → HasStages stages
+stages_of : (rows : List Row) (stages : Option ℕ) → MayHaveNumber (codes "stages") rows MIN_STAGES MAX_STAGES stages → HasStages stages
 stages_of rows None has = tt
 stages_of rows (Some n) has = (has.1, has.2)
 
-of_one : (rows : List Row) (file : Bor Text) (kerf step : ℕ) → IsProblemAsked rows (Plan file kerf step) → kerf ≤ MOST_KERF
+of_one : (rows : List Row) (file : Bor Text) (kerf step : ℕ) → IsProblemAsked rows (Plan file kerf step) → kerf ≤ MAX_KERF
 of_one rows file kerf step (path, k, there, number, inl whole) = absurd whole.1
-of_one rows file kerf step (path, k, there, number, inr single) = subst (λ n. n ≤ MOST_KERF) (sym single.1.1) number.2
+of_one rows file kerf step (path, k, there, number, inr single) = subst (λ n. n ≤ MAX_KERF) (sym single.1.1) number.2
 
-of_all : (rows : List Row) (file : Bor Text) (kerf : ℕ) (step calls stages : Option ℕ) → IsProblemAsked rows (PlanOrder file kerf step calls stages) → (kerf ≤ MOST_KERF) × HasStages stages
+of_all : (rows : List Row) (file : Bor Text) (kerf : ℕ) (step calls stages : Option ℕ) → IsProblemAsked rows (PlanOrder file kerf step calls stages) → (kerf ≤ MAX_KERF) × HasStages stages
 of_all rows file kerf step calls stages (path, k, there, number, inl whole) =
-    (subst (λ n. n ≤ MOST_KERF) (sym whole.1.1) number.2, stages_of rows stages whole.1.4)
+    (subst (λ n. n ≤ MAX_KERF) (sym whole.1.1) number.2, stages_of rows stages whole.1.4)
 of_all rows file kerf step calls stages (path, k, there, number, inr single) = absurd single.1
 
-one_asked : (w : Word) (rows : List Row) (file : Bor Text) (kerf step : ℕ) → IsAsked w rows (Plan file kerf step) → kerf ≤ MOST_KERF
+one_asked : (w : Word) (rows : List Row) (file : Bor Text) (kerf step : ℕ) → IsAsked w rows (Plan file kerf step) → kerf ≤ MAX_KERF
 one_asked word.Replay rows file kerf step asked = cc
 one_asked word.Plan rows file kerf step (inl lines) = absurd lines.1
 one_asked word.Plan rows file kerf step (inr problem) = of_one rows file kerf step problem.1
@@ -35,7 +35,7 @@ one_asked word.History rows file kerf step asked = absurd asked
 one_asked word.Audit rows file kerf step asked = absurd asked
 one_asked word.Restore rows file kerf step asked = absurd asked
 
-all_asked : (w : Word) (rows : List Row) (file : Bor Text) (kerf : ℕ) (step calls stages : Option ℕ) → IsAsked w rows (PlanOrder file kerf step calls stages) → (kerf ≤ MOST_KERF) × HasStages stages
+all_asked : (w : Word) (rows : List Row) (file : Bor Text) (kerf : ℕ) (step calls stages : Option ℕ) → IsAsked w rows (PlanOrder file kerf step calls stages) → (kerf ≤ MAX_KERF) × HasStages stages
 all_asked word.Replay rows file kerf step calls stages asked = cc
 all_asked word.Plan rows file kerf step calls stages (inl lines) = absurd lines.1
 all_asked word.Plan rows file kerf step calls stages (inr problem) = of_all rows file kerf step calls stages problem.1

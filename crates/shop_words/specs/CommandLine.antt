@@ -14,8 +14,8 @@ use Rattle.clap.specs.declared.builder.action.ArgAction.TheVariants.{Append, Set
 use Rattle.clap.specs.declared.builder.value_parser.ValueParser.{ValueParser}
 use Rattle.clap.specs.declared.builder.value_parser.ValueParser.TheVariants.{Signed}
 use Rattle.cut_measure.specs.Codes.{code_of}
-use Rattle.cut_measure.specs.declared.ranges.TheConstants.{MOST_KERF, MOST_NUMBERS}
-use Rattle.shop_words.specs.declared.words.TheConstants.{LEAST_STAGES, LONGEST_STEP, MOST_CALLS, MOST_STAGES, LAST_PORT, MOST_AFTER, MOST_CONNECTIONS, MOST_KEPT, MOST_NAMES, MOST_PAIR, MOST_SIZES}
+use Rattle.cut_measure.specs.declared.ranges.TheConstants.{MAX_KERF, MAX_NUMBERS}
+use Rattle.shop_words.specs.declared.words.TheConstants.{MIN_STAGES, MAX_STEP_LENGTH, MAX_CALLS, MAX_STAGES, LAST_PORT, MAX_AFTER, MAX_CONNECTIONS, MAX_KEPT, MAX_NAMES, MAX_PAIR, MAX_SIZES}
 use Rattle.shop_words.specs.declared.words.ImportAs.{ImportAs}
 use Rattle.shop_words.specs.declared.words.OrderPlan.{OrderPlan}
 use Rattle.shop_words.specs.declared.words.Serving.{Serving}
@@ -301,21 +301,21 @@ IsWhole rows = HasFlag (codes "whole") rows
 -- a plan of one rectangle has a step, and says nothing of the search or of stages
 abbrev pub IsSingleAsked : Text → (kerf : ℕ) → List Row → Request → Type 0
 IsSingleAsked path k rows (Plan file kerf step) =
-    (file.now ≡ path) × (kerf ≡ k) × HasNumber (codes "step") rows 0 LONGEST_STEP step × (is_some (first_of (codes "calls") rows) ≡ false)
+    (file.now ≡ path) × (kerf ≡ k) × HasNumber (codes "step") rows 0 MAX_STEP_LENGTH step × (is_some (first_of (codes "calls") rows) ≡ false)
     × (is_some (first_of (codes "stages") rows) ≡ false)
 IsSingleAsked path k rows _ = ⊥
 
 -- one of all pieces may have each of them
 abbrev pub IsWholeAsked : Text → (kerf : ℕ) → List Row → Request → Type 0
 IsWholeAsked path k rows (PlanOrder file kerf step calls stages) =
-    (file.now ≡ path) × (kerf ≡ k) × MayHaveNumber (codes "step") rows 0 LONGEST_STEP step × MayHaveNumber (codes "calls") rows 1 MOST_CALLS calls
-    × MayHaveNumber (codes "stages") rows LEAST_STAGES MOST_STAGES stages
+    (file.now ≡ path) × (kerf ≡ k) × MayHaveNumber (codes "step") rows 0 MAX_STEP_LENGTH step × MayHaveNumber (codes "calls") rows 1 MAX_CALLS calls
+    × MayHaveNumber (codes "stages") rows MIN_STAGES MAX_STAGES stages
 IsWholeAsked path k rows _ = ⊥
 
 -- the values of the words that plan a problem file: the file and the kerf, and what else is asked for with the flag, or without
 abbrev pub IsProblemAsked : List Row → Request → Type 0
 IsProblemAsked rows request =
-    (path : Text) × (kerf : ℕ) × (first_of (codes "FILE") rows ≡ Some path) × HasNumber (codes "kerf") rows 0 MOST_KERF kerf
+    (path : Text) × (kerf : ℕ) × (first_of (codes "FILE") rows ≡ Some path) × HasNumber (codes "kerf") rows 0 MAX_KERF kerf
     × ((IsWhole rows × IsWholeAsked path kerf rows request) ⊎ ((IsWhole rows → ⊥) × IsSingleAsked path kerf rows request))
 
 -- one of the options is there that only the plan of an order file has
@@ -331,10 +331,10 @@ has_measures rows = is_some (first_of (codes "kerf") rows) || is_some (first_of 
 abbrev pub IsOrderPlan : List Row → OrderPlan → Type 0
 IsOrderPlan rows plan =
     (first_of (codes "FILE") rows ≡ Some plan.file.now) × (first_of (codes "shop") rows ≡ Some plan.shop.now)
-    × (first_of (codes "material") rows ≡ Some plan.material.now) × MayHaveNumber (codes "calls") rows 1 MOST_CALLS plan.calls
-    × MayHaveNumber (codes "stages") rows LEAST_STAGES MOST_STAGES plan.stages
+    × (first_of (codes "material") rows ≡ Some plan.material.now) × MayHaveNumber (codes "calls") rows 1 MAX_CALLS plan.calls
+    × MayHaveNumber (codes "stages") rows MIN_STAGES MAX_STAGES plan.stages
     × IsWhole rows × (has_measures rows ≡ false) × (is_some (first_of (codes "size") rows) ≡ true)
-    × (times_given (codes "size") rows ≤ MOST_SIZES) × AreTexts (codes "size") rows plan.sizes.items
+    × (times_given (codes "size") rows ≤ MAX_SIZES) × AreTexts (codes "size") rows plan.sizes.items
 
 abbrev pub IsLinesAsked : List Row → Request → Type 0
 IsLinesAsked rows (PlanLines plan) = IsOrderPlan rows plan
@@ -348,8 +348,8 @@ IsPlanAsked rows request =
 -- the values of the options that make a message of an order file
 abbrev pub IsImportAs : List Row → ImportAs → Type 0
 IsImportAs rows told =
-    IsCode (first_of (codes "order") rows) told.order × HasNumber (codes "terminal") rows 1 MOST_PAIR told.terminal
-    × HasNumber (codes "number") rows 0 MOST_PAIR told.number
+    IsCode (first_of (codes "order") rows) told.order × HasNumber (codes "terminal") rows 1 MAX_PAIR told.terminal
+    × HasNumber (codes "number") rows 0 MAX_PAIR told.number
 
 -- one of these options is there
 abbrev pub names_message : List Row → Bool
@@ -368,13 +368,13 @@ IsOrdersAsked rows _ = ⊥
 abbrev pub IsLimit : List Row → Option ℕ → Type 0
 IsLimit rows None = (is_some (first_of (codes "limit") rows) ≡ false) × (is_some (first_of (codes "page") rows) ≡ true)
 IsLimit rows (Some n) =
-    HasNumber (codes "limit") rows 1 MOST_CONNECTIONS n
-    ⊎ ((is_some (first_of (codes "limit") rows) ≡ false) × (is_some (first_of (codes "page") rows) ≡ false) × (n ≡ MOST_CONNECTIONS))
+    HasNumber (codes "limit") rows 1 MAX_CONNECTIONS n
+    ⊎ ((is_some (first_of (codes "limit") rows) ≡ false) × (is_some (first_of (codes "page") rows) ≡ false) × (n ≡ MAX_CONNECTIONS))
 
 -- as many backups stay as the option says, where there is a folder for them
 abbrev pub IsKeep : List Row → Option ℕ → Type 0
 IsKeep rows None = is_some (first_of (codes "keep") rows) ≡ false
-IsKeep rows (Some n) = HasNumber (codes "keep") rows 1 MOST_KEPT n × (is_some (first_of (codes "backup") rows) ≡ true)
+IsKeep rows (Some n) = HasNumber (codes "keep") rows 1 MAX_KEPT n × (is_some (first_of (codes "backup") rows) ≡ true)
 
 -- a byte of a host or a port: a letter, a digit, or one of `-._:[]`
 abbrev pub is_host_byte : ℕ → Bool
@@ -399,7 +399,7 @@ bad_origin texts = find (λ text. not (is_origin text)) texts
 -- a server has at most ten names and ten origins, and each of these is one
 abbrev pub HasGoodNames : List Row → Type 0
 HasGoodNames rows =
-    (times_given (codes "host") rows ≤ MOST_NAMES) × (times_given (codes "origin") rows ≤ MOST_NAMES)
+    (times_given (codes "host") rows ≤ MAX_NAMES) × (times_given (codes "origin") rows ≤ MAX_NAMES)
     × (bad_origin (texts_under (codes "origin") rows) ≡ None)
 
 abbrev pub IsServing : List Row → Serving → Type 0
@@ -417,7 +417,7 @@ IsServeAsked rows _ = ⊥
 
 abbrev pub IsTicketAsked : List Row → Request → Type 0
 IsTicketAsked rows (Ticket store job read_only) =
-    (first_of (codes "store") rows ≡ Some store.now) × HasNumber (codes "JOB") rows 1 MOST_NUMBERS job × (IsTrue read_only ↔ HasFlag (codes "read-only") rows)
+    (first_of (codes "store") rows ≡ Some store.now) × HasNumber (codes "JOB") rows 1 MAX_NUMBERS job × (IsTrue read_only ↔ HasFlag (codes "read-only") rows)
 IsTicketAsked rows _ = ⊥
 
 abbrev pub IsYieldAsked : List Row → Request → Type 0
@@ -427,7 +427,7 @@ IsYieldAsked rows _ = ⊥
 
 abbrev pub IsHistoryAsked : List Row → Request → Type 0
 IsHistoryAsked rows (History store after read_only) =
-    (first_of (codes "store") rows ≡ Some store.now) × MayHaveNumber (codes "after") rows 0 MOST_AFTER after
+    (first_of (codes "store") rows ≡ Some store.now) × MayHaveNumber (codes "after") rows 0 MAX_AFTER after
     × (IsTrue read_only ↔ HasFlag (codes "read-only") rows)
 IsHistoryAsked rows _ = ⊥
 
@@ -467,12 +467,12 @@ IsAsked word.Restore rows request = IsRestoreAsked rows request
 -- a limit of stages, if there is one, is in range
 abbrev pub HasStages : Option ℕ → Type 0
 HasStages None = ⊤
-HasStages (Some n) = (LEAST_STAGES ≤ n) × (n ≤ MOST_STAGES)
+HasStages (Some n) = (MIN_STAGES ≤ n) × (n ≤ MAX_STAGES)
 
 -- the kerf and the stages of a plan are in range
 abbrev pub HasMeasures : Request → Type 0
-HasMeasures (Plan file kerf step) = kerf ≤ MOST_KERF
-HasMeasures (PlanOrder file kerf step calls stages) = (kerf ≤ MOST_KERF) × HasStages stages
+HasMeasures (Plan file kerf step) = kerf ≤ MAX_KERF
+HasMeasures (PlanOrder file kerf step calls stages) = (kerf ≤ MAX_KERF) × HasStages stages
 HasMeasures (PlanLines plan) = HasStages plan.stages
 HasMeasures _ = ⊤
 

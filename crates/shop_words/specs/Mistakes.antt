@@ -8,7 +8,7 @@ use Rattle.shop_words.specs.declared.words.Reading.{Reading}
 use Rattle.shop_words.specs.declared.words.Reading.TheVariants as reading
 use Rattle.shop_words.specs.declared.words.Word.{Word}
 use Rattle.shop_words.specs.declared.words.Word.TheVariants as word
-use Rattle.shop_words.specs.declared.words.TheConstants.{MOST_NAMES, MOST_SIZES}
+use Rattle.shop_words.specs.declared.words.TheConstants.{MAX_NAMES, MAX_SIZES}
 use Rattle.shop_words.specs.CommandLine.{AsksFor, AsksNothing, IsWhole, bad_origin, names_stock, texts_under, times_given, word_text}
 
 -- this text was found, and is no code
@@ -45,10 +45,10 @@ IsMistake w rows NoMaterial = IsLinesPlan w rows × IsMissing (codes "material")
 IsMistake w rows NoSize = IsLinesPlan w rows × IsMissing (codes "size") rows
 IsMistake w rows WithKerf = IsLinesPlan w rows × IsThere (codes "kerf") rows
 IsMistake w rows WithStep = IsLinesPlan w rows × IsThere (codes "step") rows
-IsMistake w rows ManySizes = IsLinesPlan w rows × (MOST_SIZES < times_given (codes "size") rows)
+IsMistake w rows ManySizes = IsLinesPlan w rows × (MAX_SIZES < times_given (codes "size") rows)
 IsMistake w rows LoneKeep = (w ≡ word.Serve) × IsThere (codes "keep") rows × IsMissing (codes "backup") rows
-IsMistake w rows ManyHosts = (w ≡ word.Serve) × (MOST_NAMES < times_given (codes "host") rows)
-IsMistake w rows ManyOrigins = (w ≡ word.Serve) × (MOST_NAMES < times_given (codes "origin") rows)
+IsMistake w rows ManyHosts = (w ≡ word.Serve) × (MAX_NAMES < times_given (codes "host") rows)
+IsMistake w rows ManyOrigins = (w ≡ word.Serve) × (MAX_NAMES < times_given (codes "origin") rows)
 IsMistake w rows Other = ⊤
 
 -- what is wrong with the command that was read

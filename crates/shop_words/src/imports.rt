@@ -5,7 +5,7 @@ ghost use Rattle.clap.specs.Words.{rows_of, found_of};
 ghost use Rattle.shop_words.specs.CommandLine as line;
 
 use crate::values::{has_option, number_of};
-use crate::words::{ImportAs, MOST_PAIR, Request};
+use crate::words::{ImportAs, MAX_PAIR, Request};
 use clap::ArgMatches;
 use cut_measure::Code;
 
@@ -14,8 +14,8 @@ fn import_as(orders: &ArgMatches<'_>) -> Option<ImportAs>
     ensures { line.AsAsked result (line.IsImportAs (rows_of (found_of orders.now))) }
 {
     let order = Code::read(orders.get_str("order")?)?;
-    let terminal = number_of(orders, "terminal", 1, MOST_PAIR)?;
-    let number = number_of(orders, "number", 0, MOST_PAIR)?;
+    let terminal = number_of(orders, "terminal", 1, MAX_PAIR)?;
+    let number = number_of(orders, "number", 0, MAX_PAIR)?;
     Some(ImportAs {
         order,
         terminal,

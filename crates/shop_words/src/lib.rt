@@ -15,7 +15,7 @@ mod words;
 pub use mistakes::{Mistake, mistake_text};
 pub use requests::request_of;
 pub use words::{
-    ImportAs, LAST_PORT, LEAST_STAGES, LONGEST_STEP, MOST_AFTER, MOST_CALLS, MOST_CONNECTIONS,
-    MOST_KEPT, MOST_NAMES, MOST_PAIR, MOST_SIZES, MOST_STAGES, OrderPlan, Reading, Request,
-    Serving, VERSION,
+    ImportAs, LAST_PORT, MAX_AFTER, MAX_CALLS, MAX_CONNECTIONS, MAX_KEPT, MAX_NAMES, MAX_PAIR,
+    MAX_SIZES, MAX_STAGES, MAX_STEP_LENGTH, MIN_STAGES, OrderPlan, Reading, Request, Serving,
+    VERSION,
 };

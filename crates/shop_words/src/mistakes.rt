@@ -9,7 +9,7 @@ ghost use Rattle.shop_words.specs.declared.words.Word.TheVariants as word;
 use crate::planned::{is_whole, names_stock};
 use crate::served::bad_origin;
 use crate::values::{has_option, times_given};
-use crate::words::{MOST_NAMES, MOST_SIZES, Word, word_of};
+use crate::words::{MAX_NAMES, MAX_SIZES, Word, word_of};
 use clap::ArgMatches;
 use cut_measure::Code;
 use std::alloc::{AllocError, Global};
@@ -84,7 +84,7 @@ fn lines_mistake<'a>(plan: &ArgMatches<'a>) -> Mistake<'a>
         Mistake::NoMaterial
     } else if !has_option(plan, "size") {
         Mistake::NoSize
-    } else if times_given(plan, "size") > MOST_SIZES {
+    } else if times_given(plan, "size") > MAX_SIZES {
         Mistake::ManySizes
     } else {
         Mistake::Other
@@ -154,10 +154,10 @@ fn keep_mistake<'a>(serve: &ArgMatches<'a>) -> Mistake<'a>
 fn serve_mistake<'a>(serve: &ArgMatches<'a>) -> Mistake<'a>
     ensures { spec.IsMistake word.Serve (rows_of (found_of serve.now)) result }
 {
-    if times_given(serve, "host") > MOST_NAMES {
+    if times_given(serve, "host") > MAX_NAMES {
         return Mistake::ManyHosts;
     }
-    if times_given(serve, "origin") > MOST_NAMES {
+    if times_given(serve, "origin") > MAX_NAMES {
         return Mistake::ManyOrigins;
     }
     match bad_origin(serve) {

@@ -6,10 +6,10 @@ ghost use Rattle.shop_words.specs.CommandLine as line;
 
 use crate::values::{has_flag, has_option, number_if_any, number_of, texts_under, times_given};
 use crate::words::{
-    LEAST_STAGES, LONGEST_STEP, MOST_CALLS, MOST_SIZES, MOST_STAGES, OrderPlan, Request,
+    MAX_CALLS, MAX_SIZES, MAX_STAGES, MAX_STEP_LENGTH, MIN_STAGES, OrderPlan, Request,
 };
 use clap::ArgMatches;
-use cut_measure::MOST_KERF;
+use cut_measure::MAX_KERF;
 use std::alloc::{AllocError, Global};
 
 /// Whether all pieces are to be planned.
@@ -24,9 +24,9 @@ fn whole_request<'a>(plan: &ArgMatches<'a>, file: &'a str, kerf: u32) -> Option<
     ensures { line.AsAsked result
         (line.IsWholeAsked file.now kerf (rows_of (found_of plan.now))) }
 {
-    let step = number_if_any(plan, "step", 0, LONGEST_STEP)?;
-    let calls = number_if_any(plan, "calls", 1, MOST_CALLS)?;
-    let stages = number_if_any(plan, "stages", LEAST_STAGES, MOST_STAGES)?;
+    let step = number_if_any(plan, "step", 0, MAX_STEP_LENGTH)?;
+    let calls = number_if_any(plan, "calls", 1, MAX_CALLS)?;
+    let stages = number_if_any(plan, "stages", MIN_STAGES, MAX_STAGES)?;
     Some(Request::PlanOrder {
         file,
         kerf,
@@ -41,7 +41,7 @@ fn single_request<'a>(plan: &ArgMatches<'a>, file: &'a str, kerf: u32) -> Option
     ensures { line.AsAsked result
         (line.IsSingleAsked file.now kerf (rows_of (found_of plan.now))) }
 {
-    let step = number_of(plan, "step", 0, LONGEST_STEP)?;
+    let step = number_of(plan, "step", 0, MAX_STEP_LENGTH)?;
     if has_option(plan, "calls") {
         return None;
     }
@@ -56,7 +56,7 @@ fn problem_request<'a>(plan: &ArgMatches<'a>) -> Option<Request<'a>>
     ensures { line.AsAsked result (line.IsProblemAsked (rows_of (found_of plan.now))) }
 {
     let file = plan.get_str("FILE")?;
-    let kerf = number_of(plan, "kerf", 0, MOST_KERF)?;
+    let kerf = number_of(plan, "kerf", 0, MAX_KERF)?;
     if is_whole(plan) {
         whole_request(plan, file, kerf)
     } else {
@@ -86,8 +86,8 @@ fn order_plan<'a>(plan: &ArgMatches<'a>, sizes: Vec<&'a str>) -> Option<OrderPla
     let file = plan.get_str("FILE")?;
     let shop = plan.get_str("shop")?;
     let material = plan.get_str("material")?;
-    let calls = number_if_any(plan, "calls", 1, MOST_CALLS)?;
-    let stages = number_if_any(plan, "stages", LEAST_STAGES, MOST_STAGES)?;
+    let calls = number_if_any(plan, "calls", 1, MAX_CALLS)?;
+    let stages = number_if_any(plan, "stages", MIN_STAGES, MAX_STAGES)?;
     if !is_whole(plan) {
         return None;
     }
@@ -97,7 +97,7 @@ fn order_plan<'a>(plan: &ArgMatches<'a>, sizes: Vec<&'a str>) -> Option<OrderPla
     if !has_option(plan, "size") {
         return None;
     }
-    if times_given(plan, "size") > MOST_SIZES {
+    if times_given(plan, "size") > MAX_SIZES {
         return None;
     }
     Some(OrderPlan {

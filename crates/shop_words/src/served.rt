@@ -6,7 +6,7 @@ ghost use Rattle.clap.specs.Words.{rows_of, found_of};
 ghost use Rattle.shop_words.specs.CommandLine as line;
 
 use crate::values::{has_flag, has_option, number_of, texts_under, times_given};
-use crate::words::{LAST_PORT, MOST_CONNECTIONS, MOST_KEPT, MOST_NAMES, Request, Serving};
+use crate::words::{LAST_PORT, MAX_CONNECTIONS, MAX_KEPT, MAX_NAMES, Request, Serving};
 use clap::ArgMatches;
 use std::alloc::{AllocError, Global};
 
@@ -15,13 +15,13 @@ fn limit_of(serve: &ArgMatches<'_>) -> Option<Option<u32>>
     ensures { line.AsAsked result (line.IsLimit (rows_of (found_of serve.now))) }
 {
     if has_option(serve, "limit") {
-        let limit = number_of(serve, "limit", 1, MOST_CONNECTIONS)?;
+        let limit = number_of(serve, "limit", 1, MAX_CONNECTIONS)?;
         return Some(Some(limit));
     }
     if has_option(serve, "page") {
         return Some(None);
     }
-    Some(Some(MOST_CONNECTIONS))
+    Some(Some(MAX_CONNECTIONS))
 }
 
 // How many backups stay, where that is said.
@@ -31,7 +31,7 @@ fn keep_of(serve: &ArgMatches<'_>) -> Option<Option<u32>>
     if !has_option(serve, "keep") {
         return Some(None);
     }
-    let keep = number_of(serve, "keep", 1, MOST_KEPT)?;
+    let keep = number_of(serve, "keep", 1, MAX_KEPT)?;
     if !has_option(serve, "backup") {
         return None;
     }
@@ -112,7 +112,7 @@ pub(crate) fn bad_origin<'a>(serve: &ArgMatches<'a>) -> Option<&'a str>
 fn has_good_names(serve: &ArgMatches<'_>) -> bool
     ensures { IsTrue result ↔ line.HasGoodNames (rows_of (found_of serve.now)) }
 {
-    if times_given(serve, "host") > MOST_NAMES || times_given(serve, "origin") > MOST_NAMES {
+    if times_given(serve, "host") > MAX_NAMES || times_given(serve, "origin") > MAX_NAMES {
         return false;
     }
     bad_origin(serve).is_none()

@@ -4,16 +4,16 @@ ghost use Rattle.clap.specs.Words.{rows_of, found_of};
 ghost use Rattle.shop_words.specs.CommandLine as line;
 
 use crate::values::{has_flag, number_if_any, number_of};
-use crate::words::{MOST_AFTER, Request};
+use crate::words::{MAX_AFTER, Request};
 use clap::ArgMatches;
-use cut_measure::{Code, MOST_NUMBERS};
+use cut_measure::{Code, MAX_NUMBERS};
 
 /// What `ticket` asks for.
 pub(crate) fn ticket_request<'a>(ticket: &ArgMatches<'a>) -> Option<Request<'a>>
     ensures { line.AsAsked result (line.IsTicketAsked (rows_of (found_of ticket.now))) }
 {
     let store = ticket.get_str("store")?;
-    let job = number_of(ticket, "JOB", 1, MOST_NUMBERS)?;
+    let job = number_of(ticket, "JOB", 1, MAX_NUMBERS)?;
     let read_only = has_flag(ticket, "read-only");
     Some(Request::Ticket {
         store,
@@ -41,7 +41,7 @@ pub(crate) fn history_request<'a>(history: &ArgMatches<'a>) -> Option<Request<'a
     ensures { line.AsAsked result (line.IsHistoryAsked (rows_of (found_of history.now))) }
 {
     let store = history.get_str("store")?;
-    let after = number_if_any(history, "after", 0, MOST_AFTER)?;
+    let after = number_if_any(history, "after", 0, MAX_AFTER)?;
     let read_only = has_flag(history, "read-only");
     Some(Request::History {
         store,

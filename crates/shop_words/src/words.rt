@@ -7,37 +7,37 @@ use crate::mistakes::Mistake;
 use cut_measure::Code;
 
 /// The longest step, in tenths of a millimetre.
-pub const LONGEST_STEP: u32 = 200_000;
+pub const MAX_STEP_LENGTH: u32 = 200_000;
 
 /// The last port.
 pub const LAST_PORT: u32 = 65535;
 
 /// The most steps of the search for the plans of a whole order.
-pub const MOST_CALLS: u32 = 5000;
+pub const MAX_CALLS: u32 = 5000;
 
 /// The least limit of a plan's stages.
-pub const LEAST_STAGES: u32 = 2;
+pub const MIN_STAGES: u32 = 2;
 
 /// The greatest limit of a plan's stages.
-pub const MOST_STAGES: u32 = 255;
+pub const MAX_STAGES: u32 = 255;
 
 /// The most connections that a limit says, and that are served without one where there is no page.
-pub const MOST_CONNECTIONS: u32 = 1_000_000;
+pub const MAX_CONNECTIONS: u32 = 1_000_000;
 
 /// The greatest terminal, and the greatest number of a message.
-pub const MOST_PAIR: u32 = 4_294_967_295;
+pub const MAX_PAIR: u32 = 4_294_967_295;
 
 /// The greatest number of an entry behind which entries are asked for.
-pub const MOST_AFTER: u32 = 4_294_967_295;
+pub const MAX_AFTER: u32 = 4_294_967_295;
 
 /// The most backups of which `--keep` says that they stay.
-pub const MOST_KEPT: u32 = 10_000;
+pub const MAX_KEPT: u32 = 10_000;
 
 /// The most names, and the most origins, that a server takes for its own.
-pub const MOST_NAMES: usize = 10;
+pub const MAX_NAMES: usize = 10;
 
 /// The most sizes of units from which an order file is planned.
-pub const MOST_SIZES: usize = 10;
+pub const MAX_SIZES: usize = 10;
 
 /// The program's version. One that was built without proofs tells another, with ` (unproved)` behind it.
 pub const VERSION: &str = "1.1.0";

@@ -11,7 +11,7 @@ from kit.sources import closing, sources
 from kit.yards import Yard
 
 # No logic knows a stack, so each function that calls itself is listed here, with how deep it goes and why.
-TREE = "a tree of at most 255 cuts, by `MOST_CUTS`"
+TREE = "a tree of at most 255 cuts, by `MAX_CUTS`"
 DEPTHS = {
     "cut_bars/src/bar.rt fill_counts": (10, "halves of at most 1000 wants"),
     "cut_bound/src/divisors.rt common_divisor": (48, "Euclid's method on two numbers of 32 bits"),

@@ -101,7 +101,7 @@ def other_pieces(trial):
             trial.equal(it.text("planNow"), "6 sheets, at least 5")
             send(do="order", order="B-1", lines=[{**line, "w": 60, "h": 40, "count": 1}])
             it.click(f"{by_id('boundSays')}.querySelector('button')")
-            it.until("!toCut.planning && toCut.found.calls === MOST_CALLS")
+            it.until("!toCut.planning && toCut.found.calls === MAX_CALLS")
             trial.equal(it.text("planNow"), "7 sheets, at least 6")
             trial.equal(it.value("[countOf(toCut.found.plans), toCut.found.missing.length]"), [16, 0])
             trial.holds(it.text("boundSays").startswith("No plan takes fewer than 6."), it.text("boundSays"))

@@ -381,7 +381,7 @@ def long_search(trial):
         it.size(1280)
         if not it.value("toCut.found.proved"):
             it.click("document.querySelector('#boundSays button')")
-            it.until("toCut.planning || toCut.found.calls === MOST_CALLS")
+            it.until("toCut.planning || toCut.found.calls === MAX_CALLS")
             trial.equal(it.value("toCut.found.plans.length > 0"), True, "what is shown goes while the search goes on")
             if it.value("Boolean(toCut.planning)"):
                 it.click(by_id("stopPlan"))

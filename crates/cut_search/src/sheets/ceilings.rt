@@ -4,10 +4,10 @@
 use crate::sheets::job::Job;
 use crate::sheets::table::Table;
 use crate::sheets::units::Plan;
-use crate::sheets::worker::{MOST_WORK, Worker};
+use crate::sheets::worker::{MAX_WORK, Worker};
 use cut_master::column::Plan as Column;
 use cut_master::fixed::ONE;
-use cut_master::master::{End, LEAST_GAIN, Master};
+use cut_master::master::{End, MIN_GAIN, Master};
 use cut_search_bars::order::{Order, Rated, rounded_up};
 use cut_search_bars::relax::{empty_master, offered_sizes};
 use std::alloc::{AllocError, Global};
@@ -20,13 +20,13 @@ const PIVOTS: u32 = 8;
 const PIVOT_STEPS: u32 = 2000;
 
 /// Columns of so many sizes are read from a table.
-const MOST_READ: usize = 12;
+const MAX_READ: usize = 12;
 
 /// So many of them are offered.
-const MOST_OFFERED: usize = 3;
+const MAX_OFFERED: usize = 3;
 
 /// So many columns a program has at most.
-const MOST_COLUMNS: usize = 1200;
+const MAX_COLUMNS: usize = 1200;
 
 /// A run of it.
 #[derive(Drop)]
@@ -56,7 +56,7 @@ pub struct Ceilings {
 fn offer_grids(alloc: Global, order: &Order, ceilings: &mut Ceilings) -> Result<(), AllocError> {
     let has_endless = order.limits.iter().any(|limit| limit.is_none());
     for (size, limit) in order.limits.iter().enumerate() {
-        if limit.is_some() && (has_endless || size >= MOST_READ) {
+        if limit.is_some() && (has_endless || size >= MAX_READ) {
             continue;
         }
         for (want, left) in order.left.iter().enumerate() {
@@ -112,7 +112,7 @@ impl Ceilings {
 
     /// Whether one table takes more than a call may.
     pub fn is_too_large(&self) -> bool {
-        self.table.work() > 2 * MOST_WORK
+        self.table.work() > 2 * MAX_WORK
     }
 
     /// Rates these worths first.
@@ -123,7 +123,7 @@ impl Ceilings {
     /// Offers a column.
     fn offer(&mut self, size: usize, counts: Vec<u32>) -> Result<(), AllocError> {
         let is_offered = self.offered.get(size).copied().unwrap_or(false);
-        if is_offered && self.master.plans().len() < MOST_COLUMNS {
+        if is_offered && self.master.plans().len() < MAX_COLUMNS {
             self.master.add(Column {
                 size,
                 counts,
@@ -136,7 +136,7 @@ impl Ceilings {
 
     /// What the program costs, rounded up: no bound by it is greater.
     fn most_bound(&self, order: &Order) -> u64 {
-        let value = u128::try_from(self.master.value().saturating_sub(LEAST_GAIN)).unwrap_or(0);
+        let value = u128::try_from(self.master.value().saturating_sub(MIN_GAIN)).unwrap_or(0);
         let cost = value.saturating_mul(order.dearest as u128);
         rounded_up(cost.div_ceil(ONE as u128), order.grain)
     }
@@ -171,7 +171,7 @@ impl Ceilings {
         }
         rates.sort()?;
         let mut sizes = Vec::new(alloc);
-        for (_, size) in rates.iter().take(MOST_READ) {
+        for (_, size) in rates.iter().take(MAX_READ) {
             sizes.push(*size)?;
         }
         Ok(sizes)
@@ -188,13 +188,13 @@ impl Ceilings {
                 tag: 0,
             };
             let gain = self.master.gain(&column).unwrap_or(0);
-            if gain > LEAST_GAIN {
+            if gain > MIN_GAIN {
                 gains.push((gain.saturating_neg(), columns.len()))?;
             }
             columns.push(column)?;
         }
         gains.sort()?;
-        for (_, place) in gains.iter().take(MOST_OFFERED) {
+        for (_, place) in gains.iter().take(MAX_OFFERED) {
             if let Some(column) = columns.get(*place) {
                 self.offer(column.size, Vec::from_slice(alloc, &column.counts)?)?;
             }

@@ -12,7 +12,7 @@ use crate::sheets::give_up::GiveUp;
 use crate::sheets::greedy::Greedy;
 use crate::sheets::hints::Hints;
 use crate::sheets::job::Job;
-use crate::sheets::program::{MOST_COLUMNS, Program};
+use crate::sheets::program::{MAX_COLUMNS, Program};
 use crate::sheets::rest::Pack;
 use crate::sheets::settle::Settle;
 use crate::sheets::units::{Plan, Units};
@@ -218,7 +218,7 @@ impl Flow {
     /// Remembers the plans of units for the programs.
     fn remember(&mut self, units: &Units) -> Result<(), AllocError> {
         for batch in &units.batches {
-            if self.plans.len() < MOST_COLUMNS {
+            if self.plans.len() < MAX_COLUMNS {
                 self.plans.push(Rc::clone(&batch.plan)?)?;
             }
         }

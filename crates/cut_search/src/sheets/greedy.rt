@@ -3,7 +3,7 @@
 //! get new ones by what of it was lost.
 
 use crate::sheets::job::{Job, is_within, sum_of};
-use crate::sheets::units::{MOST_UNITS, Plan, Units};
+use crate::sheets::units::{MAX_ORDER_UNITS, Plan, Units};
 use crate::sheets::worker::{PLAIN_BEAM, Worker};
 use cut_search_bars::correct::{Loss, corrected};
 use cut_search_bars::draft::{have_some, times_within};
@@ -11,29 +11,29 @@ use std::alloc::{AllocError, Global};
 use std::rc::Rc;
 
 /// So many sizes are filled for one unit at most, before the best that is known is taken.
-const MOST_TRIES: u32 = 16;
+const MAX_GREEDY_TRIES: u32 = 16;
 
 /// The same of a plain plan.
 const PLAIN_TRIES: u32 = 3;
 
 /// So many cheaper sizes are tried for all that is left.
-const MOST_CHEAPER: u32 = 8;
+const MAX_CHEAPER: u32 = 8;
 
 /// So many different units a plan has at most, so that its memory is bounded. What is left then is
 /// missing.
-pub const MOST_BATCHES: usize = 1500;
+pub const MAX_BATCHES: usize = 1500;
 
 /// The old value's weight in a corrected one at least, in 1000ths.
-const LEAST_WEIGHT: u64 = 667;
+const MIN_WEIGHT: u64 = 667;
 
 /// That weight at most.
-const MOST_WEIGHT: u64 = 1500;
+const MAX_WEIGHT: u64 = 1500;
 
 /// How much the power of a room is above 1 at least, in 1000ths.
-const LEAST_POWER: u64 = 20;
+const MIN_POWER: u64 = 20;
 
 /// How much it is at most.
-const MOST_POWER: u64 = 99;
+const MAX_POWER: u64 = 99;
 
 /// What is known of a unit of a size.
 #[derive(Drop)]
@@ -193,7 +193,7 @@ impl Greedy {
         }
         sizes.sort()?;
         let mut order = Vec::new(alloc);
-        for (_, other) in sizes.iter().take(MOST_CHEAPER as usize).rev() {
+        for (_, other) in sizes.iter().take(MAX_CHEAPER as usize).rev() {
             order.push(*other)?;
         }
         Ok(order)
@@ -202,7 +202,12 @@ impl Greedy {
     /// Looks for the next unit's size, by one filling at most. Whether there is none.
     fn choose(&mut self, alloc: Global, worker: &mut Worker) -> Result<bool, AllocError> {
         let is_plain = self.beam <= PLAIN_BEAM;
-        let is_enough = self.tries >= if is_plain { PLAIN_TRIES } else { MOST_TRIES };
+        let is_enough = self.tries
+            >= if is_plain {
+                PLAIN_TRIES
+            } else {
+                MAX_GREEDY_TRIES
+            };
         let best = self.best_size(&worker.job, is_enough);
         let Some(size) = best.or(self.best_size(&worker.job, false)) else {
             return Ok(true);
@@ -218,7 +223,7 @@ impl Greedy {
 
     /// How often a plan is taken at once: as long as much more is left than one unit holds.
     fn times_of(&self, job: &Job, plan: &Plan) -> u32 {
-        let room = MOST_UNITS.saturating_sub(self.units.count());
+        let room = MAX_ORDER_UNITS.saturating_sub(self.units.count());
         let fit = times_within(&plan.counts, &self.units.missing)
             .min(self.units.free_of(plan.size))
             .min(u32::try_from(room).unwrap_or(0));
@@ -241,8 +246,8 @@ impl Greedy {
             most: job.order.most_cells(),
             unit: job.unit_cells(plan.size),
             used: job.cells_in(&plan.counts).max(1),
-            weight: worker.dice.within(LEAST_WEIGHT, MOST_WEIGHT),
-            power: worker.dice.within(LEAST_POWER, MOST_POWER),
+            weight: worker.dice.within(MIN_WEIGHT, MAX_WEIGHT),
+            power: worker.dice.within(MIN_POWER, MAX_POWER),
         };
         let pieces = job
             .order
@@ -321,7 +326,8 @@ impl Greedy {
 
     /// Goes on by one filling at most. Whether it is at its end.
     pub fn go_on(&mut self, alloc: Global, worker: &mut Worker) -> Result<bool, AllocError> {
-        let is_full = self.units.batches.len() >= MOST_BATCHES || self.units.count() >= MOST_UNITS;
+        let is_full = self.units.batches.len() >= MAX_BATCHES
+            || self.units.count() >= MAX_ORDER_UNITS;
         if is_full || !have_some(&self.units.missing) {
             return Ok(true);
         }

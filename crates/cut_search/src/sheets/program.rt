@@ -6,13 +6,13 @@ use crate::sheets::worker::{WIDE_BEAM, Worker};
 use cut_fill_sheets::Shape;
 use cut_master::column::Plan as Column;
 use cut_master::fixed::ONE;
-use cut_master::master::{End, LEAST_GAIN, Master, Size, Taken};
+use cut_master::master::{End, MIN_GAIN, Master, Size, Taken};
 use cut_search_bars::draft::times_within;
 use std::alloc::{AllocError, Global};
 use std::rc::Rc;
 
 /// So many columns are kept at most.
-pub const MOST_COLUMNS: usize = 300;
+pub const MAX_COLUMNS: usize = 300;
 
 /// So many pivots are made in one step.
 const PIVOTS: u32 = 8;
@@ -90,7 +90,7 @@ impl Program {
 
     /// Offers what a plan has of what is left.
     pub fn offer(&mut self, alloc: Global, plan: &Rc<Plan>) -> Result<(), AllocError> {
-        if plan.size != self.size || self.plans.len() >= MOST_COLUMNS {
+        if plan.size != self.size || self.plans.len() >= MAX_COLUMNS {
             return Ok(());
         }
         let mut counts = Vec::from_slice(alloc, &plan.counts)?;
@@ -143,7 +143,7 @@ impl Program {
             counts: Vec::from_slice(alloc, &filled.plan.counts)?,
             tag: before,
         };
-        if self.master.gain(&column).unwrap_or(0) > LEAST_GAIN {
+        if self.master.gain(&column).unwrap_or(0) > MIN_GAIN {
             let plan = Rc::new(alloc, filled.plan)?;
             self.offer(alloc, &plan)?;
         }

@@ -5,7 +5,7 @@ use crate::sheets::flow::{Flow, Told};
 use crate::sheets::hints::Hints;
 use crate::sheets::job::Job;
 use crate::sheets::units::Units;
-use crate::sheets::worker::{MOST_WORK, Worker};
+use crate::sheets::worker::{MAX_WORK, Worker};
 use cut_search_bars::found::{Found, FoundUnit};
 use cut_search_bars::stock::SearchSize;
 use cut_wants::wants::Want;
@@ -19,7 +19,7 @@ const STEPS: u32 = 2000;
 
 /// So many of the sizes that may be bought are searched on alone, beside the mix: once each has its
 /// quick plan, its first plans, and a plan by prices.
-const MOST_ALONE: [usize; 3] = [6, 3, 2];
+const MAX_ALONE: [usize; 3] = [6, 3, 2];
 
 /// A search.
 #[derive(Drop)]
@@ -203,7 +203,7 @@ impl SheetSearch {
 
     /// Goes on with the course whose turn it is.
     fn step(&mut self, alloc: Global, goal: u64) -> Result<Option<Found>, AllocError> {
-        if let Some(most) = MOST_ALONE.get(self.chosen) {
+        if let Some(most) = MAX_ALONE.get(self.chosen) {
             self.choose(alloc, *most)?;
         }
         let place = self.next_flow();
@@ -235,7 +235,7 @@ impl SheetSearch {
             if let Some(found) = self.step(alloc, goal)? {
                 return Ok(found);
             }
-            if self.worker.spent >= MOST_WORK {
+            if self.worker.spent >= MAX_WORK {
                 break;
             }
         }

@@ -9,13 +9,13 @@ use std::alloc::{AllocError, Global};
 use std::rc::Rc;
 
 /// So many cheaper sizes are tried for a unit at most.
-const MOST_CHEAPER: usize = 6;
+const MAX_CHEAPER: usize = 6;
 
 /// So many units are tried at most.
-const MOST_UNITS: usize = 300;
+const MAX_SETTLED_UNITS: usize = 300;
 
 /// So many units are added at most.
-const MOST_ADDED: u32 = 400;
+const MAX_ADDED: u32 = 400;
 
 /// A plan that is being settled.
 #[derive(Drop)]
@@ -59,7 +59,7 @@ impl Settle {
 
     /// Fills a unit with what is missing. Whether there is none.
     fn fill(&mut self, alloc: Global, worker: &mut Worker) -> Result<bool, AllocError> {
-        if !have_some(&self.units.missing) || self.added >= MOST_ADDED {
+        if !have_some(&self.units.missing) || self.added >= MAX_ADDED {
             return Ok(true);
         }
         let Some(size) = self.size_for_missing(&worker.job) else {
@@ -91,7 +91,7 @@ impl Settle {
         }
         sizes.sort()?;
         let mut order = Vec::new(alloc);
-        for (_, size) in sizes.iter().take(MOST_CHEAPER).rev() {
+        for (_, size) in sizes.iter().take(MAX_CHEAPER).rev() {
             order.push(*size)?;
         }
         Ok(order)
@@ -142,7 +142,7 @@ impl Settle {
             return Ok(false);
         }
         worker.count_work(1);
-        if self.place >= self.units.batches.len().min(MOST_UNITS) {
+        if self.place >= self.units.batches.len().min(MAX_SETTLED_UNITS) {
             self.units.tidy();
             return Ok(true);
         }

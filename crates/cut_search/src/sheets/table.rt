@@ -4,12 +4,12 @@
 use crate::sheets::job::{Job, fits};
 use cut_classes::{CeilingTable, Grid, ceilings, class_of, grid_of, high_of, is_counted, pairs_of};
 use cut_fill_sheets::Piece;
-use cut_measure::{MOST_KERF, Size};
+use cut_measure::{MAX_KERF, Size};
 use cut_wants::wants::Want;
 use std::alloc::{AllocError, Global};
 
 /// So many places of a table are looked at for one unit at most.
-const MOST_PLACES: usize = 20_000;
+const MAX_PLACES: usize = 20_000;
 
 /// A worker's work makes so many places of a table, times the points of both axes together.
 const POINTS_A_WORK: u64 = 1_080_000;
@@ -42,7 +42,7 @@ fn grid_for(alloc: Global, job: &Job, points: usize) -> Result<Grid, AllocError>
             wants.push(*want)?;
         }
     }
-    let kerf = job.kerf.min(MOST_KERF);
+    let kerf = job.kerf.min(MAX_KERF);
     let units: &[Size] = &job.order.units;
     let mut grid = grid_of(alloc, kerf, units, &wants, points)?;
     if let Some(step) = job.step {
@@ -66,7 +66,7 @@ impl Table {
     /// A table of a job that isn't made yet, with about so many points an axis.
     pub fn new(alloc: Global, job: &Job, points: usize) -> Result<Table, AllocError> {
         let grid = grid_for(alloc, job, points)?;
-        let kerf = job.kerf.min(MOST_KERF);
+        let kerf = job.kerf.min(MAX_KERF);
         let mut counted = Vec::new(alloc);
         for want in &job.wants {
             counted.push(want.left > 0 && is_counted(kerf, &grid, want))?;
@@ -103,7 +103,7 @@ impl Table {
                 wants.push(one)?;
             }
         }
-        let kerf = job.kerf.min(MOST_KERF);
+        let kerf = job.kerf.min(MAX_KERF);
         self.worths = Vec::from_slice(alloc, worths)?;
         self.made = Some(ceilings(alloc, kerf, &self.grid, &wants)?);
         Ok(())
@@ -179,7 +179,7 @@ impl Table {
         let mut counts = vec![in alloc; 0u32; job.pieces.len()]?;
         let mut places = Vec::new(alloc);
         places.push(self.classes(job, size))?;
-        for _ in 0..MOST_PLACES {
+        for _ in 0..MAX_PLACES {
             let Some(place) = places.pop() else {
                 return Ok(counts);
             };

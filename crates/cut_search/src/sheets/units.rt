@@ -6,7 +6,7 @@ use std::alloc::{AllocError, Global};
 use std::rc::Rc;
 
 /// So many units an answer has at most.
-pub const MOST_UNITS: u64 = 100_000;
+pub const MAX_ORDER_UNITS: u64 = 100_000;
 
 /// A plan of one unit.
 #[derive(Drop)]

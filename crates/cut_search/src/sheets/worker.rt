@@ -20,7 +20,7 @@ pub const BEAM: usize = 20;
 const GUIDE_POINTS: usize = 96;
 
 /// So much work a call does at most, in some 50 microseconds each.
-pub const MOST_WORK: u64 = 500;
+pub const MAX_WORK: u64 = 500;
 
 /// So many looks of a filling are a worker's work.
 const LOOKS_A_WORK: u64 = 1600;

@@ -1,6 +1,6 @@
 //! A reader as a source: what a read brings, and when it counts as failed.
 
-use crate::counted::{Counted, MOST_TRIES};
+use crate::counted::{Counted, MAX_TRIES};
 use crate::streams::{Failed, Source};
 use std::io::{ErrorKind, Read};
 
@@ -13,7 +13,7 @@ impl<R: Read> Source for Counted<R> {
 
     fn read(&mut self, buffer: &mut [u8]) -> Result<usize, Failed> {
         self.reads = self.reads.saturating_add(1);
-        for _ in 0..MOST_TRIES {
+        for _ in 0..MAX_TRIES {
             match self.inner.read(buffer) {
                 Ok(count) => return Ok(count),
                 Err(error) => {

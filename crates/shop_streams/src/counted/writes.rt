@@ -1,6 +1,6 @@
 //! A writer as a sink: what a write takes, and when it counts as failed.
 
-use crate::counted::{Counted, MOST_TRIES};
+use crate::counted::{Counted, MAX_TRIES};
 use crate::streams::{Failed, Sink};
 use std::io::{ErrorKind, Write};
 
@@ -10,7 +10,7 @@ impl<W: Write> Sink for Counted<W> {
     ghost failed = { λ s. s.failures };
 
     fn write(&mut self, bytes: &[u8]) -> Result<usize, Failed> {
-        for _ in 0..MOST_TRIES {
+        for _ in 0..MAX_TRIES {
             match self.inner.write(bytes) {
                 Ok(0) => break,
                 Ok(count) => return Ok(count),

@@ -1,7 +1,7 @@
 use Rattle.std.proofs.Common.{◌≡◌, ◌≤◌, List, Some, false, refl, subst}
 use Rattle.std.proofs.lemmas.List.Elements.{All-weaker}
 use Rattle.cut_measure.specs.declared.sizes.Kind.TheVariants.{Sheet}
-use Rattle.cut_sheets.specs.declared.sheet.TheConstants.{MOST_STEPS}
+use Rattle.cut_sheets.specs.declared.sheet.TheConstants.{MAX_STEPS}
 use Rattle.cut_sheets.specs.Rounded.{steps_down}
 use Rattle.cut_plan.proofs.Faultless as sound
 use Rattle.cut_bound.specs.declared.stock.StockSize.{StockSize}
@@ -16,12 +16,12 @@ rated_sheets-requires-clause-step c = c.requires.ratable.stepped refl c.args.ste
 
 pub rated_sheets-requires-clause-wide : goal.rated_sheets-requires-clause-wide
 rated_sheets-requires-clause-wide c =
-    All-weaker (λ (z : StockSize). is_large Sheet z.size c.args.kerf (Some c.args.step) ≡ false) (λ (z : StockSize). steps_down c.args.kerf c.args.step z.size.w ≤ MOST_STEPS)
+    All-weaker (λ (z : StockSize). is_large Sheet z.size c.args.kerf (Some c.args.step) ≡ false) (λ (z : StockSize). steps_down c.args.kerf c.args.step z.size.w ≤ MAX_STEPS)
     (λ z e. (sound.few_steps z.size c.args.kerf c.args.step e).0) c.args.sizes.now c.requires.ratable.small
 
 pub rated_sheets-requires-clause-tall : goal.rated_sheets-requires-clause-tall
 rated_sheets-requires-clause-tall c =
-    All-weaker (λ (z : StockSize). is_large Sheet z.size c.args.kerf (Some c.args.step) ≡ false) (λ (z : StockSize). steps_down c.args.kerf c.args.step z.size.h ≤ MOST_STEPS)
+    All-weaker (λ (z : StockSize). is_large Sheet z.size c.args.kerf (Some c.args.step) ≡ false) (λ (z : StockSize). steps_down c.args.kerf c.args.step z.size.h ≤ MAX_STEPS)
     (λ z e. (sound.few_steps z.size c.args.kerf c.args.step e).1) c.args.sizes.now c.requires.ratable.small
 
 pub returns : goal.returns

@@ -1,5 +1,5 @@
 use Rattle.std.proofs.Common.{◌+◌, ◌≤◌, List, subst, arith}
-use Rattle.cut_bars.specs.declared.bar.TheConstants.{LONGEST_BAR}
+use Rattle.cut_bars.specs.declared.bar.TheConstants.{MAX_BAR_LENGTH}
 use Rattle.cut_bars.specs.declared.reach.Entry.{Entry}
 use Rattle.cut_bound.specs.declared.stock.StockSize.{StockSize}
 use Rattle.cut_bound.specs.declared.stock.RatedSize.{RatedSize}
@@ -10,7 +10,7 @@ use Rattle.cut_bound.proofs.OrderFaults.{each_size, rated_next}
 use Rattle.cut_bound.proofs.ratings.rated_bars.Goals as goal
 
 pub reach-requires-clause-size : goal.reach-requires-clause-size
-reach-requires-clause-size c = c.longest-longest.ensures.least LONGEST_BAR c.requires.short
+reach-requires-clause-size c = c.longest-longest.ensures.least MAX_BAR_LENGTH c.requires.short
 
 pub loop-stock-preserved : goal.loop-stock-preserved
 loop-stock-preserved c =

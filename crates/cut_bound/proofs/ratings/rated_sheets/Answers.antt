@@ -3,7 +3,7 @@ use Rattle.std.specs.Prelude.{All, IfOk}
 use Rattle.std.proofs.lemmas.List.Elements.{All-weaker}
 use Rattle.cut_wants.specs.declared.wants.Want.{Want}
 use Rattle.cut_wants.specs.Best.{IsBestOf}
-use Rattle.cut_sheets.specs.declared.sheet.TheConstants.{MOST_STEPS}
+use Rattle.cut_sheets.specs.declared.sheet.TheConstants.{MAX_STEPS}
 use Rattle.cut_sheets.specs.Rounded.{steps_down}
 use Rattle.cut_sheets.specs.Table.{IsTable, heights}
 use Rattle.cut_sheets.proofs.SheetSteps.{down_own, down_small}
@@ -17,10 +17,10 @@ pub best_table-requires-clause-small : goal.best_table-requires-clause-small
 best_table-requires-clause-small c = rw (c.deref.ensures.value, c.in_ok-rounded.ensures) (down_small _ _ _ c.requires.step c.requires.worthy)
 
 pub best_table-requires-clause-width : goal.best_table-requires-clause-width
-best_table-requires-clause-width c = c.most_across-across.ensures.least MOST_STEPS c.requires.wide
+best_table-requires-clause-width c = c.most_across-across.ensures.least MAX_STEPS c.requires.wide
 
 pub best_table-requires-clause-height : goal.best_table-requires-clause-height
-best_table-requires-clause-height c = c.most_down-down.ensures.least MOST_STEPS c.requires.tall
+best_table-requires-clause-height c = c.most_down-down.ensures.least MAX_STEPS c.requires.tall
 
 pub read_sheets-requires-clause-table : goal.read_sheets-requires-clause-table
 read_sheets-requires-clause-table c =

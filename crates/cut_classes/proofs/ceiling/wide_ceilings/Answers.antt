@@ -1,6 +1,6 @@
 use Rattle.std.proofs.Common.{◌+◌, ◌-◌, ◌*◌, ◌<◌, arith}
 use Rattle.std.specs.Prelude.{◌^◌}
-use Rattle.cut_measure.specs.declared.ranges.TheConstants.{MOST_HEIGHT, MOST_KERF, MOST_WIDTH, MOST_WORTH}
+use Rattle.cut_measure.specs.declared.ranges.TheConstants.{MAX_HEIGHT, MAX_KERF, MAX_WIDTH, MAX_WORTH}
 use Rattle.cut_classes.specs.Classes.{low_of}
 use Rattle.cut_classes.specs.Grids.{across_of, down_of}
 use Rattle.cut_classes.specs.Filling.{rows_of}
@@ -14,13 +14,13 @@ filled_rows-requires-clause-fits c =
     let xs = across_of c.args.grid.now in
     let ys = down_of c.args.grid.now in
     let u = c.requires.usable in
-    let all : MOST_WORTH * ((MOST_WIDTH + MOST_KERF) * (MOST_HEIGHT + MOST_KERF)) < 2 ^ 64 = omega arith in
+    let all : MAX_WORTH * ((MAX_WIDTH + MAX_KERF) * (MAX_HEIGHT + MAX_KERF)) < 2 ^ 64 = omega arith in
     record {
       worths = λ x has. omega (arith, worths_small c.args.wants.now c.args.kerf xs ys c.requires.counted x has);
-      worth = scaled MOST_WORTH xs ys;
-      ceiling = scaled_ceiling c.args.wants.now c.args.kerf xs ys u.across u.down c.requires.counted MOST_WORTH (worths_small c.args.wants.now c.args.kerf xs ys c.requires.counted);
+      worth = scaled MAX_WORTH xs ys;
+      ceiling = scaled_ceiling c.args.wants.now c.args.kerf xs ys u.across u.down c.requires.counted MAX_WORTH (worths_small c.args.wants.now c.args.kerf xs ys c.requires.counted);
       below = λ i j il jl.
-          let most = areas_small MOST_WORTH (low_of xs 1 - 1) (low_of ys 1 - 1) (MOST_WIDTH + MOST_KERF) (MOST_HEIGHT + MOST_KERF) xs ys u.across u.down u.wide u.high j i jl il in
+          let most = areas_small MAX_WORTH (low_of xs 1 - 1) (low_of ys 1 - 1) (MAX_WIDTH + MAX_KERF) (MAX_HEIGHT + MAX_KERF) xs ys u.across u.down u.wide u.high j i jl il in
           omega (arith, most, all);
     }
 

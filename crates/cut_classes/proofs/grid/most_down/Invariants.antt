@@ -1,7 +1,7 @@
 use Rattle.std.proofs.Common.{◌+◌, ◌≤◌, take}
 use Rattle.std.specs.Prelude.{All}
-use Rattle.cut_measure.specs.declared.ranges.TheConstants.{MOST_HEIGHT, MOST_KERF}
+use Rattle.cut_measure.specs.declared.ranges.TheConstants.{MAX_HEIGHT, MAX_KERF}
 use Rattle.cut_classes.proofs.grid.most_down.Given as goal
 
 abbrev pub invariant-loop-size : goal.invariant-loop-size
-invariant-loop-size l = All (λ z. z.h + l.kerf ≤ l.most) (take l.size-index l.sizes) × (1 ≤ l.most) × (l.most ≤ MOST_HEIGHT + MOST_KERF)
+invariant-loop-size l = All (λ z. z.h + l.kerf ≤ l.most) (take l.size-index l.sizes) × (1 ≤ l.most) × (l.most ≤ MAX_HEIGHT + MAX_KERF)

@@ -1,5 +1,5 @@
 use Rattle.std.proofs.Common.{◌≡◌, false, subst, arith}
-use Rattle.cut_plan.specs.declared.faults.TheConstants.{MOST_WANTS}
+use Rattle.cut_plan.specs.declared.faults.TheConstants.{MAX_WANTS}
 use Rattle.cut_plan.specs.Faults.{are_bad_wants, is_bad_step}
 use Rattle.cut_plan.proofs.Faultless as sound
 use Rattle.cut_plan.proofs.bounds.unit_best.Goals as goal
@@ -11,7 +11,7 @@ best_counts-requires-clause-own c =
 pub best_counts-requires-clause-bar : goal.best_counts-requires-clause-bar
 best_counts-requires-clause-bar c =
     let f = sound.faultless c.args.kind c.args.size c.args.kerf c.args.step c.args.wants.now c.requires.faultless in
-    sound.flat _ c.args.wants.now (subst (λ kind. are_bad_wants MOST_WANTS kind c.args.wants.now ≡ false) c.in-Bar.is f.in_range)
+    sound.flat _ c.args.wants.now (subst (λ kind. are_bad_wants MAX_WANTS kind c.args.wants.now ≡ false) c.in-Bar.is f.in_range)
 
 pub best_counts-requires-clause-modest : goal.best_counts-requires-clause-modest
 best_counts-requires-clause-modest c =

@@ -1,5 +1,5 @@
 use Rattle.std.proofs.Common.{arith, refl, ◌<◌, inr}
-use Rattle.cut_tree.specs.declared.token.TheConstants.{MOST_CUTS}
+use Rattle.cut_tree.specs.declared.token.TheConstants.{MAX_CUTS}
 use Rattle.cut_plan.proofs.SheetPlans.{demands_of, shaped_of}
 use Rattle.cut_tree.specs.Tree.{cut_count}
 use Rattle.cut_tree.specs.Nodes.{tree_of}
@@ -17,9 +17,9 @@ of-requires c = record {
   narrow = c.requires.kerf;
 }
 
-pub returns-then-count_cuts-gt-MOST_CUTS-clause-err : goal.returns-then-count_cuts-gt-MOST_CUTS-clause-err
-returns-then-count_cuts-gt-MOST_CUTS-clause-err c =
-    let many : MOST_CUTS < cut_count (tree_of c.args.laid.root) = omega (arith, c.if-count_cuts-gt-MOST_CUTS.true, c.count_cuts.ensures) in inr (
+pub returns-then-count_cuts-gt-MAX_CUTS-clause-err : goal.returns-then-count_cuts-gt-MAX_CUTS-clause-err
+returns-then-count_cuts-gt-MAX_CUTS-clause-err c =
+    let many : MAX_CUTS < cut_count (tree_of c.args.laid.root) = omega (arith, c.if-count_cuts-gt-MAX_CUTS.true, c.count_cuts.ensures) in inr (
       refl,
       record {
         tree = _;

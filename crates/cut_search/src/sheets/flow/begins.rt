@@ -4,12 +4,12 @@ use crate::sheets::ceilings::Ceilings;
 use crate::sheets::dive::Dive;
 use crate::sheets::flow::{COARSE, FINE, Flow, Stage, Task};
 use crate::sheets::give_up::{GiveUp, cheapened};
-use crate::sheets::greedy::{Greedy, MOST_BATCHES};
+use crate::sheets::greedy::{Greedy, MAX_BATCHES};
 use crate::sheets::hints::Hints;
 use crate::sheets::job::sum_of;
 use crate::sheets::program::Program;
 use crate::sheets::rest::Pack;
-use crate::sheets::units::{MOST_UNITS, Plan, Units};
+use crate::sheets::units::{MAX_ORDER_UNITS, Plan, Units};
 use crate::sheets::worker::{BEAM, PLAIN_BEAM, WIDE_BEAM, Worker};
 use std::alloc::{AllocError, Global};
 use std::rc::Rc;
@@ -37,12 +37,12 @@ const MIXED_FINE_TABLES: u32 = 1;
 const FIRST_GAINS: u64 = 1500;
 
 /// So many are made in all, before the large rest is looked for, of one size and of several.
-const MOST_FILLINGS: u64 = 12_000;
+const MAX_FILLINGS: u64 = 12_000;
 
 const MIXED_FILLINGS: u64 = 4000;
 
 /// So many times units are given up at most.
-const MOST_ATTEMPTS: u32 = 2000;
+const MAX_ATTEMPTS: u32 = 2000;
 
 /// So many tries without a gain begin anew, of one size and of several.
 const PATIENCE: u32 = 300;
@@ -57,7 +57,7 @@ const NOISE: u64 = 50;
 const NEAR: u128 = 300;
 
 /// So many of the emptiest units are put narrow or low over several sizes.
-const MOST_PACKED: usize = 3;
+const MAX_PACKED: usize = 3;
 
 /// The batches with the most room that isn't filled, the emptiest last.
 fn emptiest(
@@ -252,11 +252,11 @@ impl Flow {
         let most = if matches!(self.stage, Stage::Gains) {
             self.begun.saturating_add(FIRST_GAINS)
         } else if self.only.is_some() {
-            MOST_FILLINGS
+            MAX_FILLINGS
         } else {
             MIXED_FILLINGS
         };
-        self.is_met(worker) || self.fillings >= most || self.attempts >= MOST_ATTEMPTS
+        self.is_met(worker) || self.fillings >= most || self.attempts >= MAX_ATTEMPTS
     }
 
     /// What the units of an attempt may cost.
@@ -339,7 +339,7 @@ impl Flow {
     fn has_start(&self) -> bool {
         match &self.start {
             Some(start) => {
-                start.batches.len() < MOST_BATCHES / 2 && start.count() < MOST_UNITS / 2
+                start.batches.len() < MAX_BATCHES / 2 && start.count() < MAX_ORDER_UNITS / 2
             }
             None => false,
         }
@@ -415,7 +415,7 @@ impl Flow {
             return Ok(());
         };
         if self.fillings == self.begun && self.packed.is_empty() {
-            let most = if self.only.is_some() { 1 } else { MOST_PACKED };
+            let most = if self.only.is_some() { 1 } else { MAX_PACKED };
             self.packed = emptiest(alloc, worker, best, most)?;
         }
         if self.packed.is_empty() {
@@ -435,7 +435,7 @@ impl Flow {
             self.turn(Stage::Ended);
             return Ok(());
         };
-        if self.round > 0 || best.batches.len() >= MOST_BATCHES / 2 || best.count() < 2 {
+        if self.round > 0 || best.batches.len() >= MAX_BATCHES / 2 || best.count() < 2 {
             self.turn(Stage::Ended);
             return Ok(());
         }

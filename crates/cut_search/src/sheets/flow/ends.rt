@@ -3,7 +3,7 @@
 use crate::sheets::ceilings::Ceilings;
 use crate::sheets::flow::{COARSE, FINE, Flow, Stage, Task, Told};
 use crate::sheets::give_up::{GiveUp, Given};
-use crate::sheets::greedy::{Greedy, MOST_BATCHES};
+use crate::sheets::greedy::{Greedy, MAX_BATCHES};
 use crate::sheets::hints::mixed;
 use crate::sheets::program::Program;
 use crate::sheets::rest::Pack;
@@ -186,7 +186,7 @@ impl Flow {
         if matches!(self.stage, Stage::Rest) {
             return self.after_rest(alloc, worker, next, given);
         }
-        let is_full = next.units.batches.len() >= MOST_BATCHES;
+        let is_full = next.units.batches.len() >= MAX_BATCHES;
         match given {
             Given::Reached => self.after_reached(alloc, worker, next),
             Given::Tired => {

@@ -1,7 +1,7 @@
 use Rattle.std.proofs.Common.{◌≡◌, ◌+◌, inl, inr}
 use Rattle.std.specs.Prelude.{◌⊎◌}
 use Rattle.std.proofs.lemmas.Bool.{cases_lt}
-use Rattle.cut_tree.specs.declared.token.TheConstants.{MOST_CUTS}
+use Rattle.cut_tree.specs.declared.token.TheConstants.{MAX_CUTS}
 use Rattle.cut_tree.proofs.BarTrees.{spent, fits_bar, over_bar, cuts_by_room}
 use Rattle.cut_tree.proofs.bars.bar_root.Goals as goal
 use Rattle.cut_tree.proofs.bars.bar_root.Goals.{then-room-eq0, else-room-eq0}
@@ -11,7 +11,7 @@ returns-in_default-clause-fault c = over_bar c.args.pieces.now c.args.length c.a
 
 pub returns-then-pieces-most-clause-fault : goal.returns-then-pieces-most-clause-fault
 returns-then-pieces-most-clause-fault c =
-    let limit : ((c.in-Some.room ≡ 0) × (c.if-room-eq0.most ≡ 256)) ⊎ ((c.in-Some.room ≡ 0 → ⊥) × (c.if-room-eq0.most ≡ MOST_CUTS)) =
+    let limit : ((c.in-Some.room ≡ 0) × (c.if-room-eq0.most ≡ 256)) ⊎ ((c.in-Some.room ≡ 0 → ⊥) × (c.if-room-eq0.most ≡ MAX_CUTS)) =
     elim c.if-room-eq0.branch [ then-room-eq0 w ↦ inl (w.if-room-eq0.true, w.most-is) | else-room-eq0 w ↦ inr (w.if-room-eq0.false, w.most-is) ] in (
       fits_bar c.args.pieces.now c.args.length c.args.kerf c.in-Some.ensures.0,
       (cuts_by_room c.args.pieces.now c.args.length c.args.kerf c.in-Some.room c.if-room-eq0.most c.requires.some (λ i d l. (c.requires.pieces i d l).2) c.in-Some.ensures.0 c.in-Some.ensures.1 limit).1
@@ -23,7 +23,7 @@ returns-in-Ok-clause-fits c = fits_bar c.args.pieces.now c.args.length c.args.ke
 
 pub returns-in-Ok-clause-few_cuts : goal.returns-in-Ok-clause-few_cuts
 returns-in-Ok-clause-few_cuts c =
-    let limit : ((c.in-Some.room ≡ 0) × (c.if-room-eq0.most ≡ 256)) ⊎ ((c.in-Some.room ≡ 0 → ⊥) × (c.if-room-eq0.most ≡ MOST_CUTS)) =
+    let limit : ((c.in-Some.room ≡ 0) × (c.if-room-eq0.most ≡ 256)) ⊎ ((c.in-Some.room ≡ 0 → ⊥) × (c.if-room-eq0.most ≡ MAX_CUTS)) =
     elim c.if-room-eq0.branch [ then-room-eq0 w ↦ inl (w.if-room-eq0.true, w.most-is) | else-room-eq0 w ↦ inr (w.if-room-eq0.false, w.most-is) ] in
     (cuts_by_room c.args.pieces.now c.args.length c.args.kerf c.in-Some.room c.if-room-eq0.most c.requires.some (λ i d l. (c.requires.pieces i d l).2) c.in-Some.ensures.0 c.in-Some.ensures.1 limit).0
     c.if-pieces-most.false

@@ -4,4 +4,4 @@ use Rattle.shop_backup.proofs.backing.pass_all.Goals as goal
 
 pub loop-number-preserved : goal.loop-number-preserved
 loop-number-preserved g c =
-    passed_next c.args.old.now c.loop-number.number-index 0 (g.T.Shelf.done c.args.shelf.now) (g.T.Shelf.done c.loop-number.shelf) (g.T.Shelf.done c.pass.new.shelf) (omega arith) c.loop-number.invariant c.pass.ensures
+    passed_next c.args.old.now c.loop-number.number-index 0 (g.T.BackupTarget.done c.args.target.now) (g.T.BackupTarget.done c.loop-number.target) (g.T.BackupTarget.done c.pass.new.target) (omega arith) c.loop-number.invariant c.pass.ensures

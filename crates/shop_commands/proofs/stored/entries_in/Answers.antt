@@ -1,5 +1,5 @@
 use Rattle.std.proofs.Common.{◌≡◌, ◌≤◌, arith, length}
-use Rattle.shop_files.specs.declared.limits.TheConstants.{MOST_ENTRIES}
+use Rattle.shop_files.specs.declared.limits.TheConstants.{MAX_ENTRIES}
 use Rattle.shop_commands.proofs.Opened.{entries_short}
 use Rattle.shop_commands.proofs.stored.entries_in.Goals as goal
 
@@ -7,7 +7,7 @@ pub returns-in-Ok-clause-ok : goal.returns-in-Ok-clause-ok
 returns-in-Ok-clause-ok c =
     let shop = c.in-Ok.ensures.spelled in
     let each : length c.in-Ok.entries ≡ length shop.list = entries_short shop.list c.in-Ok.entries shop.are_entries in
-    let few : length shop.list ≤ MOST_ENTRIES = shop.has_list.few in
+    let few : length shop.list ≤ MAX_ENTRIES = shop.has_list.few in
     (shop, omega (arith, each, few))
 
 pub returns-in-Err-clause-err : goal.returns-in-Err-clause-err

@@ -9,14 +9,14 @@ returns c =
     record {
       plan = c.args.plan.now;
       answers = c.requires;
-      plans = subst (λ us. AreToldPlans c.args.posed.now us c.in_ok-plans.plans.items) c.deref-4.ensures.value c.in_ok-plans.ensures;
+      plans = subst (λ us. AreToldPlans c.args.instance.now us c.in_ok-plans.plans.items) c.deref-4.ensures.value c.in_ok-plans.ensures;
       missing = subst (λ ws. AreToldMissing ws c.args.plan.now.missing.items c.in_ok-missing.missing) c.deref.ensures.value
           (subst (λ ns. AreToldMissing c.deref.result.now ns c.in_ok-missing.missing) c.deref-2.ensures.value c.in_ok-missing.ensures);
       prices = c.in_ok-prices.ensures ∙ ap (map told_price) c.deref-3.ensures.value;
       cost = refl;
       bound = refl;
       proved = refl;
-      rest = subst (λ us. IsLargestRest c.args.posed.now.limits us c.in_ok-rest.rest) c.deref-5.ensures.value c.in_ok-rest.ensures;
+      rest = subst (λ us. IsLargestRest c.args.instance.now.limits us c.in_ok-rest.rest) c.deref-5.ensures.value c.in_ok-rest.ensures;
       short = refl;
       step = c.unwrap_or.ensures;
     }

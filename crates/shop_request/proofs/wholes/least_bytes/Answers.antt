@@ -76,15 +76,15 @@ returns-in-Faulty-clause-determined c whole =
     let is = subst (IsFound (prefix received) c.args.head.now.headers) c.in-Faulty.is c.requires.found in
     (faulty c.in-Faulty.field-1, fault_later received c.args.head.now.headers c.in-Faulty.field-0 c.in-Faulty.field-1 some c.requires.room is)
 
-pub returns-then-received-ge-LONGEST_HEAD-clause-determined : goal.returns-then-received-ge-LONGEST_HEAD-clause-determined
-returns-then-received-ge-LONGEST_HEAD-clause-determined c whole =
+pub returns-then-received-ge-MAX_HEAD_LEN-clause-determined : goal.returns-then-received-ge-MAX_HEAD_LEN-clause-determined
+returns-then-received-ge-MAX_HEAD_LEN-clause-determined c whole =
     let is = subst (IsFound (prefix c.args.received.now) c.args.head.now.headers) c.in-Unfinished.is c.requires.found in
-    full_determined c.args.received.now (omega (arith, c.if-received-ge-LONGEST_HEAD.true)) is.0 is.1
+    full_determined c.args.received.now (omega (arith, c.if-received-ge-MAX_HEAD_LEN.true)) is.0 is.1
 
-pub returns-else-received-ge-LONGEST_HEAD-clause-waits : goal.returns-else-received-ge-LONGEST_HEAD-clause-waits
-returns-else-received-ge-LONGEST_HEAD-clause-waits c more few =
+pub returns-else-received-ge-MAX_HEAD_LEN-clause-waits : goal.returns-else-received-ge-MAX_HEAD_LEN-clause-waits
+returns-else-received-ge-MAX_HEAD_LEN-clause-waits c more few =
     let is = subst (IsFound (prefix c.args.received.now) c.args.head.now.headers) c.in-Unfinished.is c.requires.found in
-    head_waits c.args.received.now more (omega (arith, c.if-received-ge-LONGEST_HEAD.false)) is.0 is.1 few
+    head_waits c.args.received.now more (omega (arith, c.if-received-ge-MAX_HEAD_LEN.false)) is.0 is.1 few
 
 pub returns-in-Refused-clause-determined : goal.returns-in-Refused-clause-determined
 returns-in-Refused-clause-determined c whole =

@@ -1,5 +1,5 @@
 use Rattle.std.proofs.Common.{◌∙◌, ap, sym, refl, Some, Ok, []}
-use Rattle.shop_planning.specs.Thoughts.{posed_in}
+use Rattle.shop_planning.specs.PlanTasks.{instance_in}
 use Rattle.shop_request.specs.Requests.{parse_of}
 use Rattle.shop_serve.proofs.Turns.{backup_asked, none_served, one_begun, one_served}
 use Rattle.shop_serve.proofs.Dated.{backup_timed, routed_timed}
@@ -19,12 +19,12 @@ returns-in-Ok-None-clause-step g c =
 
 pub returns-in-Ok-Some-clause-made : goal.returns-in-Ok-Some-clause-made
 returns-in-Ok-Some-clause-made g c =
-    (c.requires.goes, (c.in-Ok-Some.ensures.begun (Some c.args.received.now) c.inbound_of-inbound.ensures.parsed c.in-Ok-Some.thought (ap Ok c.in-Ok-Some.field-0-is)).0)
+    (c.requires.goes, (c.in-Ok-Some.ensures.begun (Some c.args.received.now) c.inbound_of-inbound.ensures.parsed c.in-Ok-Some.task (ap Ok c.in-Ok-Some.field-0-is)).0)
 
 pub returns-in-Ok-Some-clause-step : goal.returns-in-Ok-Some-clause-step
 returns-in-Ok-Some-clause-step g c =
-    one_begun c.args.site.now g.B.Book c.args.book.now c.begin_inbound.new.book c.args.received.now (Some c.args.received.now) (posed_in c.in-Ok-Some.thought) refl c.requires.some c.requires.goes c.begin_inbound.ensures.failures
-    (c.in-Ok-Some.ensures.begun (Some c.args.received.now) c.inbound_of-inbound.ensures.parsed c.in-Ok-Some.thought (ap Ok c.in-Ok-Some.field-0-is)).0
+    one_begun c.args.site.now g.B.Book c.args.book.now c.begin_inbound.new.book c.args.received.now (Some c.args.received.now) (instance_in c.in-Ok-Some.task) refl c.requires.some c.requires.goes c.begin_inbound.ensures.failures
+    (c.in-Ok-Some.ensures.begun (Some c.args.received.now) c.inbound_of-inbound.ensures.parsed c.in-Ok-Some.task (ap Ok c.in-Ok-Some.field-0-is)).0
 
 pub returns-in-Err-clause-step : goal.returns-in-Err-clause-step
 returns-in-Err-clause-step g c =

@@ -1,7 +1,7 @@
 use Rattle.std.proofs.Common.{◌≡◌, ℕ, List, sym, subst}
 use Rattle.std.specs.Io.KnownBytes.{IsAtEnd}
 use Rattle.std.specs.Prelude.{◌⊎◌, None, IfSome, IsSome}
-use Rattle.shop_planning.specs.Thoughts.{posed_in}
+use Rattle.shop_planning.specs.PlanTasks.{instance_in}
 use Rattle.shop_request.specs.Reading.{IsHeadIn}
 use Rattle.shop_request.specs.Parses.{IsDetermined}
 use Rattle.shop_serve.specs.declared.clients.Client.{Client}
@@ -27,7 +27,7 @@ returns-in-Waits-clause-one g c = none_served c.args.site.now g.B.Book c.args.bo
 
 pub returns-clause-own : goal.returns-clause-own
 returns-clause-own g c =
-    let before : Client g.row.C.Denot = record { stream = c.take_bytes.new.stream; since = c.args.client.now.since; received = c.take_bytes.new.received; needed = c.take_bytes.new.needed; thought = c.args.client.now.thought; answer = c.args.client.now.answer; sent = c.args.client.now.sent } in
+    let before : Client g.row.C.Denot = record { stream = c.take_bytes.new.stream; since = c.args.client.now.since; received = c.take_bytes.new.received; needed = c.take_bytes.new.needed; task = c.args.client.now.task; answer = c.args.client.now.answer; sent = c.args.client.now.sent } in
     let seen = g.K.Watch.times c.args.watch.now in
     let between = g.K.Watch.times c.made_of.new.watch in
     let seeing = g.K.Watch.times c.now.new.self in
@@ -39,30 +39,30 @@ returns-clause-own g c =
 
 pub returns-clause-since : goal.returns-clause-since
 returns-clause-since g c whole =
-    let before : Client g.row.C.Denot = record { stream = c.take_bytes.new.stream; since = c.args.client.now.since; received = c.take_bytes.new.received; needed = c.take_bytes.new.needed; thought = c.args.client.now.thought; answer = c.args.client.now.answer; sent = c.args.client.now.sent } in
+    let before : Client g.row.C.Denot = record { stream = c.take_bytes.new.stream; since = c.args.client.now.since; received = c.take_bytes.new.received; needed = c.take_bytes.new.needed; task = c.args.client.now.task; answer = c.args.client.now.answer; sent = c.args.client.now.sent } in
     let seen = g.K.Watch.times c.args.watch.now in
     let between = g.K.Watch.times c.made_of.new.watch in
     let seeing = g.K.Watch.times c.now.new.self in
     let book = c.made_of.new.book in
     let made = subst (λ (t : _). IsMadeMeanwhile c.args.site.now g.B.Book c.args.book.now book t between before.received.items c.in-Some.made) c.stop.ensures
     (subst (λ (received : List ℕ). IsMadeMeanwhile c.args.site.now g.B.Book c.args.book.now book (g.K.Watch.times c.stop.new.self) between received c.in-Some.made) c.deref.ensures.value c.in-Some.ensures.made) in
-    subst (λ (l : Client g.row.C.Denot). IsSome l.thought → Tells seen seeing l.since) (sym c.put_made.ensures)
+    subst (λ (l : Client g.row.C.Denot). IsSome l.task → Tells seen seeing l.since) (sym c.put_made.ensures)
     (made-timed g.C.Connection c.args.site.now g.B.Book c.args.book.now book seen between seeing before c.in-Some.made c.now.result made c.now.ensures)
 
 pub returns-clause-asked : goal.returns-clause-asked
 returns-clause-asked g c =
-    let before : Client g.row.C.Denot = record { stream = c.take_bytes.new.stream; since = c.args.client.now.since; received = c.take_bytes.new.received; needed = c.take_bytes.new.needed; thought = c.args.client.now.thought; answer = c.args.client.now.answer; sent = c.args.client.now.sent } in
+    let before : Client g.row.C.Denot = record { stream = c.take_bytes.new.stream; since = c.args.client.now.since; received = c.take_bytes.new.received; needed = c.take_bytes.new.needed; task = c.args.client.now.task; answer = c.args.client.now.answer; sent = c.args.client.now.sent } in
     let seen = g.K.Watch.times c.args.watch.now in
     let between = g.K.Watch.times c.made_of.new.watch in
     let seeing = g.K.Watch.times c.now.new.self in
     let book = c.made_of.new.book in
     let made = subst (λ (t : _). IsMadeMeanwhile c.args.site.now g.B.Book c.args.book.now book t between before.received.items c.in-Some.made) c.stop.ensures
     (subst (λ (received : List ℕ). IsMadeMeanwhile c.args.site.now g.B.Book c.args.book.now book (g.K.Watch.times c.stop.new.self) between received c.in-Some.made) c.deref.ensures.value c.in-Some.ensures.made) in
-    subst (λ (l : Client g.row.C.Denot). IfSome l.thought (λ t. (t.last ≡ None) × IsAsked c.args.site.now g.B.Book c.args.book.now book l.received.items (posed_in t.thought))) (sym c.put_made.ensures)
+    subst (λ (l : Client g.row.C.Denot). IfSome l.task (λ t. (t.last ≡ None) × IsAsked c.args.site.now g.B.Book c.args.book.now book l.received.items (instance_in t.task))) (sym c.put_made.ensures)
     (made-asked g.C.Connection c.args.site.now g.B.Book c.args.book.now book seen between seeing before c.in-Some.made c.now.result made)
 
 pub returns-clause-whole : goal.returns-clause-whole
 returns-clause-whole g c whole =
-    let before : Client g.row.C.Denot = record { stream = c.take_bytes.new.stream; since = c.args.client.now.since; received = c.take_bytes.new.received; needed = c.take_bytes.new.needed; thought = c.args.client.now.thought; answer = c.args.client.now.answer; sent = c.args.client.now.sent } in
+    let before : Client g.row.C.Denot = record { stream = c.take_bytes.new.stream; since = c.args.client.now.since; received = c.take_bytes.new.received; needed = c.take_bytes.new.needed; task = c.args.client.now.task; answer = c.args.client.now.answer; sent = c.args.client.now.sent } in
     subst (λ (l : Client g.row.C.Denot). IsDetermined l.received.items ⊎ IsAtEnd (g.C.Connection.remaining l.stream)) (sym c.put_made.ensures)
     (made-whole g.C.Connection c.args.site.now g.B.Book before c.in-Some.made _ (c.take_bytes.ensures.whole c.in-Whole.is))

@@ -1,7 +1,7 @@
 use Rattle.std.proofs.Common.{◌≡◌, None, inl, refl, sym, rules, arith}
 use Rattle.slab.specs.Slab.{get}
 use Rattle.shop_serve.specs.Clients.{unanswered}
-use Rattle.shop_serve.specs.declared.clients.Fate.TheVariants as fate
+use Rattle.shop_serve.specs.declared.clients.ConnectionStatus.TheVariants as status
 use Rattle.shop_serve.proofs.Turns.{none_served, stays}
 use Rattle.shop_serve.proofs.Attending.{advances-stays, advances-closed, attended-closed, attended-stays}
 use Rattle.shop_serve.proofs.clients.attend_at.Goals as goal
@@ -39,15 +39,15 @@ returns-in_default-clause-run g c = stays c.args.site.now g.B.Book c.args.book.n
 
 pub returns-in-Over-clause-at : goal.returns-in-Over-clause-at
 returns-in-Over-clause-at g c =
-    attended-closed g.C.Connection c.args.site.now g.B.Book fate.Over c.args.key c.args.clients.now c.try_remove.new.self c.in-Some.client.now c.attend_once.new.client c.args.book.now c.attend_once.new.book (g.K.Watch.times c.args.watch.now) (g.K.Watch.times c.attend_once.new.watch)
+    attended-closed g.C.Connection c.args.site.now g.B.Book status.Over c.args.key c.args.clients.now c.try_remove.new.self c.in-Some.client.now c.attend_once.new.client c.args.book.now c.attend_once.new.book (g.K.Watch.times c.args.watch.now) (g.K.Watch.times c.attend_once.new.watch)
     (sym c.in-Some.ensures.value) c.try_remove.ensures.updates c.attend_once.ensures.once c.attend_once.ensures.one c.attend_once.ensures.clean_disk (c.attend_once.ensures.over c.in-Over.is)
 
 pub returns-in-NoMemory-clause-at : goal.returns-in-NoMemory-clause-at
 returns-in-NoMemory-clause-at g c =
-    attended-closed g.C.Connection c.args.site.now g.B.Book fate.NoMemory c.args.key c.args.clients.now c.try_remove-in-NoMemory.new.self c.in-Some.client.now c.attend_once.new.client c.args.book.now c.attend_once.new.book (g.K.Watch.times c.args.watch.now) (g.K.Watch.times c.attend_once.new.watch)
+    attended-closed g.C.Connection c.args.site.now g.B.Book status.NoMemory c.args.key c.args.clients.now c.try_remove-in-NoMemory.new.self c.in-Some.client.now c.attend_once.new.client c.args.book.now c.attend_once.new.book (g.K.Watch.times c.args.watch.now) (g.K.Watch.times c.attend_once.new.watch)
     (sym c.in-Some.ensures.value) c.try_remove-in-NoMemory.ensures.updates c.attend_once.ensures.once c.attend_once.ensures.one c.attend_once.ensures.clean_disk (inl refl)
 
 pub returns-in-Stays-clause-at : goal.returns-in-Stays-clause-at
 returns-in-Stays-clause-at g c =
-    attended-stays g.C.Connection c.args.site.now g.B.Book fate.Stays c.args.key c.args.clients.now c.in-Some.client.now c.attend_once.new.client c.args.book.now c.attend_once.new.book (g.K.Watch.times c.args.watch.now) (g.K.Watch.times c.attend_once.new.watch)
+    attended-stays g.C.Connection c.args.site.now g.B.Book status.Stays c.args.key c.args.clients.now c.in-Some.client.now c.attend_once.new.client c.args.book.now c.attend_once.new.book (g.K.Watch.times c.args.watch.now) (g.K.Watch.times c.attend_once.new.watch)
     (sym c.in-Some.ensures.value) c.attend_once.ensures.once c.attend_once.ensures.one c.attend_once.ensures.clean_disk (c.attend_once.ensures.attended c.in-Stays.is)

@@ -4,4 +4,4 @@ use Rattle.shop_serve.proofs.clients.make_room.Goals as goal
 
 pub returns-in_default : goal.returns-in_default
 returns-in_default g c =
-    absurd (cannot_open_one c.args.clients.now (λ few. omega (arith, few, c.len.ensures, c.if-len-lt-MOST_CLIENTS.false)) (c.oldest.ensures.none c.in_default.is) c.requires.room)
+    absurd (cannot_open_one c.args.clients.now (λ few. omega (arith, few, c.len.ensures, c.if-len-lt-MAX_CLIENTS.false)) (c.oldest.ensures.none c.in_default.is) c.requires.room)

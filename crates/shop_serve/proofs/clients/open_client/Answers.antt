@@ -23,7 +23,7 @@ returns-clause-closed g c =
       since = c.args.now;
       received = c.new.result;
       needed = 0;
-      thought = None;
+      task = None;
       answer = None;
       sent = 0;
     }) c.insert.result c.ok.result c.ok.ensures.value c.insert.ensures.err c.insert.ensures.succeeds c.make_room.ensures.room

@@ -20,9 +20,9 @@ returns-clause-round g c =
           second = g.K.Watch.times c.now-moment.new.self;
           read = c.now-moment.ensures;
           late = c.close_late.ensures.late;
-          thought = c.think.new.clients;
-          third = g.K.Watch.times c.think.new.watch;
-          thinks = c.think.ensures.thinks;
+          task = c.step_search.new.clients;
+          third = g.K.Watch.times c.step_search.new.watch;
+          steps_search = c.step_search.ensures.steps_search;
           received = arrived.3;
         },
       ),
@@ -30,9 +30,9 @@ returns-clause-round g c =
 
 pub returns-clause-run : goal.returns-clause-run
 returns-clause-run g c =
-    advances_within c.args.site.now g.B.Book c.args.book.now c.think.new.book (unanswered c.args.clients.now) (unanswered c.think.new.clients)
+    advances_within c.args.site.now g.B.Book c.args.book.now c.step_search.new.book (unanswered c.args.clients.now) (unanswered c.step_search.new.clients)
     (unanswered c.args.clients.now + c.accept_waiting-wait.new.accepted) (unanswered c.accept_waiting-wait.new.clients + c.args.accepted.now)
     (omega (arith, c.accept_waiting-wait.ensures.fewer))
-    (advances_more c.args.site.now g.B.Book c.args.book.now c.attend_reported.new.book c.think.new.book (unanswered c.args.clients.now) (unanswered c.attend_reported.new.clients)
-    (unanswered c.close_late.new.clients) (unanswered c.think.new.clients) (unanswered c.args.clients.now) (unanswered c.think.new.clients)
-    (omega (arith, c.close_late.ensures.fewer)) c.think.ensures.clean_disk c.attend_reported.ensures.run c.think.ensures.run)
+    (advances_more c.args.site.now g.B.Book c.args.book.now c.attend_reported.new.book c.step_search.new.book (unanswered c.args.clients.now) (unanswered c.attend_reported.new.clients)
+    (unanswered c.close_late.new.clients) (unanswered c.step_search.new.clients) (unanswered c.args.clients.now) (unanswered c.step_search.new.clients)
+    (omega (arith, c.close_late.ensures.fewer)) c.step_search.ensures.clean_disk c.attend_reported.ensures.run c.step_search.ensures.run)

@@ -1,7 +1,7 @@
 use Rattle.std.proofs.Common.{◌≤◌, ◌∙◌, codes, rules, sym}
 use Rattle.clap.specs.Words.{found_of, rows_of}
 use Rattle.clap.proofs.WalkLemmas.{first_value-rows}
-use Rattle.shop_words.specs.declared.words.TheConstants.{MOST_SIZES}
+use Rattle.shop_words.specs.declared.words.TheConstants.{MAX_SIZES}
 use Rattle.shop_words.specs.CommandLine.{times_given}
 use Rattle.shop_words.proofs.Asked.{no_value}
 use Rattle.shop_words.proofs.planned.order_plan.Goals as goal
@@ -27,7 +27,7 @@ returns-in_err-material c =
 pub returns : goal.returns
 returns c =
     let found = found_of c.args.plan.now in
-    let few : times_given (codes "size") (rows_of found) ≤ MOST_SIZES = search rules in (
+    let few : times_given (codes "size") (rows_of found) ≤ MAX_SIZES = search rules in (
       sym (c.in_ok-file.ensures ∙ first_value-rows found (codes "FILE")),
       sym (c.in_ok-shop.ensures ∙ first_value-rows found (codes "shop")),
       sym (c.in_ok-material.ensures ∙ first_value-rows found (codes "material")),

@@ -1,16 +1,16 @@
 use Rattle.std.proofs.Common.{◌≡◌, ◌++◌, ◌-◌, ◌≤◌, ℕ, IsTrue, true, List, length, take, drop, sym, ap, ◌∙◌, arith}
 use Rattle.std.specs.Prelude.{replicate}
 use Rattle.std.proofs.lemmas.Grind.{common_steps}
-use Rattle.cut_measure.specs.declared.ranges.TheConstants.{LONGEST_CODE}
+use Rattle.cut_measure.specs.declared.ranges.TheConstants.{MAX_CODE_LEN}
 use Rattle.cut_measure.specs.Codes.{is_code}
 use Rattle.cut_measure.proofs.CodeFields.{all_kept, zeros_after, text_before, code_short}
 use Rattle.cut_measure.proofs.code_texts.Code.read.Goals as goal
 
 kept : (text copied given : List ℕ) → copied ≡ text → text ≡ given → true ≡ is_code given
-    → (length (copied ++ drop (length text) (replicate LONGEST_CODE 0)) ≡ LONGEST_CODE) × (length text ≤ LONGEST_CODE) × (drop (length text) (copied ++ drop (length text) (replicate LONGEST_CODE 0)) ≡ replicate (LONGEST_CODE - length text) 0) × IsTrue (is_code (take (length text) (copied ++ drop (length text) (replicate LONGEST_CODE 0))))
+    → (length (copied ++ drop (length text) (replicate MAX_CODE_LEN 0)) ≡ MAX_CODE_LEN) × (length text ≤ MAX_CODE_LEN) × (drop (length text) (copied ++ drop (length text) (replicate MAX_CODE_LEN 0)) ≡ replicate (MAX_CODE_LEN - length text) 0) × IsTrue (is_code (take (length text) (copied ++ drop (length text) (replicate MAX_CODE_LEN 0))))
 kept text copied given same is code =
     let of_text : is_code text ≡ true = ap is_code is ∙ sym code in
-    let short : length text ≤ LONGEST_CODE = code_short text of_text in
+    let short : length text ≤ MAX_CODE_LEN = code_short text of_text in
     rw same (all_kept text short, short, zeros_after text short, rw (text_before text short) of_text)
 
 pub invariant_of-result : goal.invariant_of-result

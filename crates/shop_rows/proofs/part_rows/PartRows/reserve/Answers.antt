@@ -5,5 +5,5 @@ pub returns-clause-room : goal.returns-clause-room
 returns-clause-room c = record {
   rows = c.in_ok-reserve_rows-2.ensures.ok;
   origins = c.in_ok-reserve_rows.ensures.ok;
-  numbers = omega (arith, c.saturating_add.ensures, c.len.ensures, c.reserve_rows.ensures.len, c.if-saturating_add-gt-MOST_ORIGINS.false);
+  numbers = omega (arith, c.saturating_add.ensures, c.len.ensures, c.reserve_rows.ensures.len, c.if-saturating_add-gt-MAX_ORIGINS.false);
 }

@@ -1,5 +1,5 @@
-use Rattle.shop_serve.proofs.Thoughts.{IsFoundSo}
-use Rattle.shop_serve.proofs.thinking.next_thought.Given as goal
+use Rattle.shop_serve.proofs.PlanTasks.{IsFoundSo}
+use Rattle.shop_serve.proofs.searching.next_task.Given as goal
 
 abbrev pub invariant-loop-key : goal.invariant-loop-key
 invariant-loop-key g l =

@@ -2,7 +2,7 @@ use Rattle.std.proofs.Common.{◌∙◌, ℕ, ap, subst}
 use Rattle.std.specs.declared.alloc.Global.{Global}
 use Rattle.std.specs.Prelude.{Vec}
 use Rattle.shop_serve.specs.Times.{Tells}
-use Rattle.shop_serve.proofs.thinking.refuse.Goals as goal
+use Rattle.shop_serve.proofs.searching.refuse.Goals as goal
 
 pub returns-in-Ok-clause-answered : goal.returns-in-Ok-clause-answered
 returns-in-Ok-clause-answered g c told =

@@ -1,14 +1,14 @@
-//! Questions that are thought about beside serving: one of them, once a turn.
+//! Questions that are searched beside serving: one of them, once a turn.
 
 ghost use Rattle.std.specs.Prelude.{◌≡◌, ◌≢◌, ◌≤◌, ℕ, None, true, false, IfOk, IfSome, IsSome, string_bytes};
 ghost use Rattle.std.specs.Duration.{as_nanos};
-ghost use Rattle.shop_planning.specs.Thoughts.{posed_in};
+ghost use Rattle.shop_planning.specs.PlanTasks.{instance_in};
 ghost use Rattle.shop_serve.specs.Clients.{AsksAt, NoneAsks, unanswered};
 ghost use Rattle.shop_serve.specs.Making.{IsPlansAnswer};
 ghost use Rattle.shop_serve.specs.Serving.{Advances};
-ghost use Rattle.shop_serve.specs.Thinking.{IsRefused, IsThoughtAt, IsThoughtOnce, IsThoughtOut, Thinks};
+ghost use Rattle.shop_serve.specs.RunningTask.{IsRefused, IsSteppedAt, IsSteppedOnce, IsFinished, StepsSearch};
 ghost use Rattle.shop_serve.specs.Times.{TellsNone};
-ghost use Rattle.shop_serve.specs.declared.thinking.Progress.TheVariants as progress;
+ghost use Rattle.shop_serve.specs.declared.searching.Progress.TheVariants as progress;
 
 use crate::clients::{Client, attend_at, is_begun, put_answer};
 use crate::connections::Connection;
@@ -16,23 +16,23 @@ use crate::sites::Site;
 use crate::transfers::{Rest, drop_rest};
 use crate::watches::Watch;
 use shop_book::Book;
-use shop_planning::Thought;
+use shop_planning::PlanTask;
 use shop_wire::{plans_answer, plans_refused};
 use slab::Slab;
 use std::alloc::{AllocError, Global};
 use std::time::{Duration, Instant};
 
-/// How many questions are thought about at once at most.
-pub const MOST_THOUGHTS: usize = 8;
+/// How many questions are searched at once at most.
+pub const MAX_PLAN_TASKS: usize = 8;
 
 /// How many calls of a search a question has, though others wait to be begun.
 pub const FAIR_CALLS: u32 = 200;
 
-/// A question that is thought about, with what was found so far, when that was done last, and how many calls it still has though
-/// others wait. It waits where it wasn't thought on yet.
+/// A question that is searched, with what was found so far, when that was done last, and how many calls it still has though
+/// others wait. It waits where it has had no search step yet.
 #[derive(Drop)]
-pub(crate) struct Thinking {
-    pub(crate) thought: Thought,
+pub(crate) struct RunningTask {
+    pub(crate) task: PlanTask,
     pub(crate) last: Option<Instant>,
     pub(crate) left: u32,
 }
@@ -55,12 +55,12 @@ impl Place {
 
 // The place of a connection's question, where others may be begun or not.
 fn place_of<C>(client: &Client<C>, is_full: bool) -> Option<Place>
-    ensures some { IsSome result → IsSome client.now.thought }
-    ensures none { result ≡ None → client.now.thought ≡ None }
+    ensures some { IsSome result → IsSome client.now.task }
+    ensures none { result ≡ None → client.now.task ≡ None }
 {
-    match &client.thought {
+    match &client.task {
         None => None,
-        Some(thinking) => match thinking.last {
+        Some(searching) => match searching.last {
             Some(since) => Some(Place {
                 has_to_wait: false,
                 since,
@@ -94,7 +94,7 @@ fn count_begun<C>(clients: &Slab<Client<C>>) -> usize {
 // Whether a question waits to be begun.
 fn has_waiting<C>(clients: &Slab<Client<C>>) -> bool {
     for (_, client) in clients.iter() {
-        if client.thought.is_some() && !is_begun(client) {
+        if client.task.is_some() && !is_begun(client) {
             return true;
         }
     }
@@ -103,16 +103,16 @@ fn has_waiting<C>(clients: &Slab<Client<C>>) -> bool {
 
 // Whether as many questions were begun as may be, and others wait.
 fn is_crowded<C>(clients: &Slab<Client<C>>) -> bool {
-    count_begun(clients) >= MOST_THOUGHTS && has_waiting(clients)
+    count_begun(clients) >= MAX_PLAN_TASKS && has_waiting(clients)
 }
 
-// The key of the connection whose question is thought on next: of those that were begun, at most eight, and as long as they
-// are fewer of those that wait too, the one that waits longest since it was thought on or read.
-fn next_thought<C>(clients: &Slab<Client<C>>) -> Option<usize>
+// The key of the connection whose question takes a search step next: of those that were begun, at most eight, and as long as they
+// are fewer of those that wait too, the one that waits longest since it has had a search step or read.
+fn next_task<C>(clients: &Slab<Client<C>>) -> Option<usize>
     ensures some { IfSome result (AsksAt clients.now) }
     ensures none { result ≡ None → NoneAsks clients.now }
 {
-    let is_full = count_begun(clients) >= MOST_THOUGHTS;
+    let is_full = count_begun(clients) >= MAX_PLAN_TASKS;
     let mut found: Option<(usize, Place)> = None;
     for (key, client) in clients.iter() {
         let place = match place_of(client, is_full) {
@@ -129,22 +129,22 @@ fn next_thought<C>(clients: &Slab<Client<C>>) -> Option<usize>
     }
 }
 
-// Thinks once on a question, unless that ends. Gives its answer, by what was found so far, where it ends or is done.
-fn advance(alloc: Global, thought: &mut Thought, ends: bool) -> Result<Option<String>, AllocError>
-    ensures asks { posed_in thought.new ≡ posed_in thought.old }
+// Takes one search step of a question, unless that ends. Gives its answer, by what was found so far, where it ends or is done.
+fn advance(alloc: Global, task: &mut PlanTask, ends: bool) -> Result<Option<String>, AllocError>
+    ensures asks { instance_in task.new ≡ instance_in task.old }
     ensures goes_on { IfOk result (λ done. done ≡ None → ends ≡ false) }
     ensures told { IfOk result
-        (λ done. IfSome done (λ answer. IsPlansAnswer (posed_in thought.old) (string_bytes answer))) }
+        (λ done. IfSome done (λ answer. IsPlansAnswer (instance_in task.old) (string_bytes answer))) }
 {
-    if !ends && thought.advance(alloc)? {
+    if !ends && task.advance(alloc)? {
         return Ok(None);
     }
-    let text = thought.tell(alloc)?;
+    let text = task.tell(alloc)?;
     let answer = plans_answer(alloc, &text)?;
     Ok(Some(answer))
 }
 
-/// What came of thinking on a question: it goes on, or its answer was made, or there was no memory to refuse it.
+/// What came of a search step: it goes on, or its answer was made, or there was no memory to refuse it.
 #[derive(Clone, Copy)]
 pub(crate) enum Progress {
     GoesOn,
@@ -181,50 +181,50 @@ fn is_there<C: Connection>(stream: &mut C) -> bool
     }
 }
 
-// Thinks once on the question of a connection that is there, and notes when. It is told as far as it was thought about where its
+// Takes one search step of the question of a connection that is there, and notes when. It is told as far as its search came where its
 // input ended, or where it had its calls and others wait. Where memory is wanting what was found is let go first.
-fn think_once<C: Connection, K: Watch>(
+fn step_search_once<C: Connection, K: Watch>(
     alloc: Global,
     client: &mut Client<C>,
     is_crowded: bool,
     now: Instant,
     watch: &mut K,
 ) -> Progress
-    requires { IsSome client.old.thought }
+    requires { IsSome client.old.task }
     ensures goes_on { result ≡ progress.GoesOn
-        → IsThoughtOnce C.Connection is_crowded now client.old client.new
+        → IsSteppedOnce C.Connection is_crowded now client.old client.new
         × TellsNone (K.times watch.old) (K.times watch.new) }
     ensures answered { result ≡ progress.Answered
-        → IsThoughtOut C.Connection client.old client.new (K.times watch.old) (K.times watch.new) }
+        → IsFinished C.Connection client.old client.new (K.times watch.old) (K.times watch.new) }
     ensures closed { result ≡ progress.NoMemory
         → TellsNone (K.times watch.old) (K.times watch.new) }
 {
-    let Some(mut thinking) = client.thought.take() else {
+    let Some(mut searching) = client.task.take() else {
         unreachable!()
     };
-    let had_its_calls = is_crowded && thinking.left == 0;
+    let had_its_calls = is_crowded && searching.left == 0;
     let ends = !is_there(&mut client.stream) || had_its_calls;
-    thinking.last = Some(now);
-    thinking.left = thinking.left.saturating_sub(1);
-    match advance(alloc, &mut thinking.thought, ends) {
+    searching.last = Some(now);
+    searching.left = searching.left.saturating_sub(1);
+    match advance(alloc, &mut searching.task, ends) {
         Ok(None) => {
-            drop(client.thought.replace(thinking));
+            drop(client.task.replace(searching));
             Progress::GoesOn
         }
         Ok(Some(answer)) => {
-            drop(thinking);
+            drop(searching);
             put_answer(client, answer.into_bytes(), watch.now());
             Progress::Answered
         }
         Err(_) => {
-            drop(thinking);
+            drop(searching);
             refuse(alloc, client, watch)
         }
     }
 }
 
-// Thinks once on the question of a key's connection, and closes it where memory is wanting. Tells what came of it.
-fn think_at<C: Connection + Drop, K: Watch>(
+// Takes one search step of the question of a key's connection, and closes it where memory is wanting. Tells what came of it.
+fn step_search_at<C: Connection + Drop, K: Watch>(
     alloc: Global,
     clients: &mut Slab<Client<C>>,
     key: usize,
@@ -233,14 +233,14 @@ fn think_at<C: Connection + Drop, K: Watch>(
     watch: &mut K,
 ) -> Progress
     requires { AsksAt clients.old key }
-    ensures at { IsThoughtAt C.Connection is_crowded result now key clients.old clients.new
+    ensures at { IsSteppedAt C.Connection is_crowded result now key clients.old clients.new
         (K.times watch.old) (K.times watch.new) }
     ensures fewer { unanswered clients.new ≤ unanswered clients.old }
 {
     let Some(client) = clients.get_mut(key) else {
         return Progress::GoesOn;
     };
-    match think_once(alloc, client, is_crowded, now, watch) {
+    match step_search_once(alloc, client, is_crowded, now, watch) {
         Progress::GoesOn => Progress::GoesOn,
         Progress::Answered => Progress::Answered,
         Progress::NoMemory => {
@@ -251,7 +251,7 @@ fn think_at<C: Connection + Drop, K: Watch>(
 }
 
 /// Thinks once on one of the questions, where there is any, and hands over its answer where that is done or ends.
-pub(crate) fn think<C: Connection + Drop, K: Watch, B: Book>(
+pub(crate) fn step_search<C: Connection + Drop, K: Watch, B: Book>(
     alloc: Global,
     site: &Site,
     clients: &mut Slab<Client<C>>,
@@ -259,17 +259,17 @@ pub(crate) fn think<C: Connection + Drop, K: Watch, B: Book>(
     watch: &mut K,
     book: &mut B,
 )
-    ensures thinks { Thinks C.Connection site.now B.Book now clients.old clients.new book.old book.new
+    ensures steps_search { StepsSearch C.Connection site.now B.Book now clients.old clients.new book.old book.new
         (K.times watch.old) (K.times watch.new) }
     ensures run { Advances site.now B.Book book.old book.new (unanswered clients.old)
         (unanswered clients.new) }
     ensures clean_disk { B.has_clean_disk book.new → B.has_clean_disk book.old }
 {
-    let Some(key) = next_thought(clients) else {
+    let Some(key) = next_task(clients) else {
         return;
     };
     let is_crowded = is_crowded(clients);
-    match think_at(alloc, clients, key, is_crowded, now, watch) {
+    match step_search_at(alloc, clients, key, is_crowded, now, watch) {
         Progress::GoesOn => (),
         Progress::NoMemory => (),
         Progress::Answered => {
@@ -283,13 +283,13 @@ fn time_to_wait<C>(clients: &Slab<Client<C>>, wait: Duration) -> Duration
     ensures idle { NoneAsks clients.now → result ≡ wait }
     ensures asks { (key : ℕ) → AsksAt clients.now key → as_nanos result ≡ 0 }
 {
-    if next_thought(clients).is_some() {
+    if next_task(clients).is_some() {
         return Duration::ZERO;
     }
     wait
 }
 
-/// For how long is waited next, where one may wait: for no time, while a question is thought about.
+/// For how long is waited next, where one may wait: for no time, while a question is searched.
 pub(crate) fn next_wait<C>(clients: &Slab<Client<C>>, wait: Option<Duration>) -> Option<Duration>
     ensures never { wait ≡ None → result ≡ None }
     ensures idle { NoneAsks clients.now → result ≡ wait }

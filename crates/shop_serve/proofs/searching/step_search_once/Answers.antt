@@ -1,16 +1,16 @@
 use Rattle.std.proofs.Common.{◌≡◌, ◌∙◌, ℕ, Some, inr, refl, sym, ap, subst, rules}
 use Rattle.std.specs.declared.alloc.Global.{Global}
 use Rattle.std.specs.Prelude.{Vec, IfSome, string_bytes}
-use Rattle.shop_planning.specs.Thoughts.{posed_in}
+use Rattle.shop_planning.specs.PlanTasks.{instance_in}
 use Rattle.shop_serve.specs.declared.clients.Client.{Client}
 use Rattle.shop_serve.specs.Making.{IsPlansAnswer, put_answer}
-use Rattle.shop_serve.proofs.thinking.think_once.Goals as goal
+use Rattle.shop_serve.proofs.searching.step_search_once.Goals as goal
 
 pub returns-in-Ok-None-clause-goes_on : goal.returns-in-Ok-None-clause-goes_on
 returns-in-Ok-None-clause-goes_on g c done = (
   record {
-    thinking = c.in-Some.thinking;
-    next = record { thought = c.advance.new.thought; last = Some c.args.now; left = c.saturating_sub.result };
+    searching = c.in-Some.searching;
+    next = record { task = c.advance.new.task; last = Some c.args.now; left = c.saturating_sub.result };
     asks = sym c.in-Some.ensures.value;
     same = c.advance.ensures.asks;
     last = refl;
@@ -18,7 +18,7 @@ returns-in-Ok-None-clause-goes_on g c done = (
     fair = search rules;
     there = search rules;
     took = c.is_there.ensures.kept;
-    kept = ap (λ t. record c.args.client.now { stream = c.is_there.new.stream; thought = t }) c.replace.ensures.after;
+    kept = ap (λ t. record c.args.client.now { stream = c.is_there.new.stream; task = t }) c.replace.ensures.after;
   },
   refl,
 )
@@ -27,15 +27,15 @@ pub returns-in-Ok-Some-clause-answered : goal.returns-in-Ok-Some-clause-answered
 returns-in-Ok-Some-clause-answered g c done =
     let same = ap (λ (client : Client g.row.C.Denot). client.stream) c.put_answer.ensures in
     record {
-      thinking = c.in-Some.thinking;
+      searching = c.in-Some.searching;
       asks = sym c.in-Some.ensures.value;
       answer = c.into_bytes.result;
       now = c.now.result;
       read = c.now.ensures;
       took = ap g.C.Connection.contents same ∙ c.is_there.ensures.kept;
-      told = subst (IsPlansAnswer (posed_in c.in-Some.thinking.thought)) (sym (ap (λ (v : Vec ℕ Global). v.items) c.into_bytes.ensures.value))
-          (subst (λ answer. IsPlansAnswer (posed_in c.in-Some.thinking.thought) (string_bytes answer)) (sym c.in-Ok-Some.answer-is)
-          (subst (λ o. IfSome o (λ answer. IsPlansAnswer (posed_in c.in-Some.thinking.thought) (string_bytes answer))) c.in-Ok-Some.field-0-is c.in-Ok-Some.ensures.told));
+      told = subst (IsPlansAnswer (instance_in c.in-Some.searching.task)) (sym (ap (λ (v : Vec ℕ Global). v.items) c.into_bytes.ensures.value))
+          (subst (λ answer. IsPlansAnswer (instance_in c.in-Some.searching.task) (string_bytes answer)) (sym c.in-Ok-Some.answer-is)
+          (subst (λ o. IfSome o (λ answer. IsPlansAnswer (instance_in c.in-Some.searching.task) (string_bytes answer))) c.in-Ok-Some.field-0-is c.in-Ok-Some.ensures.told));
       kept = subst (λ stream. c.put_answer.new.client ≡ put_answer (record c.args.client.now { stream = stream }) c.into_bytes.result c.now.result) (sym same) c.put_answer.ensures;
     }
 
@@ -44,7 +44,7 @@ returns-in-Err-clause-answered g c done =
     let refused = c.refuse.ensures.answered done in
     let same = ap (λ (client : Client g.row.C.Denot). client.stream) refused.kept in
     record {
-      thinking = c.in-Some.thinking;
+      searching = c.in-Some.searching;
       asks = sym c.in-Some.ensures.value;
       answer = refused.answer;
       now = refused.now;

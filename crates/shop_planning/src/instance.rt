@@ -1,7 +1,7 @@
 //! What a question asks: the stock, the wants, and how they are planned.
 
 ghost use Rattle.std.specs.Prelude.{◌≡◌, ◌≤◌, None};
-ghost use Rattle.cut_measure.specs.declared.ranges.TheConstants.{MOST_KERF};
+ghost use Rattle.cut_measure.specs.declared.ranges.TheConstants.{MAX_KERF};
 ghost use Rattle.cut_plan.specs.Proposals.{AreDemands};
 ghost use Rattle.cut_bound.specs.Orders.{order_fault};
 ghost use Rattle.cut_order.specs.Stocks.{IsStageLimit, IsStock};
@@ -24,7 +24,7 @@ pub struct StockPart {
 
 /// What a question asks of a content.
 #[derive(Drop)]
-pub struct Posed {
+pub struct PlanInstance {
     pub kind: Kind,
     /// In tenths of a millimetre: 0 to 200.
     pub kerf: u32,
@@ -41,7 +41,7 @@ pub struct Posed {
     /// The sizes of the parts, each with the number of its parts, and then those that may be bought.
     pub sizes: Vec<StockSize>,
     pub wants: Vec<Want>,
-    ghost narrow: { kerf ≤ MOST_KERF },
+    ghost narrow: { kerf ≤ MAX_KERF },
     ghost stocked: { IsStock kind sizes.items },
     ghost limited: { IsStageLimit stages },
     ghost numbered: { AreDemands wants.items },

@@ -1,17 +1,17 @@
--- Thinking beside serving: once a turn, on the question of one connection.
+-- Searching beside serving: one search step a turn, of the question of one connection.
 use Rattle.std.specs.Prelude.{◌≡◌, ◌≢◌, ◌⊎◌, ◌<◌, ◌-◌, ℕ, Bool, true, Some, None, IsSome, Vec}
 use Rattle.std.specs.declared.alloc.Global.{Global}
 use Rattle.std.specs.declared.time.Instant.{Instant}
 use Rattle.slab.specs.Slab.{Slab, get}
 use Rattle.shop_book.specs.declared.books.Book.{Ghosts}
-use Rattle.shop_planning.specs.Thoughts.{posed_in}
+use Rattle.shop_planning.specs.PlanTasks.{instance_in}
 use Rattle.shop_serve.specs.declared.connections.Connection.{Ghosts as ConnectionGhosts}
-use Rattle.shop_serve.specs.declared.clients.Fate.{Fate}
+use Rattle.shop_serve.specs.declared.clients.ConnectionStatus.{ConnectionStatus}
 use Rattle.shop_serve.specs.declared.clients.Client.{Client}
 use Rattle.shop_serve.specs.declared.sites.Site.{Site}
-use Rattle.shop_serve.specs.declared.thinking.Thinking.{Thinking as ThinkingOf}
-use Rattle.shop_serve.specs.declared.thinking.Progress.{Progress}
-use Rattle.shop_serve.specs.declared.thinking.Progress.TheVariants.{GoesOn, Answered, NoMemory}
+use Rattle.shop_serve.specs.declared.searching.RunningTask.{RunningTask as RunningTaskOf}
+use Rattle.shop_serve.specs.declared.searching.Progress.{Progress}
+use Rattle.shop_serve.specs.declared.searching.Progress.TheVariants.{GoesOn, Answered, NoMemory}
 use Rattle.shop_serve.specs.Clients.{IsAttendedAt, NoneAsks}
 use Rattle.shop_serve.specs.Making.{IsPlansAnswer, plans_refused, put_answer}
 use Rattle.shop_serve.specs.Times.{Times, Tells, TellsNone}
@@ -26,55 +26,55 @@ module _ {C : Type 0} where
     pub kept : new ≡ put_answer old answer now
 
 module _ {C : Type 0} (connection : ConnectionGhosts C) where
-  -- Its question was thought on now: it asks the same, and nothing else of the connection changed. Nothing more came of it, and its
+  -- Its question has had a search step now: it asks the same, and nothing else of the connection changed. Nothing more came of it, and its
   -- input didn't end; and where the others are too many it still had a call.
-  pub record IsThoughtOnce (crowded : Bool) (now : Instant) (old new : Client C) : Type 0 where
-    pub thinking : ThinkingOf
-    pub next : ThinkingOf
-    pub asks : old.thought ≡ Some thinking
-    pub same : posed_in next.thought ≡ posed_in thinking.thought
+  pub record IsSteppedOnce (crowded : Bool) (now : Instant) (old new : Client C) : Type 0 where
+    pub searching : RunningTaskOf
+    pub next : RunningTaskOf
+    pub asks : old.task ≡ Some searching
+    pub same : instance_in next.task ≡ instance_in searching.task
     pub last : next.last ≡ Some now
-    pub left : next.left ≡ thinking.left - 1
-    pub fair : crowded ≡ true → 0 < thinking.left
+    pub left : next.left ≡ searching.left - 1
+    pub fair : crowded ≡ true → 0 < searching.left
     pub there : connection.is_drained new.stream
     pub took : connection.contents new.stream ≡ connection.contents old.stream
-    pub kept : new ≡ record old { stream = new.stream; thought = Some next }
+    pub kept : new ≡ record old { stream = new.stream; task = Some next }
 
   -- It has the answer to its own question, and took nothing of it. Its seconds begin anew, at the time that is read then.
-  pub record IsThoughtOut (old new : Client C) (seen seeing : Times) : Type 0 where
-    pub thinking : ThinkingOf
-    pub asks : old.thought ≡ Some thinking
+  pub record IsFinished (old new : Client C) (seen seeing : Times) : Type 0 where
+    pub searching : RunningTaskOf
+    pub asks : old.task ≡ Some searching
     pub answer : Vec ℕ Global
     pub now : Instant
     pub read : Tells seen seeing now
-    pub told : IsPlansAnswer (posed_in thinking.thought) answer.items
+    pub told : IsPlansAnswer (instance_in searching.task) answer.items
     pub took : connection.contents new.stream ≡ connection.contents old.stream
     pub kept : new ≡ put_answer (record old { stream = new.stream }) answer now
 
   -- The connection of this key has a question, and no other connection changed. It goes on, it is answered, or memory was wanting
   -- for that and it is closed.
-  pub record IsThoughtAt (crowded : Bool) (progress : Progress) (now : Instant) (key : ℕ) (old new : Slab (Client C)) (seen seeing : Times) : Type 0 where
+  pub record IsSteppedAt (crowded : Bool) (progress : Progress) (now : Instant) (key : ℕ) (old new : Slab (Client C)) (seen seeing : Times) : Type 0 where
     pub client : Client C
     pub there : get old key ≡ Some client
-    pub asks : IsSome client.thought
+    pub asks : IsSome client.task
     pub others : (other : ℕ) → other ≢ key → get new other ≡ get old other
-    pub goes_on : progress ≡ GoesOn → (left : Client C) × (get new key ≡ Some left) × IsThoughtOnce crowded now client left × TellsNone seen seeing
-    pub answered : progress ≡ Answered → (left : Client C) × (get new key ≡ Some left) × IsThoughtOut client left seen seeing
+    pub goes_on : progress ≡ GoesOn → (left : Client C) × (get new key ≡ Some left) × IsSteppedOnce crowded now client left × TellsNone seen seeing
+    pub answered : progress ≡ Answered → (left : Client C) × (get new key ≡ Some left) × IsFinished client left seen seeing
     pub closed : progress ≡ NoMemory → (get new key ≡ None) × TellsNone seen seeing
 
 module _ {C : Type 0} (connection : ConnectionGhosts C) (site : Site) {B : Type 0} (book : Ghosts B) where
-  -- One question was thought on. Where its answer was made its connection is attended to at once.
-  pub record IsThoughtOn (now : Instant) (old new : Slab (Client C)) (before after : B) (seen seeing : Times) : Type 0 where
+  -- One question has had a search step. Where its answer was made its connection is attended to at once.
+  pub record IsStepped (now : Instant) (old new : Slab (Client C)) (before after : B) (seen seeing : Times) : Type 0 where
     pub key : ℕ
     pub crowded : Bool
     pub progress : Progress
     pub clients : Slab (Client C)
     pub between : Times
-    pub thought : IsThoughtAt connection crowded progress now key old clients seen between
+    pub task : IsSteppedAt connection crowded progress now key old clients seen between
     pub goes_on : progress ≢ Answered → (new ≡ clients) × (after ≡ before) × TellsNone between seeing
-    pub answered : progress ≡ Answered → (fate : Fate) × IsAttendedAt connection site book fate key clients new before after between seeing
+    pub answered : progress ≡ Answered → (status : ConnectionStatus) × IsAttendedAt connection site book status key clients new before after between seeing
 
   -- one was, or none has a question and nothing is done
-  abbrev pub Thinks : Instant → Slab (Client C) → Slab (Client C) → B → B → (seen seeing : Times) → Type 0
-  Thinks now old new before after seen seeing =
-      (NoneAsks old × (new ≡ old) × (after ≡ before) × TellsNone seen seeing) ⊎ IsThoughtOn now old new before after seen seeing
+  abbrev pub StepsSearch : Instant → Slab (Client C) → Slab (Client C) → B → B → (seen seeing : Times) → Type 0
+  StepsSearch now old new before after seen seeing =
+      (NoneAsks old × (new ≡ old) × (after ≡ before) × TellsNone seen seeing) ⊎ IsStepped now old new before after seen seeing

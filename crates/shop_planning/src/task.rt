@@ -1,4 +1,4 @@
-//! Questions that are being thought about.
+//! Questions that are being searched.
 
 ghost use Rattle.std.proofs.Props.{props};
 ghost use Rattle.std.specs.Prelude.{◌≡◌, IfOk, IfSome};
@@ -7,21 +7,21 @@ ghost use Rattle.cut_order.specs.Answers.{Asks};
 ghost use Rattle.cut_order.specs.Searches.{question_of};
 ghost use Rattle.shop_planning.specs.Answers.{IsPlanOf};
 
-use crate::posed::Posed;
+use crate::instance::PlanInstance;
 use crate::telling::told_text;
 use cut_order::{OrderPlan, OrderSearch};
 use cut_plan::PlanFault;
 use shop_records::Text;
 use std::alloc::{AllocError, Global};
 
-/// A question that is being thought about: the stock and the wants as the shop had them, the search, and how many calls are left.
+/// A question that is being searched: the stock and the wants as the shop had them, the search, and how many calls are left.
 #[derive(Drop)]
-pub struct Thought {
-    posed: Posed,
+pub struct PlanTask {
+    instance: PlanInstance,
     search: Option<OrderSearch>,
     left: u32,
     ghost asks: { IfSome search
-        (λ s. Asks posed.kind posed.kerf posed.step posed.stages posed.sizes.items posed.wants.items (question_of s)) } by { Prim.hlevel props },
+        (λ s. Asks instance.kind instance.kerf instance.step instance.stages instance.sizes.items instance.wants.items (question_of s)) } by { Prim.hlevel props },
 }
 
 // A planner's want of memory, handed on.
@@ -32,18 +32,18 @@ fn want_of_memory(_fault: PlanFault) -> AllocError
 }
 
 // A search for what is asked.
-fn search_for(alloc: Global, posed: &Posed) -> Result<OrderSearch, AllocError>
-    ensures { IfOk result (λ search. Asks posed.now.kind posed.now.kerf posed.now.step posed.now.stages
-        posed.now.sizes.items posed.now.wants.items (question_of search)) }
+fn search_for(alloc: Global, instance: &PlanInstance) -> Result<OrderSearch, AllocError>
+    ensures { IfOk result (λ search. Asks instance.now.kind instance.now.kerf instance.now.step instance.now.stages
+        instance.now.sizes.items instance.now.wants.items (question_of search)) }
 {
     match OrderSearch::new(
         alloc,
-        posed.kind,
-        posed.kerf,
-        posed.step,
-        posed.stages,
-        &posed.sizes,
-        &posed.wants,
+        instance.kind,
+        instance.kerf,
+        instance.step,
+        instance.stages,
+        &instance.sizes,
+        &instance.wants,
     ) {
         Ok(search) => Ok(search),
         Err(fault) => Err(want_of_memory(fault)),
@@ -51,27 +51,27 @@ fn search_for(alloc: Global, posed: &Posed) -> Result<OrderSearch, AllocError>
 }
 
 // What a search that makes no table finds.
-fn first_plan(alloc: Global, posed: &Posed) -> Result<OrderPlan, AllocError>
-    ensures { IfOk result (IsPlanOf posed.now) }
+fn first_plan(alloc: Global, instance: &PlanInstance) -> Result<OrderPlan, AllocError>
+    ensures { IfOk result (IsPlanOf instance.now) }
 {
-    let search = search_for(alloc, posed)?;
+    let search = search_for(alloc, instance)?;
     let plan = search.finish(alloc)?;
     Ok(plan)
 }
 
-impl Thought {
+impl PlanTask {
     ghost use Rattle.std.specs.Prelude.{◌≡◌, ◌+◌, ◌≤◌, IfOk, IsTrue, None, OnOk, is_some};
     ghost use Rattle.shop_planning.specs.Answers.{IsPlanOf, IsPlansText};
-    ghost use Rattle.shop_planning.specs.Thoughts.{posed_in};
+    ghost use Rattle.shop_planning.specs.PlanTasks.{instance_in};
 
-    /// A question of which nothing was thought yet.
-    pub(crate) fn new(posed: Posed) -> Thought
-        ensures posed { posed_in result ≡ posed }
-        ensures left { result.left ≡ posed.calls }
+    /// A question of which no search step was taken yet.
+    pub(crate) fn new(instance: PlanInstance) -> PlanTask
+        ensures instance { instance_in result ≡ instance }
+        ensures left { result.left ≡ instance.calls }
     {
-        let left = posed.calls;
-        Thought {
-            posed,
+        let left = instance.calls;
+        PlanTask {
+            instance,
             search: None,
             left,
         }
@@ -80,11 +80,11 @@ impl Thought {
     // Begins the search.
     fn begin(&mut self, alloc: Global) -> Result<(), AllocError>
         requires { self.old.search ≡ None }
-        ensures posed { posed_in self.new ≡ posed_in self.old }
+        ensures instance { instance_in self.new ≡ instance_in self.old }
         ensures left { self.new.left ≡ self.old.left }
         ensures begun { OnOk result (IsTrue (is_some self.new.search)) }
     {
-        let search = search_for(alloc, &self.posed)?;
+        let search = search_for(alloc, &self.instance)?;
         self.search = Some(search);
         Ok(())
     }
@@ -92,7 +92,7 @@ impl Thought {
     /// Makes one table of a planner at most; whether there is more to do. False where it is done: the calls are spent, or it
     /// is proved best, or nothing more is found. The first call begins the search.
     pub fn advance(&mut self, alloc: Global) -> Result<bool, AllocError>
-        ensures posed { posed_in self.new ≡ posed_in self.old }
+        ensures instance { instance_in self.new ≡ instance_in self.old }
         ensures calls { IfOk result (λ more. IsTrue more
             → (1 ≤ self.new.left) × (self.new.left + 1 ≡ self.old.left)) }
     {
@@ -109,7 +109,7 @@ impl Thought {
     fn go_on(&mut self, alloc: Global) -> Result<bool, AllocError>
         requires begun { IsTrue (is_some self.old.search) }
         requires left { 1 ≤ self.old.left }
-        ensures posed { posed_in self.new ≡ posed_in self.old }
+        ensures instance { instance_in self.new ≡ instance_in self.old }
         ensures left { OnOk result (self.new.left + 1 ≡ self.old.left) }
         ensures more { IfOk result (λ more. IsTrue more → 1 ≤ self.new.left) }
     {
@@ -123,20 +123,20 @@ impl Thought {
 
     // The plan by what was found so far.
     fn plan(&self, alloc: Global) -> Result<OrderPlan, AllocError>
-        ensures { IfOk result (IsPlanOf (posed_in self.now)) }
+        ensures { IfOk result (IsPlanOf (instance_in self.now)) }
     {
         match &self.search {
             Some(search) => search.finish(alloc),
-            None => first_plan(alloc, &self.posed),
+            None => first_plan(alloc, &self.instance),
         }
     }
 
     /// The answer by what was found so far, as text.
     pub fn tell(&self, alloc: Global) -> Result<Text, AllocError>
-        ensures { IfOk result (IsPlansText (posed_in self.now)) }
+        ensures { IfOk result (IsPlansText (instance_in self.now)) }
     {
         let plan = self.plan(alloc)?;
-        let text = told_text(alloc, &self.posed, &plan)?;
+        let text = told_text(alloc, &self.instance, &plan)?;
         Ok(text)
     }
 }

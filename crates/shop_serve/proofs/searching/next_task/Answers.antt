@@ -1,8 +1,8 @@
 use Rattle.std.proofs.Common.{◌∙◌, None, sym, subst, refl}
 use Rattle.std.specs.Prelude.{IsSome}
-use Rattle.shop_serve.specs.declared.thinking.Place.{Place}
-use Rattle.shop_serve.proofs.Thoughts.{IsFoundSo, found-first, found-passed, found-taken}
-use Rattle.shop_serve.proofs.thinking.next_thought.Goals as goal
+use Rattle.shop_serve.specs.declared.searching.Place.{Place}
+use Rattle.shop_serve.proofs.PlanTasks.{IsFoundSo, found-first, found-passed, found-taken}
+use Rattle.shop_serve.proofs.searching.next_task.Goals as goal
 
 pub loop-key-init : goal.loop-key-init
 loop-key-init g c =

@@ -1,4 +1,4 @@
--- Which question is thought on, and what that leaves.
+-- Which question takes a search step, and what that leaves.
 use Rattle.std.proofs.Common.{◌≡◌, ◌∙◌, ℕ, ◌≤◌, Bool, true, false, is_some, List, [], ◌∷◌, length, Contains, inl, inr, refl, sym, ap, subst, arith}
 use Rattle.std.specs.Prelude.{◌⊎◌, Option, Some, None, IfSome, IsSome}
 use Rattle.std.specs.declared.time.Instant.{Instant}
@@ -6,9 +6,9 @@ use Rattle.slab.specs.Slab.{Slab, get, entries, Updates, with_value}
 use Rattle.slab.proofs.SlabLemmas.{Contains-cons, Contains-cons_cases, Contains-entries, Updates-with_value}
 use Rattle.shop_serve.specs.declared.clients.Client.{Client}
 use Rattle.shop_serve.specs.declared.connections.Connection.{Ghosts as ConnectionGhosts}
-use Rattle.shop_serve.specs.declared.thinking.Progress.TheVariants.{GoesOn, Answered, NoMemory}
+use Rattle.shop_serve.specs.declared.searching.Progress.TheVariants.{GoesOn, Answered, NoMemory}
 use Rattle.shop_serve.specs.Clients.{AsksAt, NoneAsks, unanswered}
-use Rattle.shop_serve.specs.Thinking.{IsThoughtAt, IsThoughtOnce, IsThoughtOut}
+use Rattle.shop_serve.specs.RunningTask.{IsSteppedAt, IsSteppedOnce, IsFinished}
 use Rattle.shop_serve.specs.Times.{Times, TellsNone}
 use Rattle.shop_serve.proofs.Slots.{answered-of, has-answer, has-question, one_of, unanswered-updates}
 
@@ -17,7 +17,7 @@ module _ {C P : Type 0} (clients : Slab (Client C)) where
   pub record IsFoundSo (left : List (ℕ × Client C)) (found : Option (ℕ × P)) : Type 0 where
     pub later : (key : ℕ) (client : Client C) → Contains left (key, client) → get clients key ≡ Some client
     pub one : IfSome found (λ f. AsksAt clients f.0)
-    pub all : (key : ℕ) (client : Client C) → get clients key ≡ Some client → IsSome client.thought → Contains left (key, client) ⊎ IsSome found
+    pub all : (key : ℕ) (client : Client C) → get clients key ≡ Some client → IsSome client.task → Contains left (key, client) ⊎ IsSome found
 
   pub found-first : IsFoundSo (entries clients) None
   found-first = record {
@@ -28,25 +28,25 @@ module _ {C P : Type 0} (clients : Slab (Client C)) where
 
   module _ (key : ℕ) (client : Client C) (left : List (ℕ × Client C)) (found : Option (ℕ × P)) (so_far : IsFoundSo ((key, client) ∷ left) found) where
     -- it has no question, or one was found
-    pub found-passed : (IsSome client.thought → IsSome found) → IsFoundSo left found
+    pub found-passed : (IsSome client.task → IsSome found) → IsFoundSo left found
     found-passed other = record {
       later = λ other another listed. so_far.later other another (Contains-cons _ _ _ listed);
       one = so_far.one;
       all = λ other_key another there asks. elim (so_far.all other_key another there asks) [
         | inr found ↦ inr found
         | inl listed ↦ elim (Contains-cons_cases _ _ _ listed) [
-          | inl same ↦ inr (other (subst (λ (l : Client C). IsSome l.thought) (sym (ap (λ e. e.1) same)) asks))
+          | inl same ↦ inr (other (subst (λ (l : Client C). IsSome l.task) (sym (ap (λ e. e.1) same)) asks))
           | inr rest ↦ inl rest
         ]
       ];
     }
 
     -- it is found
-    pub found-taken : (place : P) → IsSome client.thought → IsFoundSo left (Some (key, place))
+    pub found-taken : (place : P) → IsSome client.task → IsFoundSo left (Some (key, place))
     found-taken place asks = record {
       later = λ other another listed. so_far.later other another (Contains-cons _ _ _ listed);
       one = (client, so_far.later key client (0, omega arith, refl), asks);
-      all = λ other another there thinks. inr refl;
+      all = λ other another there steps_search. inr refl;
     }
 
   -- none is left
@@ -57,8 +57,8 @@ module _ {C P : Type 0} (clients : Slab (Client C)) where
   ]
 
 -- the connection of this key has a question
-pub asks-of : {C : Type 0} (clients : Slab (Client C)) (key : ℕ) (client : Client C) → AsksAt clients key → get clients key ≡ Some client → IsSome client.thought
-asks-of clients key client (there, at, asks) is = let same : there ≡ client = cc (at, is) in subst (λ (l : Client _). IsSome l.thought) same asks
+pub asks-of : {C : Type 0} (clients : Slab (Client C)) (key : ℕ) (client : Client C) → AsksAt clients key → get clients key ≡ Some client → IsSome client.task
+asks-of clients key client (there, at, asks) is = let same : there ≡ client = cc (at, is) in subst (λ (l : Client _). IsSome l.task) same asks
 
 -- one was found
 pub some-asks : {C : Type 0} (clients : Slab (Client C)) (found : Option ℕ) (some : Bool) → some ≡ is_some found → some ≡ true → IfSome found (AsksAt clients) → NoneAsks clients → ⊥
@@ -70,7 +70,7 @@ pub none-asks : {C : Type 0} (clients : Slab (Client C)) (found : Option ℕ) (s
 none-asks clients None some is e none = none refl
 none-asks clients (Some key) some is e none = absurd (cc (is, e))
 
-module _ {C : Type 0} (connection : ConnectionGhosts C) (crowded : Bool) (now : Instant) (key : ℕ) (clients : Slab (Client C)) (client left : Client C) (seen seeing : Times) (is : get clients key ≡ Some client) (asks : IsSome client.thought) where
+module _ {C : Type 0} (connection : ConnectionGhosts C) (crowded : Bool) (now : Instant) (key : ℕ) (clients : Slab (Client C)) (client left : Client C) (seen seeing : Times) (is : get clients key ≡ Some client) (asks : IsSome client.task) where
   written : Updates clients (with_value clients key left) key (Some left)
   written = Updates-with_value clients key left (subst IsSome (sym is) refl)
 
@@ -78,7 +78,7 @@ module _ {C : Type 0} (connection : ConnectionGhosts C) (crowded : Bool) (now : 
   no_one = ap one_of is ∙ answered-of client (has-question client asks)
 
   -- it goes on
-  pub goes-on : IsThoughtOnce connection crowded now client left → TellsNone seen seeing → IsThoughtAt connection crowded GoesOn now key clients (with_value clients key left) seen seeing
+  pub goes-on : IsSteppedOnce connection crowded now client left → TellsNone seen seeing → IsSteppedAt connection crowded GoesOn now key clients (with_value clients key left) seen seeing
   goes-on once unread = record {
     client = client;
     there = is;
@@ -89,18 +89,18 @@ module _ {C : Type 0} (connection : ConnectionGhosts C) (crowded : Bool) (now : 
     closed = λ e. absurd (cc e);
   }
 
-  pub goes-on-fewer : IsThoughtOnce connection crowded now client left → unanswered (with_value clients key left) ≤ unanswered clients
+  pub goes-on-fewer : IsSteppedOnce connection crowded now client left → unanswered (with_value clients key left) ≤ unanswered clients
   goes-on-fewer once =
       omega (
         arith,
         unanswered-updates clients (with_value clients key left) key (Some left) written,
         no_one,
-        answered-of left (has-question left (subst IsSome (sym (ap (λ (l : Client C). l.thought) once.kept)) refl)),
+        answered-of left (has-question left (subst IsSome (sym (ap (λ (l : Client C). l.task) once.kept)) refl)),
       )
 
   -- it is answered
-  pub thought-out : IsThoughtOut connection client left seen seeing → IsThoughtAt connection crowded Answered now key clients (with_value clients key left) seen seeing
-  thought-out out = record {
+  pub task-out : IsFinished connection client left seen seeing → IsSteppedAt connection crowded Answered now key clients (with_value clients key left) seen seeing
+  task-out out = record {
     client = client;
     there = is;
     asks = asks;
@@ -110,8 +110,8 @@ module _ {C : Type 0} (connection : ConnectionGhosts C) (crowded : Bool) (now : 
     closed = λ e. absurd (cc e);
   }
 
-  pub thought-out-fewer : IsThoughtOut connection client left seen seeing → unanswered (with_value clients key left) ≤ unanswered clients
-  thought-out-fewer out =
+  pub task-out-fewer : IsFinished connection client left seen seeing → unanswered (with_value clients key left) ≤ unanswered clients
+  task-out-fewer out =
       omega (
         arith,
         unanswered-updates clients (with_value clients key left) key (Some left) written,
@@ -120,7 +120,7 @@ module _ {C : Type 0} (connection : ConnectionGhosts C) (crowded : Bool) (now : 
       )
 
   -- it is closed
-  pub given-up : (new : Slab (Client C)) → Updates (with_value clients key left) new key None → TellsNone seen seeing → IsThoughtAt connection crowded NoMemory now key clients new seen seeing
+  pub given-up : (new : Slab (Client C)) → Updates (with_value clients key left) new key None → TellsNone seen seeing → IsSteppedAt connection crowded NoMemory now key clients new seen seeing
   given-up new removed unread = record {
     client = client;
     there = is;
