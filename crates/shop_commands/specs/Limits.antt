@@ -10,7 +10,7 @@ use Rattle.shop_files.specs.declared.limits.TheConstants.{MAX_TEXT_LEN, MAX_PIEC
 use Rattle.shop_answers.specs.declared.listing.TheConstants.{MAX_LISTED, MAX_LISTED_BYTES}
 use Rattle.shop_records.specs.declared.notes.TheConstants.{MAX_NOTE_LEN}
 use Rattle.shop_records.specs.declared.records.TheConstants.{MAX_RECEIVED}
-use Rattle.shop_machine.specs.declared.receiving.TheConstants.{MAX_ORDER_UNITS}
+use Rattle.shop_machine.specs.declared.receiving.TheConstants.{MAX_RECEIVED_UNITS}
 use Rattle.shop_book.specs.declared.books.TheConstants.{MAX_FAILURES}
 use Rattle.shop_request.specs.Heads.{most_head, most_fields, most_body}
 use Rattle.shop_wire.specs.declared.limits.TheConstants.{MAX_HELD}
@@ -53,7 +53,7 @@ pub record AreFiles : Type 0 where
 -- entries and of what is said of an order, and counted failures
 pub record AreCounts : Type 0 where
   pub numbers : MAX_NUMBERS ≡ 2147483647
-  pub units : MAX_ORDER_UNITS ≡ 100
+  pub units : MAX_RECEIVED_UNITS ≡ 100
   pub received : MAX_RECEIVED ≡ 1000000000000000
   pub count : MAX_COUNT ≡ 1000000
   pub worth : MAX_WORTH ≡ 1000000000
