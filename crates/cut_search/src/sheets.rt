@@ -2,6 +2,7 @@
 
 pub mod best;
 pub mod ceilings;
+pub mod course;
 pub mod dice;
 pub mod dive;
 pub mod flow;

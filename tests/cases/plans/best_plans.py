@@ -4,8 +4,9 @@ tables, would pass, as no contract says how good a plan is. Nothing specifies ho
 the search was measured to need, and a quarter more, so they keep it from getting worse and don't say that it is good."""
 
 import os
+import random
 import subprocess
-from dataclasses import dataclass
+from dataclasses import dataclass, replace
 
 from kit.case import case
 from kit.whole_orders import bar, planned, sheet, sizes_in
@@ -47,15 +48,17 @@ SHEETS = """
 1 1 46 | 61x51 | 14x36*2 38x20t*1 21x32t*2 33x34t*3 34x15*1 15x31t*3 12x32t*2 38x19*1 40x37*2
 3 1 104 | 64x41 | 34x38t*3 34x17t*7 35x34t*11 16x19t*3 38x25t*2 18x17t*9 27x15*4 18x19t*4 21x21t*13 30x33t*10 18x24t*9
 0 1 107 | 84x62 | 47x17*4 20x30*9 30x27t*2 33x21*11 20x17t*3 27x47t*6 39x29*2 29x36*3 40x34t*15 23x21*14 30x21*12 15x49t*15
-"""
-
-
-# Orders of sheets from several sizes that are planned, and not best, with what their best plans cost.
-MIXED = """
 1 1 44 | 67x24 44x38 32x31 | 24x13t*4 24x11*4 11x12*4 12x12t*4 19x19t*4 19x18t*4 11x10*3 11x13t*3 22x24t*3 24x12t*3 19x13*3 19x10t*3 44x38*3
 1 1 139 | 67x24*3 44x38*8 32x31*1 | 24x13t*4 24x11*4 11x12*4 12x12t*4 19x19t*4 19x18t*4 11x10*3 11x13t*3 22x24t*3 24x12t*3 19x13*3 19x10t*3 44x38*3
 """
-MIN_OF_MIXED = 1652800
+
+
+# Orders for which sheets of several sizes may be bought: the kerf, the calls, the sizes and the pieces.
+BOUGHT = """
+30 20 | 24000x13000 21770x11803 15422x11512 | 4407x5499*5 2974x2362*6 7034x2368*5
+30 100 | 24000x13000 21770x11803 15422x11512 | 4407x5499*5 2974x2362*6 7034x2368*5
+1 20 | 67x24 44x38 32x31 | 24x13t*4 24x11*4 11x12*4 12x12t*4 19x19t*4 19x18t*4 11x10*3 11x13t*3 22x24t*3
+"""
 
 
 @dataclass
@@ -131,16 +134,35 @@ def sheets(trial):
     best(trial, SHEETS)
 
 
+def by_chance(count):
+    """Orders by chance that take few sheets, as lines of `BOUGHT`."""
+    dice = random.Random(5)
+    for _ in range(count):
+        pieces = [f"{dice.randint(1500, 8000)}x{dice.randint(1500, 6000)}*{dice.randint(2, 7)}" for _ in range(dice.randint(2, 4))]
+        sizes = [f"{dice.randint(9000, 26000)}x{dice.randint(8000, 15000)}" for _ in range(dice.randint(2, 3))]
+        yield f"30 20 | {' '.join(sizes)} | {' '.join(pieces)}"
+
+
 @case(
-    "plans of sheets from several sizes",
-    "Two orders of many small pieces, from three sizes of sheets, cost at most 7 hundredths more than their best plans.",
+    "more sizes to buy",
+    "With several sizes of sheets to buy, a plan costs at most as much as with any one of them and the same calls, for some listed "
+    "orders and for others by chance. The bound is at most the cost of each of these plans.",
 )
-def several_sizes(trial):
-    for line in MIXED.strip().split("\n"):
+def more_sizes(trial):
+    for line in [*BOUGHT.strip().split("\n"), *by_chance(4)]:
         order = Order.of(line)
-        output = answered(trial, order.yard().replay(trial), order.question(order.calls))
-        trial.equal((output["missing"], output["bound"] <= MIN_OF_MIXED), ([], True), line)
-        trial.holds(MIN_OF_MIXED <= output["cost"] <= 1.07 * MIN_OF_MIXED, f"{output['cost']}: {line}")
+        whole = Order(order.kerf, 1, order.calls, order.units, order.pieces)
+        shop = whole.yard().replay(trial)
+
+        def planned_from(units):
+            output = answered(trial, shop, replace(whole, step=0, units=units).question(order.calls))
+            return sum(it["pieces"] for it in output["missing"]), output["cost"], output["bound"]
+
+        missing, cost, bound = planned_from(order.units)
+        for one in order.units:
+            alone = planned_from([one])
+            trial.holds((missing, cost) <= alone[:2], f"{(missing, cost)}, and from {one} alone {alone}: {line}")
+            trial.holds(alone[0] or bound <= alone[1], f"bound {bound}, and from {one} alone {alone}: {line}")
 
 
 def seconds_of(trial, problem, calls, *step):

@@ -1,6 +1,7 @@
 //! A dive: the program of plans rounded down, or its greatest column taken once, and solved again
 //! for what is left, until nothing is.
 
+use crate::sheets::job::Job;
 use crate::sheets::program::{Program, plan_of};
 use crate::sheets::units::{Plan, Units};
 use crate::sheets::worker::{WIDE_BEAM, Worker};
@@ -18,7 +19,6 @@ const FILLINGS: u32 = 30;
 pub struct Dive {
     /// The units so far.
     pub units: Units,
-    size: usize,
     program: Program,
     /// Whether the program is solved.
     is_solved: bool,
@@ -32,22 +32,40 @@ impl Dive {
         alloc: Global,
         worker: &Worker,
         free: &[u32],
-        size: usize,
         program: Program,
         most_cost: u64,
     ) -> Result<Dive, AllocError> {
         Ok(Dive {
             units: Units::new(alloc, &worker.job, free)?,
-            size,
             program,
             is_solved: true,
             most_cost,
         })
     }
 
-    /// How often a plan may be taken.
-    fn fit(&self, counts: &[u32]) -> u32 {
-        times_within(counts, &self.units.missing).min(self.units.free_of(self.size))
+    /// How often a plan of a size may be taken.
+    fn fit(&self, size: usize, counts: &[u32]) -> u32 {
+        times_within(counts, &self.units.missing).min(self.units.free_of(size))
+    }
+
+    /// The size of a column of the program.
+    fn size_of(&self, place: usize) -> usize {
+        self.program.sizes.get(place).copied().unwrap_or(0)
+    }
+
+    /// The size that is worth most for its cost, among those with a free unit that hold a missing
+    /// piece.
+    fn best_size(&self, worker: &Worker) -> Option<usize> {
+        let mut best: Option<(u64, usize)> = None;
+        for size in &self.program.sizes {
+            let rate = worker.hints.rates.get(*size).copied().unwrap_or(0);
+            let is_able = self.units.free_of(*size) > 0
+                && worker.job.holds_some(*size, &self.units.missing);
+            if is_able && best.map_or(true, |(other, _)| rate > other) {
+                best = Some((rate, *size));
+            }
+        }
+        best.map(|(_, size)| size)
     }
 
     /// Takes the whole parts of the columns; of none the greatest that fits once, if so asked.
@@ -65,10 +83,11 @@ impl Dive {
                 continue;
             };
             let whole = if is_once { 1 } else { whole_units(one.amount) };
-            let times = whole.min(self.fit(&one.plan.counts));
+            let size = self.size_of(one.plan.size);
+            let times = whole.min(self.fit(size, &one.plan.counts));
             if times > 0 {
                 if let Some(plan) = plan_of(alloc, &self.program.plans, &one.plan)? {
-                    let fit = times.min(self.fit(&plan.counts));
+                    let fit = times.min(self.fit(size, &plan.counts));
                     self.units.add(&worker.job, plan, fit)?;
                     done = done || fit > 0;
                 }
@@ -82,9 +101,12 @@ impl Dive {
 
     /// Takes one unit that is filled by the prices. Whether it has a piece.
     fn fill_one(&mut self, alloc: Global, worker: &mut Worker) -> Result<bool, AllocError> {
+        let Some(size) = self.best_size(worker) else {
+            return Ok(false);
+        };
         let left = &self.units.missing;
-        let filled = worker.fill(alloc, self.size, left, &self.program.prices, WIDE_BEAM)?;
-        let fit = self.fit(&filled.plan.counts).min(1);
+        let filled = worker.fill(alloc, size, left, &self.program.prices, WIDE_BEAM)?;
+        let fit = self.fit(size, &filled.plan.counts).min(1);
         if fit > 0 {
             let plan: Rc<Plan> = Rc::new(alloc, filled.plan)?;
             self.units.add(&worker.job, plan, fit)?;
@@ -103,13 +125,10 @@ impl Dive {
 
     /// Begins the program of what is left, with the columns of the one before. Whether there is
     /// one.
-    fn descend(&mut self, alloc: Global) -> Result<bool, AllocError> {
-        let number = match self.units.free_of(self.size) {
-            u32::MAX => None,
-            free => Some(free as u64),
-        };
-        let left = &self.units.missing;
-        let Some(mut next) = Program::new(alloc, self.size, left, number, FILLINGS)? else {
+    fn descend(&mut self, alloc: Global, job: &Job) -> Result<bool, AllocError> {
+        let (left, free) = (&self.units.missing, &self.units.free);
+        let sizes = &self.program.sizes;
+        let Some(mut next) = Program::new(alloc, job, sizes, left, free, FILLINGS)? else {
             return Ok(false);
         };
         for plan in &self.program.plans {
@@ -137,6 +156,6 @@ impl Dive {
         {
             return Ok(true);
         }
-        Ok(!self.descend(alloc)?)
+        Ok(!self.descend(alloc, &worker.job)?)
     }
 }

@@ -10,7 +10,6 @@ use crate::sheets::ceilings::Ceilings;
 use crate::sheets::dive::Dive;
 use crate::sheets::give_up::GiveUp;
 use crate::sheets::greedy::Greedy;
-use crate::sheets::hints::Hints;
 use crate::sheets::job::Job;
 use crate::sheets::program::{MAX_COLUMNS, Program};
 use crate::sheets::rest::Pack;
@@ -87,8 +86,6 @@ pub struct Flow {
     only: Option<usize>,
     /// What it may use of the stock.
     free: Vec<u32>,
-    /// Whether it looks for the bound.
-    has_bound: bool,
     pub best: Best,
     /// What units are given up of.
     start: Option<Units>,
@@ -97,8 +94,6 @@ pub struct Flow {
     task: Task,
     /// Values that are corrected from round to round.
     values: Vec<u64>,
-    /// What pieces are worth by the prices of its own program, where it looks for no bound.
-    own: Option<Vec<u64>>,
     /// Plans for the programs.
     plans: Vec<Rc<Plan>>,
     program: Option<Program>,
@@ -125,19 +120,16 @@ impl Flow {
         worker: &Worker,
         only: Option<usize>,
         free: Vec<u32>,
-        has_bound: bool,
     ) -> Result<Flow, AllocError> {
         Ok(Flow {
             only,
             free,
-            has_bound,
             best: Best::new(),
             start: None,
             stage: Stage::Quick,
             round: 0,
             task: Task::Nothing,
             values: Vec::from_slice(alloc, &worker.hints.cells)?,
-            own: None,
             plans: Vec::new(alloc),
             program: None,
             worths: Vec::new(alloc),
@@ -151,30 +143,14 @@ impl Flow {
         })
     }
 
-    /// How far it is: 0 before its quick plan, 1 before the program of plans, 2 before units are
-    /// given up, 3 then.
-    pub fn level(&self) -> usize {
-        match self.stage {
-            Stage::Quick => 0,
-            Stage::Rounds => 1,
-            Stage::Plans | Stage::Bound | Stage::Priced | Stage::Dive => 2,
-            Stage::Gains | Stage::Fine | Stage::More | Stage::Packs | Stage::Rest | Stage::Ended =>
-                3,
-        }
-    }
-
-    /// What pieces are worth by prices.
-    fn priced(&self, alloc: Global, hints: &Hints) -> Result<Vec<u64>, AllocError> {
-        let priced = match &self.own {
-            Some(own) => Vec::from_slice(alloc, own)?,
-            None => Vec::from_slice(alloc, &hints.priced)?,
-        };
-        Ok(priced)
-    }
-
     /// Whether no more will be found.
     pub fn has_ended(&self) -> bool {
         matches!(self.stage, Stage::Ended)
+    }
+
+    /// Whether it no longer looks for a lower cost.
+    pub fn has_cost(&self) -> bool {
+        matches!(self.stage, Stage::Packs | Stage::Rest | Stage::Ended)
     }
 
     /// What all costs at least by its room, where it uses one size alone.
@@ -205,7 +181,7 @@ impl Flow {
 
     /// Goes on to what is left where no lower cost can be found.
     pub fn finish(&mut self) {
-        if !matches!(self.stage, Stage::Packs | Stage::Rest | Stage::Ended) {
+        if !self.has_cost() {
             self.turn(Stage::Packs);
         }
     }
@@ -226,7 +202,12 @@ impl Flow {
     }
 
     /// Keeps units, if they are the best. Whether they are told.
-    fn offer(&mut self, alloc: Global, worker: &Worker, units: &Units) -> Result<Told, AllocError> {
+    pub fn offer(
+        &mut self,
+        alloc: Global,
+        worker: &Worker,
+        units: &Units,
+    ) -> Result<Told, AllocError> {
         if !self.best.offer(alloc, &worker.job, units)? {
             return Ok(Told::Nothing);
         }
@@ -260,7 +241,7 @@ impl Flow {
             }
             Task::Program(mut program) => {
                 if program.go_on(alloc, worker)? {
-                    return self.end_program(alloc, worker, program);
+                    return self.end_program(alloc, program);
                 }
                 self.task = Task::Program(program);
                 Ok(Told::Nothing)
@@ -287,8 +268,7 @@ impl Flow {
             }
             Task::Dive(mut dive) => {
                 if dive.go_on(alloc, worker)? {
-                    self.turn(Stage::Gains);
-                    return self.offer(alloc, worker, &dive.units);
+                    return self.end_dive(alloc, worker, dive);
                 }
                 self.task = Task::Dive(dive);
                 Ok(Told::Nothing)

@@ -1,82 +1,66 @@
-//! The search for plans of whole orders of sheets: courses that take turns.
+//! The search for plans of whole orders of sheets: a course over the whole stock, and a course for
+//! each size that may be bought, over that size and those that have a limit.
 
 use crate::sheets::best::{Best, found_units};
-use crate::sheets::flow::{Flow, Told};
-use crate::sheets::hints::Hints;
-use crate::sheets::job::Job;
-use crate::sheets::units::Units;
-use crate::sheets::worker::{MAX_WORK, Worker};
+use crate::sheets::course::{Course, places_with};
+use crate::sheets::flow::Told;
+use crate::sheets::worker::{MAX_WORK, TURN};
 use cut_search_bars::found::{Found, FoundUnit};
 use cut_search_bars::stock::SearchSize;
 use cut_wants::wants::Want;
 use std::alloc::{AllocError, Global};
 
-/// What chance begins with.
-const SEED: u64 = 88_172_645_463_325_252;
+/// The courses over one size may be so many turns ahead of the calls of the search. A call of a query
+/// that rates prices isn't a call of the search, and a query for one size alone may have fewer of
+/// these.
+const AHEAD: u64 = 2;
 
-/// So many steps a call makes at most, however little work each is.
-const STEPS: u32 = 2000;
-
-/// So many of the sizes that may be bought are searched on alone, beside the mix: once each has its
-/// quick plan, its first plans, and a plan by prices.
-const MAX_ALONE: [usize; 3] = [6, 3, 2];
+/// The course over the whole stock has at least so much of a call's work.
+const MIN_WHOLE: u64 = 100;
 
 /// A search.
 #[derive(Drop)]
 pub struct SheetSearch {
-    worker: Worker,
-    /// The mix of all sizes, and then each size that may be bought alone.
-    flows: Vec<Flow>,
-    /// Whose turn it is.
-    turn: usize,
-    /// How often the courses that promise least were left.
-    chosen: usize,
+    /// The course over the whole stock.
+    whole: Course,
+    /// The courses over one of the sizes that may be bought and those that have a limit.
+    alone: Vec<Course>,
+    /// How often the search was called.
+    calls: u64,
     /// What was told: pieces that are left out, cost, rest.
     told: Best,
+    /// Whether there are units that are still to be told.
+    has_units: bool,
+    /// Whether there are prices that are still to be told.
+    has_prices: bool,
 }
 
-/// The stock without the sizes that may be bought, but for one.
-fn free_alone(alloc: Global, job: &Job, size: usize) -> Result<Vec<u32>, AllocError> {
-    let mut free = job.numbers(alloc)?;
-    for (place, number) in free.iter_mut().enumerate() {
-        if place != size && job.is_endless(place) {
-            *number = 0;
+/// A course for each size that may be bought, if there are several such sizes. A size that, with
+/// those that have a limit, can't hold each piece that the whole stock holds has no course.
+fn alone_courses(
+    alloc: Global,
+    kerf: u32,
+    step: Option<u32>,
+    stages: Option<u32>,
+    sizes: &[SearchSize],
+    wants: &[Want],
+    whole: &Course,
+) -> Result<Vec<Course>, AllocError> {
+    let mut courses = Vec::new(alloc);
+    let endless = sizes.iter().filter(|size| size.limit.is_none()).count();
+    if endless < 2 {
+        return Ok(courses);
+    }
+    for (place, size) in sizes.iter().enumerate() {
+        if size.limit.is_none() {
+            let places = places_with(alloc, sizes, place)?;
+            let course = Course::new(alloc, kerf, step, stages, sizes, wants, places)?;
+            if course.holds_all(&whole.worker.job) {
+                courses.push(course)?;
+            }
         }
     }
-    Ok(free)
-}
-
-/// The sizes of a stock that hold a piece, with a limit or without.
-fn useful_sizes(alloc: Global, job: &Job, is_endless: bool) -> Result<Vec<usize>, AllocError> {
-    let mut sizes = Vec::new(alloc);
-    for size in 0..job.size_count() {
-        let has_some = job.is_endless(size) || job.order.limits.get(size).copied() != Some(Some(0));
-        if has_some && job.is_endless(size) == is_endless && job.holds_some(size, &job.order.left) {
-            sizes.push(size)?;
-        }
-    }
-    Ok(sizes)
-}
-
-/// The courses of a job.
-fn flows_of(alloc: Global, worker: &Worker) -> Result<Vec<Flow>, AllocError> {
-    let job = &worker.job;
-    let mut flows = Vec::new(alloc);
-    let endless = useful_sizes(alloc, job, true)?;
-    let ending = useful_sizes(alloc, job, false)?;
-    let first = endless.first().copied().or(ending.first().copied());
-    let count = endless.len().saturating_add(ending.len());
-    let only = if count == 1 { first } else { None };
-    let all = job.numbers(alloc)?;
-    flows.push(Flow::new(alloc, worker, only, all, true)?)?;
-    if only.is_none() && (endless.len() > 1 || !ending.is_empty()) {
-        for size in &endless {
-            let alone = if ending.is_empty() { Some(*size) } else { None };
-            let free = free_alone(alloc, job, *size)?;
-            flows.push(Flow::new(alloc, worker, alone, free, false)?)?;
-        }
-    }
-    Ok(flows)
+    Ok(courses)
 }
 
 impl SheetSearch {
@@ -89,129 +73,147 @@ impl SheetSearch {
         sizes: &[SearchSize],
         wants: &[Want],
     ) -> Result<SheetSearch, AllocError> {
-        let job = Job::new(alloc, kerf, step, stages, sizes, wants)?;
-        let hints = Hints::new(alloc, &job)?;
-        let worker = Worker::new(job, hints, SEED);
-        let flows = flows_of(alloc, &worker)?;
+        let mut places = Vec::new(alloc);
+        for place in 0..sizes.len() {
+            places.push(place)?;
+        }
+        let whole = Course::new(alloc, kerf, step, stages, sizes, wants, places)?;
+        let alone = alone_courses(alloc, kerf, step, stages, sizes, wants, &whole)?;
         Ok(SheetSearch {
-            worker,
-            flows,
-            turn: 0,
-            chosen: 0,
+            whole,
+            alone,
+            calls: 0,
             told: Best::new(),
+            has_units: false,
+            has_prices: false,
         })
     }
 
-    /// Leaves the courses that promise least, once all are as far as that takes.
-    fn choose(&mut self, alloc: Global, most: usize) -> Result<(), AllocError> {
-        let mut costs = Vec::new(alloc);
-        for (place, flow) in self.flows.iter().enumerate().skip(1) {
-            if !flow.has_ended() {
-                if flow.level() <= self.chosen {
-                    return Ok(());
-                }
-                let least = flow.least(&self.worker.job);
-                let is_vain = self.told.missing == 0 && least >= self.told.cost;
-                let mean = flow.best.cost.saturating_add(least);
-                costs.push((is_vain, flow.best.missing, mean, place))?;
+    /// Stops the courses over one size that won't find a lower cost than the best plan's.
+    fn leave(&mut self) {
+        let best = &self.whole.flow.best;
+        let is_whole = best.missing == 0;
+        for course in self.alone.iter_mut() {
+            let is_vain = is_whole && course.least() >= best.cost;
+            if is_vain || course.flow.has_cost() {
+                course.flow.stop();
             }
         }
-        costs.sort()?;
-        self.chosen = self.chosen.saturating_add(1);
-        for (_, _, _, place) in costs.iter().skip(most) {
-            if let Some(flow) = self.flows.get_mut(*place) {
-                flow.stop();
+    }
+
+    /// If no lower cost can be found, stops the courses over one size, and the course over the whole
+    /// stock goes on to the largest rest if it has a plan of that cost.
+    fn finish(&mut self, goal: u64) {
+        if self.told.missing > 0 || self.whole.worker.hints.bound < goal {
+            return;
+        }
+        if self.whole.flow.best.missing == 0 && self.whole.flow.best.cost <= goal {
+            self.whole.flow.finish();
+        } else {
+            self.whole.flow.stop();
+        }
+        for course in self.alone.iter_mut() {
+            course.flow.stop();
+        }
+    }
+
+    /// The place of the course over one size that has had the fewest turns, among those that still
+    /// have turns to come.
+    fn next_alone(&self) -> Option<usize> {
+        let mut next: Option<(u64, usize)> = None;
+        let target = self.calls.saturating_add(AHEAD);
+        for (place, course) in self.alone.iter().enumerate() {
+            let turns = course.turns;
+            let is_behind = turns < target && !course.flow.has_ended();
+            if is_behind && next.map_or(true, |(least, _)| turns < least) {
+                next = Some((turns, place));
             }
+        }
+        next.map(|(_, place)| place)
+    }
+
+    /// Offers the units of a course over one size to the course over the whole stock, which keeps
+    /// them if they are its best.
+    fn take_units(&mut self, alloc: Global, place: usize) -> Result<(), AllocError> {
+        let Some(course) = self.alone.get(place) else {
+            return Ok(());
+        };
+        let job = &self.whole.worker.job;
+        let free = job.numbers(alloc)?;
+        if let Some(units) = course.best_units(alloc, job, &free)? {
+            let told = self.whole.flow.offer(alloc, &self.whole.worker, &units)?;
+            self.has_units = self.has_units || told == Told::Units;
         }
         Ok(())
     }
 
-    /// The course whose turn it is: the mix has every other one, and every fourth as long as courses
-    /// are still to be left.
-    fn next_flow(&mut self) -> usize {
-        self.turn = self.turn.saturating_add(1) & 0xffff;
-        let count = self.flows.len();
-        let share = if self.chosen < 2 { 4 } else { 2 };
-        let first = match self.turn.checked_rem(share) {
-            Some(0) => 0,
-            _ => (self.turn / 2).checked_rem(count).unwrap_or(0),
-        };
-        for more in 0..count {
-            let place = first.saturating_add(more).checked_rem(count).unwrap_or(0);
-            if self
-                .flows
-                .get(place)
-                .map_or(false, |flow| !flow.has_ended())
-            {
-                return place;
+    /// Goes on with the courses over one size. Returns how much work they did.
+    fn go_on_alone(&mut self, alloc: Global) -> Result<u64, AllocError> {
+        let most = MAX_WORK.saturating_sub(MIN_WHOLE);
+        let mut spent = 0u64;
+        for _ in 0..self.alone.len().saturating_mul(4) {
+            let Some(place) = self.next_alone() else {
+                break;
+            };
+            let rest = most.saturating_sub(spent);
+            if rest == 0 {
+                break;
+            }
+            if let Some(course) = self.alone.get_mut(place) {
+                let own = course.flow.best.cost;
+                let told = course.take_turn(alloc, rest, own)?;
+                spent = spent.saturating_add(course.worker.spent).saturating_add(1);
+                if told == Told::Units {
+                    self.take_units(alloc, place)?;
+                }
             }
         }
-        count
+        Ok(spent)
     }
 
-    /// The units that a course tells, if they are the best.
-    fn units(&mut self, alloc: Global, place: usize) -> Result<Option<Vec<FoundUnit>>, AllocError> {
-        let Some(flow) = self.flows.get(place) else {
+    /// Goes on with the course over the whole stock, by about so much work at most.
+    fn go_on_whole(&mut self, alloc: Global, most: u64, goal: u64) -> Result<(), AllocError> {
+        match self.whole.run(alloc, most, goal)? {
+            Told::Units => self.has_units = true,
+            Told::Prices => self.has_prices = true,
+            Told::Nothing | Told::Ended => {}
+        }
+        Ok(())
+    }
+
+    /// The best units, if they are better than those that were told.
+    fn units(&mut self, alloc: Global) -> Result<Option<Vec<FoundUnit>>, AllocError> {
+        let job = &self.whole.worker.job;
+        let Some(best) = &self.whole.flow.best.units else {
             return Ok(None);
         };
-        let Some(units) = &flow.best.units else {
-            return Ok(None);
-        };
-        let best: &Units = units;
-        if !self.told.offer_rest(alloc, &self.worker.job, best)? {
+        if !self.told.offer_rest(alloc, job, best)? {
             return Ok(None);
         }
         self.told.units = None;
-        Ok(Some(found_units(alloc, &self.worker.job, best)?))
+        Ok(Some(found_units(alloc, job, best)?))
     }
 
-    /// What a course told.
-    fn found(
-        &mut self,
-        alloc: Global,
-        place: usize,
-        told: Told,
-    ) -> Result<Option<Found>, AllocError> {
-        match told {
-            Told::Nothing | Told::Ended => Ok(None),
-            Told::Units => Ok(self.units(alloc, place)?.map(Found::Units)),
-            Told::Prices => {
-                let Some(flow) = self.flows.get(place) else {
-                    return Ok(None);
-                };
-                Ok(Some(Found::Prices {
-                    numbers: Vec::from_slice(alloc, &flow.worths)?,
-                    points: flow.points,
-                }))
+    /// What a call tells.
+    fn found(&mut self, alloc: Global) -> Result<Found, AllocError> {
+        if self.has_units {
+            self.has_units = false;
+            if let Some(units) = self.units(alloc)? {
+                return Ok(Found::Units(units));
             }
         }
-    }
-
-    /// Where no lower cost can be found, courses go on to the rest.
-    fn finish(&mut self, goal: u64) {
-        if self.told.missing > 0 || self.worker.hints.bound < goal {
-            return;
+        if self.has_prices {
+            self.has_prices = false;
+            return Ok(Found::Prices {
+                numbers: Vec::from_slice(alloc, &self.whole.flow.worths)?,
+                points: self.whole.flow.points,
+            });
         }
-        for flow in self.flows.iter_mut() {
-            if flow.best.missing == 0 && flow.best.cost <= goal {
-                flow.finish();
-            } else {
-                flow.stop();
-            }
+        let is_over = self.alone.iter().all(|course| course.flow.has_ended());
+        if is_over && self.whole.flow.has_ended() {
+            return Ok(Found::Ended);
         }
-    }
-
-    /// Goes on with the course whose turn it is.
-    fn step(&mut self, alloc: Global, goal: u64) -> Result<Option<Found>, AllocError> {
-        if let Some(most) = MAX_ALONE.get(self.chosen) {
-            self.choose(alloc, *most)?;
-        }
-        let place = self.next_flow();
-        let Some(flow) = self.flows.get_mut(place) else {
-            return Ok(Some(Found::Ended));
-        };
-        let told = flow.go_on(alloc, &mut self.worker, goal)?;
-        self.found(alloc, place, told)
+        Ok(Found::Nothing)
     }
 
     /// Goes on, by some 50 ms at most. `least` is the greatest bound that is certified so far,
@@ -228,17 +230,18 @@ impl SheetSearch {
             u64::MAX
         };
         let goal = own.min(best.unwrap_or(u64::MAX));
-        self.worker.hints.bound = self.worker.hints.bound.max(least);
+        let hints = &mut self.whole.worker.hints;
+        hints.bound = hints.bound.max(least);
+        self.calls = self.calls.saturating_add(1);
         self.finish(goal);
-        self.worker.spent = 0;
-        for _ in 0..STEPS {
-            if let Some(found) = self.step(alloc, goal)? {
-                return Ok(found);
-            }
-            if self.worker.spent >= MAX_WORK {
-                break;
-            }
-        }
-        Ok(Found::Nothing)
+        self.leave();
+        let spent = self.go_on_alone(alloc)?;
+        let rest = if self.alone.is_empty() {
+            TURN
+        } else {
+            MAX_WORK.saturating_sub(spent)
+        };
+        self.go_on_whole(alloc, rest, goal)?;
+        self.found(alloc)
     }
 }

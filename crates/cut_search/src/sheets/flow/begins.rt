@@ -6,11 +6,12 @@ use crate::sheets::flow::{COARSE, FINE, Flow, Stage, Task};
 use crate::sheets::give_up::{GiveUp, cheapened};
 use crate::sheets::greedy::{Greedy, MAX_BATCHES};
 use crate::sheets::hints::Hints;
-use crate::sheets::job::sum_of;
+use crate::sheets::job::{Job, sum_of};
 use crate::sheets::program::Program;
 use crate::sheets::rest::Pack;
 use crate::sheets::units::{MAX_ORDER_UNITS, Plan, Units};
 use crate::sheets::worker::{BEAM, PLAIN_BEAM, WIDE_BEAM, Worker};
+use cut_search_bars::relax::offered_sizes;
 use std::alloc::{AllocError, Global};
 use std::rc::Rc;
 
@@ -20,8 +21,11 @@ const ROUNDS: u32 = 2;
 /// Rounds of plans from nothing over several sizes.
 const MIXED_ROUNDS: u32 = 4;
 
-/// Fillings of the program of plans.
+/// Fillings of the program of plans, of one size.
 const COLUMNS: u32 = 300;
+
+/// The same of several sizes.
+const MIXED_COLUMNS: u32 = 600;
 
 /// Tables of a bound's program, at first and where more may help.
 const COARSE_TABLES: u32 = 400;
@@ -90,7 +94,7 @@ impl Flow {
             if self.only.is_some() && self.best.missing > 0 {
                 self.only = None;
             }
-            if self.only.is_none() && self.has_bound {
+            if self.only.is_none() {
                 self.turn(Stage::Bound);
             }
             return Ok(());
@@ -104,7 +108,7 @@ impl Flow {
     /// Begins a round of plans from nothing over several sizes.
     fn begin_mixed_round(&mut self, alloc: Global, worker: &mut Worker) -> Result<(), AllocError> {
         if self.round >= MIXED_ROUNDS || self.is_met(worker) {
-            self.turn(Stage::Gains);
+            self.turn(Stage::Plans);
             return Ok(());
         }
         let mut values = Vec::new(alloc);
@@ -131,7 +135,7 @@ impl Flow {
         }
         if self.round == 0 {
             self.values = if matches!(self.stage, Stage::Priced) {
-                self.priced(alloc, &worker.hints)?
+                Vec::from_slice(alloc, &worker.hints.priced)?
             } else {
                 Vec::from_slice(alloc, &worker.hints.cells)?
             };
@@ -147,21 +151,34 @@ impl Flow {
         Ok(())
     }
 
+    /// The sizes whose plans are columns of the program.
+    fn program_sizes(&self, alloc: Global, job: &Job) -> Result<Vec<usize>, AllocError> {
+        let mut sizes = Vec::new(alloc);
+        if let Some(size) = self.only {
+            sizes.push(size)?;
+            return Ok(sizes);
+        }
+        let offered = offered_sizes(alloc, &job.order.limits)?;
+        for (size, is_offered) in offered.iter().enumerate() {
+            if *is_offered && job.holds_some(size, &job.order.left) {
+                sizes.push(size)?;
+            }
+        }
+        Ok(sizes)
+    }
+
     /// Begins the program of plans.
-    fn begin_plans(
-        &mut self,
-        alloc: Global,
-        worker: &Worker,
-        size: usize,
-    ) -> Result<(), AllocError> {
-        let number = match self.free.get(size) {
-            Some(&u32::MAX) => None,
-            Some(free) => Some(*free as u64),
-            None => None,
-        };
+    fn begin_plans(&mut self, alloc: Global, worker: &Worker) -> Result<(), AllocError> {
+        let sizes = self.program_sizes(alloc, &worker.job)?;
         let left = &worker.job.order.left;
-        let Some(mut program) = Program::new(alloc, size, left, number, COLUMNS)? else {
-            self.turn(Stage::Bound);
+        let fillings = if self.only.is_some() {
+            COLUMNS
+        } else {
+            MIXED_COLUMNS
+        };
+        let made = Program::new(alloc, &worker.job, &sizes, left, &self.free, fillings)?;
+        let Some(mut program) = made else {
+            self.end_plans();
             return Ok(());
         };
         for plan in &self.plans {
@@ -210,7 +227,7 @@ impl Flow {
 
     /// Begins a dive.
     fn begin_dive(&mut self, alloc: Global, worker: &Worker) -> Result<(), AllocError> {
-        let (Some(program), Some(size)) = (self.program.take(), self.only) else {
+        let Some(program) = self.program.take() else {
             self.turn(Stage::Gains);
             return Ok(());
         };
@@ -219,7 +236,7 @@ impl Flow {
             return Ok(());
         }
         let most = self.best.cost.saturating_sub(1);
-        let dive = Dive::new(alloc, worker, &self.free, size, program, most)?;
+        let dive = Dive::new(alloc, worker, &self.free, program, most)?;
         self.task = Task::Dive(dive);
         Ok(())
     }
@@ -229,8 +246,7 @@ impl Flow {
         let order = &worker.job.order;
         let near = (order.grain as u128).saturating_mul(NEAR);
         let least = (worker.hints.bound as u128).saturating_mul(1000);
-        self.has_bound
-            && worker.job.step.is_none()
+        worker.job.step.is_none()
             && !self.worths.is_empty()
             && (self.only.is_none() || self.value.saturating_add(near) > least)
     }
@@ -294,7 +310,8 @@ impl Flow {
             }
             return Ok(worths);
         }
-        self.priced(alloc, hints)
+        let priced = Vec::from_slice(alloc, &hints.priced)?;
+        Ok(priced)
     }
 
     /// Gives units up of a plan.
@@ -463,16 +480,9 @@ impl Flow {
         match (self.stage, self.only) {
             (Stage::Quick, _) => self.begin_quick(alloc, worker),
             (Stage::Rounds, Some(_)) => self.begin_round(alloc, worker, Stage::Plans),
-            (Stage::Plans, Some(size)) => self.begin_plans(alloc, worker, size),
-            (Stage::Rounds | Stage::Plans, None) => self.begin_mixed_round(alloc, worker),
-            (Stage::Bound | Stage::Fine, _) => {
-                if self.has_bound {
-                    self.begin_bound(alloc, worker)
-                } else {
-                    self.end_bound();
-                    Ok(())
-                }
-            }
+            (Stage::Rounds, None) => self.begin_mixed_round(alloc, worker),
+            (Stage::Plans, _) => self.begin_plans(alloc, worker),
+            (Stage::Bound | Stage::Fine, _) => self.begin_bound(alloc, worker),
             (Stage::Priced, _) => self.begin_round(alloc, worker, Stage::Dive),
             (Stage::Dive, _) => self.begin_dive(alloc, worker),
             (Stage::Gains | Stage::More, _) => self.begin_gains(alloc, worker),

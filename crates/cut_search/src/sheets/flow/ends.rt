@@ -1,10 +1,10 @@
 //! What a course makes of each task that has ended.
 
 use crate::sheets::ceilings::Ceilings;
+use crate::sheets::dive::Dive;
 use crate::sheets::flow::{COARSE, FINE, Flow, Stage, Task, Told};
 use crate::sheets::give_up::{GiveUp, Given};
 use crate::sheets::greedy::{Greedy, MAX_BATCHES};
-use crate::sheets::hints::mixed;
 use crate::sheets::program::Program;
 use crate::sheets::rest::Pack;
 use crate::sheets::settle::Settle;
@@ -64,6 +64,7 @@ impl Flow {
                 self.offer(alloc, worker, &greedy.units)
             }
             (_, None) => {
+                self.remember(&greedy.units)?;
                 self.settle(alloc, worker, greedy.units)?;
                 Ok(Told::Nothing)
             }
@@ -74,24 +75,40 @@ impl Flow {
     pub(crate) fn end_program(
         &mut self,
         alloc: Global,
-        worker: &mut Worker,
         program: Program,
     ) -> Result<Told, AllocError> {
-        if !self.has_bound {
-            let priced = mixed(
-                alloc,
-                &worker.job.order,
-                &worker.hints.cells,
-                &program.prices,
-            )?;
-            self.own = Some(priced);
-        }
         self.plans = Vec::new(alloc);
         for plan in &program.plans {
             self.plans.push(Rc::clone(plan)?)?;
         }
         self.program = Some(program);
-        self.turn(Stage::Bound);
+        self.end_plans();
+        Ok(Told::Nothing)
+    }
+
+    /// Goes on behind the program of plans: to the bound, or over several sizes, where the bound is
+    /// known already, to a dive.
+    pub(crate) fn end_plans(&mut self) {
+        let next = match self.only {
+            Some(_) => Stage::Bound,
+            None => Stage::Dive,
+        };
+        self.turn(next);
+    }
+
+    /// Ends a dive.
+    pub(crate) fn end_dive(
+        &mut self,
+        alloc: Global,
+        worker: &Worker,
+        dive: Dive,
+    ) -> Result<Told, AllocError> {
+        self.turn(Stage::Gains);
+        let units = dive.units;
+        if self.only.is_some() {
+            return self.offer(alloc, worker, &units);
+        }
+        self.settle(alloc, worker, units)?;
         Ok(Told::Nothing)
     }
 
