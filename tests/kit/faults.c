@@ -14,6 +14,7 @@
 //   FAULT_STOP   kept, dropped or torn: the process ends at the call of `files`, and of what wasn't synced all stays, nothing,
 //                or in each sector what it held at some time since; halted: it stands still there until it is told to go on
 //   FAULT_SEED   which sectors are torn
+//   FAULT_TICK   the clock that tells a time since some start tells so many milliseconds more at each look, and stands else
 //   FAULT_COUNT  a file of a page, whose first 8 bytes count the calls of the process that was started last; so many seconds as
 //                the next 8 tell are added to each time that is told; where the next 8 aren't 0 the seconds since 1970 are
 //                those that the 8 behind them tell, below 0 before it
@@ -67,7 +68,7 @@ struct note {
 };
 
 static int of, on, error_number, stop, ready;
-static long at, most, seed;
+static long at, most, seed, tick, looks;
 static const char *under;
 static long own_page[4];
 static volatile long *calls = own_page;
@@ -112,6 +113,7 @@ __attribute__((constructor)) static void begin(void) {
     at = number("FAULT_AT", 0);
     most = number("FAULT_BY", 0);
     seed = number("FAULT_SEED", 0);
+    tick = number("FAULT_TICK", 0);
     error_number = number("FAULT_ERROR", EIO);
     const char *path = getenv("FAULT_COUNT");
     if (path) {
@@ -418,6 +420,12 @@ int epoll_wait(int set, void *events, int most, int wait) {
 
 int clock_gettime(int which, void *to) {
     if (fails(which == SINCE_1970 ? DATE : CLOCK)) return -1;
+    if (tick && which != SINCE_1970) {
+        long now = ++looks * tick, *told = to;
+        told[0] = now / 1000;
+        told[1] = now % 1000 * 1000000;
+        return 0;
+    }
     int result = syscall(CLOCK_GETTIME_CALL, which, to);
     if (!result) *(long *)to = which == SINCE_1970 && calls[2] ? calls[3] : *(long *)to + calls[1];
     return result;

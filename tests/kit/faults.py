@@ -47,9 +47,9 @@ class Faults:
     `at`-th, from 1 (0: none); once or from then `on`; with this error. Streams take at most `by` bytes a call. `stop`: the
     program ends there, with what wasn't synced kept, dropped or torn by a `seed`, or stands still there until it is told to go on
     (halted). `under` is the folder of the files, the case's own where none is given. `date`: the seconds since 1970 that the clock
-    reports, which stand still."""
+    reports, which stand still; `tick`: the milliseconds by which its other clock goes on at each look, standing still else."""
 
-    def __init__(self, trial, of="", at=0, on=False, error=errno.EIO, by=0, stop="", seed=0, under=None, date=None):
+    def __init__(self, trial, of="", at=0, on=False, error=errno.EIO, by=0, stop="", seed=0, under=None, date=None, tick=0):
         # (each run has its own count)
         number, self.count_path = tempfile.mkstemp(dir=trial.folder, prefix="calls-")
         os.truncate(number, 4096)
@@ -66,6 +66,7 @@ class Faults:
             "FAULT_BY": str(by),
             "FAULT_STOP": stop,
             "FAULT_SEED": str(seed),
+            "FAULT_TICK": str(tick),
             "FAULT_UNDER": os.path.realpath(trial.folder) if under is None else under,
             "FAULT_COUNT": self.count_path,
         }

@@ -11,6 +11,7 @@ ghost use Rattle.shop_audit.specs.Whole.{HoldsPart};
 ghost use Rattle.shop_audit.specs.declared.again.Again.TheVariants.{Same as AllSame};
 ghost use Rattle.shop_audit.specs.declared.again.Found.TheVariants.{Same};
 
+use crate::progress::Progress;
 use shop_book::{Book, BookFault};
 use shop_desk::handle_with_text_at;
 use shop_messages::kept_message;
@@ -248,12 +249,13 @@ fn is_other(found: Found) -> bool {
     }
 }
 
-/// Does the messages of all entries anew on a fresh book, in their order, each entry with its time.
-pub(crate) fn all_again<B: Book, F: Book>(
+/// Does the messages of all entries anew on a fresh book, in their order, each entry with its time, and notes how far it is.
+pub(crate) fn all_again<B: Book, F: Book, P: Progress>(
     alloc: Global,
     book: &mut B,
     anew: &mut F,
     entries: u64,
+    progress: &mut P,
 ) -> Result<Again, BookFault>
     requires { F.holds anew.old fresh }
     ensures given { OnContent B.Book book.old book.new (λ m. F.has_clean_disk anew.new
@@ -269,6 +271,7 @@ pub(crate) fn all_again<B: Book, F: Book>(
             return Ok(Again::Other(number));
         }
         same = with_found(same, found);
+        progress.note(number, entries);
     }
     if same {
         Ok(Again::Same)

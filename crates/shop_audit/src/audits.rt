@@ -10,6 +10,7 @@ ghost use Rattle.shop_audit.specs.declared.audits.Verdict.TheVariants.{Whole};
 
 use crate::again::{Again, all_again};
 use crate::compared::have_same_texts;
+use crate::progress::Progress;
 use shop_book::{Book, BookFault};
 use std::alloc::Global;
 
@@ -81,29 +82,32 @@ fn rows_verdict<B: Book, F: Book>(
 }
 
 // What is found of a book that has so many entries, and keeps no message from before.
-fn judged<B: Book, F: Book>(
+fn judged<B: Book, F: Book, P: Progress>(
     alloc: Global,
     book: &mut B,
     anew: &mut F,
     entries: u64,
+    progress: &mut P,
 ) -> Result<Verdict, BookFault>
     requires { F.holds anew.old fresh }
     ensures whole { OnContent B.Book book.old book.new (λ m. F.has_clean_disk anew.new
         → IfOk result (λ verdict. verdict ≡ Whole → IsWhole json_texts m)) }
     ensures keeps { IsLookedAt B.Book book.old book.new }
 {
-    match all_again(alloc, book, anew, entries)? {
+    match all_again(alloc, book, anew, entries, progress)? {
         Again::Other(number) => Ok(Verdict::Reply(number)),
         Again::Differ => Ok(Verdict::Row),
         Again::Same => rows_verdict(alloc, book, anew, entries),
     }
 }
 
-/// Does the messages of a book's entries anew on a fresh book, and compares what comes of them with what the book has.
-pub fn audit_book<B: Book, F: Book>(
+/// Does the messages of a book's entries anew on a fresh book, and compares what comes of them with what the book has. It notes
+/// how many entries are done.
+pub fn audit_book<B: Book, F: Book, P: Progress>(
     alloc: Global,
     book: &mut B,
     anew: &mut F,
+    progress: &mut P,
 ) -> Result<Audit, BookFault>
     requires { F.holds anew.old fresh }
     ensures whole { OnContent B.Book book.old book.new (λ m. F.has_clean_disk anew.new
@@ -120,6 +124,6 @@ pub fn audit_book<B: Book, F: Book>(
             verdict: Verdict::KeptBefore(messages - entries),
         });
     }
-    let verdict = judged(alloc, book, anew, entries)?;
+    let verdict = judged(alloc, book, anew, entries, progress)?;
     Ok(Audit { entries, verdict })
 }

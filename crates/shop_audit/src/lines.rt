@@ -9,6 +9,7 @@ ghost use Rattle.shop_audit.specs.Compared.{IsLookedAt};
 ghost use Rattle.shop_audit.specs.Lines.{AppendsPart, history_text, line_at, line_of, lines, told_at};
 ghost use Rattle.shop_audit.specs.declared.lines.LinesFault.TheVariants.{Write};
 
+use crate::progress::Progress;
 use shop_book::{Book, BookFault};
 use shop_records::{EntryTold, Kept};
 use shop_replies::entry_text;
@@ -121,13 +122,14 @@ fn write_entry<B: Book, W: Sink>(
     write_bytes(line.as_bytes(), sink)
 }
 
-// Writes the lines of so many entries behind a number.
-fn write_lines<B: Book, W: Sink>(
+// Writes the lines of so many entries behind a number, and notes how far it is.
+fn write_lines<B: Book, W: Sink, P: Progress>(
     alloc: Global,
     book: &mut B,
     after: u64,
     count: u64,
     sink: &mut W,
+    progress: &mut P,
 ) -> Result<(), LinesFault>
     requires { after + count < 2 ^ 64 }
     ensures ok { OnContent B.Book book.old book.new (λ m. OnOk result
@@ -140,16 +142,18 @@ fn write_lines<B: Book, W: Sink>(
 {
     for done in 0..count {
         write_entry(alloc, book, after + done + 1, sink)?;
+        progress.note(done + 1, count);
     }
     Ok(())
 }
 
-/// Writes all entries with greater numbers, one a line, rising.
-pub fn write_history<B: Book, W: Sink>(
+/// Writes all entries with greater numbers, one a line, rising. It notes how many of them are done.
+pub fn write_history<B: Book, W: Sink, P: Progress>(
     alloc: Global,
     book: &mut B,
     after: u64,
     sink: &mut W,
+    progress: &mut P,
 ) -> Result<(), LinesFault>
     ensures ok { OnContent B.Book book.old book.new (λ m. OnOk result
         (Appends (W.held sink.old) (W.held sink.new) (history_text m after))) }
@@ -160,5 +164,6 @@ pub fn write_history<B: Book, W: Sink>(
     ensures keeps { IsLookedAt B.Book book.old book.new }
 {
     let (last, _) = book.last_entry()?;
-    write_lines(alloc, book, after, last.saturating_sub(after), sink)
+    let count = last.saturating_sub(after);
+    write_lines(alloc, book, after, count, sink, progress)
 }

@@ -27,6 +27,7 @@ helps r (cause.Store c) of no_help = absurd no_help
 helps r (cause.Version c) of no_help = absurd no_help
 helps r (cause.Port c) of no_help = absurd no_help
 helps r (cause.Backup c) of no_help = absurd no_help
+helps r cause.Memory of no_help = absurd no_help
 helps r cause.Input of no_help = absurd no_help
 helps r cause.Output of no_help = absurd no_help
 helps r cause.Before of no_help = elim no_help [ ]

@@ -1,5 +1,6 @@
 -- The second line of a fault: what it was, and why.
-use Rattle.std.specs.Prelude.{◌≡◌, ◌⊎◌, ⊤, ℕ, ◌==◌, Bool, true, false, List, [], ◌∷◌, ◌++◌, codes, string_bytes}
+use Rattle.std.specs.Prelude.{◌≡◌, ◌⊎◌, ⊤, ℕ, ◌+◌, ◌*◌, ◌/◌, ◌==◌, Bool, true, false, List, [], ◌∷◌, ◌++◌, codes, if◌then◌else◌, string_bytes}
+use Rattle.std.specs.Fmt.{decimal}
 use Rattle.std.specs.List.{list_any}
 use Rattle.shop_files.specs.declared.problems.TextCause.{TextCause}
 use Rattle.shop_files.specs.declared.problems.TextCause.TheVariants as text
@@ -12,7 +13,7 @@ use Rattle.shop_commands.specs.declared.advice.Advice.{Advice}
 use Rattle.shop_commands.specs.declared.advice.Cause.{Cause}
 use Rattle.shop_commands.specs.declared.advice.Cause.TheVariants as cause
 use Rattle.shop_commands.specs.declared.faults.Fault.{Fault}
-use Rattle.shop_commands.specs.declared.faults.Fault.TheVariants.{File, Text, Order, ShopText, ShopEntry, Entry, Refused, Read, Write, Store, Version, Port, Backup, Audit}
+use Rattle.shop_commands.specs.declared.faults.Fault.TheVariants.{File, Text, Order, ShopText, ShopEntry, Entry, Refused, Read, Write, NoMemory, Store, Version, Port, Backup, Audit}
 use Rattle.shop_commands.specs.declared.faults.Torn.TheVariants as torn
 use Rattle.shop_commands.specs.Faults.{fault_text}
 
@@ -61,6 +62,7 @@ cause_text (cause.Store c) = store_text c
 cause_text (cause.Version c) = version_text c
 cause_text (cause.Port c) = port_text c
 cause_text (cause.Backup c) = backup_text c
+cause_text cause.Memory = codes "memory ran out; end other programs, or give this one more; its shop takes some "
 cause_text cause.Input = codes "it can't be read to its end"
 cause_text cause.Output = codes "it can't be written; is its disk full, or its reader gone?"
 cause_text cause.Before = codes " messages were kept before entries began"
@@ -71,6 +73,14 @@ cause_text cause.Row = []
 abbrev pub joint : Cause → List ℕ
 joint cause.Before = []
 joint c = codes ": "
+
+-- about how many megabytes a store of so many bytes takes; three times as many where its files are read into memory whole
+abbrev pub wanted_megabytes : (is_apart : Bool) → (bytes : ℕ) → ℕ
+wanted_megabytes is_apart bytes =
+    if is_apart then 3 * (bytes / 1000000 + 1) + 16 else bytes / 1000000 + 1 + 16
+
+abbrev pub wanted_text : (is_apart : Bool) → (bytes : ℕ) → List ℕ
+wanted_text is_apart bytes = decimal (wanted_megabytes is_apart bytes) ++ codes " MB"
 
 -- why the lines of an order file aren't planned
 abbrev pub lines_cause : Refusal → Cause
@@ -104,6 +114,7 @@ FitsFault (Refused r) cause.Lines = r ≡ refusal.BadWant
 FitsFault (Refused r) cause.Made = ⊤
 FitsFault Read cause.Input = ⊤
 FitsFault Write cause.Output = ⊤
+FitsFault NoMemory cause.Memory = ⊤
 FitsFault (Store c) (cause.Store d) = d ≡ c
 FitsFault (Version c) (cause.Version d) = d ≡ c
 FitsFault (Port c) (cause.Port d) = d ≡ c

@@ -1,5 +1,7 @@
--- What a server tells of itself on standard error.
-use Rattle.std.specs.Prelude.{ℕ, List, [], ◌++◌, Option, Some, None, codes, decimal}
+-- What a server tells of itself on standard error, and an audit or a history of how far it is.
+use Rattle.std.specs.Prelude.{ℕ, Bool, List, [], ◌++◌, ◌-◌, ◌*◌, Option, Some, None, codes, decimal, if◌then◌else◌, nat_lt}
+use Rattle.std.specs.Time.{instant_nanos}
+use Rattle.std.specs.declared.time.Instant.{Instant}
 use Rattle.shop_words.specs.declared.words.TheConstants.{VERSION}
 
 -- what it tells when it begins, of a store that was made, and of one that was there
@@ -8,6 +10,9 @@ new_line store = codes "cutshop " ++ VERSION.now ++ codes ": serving " ++ store 
 
 abbrev pub known_line : List ℕ → List ℕ
 known_line store = codes "cutshop " ++ VERSION.now ++ codes ": serving " ++ store ++ codes ", a store that was there"
+
+abbrev pub told_line : List ℕ → (is_new : Bool) → List ℕ
+told_line store is_new = if is_new then new_line store else known_line store
 
 -- how many messages are kept, where that was counted
 abbrev pub kept_text : Option ℕ → List ℕ
@@ -21,3 +26,11 @@ begin_line told kept = (told ++ kept) ++ codes "\n"
 -- the line with which it ends
 abbrev pub end_line : List ℕ → List ℕ
 end_line store = codes "cutshop " ++ VERSION.now ++ codes ": ended serving " ++ store ++ codes "\n"
+
+-- how many entries of an audit or a history are done, of all
+abbrev pub progress_line : (done all : ℕ) → List ℕ
+progress_line done all = codes "cutshop: " ++ decimal done ++ codes " of " ++ decimal all ++ codes " entries\n"
+
+-- less than half a second went by since a line was told
+abbrev pub is_early : (told now : Instant) → Bool
+is_early told now = nat_lt (instant_nanos now - instant_nanos told) (500 * 1000000)

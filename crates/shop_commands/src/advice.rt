@@ -11,6 +11,7 @@ ghost use Rattle.shop_commands.specs.declared.faults.Fault.TheVariants as fault;
 use crate::faults::{Fault, Torn};
 use crate::files::read_file;
 use crate::helping::{lines_cause, step_advice};
+use crate::memory::memory_advice;
 use shop_advice::{
     BackupCause, FileCause, ShopCause, StoreCause, VersionCause, is_there, look_at_file,
     look_at_shop,
@@ -63,6 +64,8 @@ pub enum Cause {
     Port(PortCause),
     /// No backup can be made in a folder, or it is none.
     Backup(BackupCause),
+    /// Memory ran out, and a store takes so much.
+    Memory,
     /// Standard input can't be read.
     Input,
     /// Standard output can't be written.
@@ -159,6 +162,9 @@ fn cause_text(cause: Cause) -> &'static str
         Cause::Version(cause) => cause.text(),
         Cause::Port(cause) => port_text(cause),
         Cause::Backup(cause) => cause.text(),
+        Cause::Memory => {
+            "memory ran out; end other programs, or give this one more; its shop takes some "
+        }
         Cause::Input => "it can't be read to its end",
         Cause::Output => "it can't be written; is its disk full, or its reader gone?",
         Cause::Before => " messages were kept before entries began",
@@ -497,8 +503,8 @@ fn system_advice(alloc: Global, request: &Request<'_>, fault: Fault) -> Option<A
     }
 }
 
-/// Why the work on a request stopped; `is_new` where its store wasn't there before. None for want of memory, and of an order
-/// file's fault.
+/// Why the work on a request stopped; `is_new` where its store wasn't there before. None for want of memory to say it, of an order
+/// file's fault, and where memory ran out over no store.
 pub(crate) fn advise<R: Files>(
     rt: &R,
     alloc: Global,
@@ -528,6 +534,7 @@ pub(crate) fn advise<R: Files>(
             Cause::Refused(refused.refusal),
         ),
         Fault::Refused(refusal) => refused_advice(rt, alloc, request, is_new, *refusal),
+        Fault::NoMemory => memory_advice(rt, alloc, request),
         _ => system_advice(alloc, request, *fault),
     }
 }

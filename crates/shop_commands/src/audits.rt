@@ -10,12 +10,15 @@ ghost use Rattle.shop_records.specs.Content.{fresh};
 
 use crate::faults::{Fault, Torn};
 use crate::files::write_text;
+use crate::progress::Meter;
 use shop_advice::StoreCause;
-use shop_audit::{Audit, Row, Verdict, audit_book, first_row, write_history};
+use shop_audit::{Audit, Progress, Row, Verdict, audit_book, first_row, write_history};
 use shop_opening::{Made, OpenAs, OpenFault, Opens};
 use shop_store::{Book, MemBook};
 use shop_text::Sink;
 use std::alloc::{AllocError, Global};
+use std::io::Eprint;
+use std::time::Clock;
 
 // What it is that a store can't be opened: one that isn't there is a file that isn't, unless its files are only read.
 fn unfound(fault: OpenFault, read_only: bool) -> Fault
@@ -65,7 +68,8 @@ fn number_of(after: Option<u32>) -> u64
 }
 
 /// Prints the entries of a store behind a number, or all.
-pub(crate) fn print_history<B: Book + Drop, O: Opens<B>, W: Sink>(
+pub(crate) fn print_history<R: Eprint + Clock, B: Book + Drop, O: Opens<B>, W: Sink>(
+    rt: &R,
     stores: O,
     alloc: Global,
     store: &str,
@@ -79,7 +83,8 @@ pub(crate) fn print_history<B: Book + Drop, O: Opens<B>, W: Sink>(
         (spec.number_of after) f (change_of W.Sink sink.old sink.new)) }
 {
     let mut book = open_known(stores, alloc, store, read_only)?;
-    let written = write_history(alloc, &mut book, number_of(after), sink);
+    let mut progress = Meter::new(rt, alloc);
+    let written = write_history(alloc, &mut book, number_of(after), sink, &mut progress);
     O::close(book);
     match written {
         Ok(()) => Ok(()),
@@ -122,13 +127,18 @@ fn tell_torn<W: Sink>(alloc: Global, entries: u64, torn: Torn, sink: &mut W) -> 
 }
 
 // Does a book's entries anew over a fresh one in memory.
-fn audit<B: Book>(alloc: Global, book: &mut B, anew: &mut MemBook) -> Result<Audit, Fault>
+fn audit<B: Book, P: Progress>(
+    alloc: Global,
+    book: &mut B,
+    anew: &mut MemBook,
+    progress: &mut P,
+) -> Result<Audit, Fault>
     requires texts { HoldsTexts anew.old.storage fresh }
     requires rows { content_in anew.old.ledger ≡ fresh }
     ensures ok { IfOk result (IsAuditOf B.Book book.old book.new) }
     ensures err { IfErr result IsFailure }
 {
-    match audit_book(alloc, book, anew) {
+    match audit_book(alloc, book, anew, progress) {
         Ok(audit) => Ok(audit),
         Err(fault) => Err(Fault::from(fault)),
     }
@@ -165,13 +175,18 @@ fn tell_row<B: Book, W: Sink>(
 }
 
 // Audits a book over one in memory, and prints how many entries it has and that it is whole, where it is.
-fn judge<B: Book, W: Sink>(alloc: Global, book: &mut B, sink: &mut W) -> Result<(), Fault>
+fn judge<B: Book, W: Sink, P: Progress>(
+    alloc: Global,
+    book: &mut B,
+    sink: &mut W,
+    progress: &mut P,
+) -> Result<(), Fault>
     ensures ok { OnOk result (IsJudged B.Book book.old book.new
         (change_of W.Sink sink.old sink.new)) }
     ensures err { IfErr result (IsUnjudged (change_of W.Sink sink.old sink.new)) }
 {
     let mut anew = MemBook::new(alloc);
-    let audit = audit(alloc, book, &mut anew)?;
+    let audit = audit(alloc, book, &mut anew, progress)?;
     match audit.verdict {
         Verdict::Whole => tell_whole(alloc, audit.entries, sink),
         Verdict::KeptBefore(count) => tell_torn(alloc, audit.entries, Torn::Before(count), sink),
@@ -181,7 +196,8 @@ fn judge<B: Book, W: Sink>(alloc: Global, book: &mut B, sink: &mut W) -> Result<
 }
 
 /// Tells whether a store is whole. Its files are read into memory, and neither of them changes.
-pub(crate) fn audit_store<B: Book + Drop, O: Opens<B>, W: Sink>(
+pub(crate) fn audit_store<R: Eprint + Clock, B: Book + Drop, O: Opens<B>, W: Sink>(
+    rt: &R,
     apart: O,
     alloc: Global,
     store: &str,
@@ -194,7 +210,8 @@ pub(crate) fn audit_store<B: Book + Drop, O: Opens<B>, W: Sink>(
         (change_of W.Sink sink.old sink.new)) }
 {
     let mut book = open_known(apart, alloc, store, read_only)?;
-    let judged = judge(alloc, &mut book, sink);
+    let mut progress = Meter::new(rt, alloc);
+    let judged = judge(alloc, &mut book, sink, &mut progress);
     O::close(book);
     judged
 }

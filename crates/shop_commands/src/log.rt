@@ -29,6 +29,17 @@ fn known_line(alloc: Global, store: &str) -> Result<String, AllocError>
     format!(in alloc; "cutshop {VERSION}: serving {store}, a store that was there")
 }
 
+// What it tells when it begins, of a store that was made or was there.
+fn told_line(alloc: Global, store: &str, is_new: bool) -> Result<String, AllocError>
+    ensures { IfOk result (λ line. string_bytes line ≡ spec.told_line store.now is_new) }
+{
+    if is_new {
+        new_line(alloc, store)
+    } else {
+        known_line(alloc, store)
+    }
+}
+
 // How many messages are kept, where that was counted.
 fn kept_text(alloc: Global, kept: Option<u32>) -> Result<String, AllocError>
     ensures { IfOk result (λ text. string_bytes text ≡ spec.kept_text kept) }
@@ -72,12 +83,7 @@ pub(crate) fn note_begin<R: Eprint + Clock>(
     is_new: bool,
     kept: Option<u32>,
 ) {
-    let told = if is_new {
-        new_line(alloc, store)
-    } else {
-        known_line(alloc, store)
-    };
-    if let Ok(told) = told {
+    if let Ok(told) = told_line(alloc, store, is_new) {
         if let Ok(kept) = kept_text(alloc, kept) {
             note(rt, lines, begin_line(alloc, told.as_str(), kept.as_str()));
         }

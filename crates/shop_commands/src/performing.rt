@@ -219,13 +219,15 @@ fn do_request<
             store,
             after,
             read_only: false,
-        } => print_history(stores, alloc, store, *after, false, sink),
+        } => print_history(rt, stores, alloc, store, *after, false, sink),
         Request::History {
             store,
             after,
             read_only: true,
-        } => print_history(apart, alloc, store, *after, true, sink),
-        Request::Audit { store, read_only } => audit_store(apart, alloc, store, *read_only, sink),
+        } => print_history(rt, apart, alloc, store, *after, true, sink),
+        Request::Audit { store, read_only } => audit_store(
+            rt, apart, alloc, store, *read_only, sink,
+        ),
         Request::Restore { store, from } => restore(rt, apart, alloc, store, from, sink),
     }
 }

@@ -1,9 +1,12 @@
 """Requests for memory that are refused, one after the other: what is answered then, and what is kept."""
 
 import os
+import resource
 
-from kit import tables
-from kit.case import case, fault_in
+from kit import aged, tables
+from kit.audits import lies_there
+from kit.case import Skipped, case, fault_in
+from kit.commands import taken_port
 from kit.days import ASKED, NAMES, day_of
 from kit.memory import replayed, served, sweep, texts_refused
 
@@ -111,3 +114,79 @@ def commands(trial):
     swept(41, refused, "yield", "--store", store, "GLASS")
     swept(97, refused[:1], "audit", "--store", store)
     swept(97, refused[:1], "history", "--store", store)
+
+
+# ---- a shop that is too large
+
+MEGABYTE = 1 << 20
+
+# How many parts a shop has that is too large for little memory.
+PARTS = 20000
+
+
+def large(trial, name):
+    """The path of a store of many scrapped parts that plain SQL made once."""
+
+    def make(path):
+        rows = {**aged.book("STEEL", 0, 0, aged.HISTORY + PARTS, aged.HISTORY + PARTS, 100 * PARTS), **aged.history(PARTS, "STEEL")}
+        tables.make(path, {**rows, "totals2": [("STEEL", 100 * PARTS, 0, 0, 0, 0, 100 * PARTS, 0)]})
+
+    return tables.copy(aged.once(f"large-{PARTS}.db", make), trial.path(name))
+
+
+def within(trial, megabytes, words):
+    """Runs a command with so much room for addresses."""
+    size = megabytes * MEGABYTE
+    return trial.run(*words, prepare=lambda: resource.setrlimit(resource.RLIMIT_AS, (size, size)))
+
+
+def least_room(trial, words):
+    """The fewest megabytes with which a command doesn't report that memory ran out."""
+    too_few, enough = 0, 1024
+    while enough - too_few > 1:
+        middle = (too_few + enough) // 2
+        ran = within(trial, middle, words)
+        if ran.status in (0, 1) and not ran.err.startswith(b"fault memory"):
+            enough = middle
+        else:
+            too_few = middle
+    return enough
+
+
+def wanted(path, is_apart):
+    """How many megabytes a store takes by the second line: one and 16 more for each whole million of bytes of its files; three times as many for the files of
+    one that is read into memory whole."""
+    each = sum(os.path.getsize(path + end) for end in ("", "-wal") if os.path.exists(path + end)) // 1000000 + 1
+    return (3 if is_apart else 1) * each + 16
+
+
+@case(
+    "a shop too large for the memory at hand",
+    "If a store of 20000 parts doesn't fit into the memory that the program may have, each command on it ends with `fault memory` and a second line "
+    "that says about how much the store takes, and both files stay byte for byte. A store without a part opens with as much memory.",
+)
+def too_large(trial):
+    if trial.is_watched():
+        raise Skipped("the program was built without proofs, and takes other memory")
+    path = large(trial, "large.db")
+    trial.shop("small.db").kill()
+    shop_file = trial.write("shop.toml", "")
+    commands = [("ticket", "7"), ("yield", "GLASS"), ("history", "--after", "4294967295"), ("yield", "GLASS", "--read-only"), ("audit",)]
+    with taken_port() as port:
+        for words in (*commands, ("serve", "--port", str(port), "--shop", shop_file)):
+            is_too_large(trial, path, words)
+
+
+def is_too_large(trial, path, words):
+    """With less than the least memory that it takes, a command on this store ends because memory ran out, and on a small one it doesn't."""
+    command, *more = words
+    is_apart = command == "audit" or "--read-only" in more
+    enough = least_room(trial, (command, "--store", "large.db", *more))
+    line = f"large.db: memory ran out; end other programs, or give this one more; its shop takes some {wanted(path, is_apart)} MB"
+    before = lies_there(path)
+    for less in (1, 2, 3):
+        ran = within(trial, enough - less, (command, "--store", "large.db", *more))
+        trial.ended(ran, 1, err="fault memory\n", why=line, sent=f"{command} {more} with {enough - less} MB")
+        small = within(trial, enough - less, (command, "--store", "small.db", *more))
+        trial.equal(small.err.startswith(b"fault memory"), False, f"{command} {more} of a small store with {enough - less} MB")
+    trial.equal(lies_there(path) == before, True, f"{command} {more}: both files as they were")

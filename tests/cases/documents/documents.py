@@ -239,7 +239,7 @@ def quoted(trial):
 
 
 # Texts of docs/errors.txt in which the code fills something in.
-FILLED_IN = ("entry 812: ", "parts: 2/4 ", "invalid value '", "a step is ", "materials GLASS", " and begin with no ")
+FILLED_IN = ("entry 812: ", "parts: 2/4 ", "invalid value '", "a step is ", "materials GLASS", " and begin with no ", "memory ran out; end other programs, or give this one more; ")
 
 
 @case(

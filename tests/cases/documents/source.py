@@ -412,6 +412,8 @@ LAWLESS = {
     "shop_planning asking ALL_ROWS": ("MAX_NUMBERS as usize", "left_demands planned_parts", "all rows of a list, of which none has a greater number"),
     "shop_planning asking FIRST_ROWS": ("2000", "planned_parts", "so many rows are read first; where these don't suffice all are"),
     "shop_problems wholes DEFAULT_CALLS": ("500", "plan_from plan_order", "tables of a search where the words say no number, as the formats have it"),
+    "shop_commands memory MIN_MEGABYTES": ("16", "wanted_megabytes", "what the program takes without a store, by the second line: the definition `wanted_megabytes` has the number"),
+    "shop_commands progress PAUSE": ("500", "is_early", "milliseconds between two lines that say how far a work is: the definition `is_early` has the number"),
     "shop_request fields MAX_BODY_LEN": ("131072", "short_number", "the definition `most_body` has the number"),
     "shop_request heads MAX_HEAD_LEN": ("8192", "least_bytes part_fault prefix_of", "the definition `most_head` has the number"),
     "shop_request heads MAX_FIELDS": ("64", "new read", "the definition `most_fields` has the number"),

@@ -1,4 +1,4 @@
-"""`cutshop history`: the entries of a store as lines."""
+"""`cutshop history`: the entries of a store as lines; and how far it and an audit are, as reported on a terminal."""
 
 import json
 
@@ -10,6 +10,7 @@ from kit.faults import Faults
 from kit.full_day import DAY, EXCHANGES, STEEL_FILE, all_entries, history
 from kit.journals import Journal, journal_of
 from kit.questions import compact
+from kit.ttys import at_terminal
 
 # When the day of each command is; an entry behind each other one, so many seconds later.
 DATE, STEP = 1000, 7
@@ -146,3 +147,64 @@ def texts(trial):
 
 
 # ---- how far it is
+
+# By how many milliseconds a clock goes on at each look, and at every how manieth entry half a second went by since the line before.
+TICKS = ((1, 500), (99, 6), (100, 5), (166, 4), (167, 3), (249, 3), (250, 2), (499, 2), (500, 1), (1999, 1))
+
+
+def lines_of(count, every):
+    return "".join(f"cutshop: {done} of {count} entries\n" for done in range(every, count + 1, every))
+
+
+def reported(trial, command, words, tick, terminal="stderr"):
+    """What a command with a terminal as one of its outputs writes on the other one, and on the terminal, and its status."""
+    faults = Faults(trial, tick=tick)
+    status, other, seen, _ = at_terminal([trial.program, command, *words], terminal, trial.folder, faults.environment)
+    faults.end()
+    return status, other.decode(), seen.decode().replace("\r\n", "\n")
+
+
+@case(
+    "how far an audit and a history are",
+    "If standard error is a terminal, `audit` and `history` report there how many entries are done, of all or of those behind a number, one line "
+    "each half second at most and none before, and print what they print otherwise; the fault of a store that isn't whole stands behind these lines.",
+)
+def how_far(trial):
+    path, journal = day(trial)
+    count = len(DAY)
+    torn = audits.changed(trial, path, "torn.db", audits.other_reply(count))
+    for tick, every in TICKS if not trial.is_watched() else TICKS[2::6]:
+        so_far = lines_of(count, every)
+        for words in ((), ("--read-only",)):
+            whole = reported(trial, "audit", ("--store", "day.db", *words), tick)
+            trial.equal(whole, (0, f"entries {count}\nwhole\n", so_far), f"audit, {tick} ms a look")
+            printed_so = reported(trial, "history", ("--store", "day.db", *words), tick)
+            trial.equal(printed_so, (0, journal.lines(), so_far), f"history, {tick} ms a look")
+        for last in (1, count - 7, count - 1, count, count + 1):
+            printed_so = reported(trial, "history", ("--store", "day.db", "--after", str(last)), tick)
+            trial.equal(printed_so, (0, journal.lines(last), lines_of(max(count - last, 0), every)), f"behind {last}, {tick} ms a look")
+        fault = f"fault audit\n  entry {count}: another reply\n"
+        seen = reported(trial, "audit", ("--store", torn), tick)
+        trial.equal(seen, (1, f"entries {count}\n", lines_of(count, every).replace(lines_of(count, count), "") + fault), f"{tick} ms a look")
+
+
+@case(
+    "no terminal is told how far it is",
+    "If standard error is no terminal, `audit` and `history` write nothing there however long they take, even if standard output is one. On a terminal "
+    "nothing is reported in the first half second, of a store without entries, or if the clock can't be read.",
+)
+def no_terminal(trial):
+    _, journal = day(trial)
+    count = len(DAY)
+    whole = f"entries {count}\nwhole\n"
+    for command, wanted in (("audit", whole), ("history", journal.lines())):
+        trial.equal(reported(trial, command, ("--store", "day.db"), 600, "stdout"), (0, "", wanted), command)
+        ran = trial.run(command, "--store", "day.db", environment=Faults(trial, tick=600).environment)
+        trial.equal((ran.status, ran.out.decode(), ran.err), (0, wanted, b""), command)
+        trial.equal(reported(trial, command, ("--store", "day.db"), 499 // count), (0, wanted, ""), f"{command}, all in less than half a second")
+        blind = Faults(trial, "clock", at=1, on=True)
+        ran = at_terminal([trial.program, command, "--store", "day.db"], "stderr", trial.folder, blind.environment)
+        trial.equal((ran[0], ran[1].decode(), ran[2]), (0, wanted, b""), f"{command} without a clock")
+    trial.shop("none.db").kill()
+    trial.equal(reported(trial, "audit", ("--store", "none.db"), 600), (0, "entries 0\nwhole\n", ""))
+    trial.equal(reported(trial, "history", ("--store", "none.db"), 600), (0, "", ""))
