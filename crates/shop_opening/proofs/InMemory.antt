@@ -1,6 +1,6 @@
 -- What a file in memory holds to which bytes were written as the first.
 use Rattle.std.proofs.Common.{◌≡◌, ◌+◌, ◌<◌, ◌∙◌, ℕ, List, [], ◌∷◌, length, slice_index, refl, sym, ap, arith, ext_get_or}
-use Rattle.std.specs.Prelude.{Result, Ok, Err, IfOk}
+use Rattle.std.specs.Prelude.{Result, Ok, Err, IfErr, IfOk}
 use Rattle.sqlite_disk.specs.Disk.{Holds, Torn}
 
 -- lists of one length whose elements are the same are equal
@@ -21,3 +21,8 @@ written_first new (b ∷ bs) torn holds =
 pub ok_then : {X E : Type 0} {P Q : X → Type 0} (r : Result X E) → IfOk r P → ((x : X) → P x → Q x) → IfOk r Q
 ok_then (Ok x) h f = f x h
 ok_then (Err e) h f = tt
+
+-- what is known of an Err
+pub err_then : {X E : Type 0} {P Q : E → Type 0} (r : Result X E) → IfErr r P → ((e : E) → P e → Q e) → IfErr r Q
+err_then (Ok x) h f = tt
+err_then (Err e) h f = f e h

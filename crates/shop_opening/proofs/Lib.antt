@@ -10,3 +10,5 @@ pub mod After
 pub mod Left
 -- a file in memory
 pub mod InMemory
+-- what a close leaves
+pub mod Merged

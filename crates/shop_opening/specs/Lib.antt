@@ -1,3 +1,4 @@
 pub mod Shops
 pub mod Openings
+pub mod Causes
 pub mod Stops

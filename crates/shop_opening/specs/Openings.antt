@@ -1,5 +1,5 @@
 -- What the files of a store show, what an opening of them gives, and why there is none.
-use Rattle.std.specs.Prelude.{◌≡◌, ◌≢◌, ◌⊎◌, ℕ, List, Option, IfSome, Result, Ok, Err}
+use Rattle.std.specs.Prelude.{◌≡◌, ◌≢◌, ◌⊎◌, ℕ, List, [], Option, IfSome, Result, Ok, Err}
 use Rattle.std.specs.FinMap.{FinMap, empty}
 use Rattle.sqlite_disk.specs.declared.Disk.{Ghosts as DiskGhosts}
 use Rattle.sqlite_disk.specs.declared.Files.{Files}
@@ -7,6 +7,7 @@ use Rattle.sqlite_store.specs.declared.store.FileStore.{FileStore}
 use Rattle.sqlite_trees.specs.Tree.{Trees}
 use Rattle.sqlite_trees.specs.declared.store.Store.{Ghosts as StoreGhosts}
 use Rattle.sqlite_wal.specs.Recovery.{Image}
+use Rattle.sqlite_wal.specs.Files.{outcomes}
 use Rattle.sqlite.specs.declared.error.Error.{Error}
 use Rattle.sqlite.specs.declared.error.Error.TheVariants.{SqliteFailure}
 use Rattle.sqlite.specs.declared.error.ErrorCode.{ErrorCode}
@@ -22,7 +23,7 @@ use Rattle.shop_records.specs.declared.records.Totals.{Totals}
 use Rattle.shop_statements.specs.Earlier.{StandsInEarlier, StandsInSecond}
 use Rattle.shop_statements.specs.Shown.{Books}
 use Rattle.shop_tables.specs.Changing.{HasSums}
-use Rattle.shop_tables.specs.Held.{books, LeavesOnly, StandsFor}
+use Rattle.shop_tables.specs.Held.{books, HoldsContent, LeavesOnly, StandsFor}
 use Rattle.shop_book.specs.declared.ledger.Ledger.{Ledger}
 use Rattle.shop_store.specs.SqlBooks.{HoldsLedger}
 use Rattle.shop_store.specs.declared.posted.LedgerBook.{LedgerBook}
@@ -75,6 +76,14 @@ pair_image log store = record { log = log; db = store }
 -- that it is not said with which.
 abbrev pub IsBookApart : {D : Type 0} {g : DiskGhosts D} → Held (FileStore D g) → Remembered → Ledger → ℕ → Type 0
 IsBookApart conn it ledger failures = (log store : List ℕ) × IsOpenedOn (pair_image log store) conn it ledger failures
+
+-- ---- what a close leaves
+
+-- A connection was closed, and these are its files: the store's file alone, without a log, shows each content that it held, as it reads
+-- now and after a crash.
+pub record IsMerged {D : Type 0} {g : DiskGhosts D} (conn : Held (FileStore D g)) (files : Files D) : Type 0 where
+  pub alone : (m : Content) → HoldsContent (file_state conn) m → ∥ ShowsContent (record (image_of g files) { log = [] }) m ∥₁
+  pub crash : (m : Content) → HoldsContent (file_state conn) m → (image : Image) → outcomes g files.log files.db image → ∥ ShowsContent (record image { log = [] }) m ∥₁
 
 -- ---- why there is none
 

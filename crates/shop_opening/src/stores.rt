@@ -3,7 +3,12 @@
 ghost use Rattle.std.specs.Prelude.{◌≡◌, ◌⊎◌, IfOk, IfErr, IfSome};
 ghost use Rattle.sqlite_wal.specs.Files.{image_at};
 ghost use Rattle.shop_advice.specs.declared.causes.StoreCause.TheVariants as cause;
-ghost use Rattle.shop_opening.specs.Openings.{AreTablesLeft, IsAdoptFault, IsCodeFault, IsOpenFault, IsLookFault, IsOpenedOn, IsOpening, IsPortLeft};
+ghost use Rattle.sqlite.specs.Files.{FailsToClose};
+ghost use Rattle.sqlite_store.specs.FileStore.{view};
+ghost use Rattle.sqlite_trees.specs.View.{IsClean};
+ghost use Rattle.sqlite_wal.specs.Reads.{AreClean};
+ghost use Rattle.shop_opening.specs.Causes as causes;
+ghost use Rattle.shop_opening.specs.Openings.{AreTablesLeft, IsAdoptFault, IsCodeFault, IsMerged, IsOpenFault, IsLookFault, IsOpenedOn, IsOpening, IsPortLeft};
 
 use crate::before::{Found, LookFault, look_before};
 use crate::made::{Made, is_special};
@@ -13,7 +18,9 @@ use shop_store::{
     BookFault, Loaded, SqlBook, load_earlier_ledger, load_ledger, load_second_ledger,
 };
 use shop_tables::{NoRow, TableFault, find_last_entry, stray_entry};
-use sqlite::{Alter, Connection, Error, ErrorCode, FileFrom, FileStore, Leftover, Start, Unknown};
+use sqlite::{
+    Alter, Connection, Error, ErrorCode, FileFrom, FileStore, Files, Leftover, Start, Unknown,
+};
 use sqlite_disk::Disk;
 use std::alloc::Global;
 
@@ -113,7 +120,9 @@ fn version_of<S: Alter>(conn: &mut Connection<S>) -> Option<i64> {
 }
 
 // A key that is a number.
-fn number_key(number: Option<i64>) -> RowKey {
+fn number_key(number: Option<i64>) -> RowKey
+    ensures { result ≡ causes.number_key number }
+{
     match number {
         Some(number) => RowKey::Number(number),
         None => RowKey::Unknown,
@@ -121,27 +130,40 @@ fn number_key(number: Option<i64>) -> RowKey {
 }
 
 // A key that is a code.
-fn code_key(code: Option<Code>) -> RowKey {
+fn code_key(code: Option<Code>) -> RowKey
+    ensures { result ≡ causes.code_key code }
+{
     match code {
         Some(code) => RowKey::Code(code),
         None => RowKey::Unknown,
     }
 }
 
+// A key that is an act and a node.
+fn part_key(act: Option<i64>, node: Option<i64>) -> RowKey
+    ensures { result ≡ causes.part_key act node }
+{
+    let Some(act) = act else {
+        return RowKey::Unknown;
+    };
+    match node {
+        Some(node) => RowKey::Part(act, node),
+        None => RowKey::Unknown,
+    }
+}
+
 // Which row stands for nothing.
-fn row_name(row: NoRow) -> RowName {
+fn row_name(row: NoRow) -> RowName
+    ensures { result ≡ causes.row_name row }
+{
     match row {
         NoRow::Material(code) => RowName {
             table: StoreTable::Materials,
             key: code_key(code),
         },
-        NoRow::Part(Some(act), Some(node)) => RowName {
+        NoRow::Part(act, node) => RowName {
             table: StoreTable::Parts,
-            key: RowKey::Part(act, node),
-        },
-        NoRow::Part(..) => RowName {
-            table: StoreTable::Parts,
-            key: RowKey::Unknown,
+            key: part_key(act, node),
         },
         NoRow::Job(number) => RowName {
             table: StoreTable::Jobs,
@@ -171,7 +193,9 @@ fn row_name(row: NoRow) -> RowName {
 }
 
 // What is wrong in tables of a known version, which were read once more for it.
-fn contradiction(loaded: &Result<Loaded, TableFault>) -> VersionCause {
+fn contradiction(loaded: &Result<Loaded, TableFault>) -> VersionCause
+    ensures { result ≡ causes.contradiction_of loaded.now }
+{
     match loaded {
         Ok(Loaded::NoRow(row)) => VersionCause::Row(row_name(*row)),
         _ => VersionCause::Contradicting,
@@ -184,14 +208,24 @@ fn contradiction_in<S: Alter>(alloc: Global, conn: &mut Connection<S>) -> Versio
     contradiction(&loaded)
 }
 
+// What is wrong in entries where this one stands for nothing, if any does.
+fn stray_cause(row: Option<NoRow>) -> VersionCause
+    ensures { result ≡ causes.stray_of row }
+{
+    match row {
+        Some(row) => VersionCause::Row(row_name(row)),
+        None => VersionCause::Contradicting,
+    }
+}
+
 // What is wrong in the entries of version 3.
 fn stray_in<S: Alter>(conn: &mut Connection<S>) -> VersionCause {
     let Ok((count, _)) = find_last_entry(conn) else {
         return VersionCause::Contradicting;
     };
     match stray_entry(conn, count) {
-        Ok(Some(row)) => VersionCause::Row(row_name(row)),
-        _ => VersionCause::Contradicting,
+        Ok(row) => stray_cause(row),
+        Err(_) => VersionCause::Contradicting,
     }
 }
 
@@ -336,10 +370,23 @@ fn open_new<S: Start>(
     }
 }
 
+// Closes the files of a book: its log is copied into the store's file.
+fn close_files<D: Disk + Drop>(
+    book: SqlBook<FileStore<D>>,
+) -> Result<Files<D>, (Error, FileStore<D>)>
+    ensures ok { IfOk result (λ files. AreClean D.Disk files.log files.db
+        → IsMerged book.storage.conn files) }
+    ensures err { IfErr result (λ e. IsClean (view e.1)
+        → FailsToClose book.storage.conn e.1 e.0) }
+{
+    let conn = book.into_connection();
+    conn.close_files()
+}
+
 // Copies the log of a store into its file, where it opens as a book. What stands in the way the next open tells.
 fn merge(rt: &HostRuntime, alloc: Global, path: &str) {
     if let Ok(book) = open_looked(rt, alloc, path, Unknown, Made::nothing()) {
-        let _ = book.into_connection().close();
+        drop(close_files(book));
     }
 }
 
@@ -424,6 +471,6 @@ impl<'a, S: Start> Opens<StoreBook<S>> for Opener<'a, S> {
     }
 
     fn close(book: StoreBook<S>) {
-        let _ = book.into_connection().close();
+        drop(close_files(book));
     }
 }

@@ -21,7 +21,7 @@ use Rattle.shop_serve.specs.declared.answers.Made.TheVariants.{Answer, PlanTask}
 use Rattle.shop_serve.specs.Making.{IsAsked, IsMadeMeanwhile, put_made}
 use Rattle.shop_serve.specs.Clients.{is_unanswered, unanswered, StopsAt, TakesAnswer, IsHandedOn, IsAnsweredWhole, IsBegunWhole, IsHeard, IsAttended, IsAttendedAt, IsClosedBy, IsSpent, IsSpoiled}
 use Rattle.shop_serve.specs.Serving.{Advances, HasServed, IsAnsweredThen}
-use Rattle.shop_serve.specs.Times.{Times, Tells}
+use Rattle.shop_serve.specs.Times.{Times, Stands, StandsUntil, Tells}
 use Rattle.shop_serve.proofs.Slots.{answered-of, has-answer, has-neither, has-question, one_of, unanswered-of, unanswered-updates}
 use Rattle.shop_serve.proofs.Turns.{stays, one_advances}
 
@@ -85,7 +85,7 @@ module _ {C : Type 0} (connection : ConnectionGhosts C) (site : Site) {B : Type 
       → IsDetermined mid.received.items ⊎ IsAtEnd (connection.remaining mid.stream)
       → IfSome mid.answer (λ answer. IsAnsweredThen site book before after seen seeing mid.since mid.received.items answer.items)
       → IfSome mid.task (λ t. (t.last ≡ None) × IsAsked site book before after mid.received.items (instance_in t.task))
-      → (IsSome mid.task → Tells seen seeing mid.since) → (new.received ≡ mid.received) × (new.answer ≡ mid.answer) → new.since ≡ mid.since → new.task ≡ mid.task
+      → (IsSome mid.task → StandsUntil seen seeing mid.since) → (new.received ≡ mid.received) × (new.answer ≡ mid.answer) → new.since ≡ mid.since → new.task ≡ mid.task
       → (mid.answer ≡ None → (new ≡ mid) × (r ≡ given.Waits)) → r ≢ given.Lost
       → (r ≢ given.Lost → IfSome mid.answer (λ answer. TakesAnswer connection answer.items mid.stream mid.sent new.stream new.sent))
       → (r ≢ given.Lost → IfSome mid.answer (λ answer. StopsAt connection answer.items new.stream new.sent)) → IsAttended connection site book old new before after seen seeing
@@ -138,21 +138,21 @@ module _ {C : Type 0} (connection : ConnectionGhosts C) (site : Site) {B : Type 
           }
 
   -- what was made was put into its connection
-  module _ (before after : B) (seen between seeing : Times) (client : Client C) where
-    pub made-own : (made : Made) (now : Instant) → IsMadeMeanwhile site book before after seen between client.received.items made → Tells between seeing now
+  module _ (before after : B) (seen still between seeing : Times) (client : Client C) where
+    pub made-own : (made : Made) (now : Instant) → Stands seen still → IsMadeMeanwhile site book before after still between client.received.items made → Tells between seeing now
         → IfSome (put_made client made now).answer (λ answer. IsAnsweredThen site book before after seen seeing (put_made client made now).since (put_made client made now).received.items answer.items)
-    made-own (Answer answer) now is tells = (between, is, tells)
-    made-own (PlanTask task) now is tells = tt
+    made-own (Answer answer) now stands is tells = (still, stands, between, is, tells)
+    made-own (PlanTask task) now stands is tells = tt
 
-    pub made-asked : (made : Made) (now : Instant) → IsMadeMeanwhile site book before after seen between client.received.items made
+    pub made-asked : (made : Made) (now : Instant) → IsMadeMeanwhile site book before after still between client.received.items made
         → IfSome (put_made client made now).task (λ t. (t.last ≡ None) × IsAsked site book before after (put_made client made now).received.items (instance_in t.task))
     made-asked (Answer answer) now is = tt
     made-asked (PlanTask task) now is = (refl, is.0)
 
-    pub made-timed : (made : Made) (now : Instant) → IsMadeMeanwhile site book before after seen between client.received.items made → Tells between seeing now
-        → IsSome (put_made client made now).task → Tells seen seeing (put_made client made now).since
-    made-timed (Answer answer) now is tells some = absurd (cc some)
-    made-timed (PlanTask task) now is tells some = subst (λ t. Tells t seeing now) is.1 tells
+    pub made-timed : (made : Made) (now : Instant) → Stands seen still → IsMadeMeanwhile site book before after still between client.received.items made → Tells between seeing now
+        → IsSome (put_made client made now).task → StandsUntil seen seeing (put_made client made now).since
+    made-timed (Answer answer) now stands is tells some = absurd (cc some)
+    made-timed (PlanTask task) now stands is tells some = (still, stands, subst (λ t. Tells t seeing now) is.1 tells)
 
   pub made-whole : (client : Client C) (made : Made) (now : Instant) → IsDetermined client.received.items ⊎ IsAtEnd (connection.remaining client.stream)
       → IsDetermined (put_made client made now).received.items ⊎ IsAtEnd (connection.remaining (put_made client made now).stream)

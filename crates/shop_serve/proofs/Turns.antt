@@ -130,7 +130,7 @@ module _ (site : Site) {B : Type 0} (book : Ghosts B) where
       → CountsUp (book.failed before) (book.failed after) → IsServed book before after (Some input) old new unwritten → HasServed site book before after 1
   served_once before after input old new unwritten some goes up s clean_disk m held sound =
       let telling = s.2.telling in
-      let done = s.2.run clean_disk m held sound in
+      let done = s.2.run.run clean_disk m held sound in
       let turn : Turn = record { input = input; handling = routed s.0 telling; answer = s.2.bytes } in
       let once : IsServedOnce book before after m (routed s.0 telling) done.next =
       record { step = done.step; clean_disk = clean_disk; held = done.held; crash = done.crash; failures = up; blame = done.blame } in
@@ -212,8 +212,8 @@ module _ (site : Site) {B : Type 0} (book : Ghosts B) where
   -- what was answered meanwhile was answered
   pub answered-then : (before after : B) (seen seeing : Times) (now : Instant) (received answer : List ℕ) → IsAnsweredThen site book before after seen seeing now received answer
       → IsAnswered site book before after received answer
-  answered-then before after seen seeing now received answer (between, inl alone, tells) = inl alone.0
-  answered-then before after seen seeing now received answer (between, inr (outcome, is, same, copies), tells) = inr (outcome, is, same)
+  answered-then before after seen seeing now received answer (still, stands, between, inl alone, tells) = inl alone.0
+  answered-then before after seen seeing now received answer (still, stands, between, inr (outcome, is, same, copies), tells) = inr (outcome, is, same)
 
   -- the site answered one by itself
   pub one_ruled : (before after : B) (input : List ℕ) (r : Ruling) (entries : Option ℕ) → 0 < length input → HasRuling site.guard input r → r ≢ Routed

@@ -1,5 +1,5 @@
 -- Open connections: which have no answer yet, and what it is to attend to one.
-use Rattle.std.specs.Prelude.{◌≡◌, ◌≢◌, ◌⊎◌, ◌<◌, ◌≤◌, ◌-◌, ◌*◌, ◌++◌, leb, ◌&&◌, if◌then◌else◌, ℕ, List, [], ◌∷◌, length, take, Option, Some, None, IfSome, IsSome, IsSomeAnd, Bool, false, is_none, is_some, count_by}
+use Rattle.std.specs.Prelude.{◌≡◌, ◌≢◌, ◌⊎◌, ◌<◌, ◌≤◌, ◌-◌, ◌*◌, ◌++◌, leb, ◌&&◌, if◌then◌else◌, ℕ, List, [], ◌∷◌, length, take, Option, Some, None, IfSome, IsSome, IsSomeAnd, Bool, true, false, is_none, is_some, count_by}
 use Rattle.std.specs.Io.KnownBytes.{Appends, IsAtEnd}
 use Rattle.std.specs.Time.{instant_nanos}
 use Rattle.std.specs.declared.time.Instant.{Instant}
@@ -19,7 +19,8 @@ use Rattle.shop_planning.specs.PlanTasks.{instance_in}
 use Rattle.shop_serve.specs.Making.{IsAsked}
 use Rattle.shop_serve.specs.declared.sites.Site.{Site}
 use Rattle.shop_serve.specs.Serving.{HasServed, IsAnsweredThen}
-use Rattle.shop_serve.specs.Times.{Times, Tells, TellsNone}
+use Rattle.shop_serve.specs.Times.{Times, StandsUntil, TellsNone}
+use Rattle.shop_serve.specs.Watches.{is_done}
 
 -- what came is an unfinished request, and so is all that goes on from it with fewer bytes than are needed
 pub record AwaitsMore (received : List ℕ) (needed : ℕ) : Type 0 where
@@ -136,6 +137,12 @@ IsMute connection old before new after =
     ⊎ (IsReadOn (connection.remaining old) (connection.remaining new) before after
     × ((after ≡ []) × IsAtEnd (connection.remaining new) ⊎ (most_request_reads ≤ length after)))
 
+-- Nothing more is to come of it: its input ended, or it is lost; or its request was read to the last byte and done.
+abbrev pub IsOver : {C : Type 0} → ConnectionGhosts C → Client C → Type 0
+IsOver connection client =
+    IsAtEnd (connection.remaining client.stream)
+    ⊎ (connection.is_lost client.stream ⊎ IsSomeAnd client.answer (λ answer. is_done answer.items ≡ true))
+
 module _ {C : Type 0} (connection : ConnectionGhosts C) (site : Site) {B : Type 0} (book : Ghosts B) where
   -- A connection with an answer: it keeps it, takes more of it, to its end, which it is told, or until it takes no more, and
   -- nothing else is done. Its seconds go on.
@@ -150,7 +157,7 @@ module _ {C : Type 0} (connection : ConnectionGhosts C) (site : Site) {B : Type 
     pub stops : StopsAt connection answer new.stream new.sent
 
   -- The answer to all that came of a connection, once that was whole or at its end. It took all of it, and was told its end; or its
-  -- first bytes, until it took no more. Its seconds begin anew, at the time that is read then.
+  -- first bytes, until it took no more. The time stood still meanwhile; its seconds begin anew, at the time that is told then.
   pub record IsAnsweredWhole (old new : Client C) (rest : Option (List ℕ)) (before after : B) (seen seeing : Times) (answer : List ℕ) : Type 0 where
     pub whole : IsDetermined new.received.items ⊎ IsAtEnd rest
     pub answered : IsAnsweredThen site book before after seen seeing new.since new.received.items answer
@@ -158,9 +165,10 @@ module _ {C : Type 0} (connection : ConnectionGhosts C) (site : Site) {B : Type 
     pub stops : StopsAt connection answer new.stream new.sent
 
   -- The question that is all that came of a connection, once that was whole or at its end: this is what it asks of the content.
-  -- It waits for its search, since the time that is read then. Nothing is done, and the connection took nothing.
+  -- It waits for its search, since the time that is told then, which stood still meanwhile. Nothing is done, and the connection took
+  -- nothing.
   pub record IsBegunWhole (old new : Client C) (rest : Option (List ℕ)) (before after : B) (seen seeing : Times) (searching : RunningTask) : Type 0 where
-    pub since : Tells seen seeing new.since
+    pub since : StandsUntil seen seeing new.since
     pub whole : IsDetermined new.received.items ⊎ IsAtEnd rest
     pub asked : IsAsked site book before after new.received.items (instance_in searching.task)
     pub waits : searching.last ≡ None
@@ -208,10 +216,11 @@ module _ {C : Type 0} (connection : ConnectionGhosts C) (site : Site) {B : Type 
       ⊎ IsSomeAnd old.answer (λ answer. connection.is_lost new.stream ⊎ (length answer.items < old.sent))
       ⊎ IsSome old.task × connection.is_lost new.stream
 
-  -- why a connection is closed that is attended to: it took its whole answer, or is spoiled; or memory was wanting
+  -- Why a connection is closed that is attended to: it took its whole answer, and nothing more is to come of it; or it is spoiled; or
+  -- memory was wanting.
   abbrev pub IsClosedBy : ConnectionStatus → Client C → B → B → (seen seeing : Times) → Type 0
   IsClosedBy status client before after seen seeing =
-      (status ≡ NoMemory) ⊎ ((left : Client C) × (IsAttended client left before after seen seeing × IsSpent left ⊎ IsSpoiled client left))
+      (status ≡ NoMemory) ⊎ ((left : Client C) × (IsAttended client left before after seen seeing × IsSpent left × IsOver connection left ⊎ IsSpoiled client left))
 
   -- The connection of a key was attended to, if there is one, and is closed or stays; no other was. At most one request was
   -- served, and none where it had an answer or a question.

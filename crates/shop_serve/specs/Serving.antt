@@ -31,7 +31,7 @@ use Rattle.shop_wire.specs.Serves.{HandlesInputAt, ParsedStep, exchanged, body_p
 use Rattle.shop_serve.specs.declared.serving.TheConstants.{MAX_SERVED}
 use Rattle.shop_serve.specs.Sites.{is_health, own_bytes}
 use Rattle.shop_serve.specs.declared.sites.Site.{Site}
-use Rattle.shop_serve.specs.Times.{Times, Copies, Tells, TellsNone}
+use Rattle.shop_serve.specs.Times.{Times, Copies, Stands, Tells, TellsNone}
 use Rattle.std.specs.declared.time.Instant.{Instant}
 
 -- What is done with a request: it goes to its route, with this parse, and this is told; or the site answers by itself, and may
@@ -212,10 +212,10 @@ IsAnsweredMeanwhile site book before after seen between received answer =
     (IsAnsweredAlone site book before after received answer × TellsNone seen between)
     ⊎ ((outcome : Result ℕ Refusal) × IsBackupAnswer site received answer outcome × (after ≡ before) × Copies seen between outcome)
 
--- and then the time was read
+-- The same while the time stood still; and then it was told, from which it goes on.
 abbrev pub IsAnsweredThen : Site → {B : Type 0} → Ghosts B → B → B → (seen seeing : Times) → Instant → (received answer : List ℕ) → Type 0
 IsAnsweredThen site book before after seen seeing now received answer =
-    (between : Times) × IsAnsweredMeanwhile site book before after seen between received answer × Tells between seeing now
+    (still : Times) × Stands seen still × (between : Times) × IsAnsweredMeanwhile site book before after still between received answer × Tells between seeing now
 
 -- Where by its head an input goes to its route, the message that it is, if it is one, was handled as one that was given this time.
 abbrev pub HandlesRequestAt : Site → {B : Type 0} → Ghosts B → B → B → (at : ℕ) → (input : List ℕ) → Type 0

@@ -10,9 +10,11 @@ Adds None new more = ⊤
 Adds (Some xs) None more = ⊥
 Adds (Some xs) (Some ys) more = ys ≡ xs ++ more
 
--- a time; what came of a backup: its number, or why none was made; or whether the store's names led to the files that are open
+-- a time; that it stands still from here until it is told next; what came of a backup: its number, or why none was made; or whether the
+-- store's names led to the files that are open
 pub data Report : Type 0 where
   time : Instant → Report
+  stand : Report
   copy : Result ℕ Refusal → Report
   look : Bool → Report
 
@@ -23,6 +25,14 @@ Times = Option (List Report)
 -- the time was read, and it was this
 abbrev pub Tells : Times → Times → Instant → Type 0
 Tells seen seeing now = Adds seen seeing (time now ∷ [])
+
+-- from here on the time stands still, until it is told next
+abbrev pub Stands : Times → Times → Type 0
+Stands seen seeing = Adds seen seeing (stand ∷ [])
+
+-- it stood still, and was told next, and it was this
+abbrev pub StandsUntil : Times → Times → Instant → Type 0
+StandsUntil seen seeing now = (still : Times) × Stands seen still × Tells still seeing now
 
 -- a backup was made or not, and this came of it
 abbrev pub Copies : Times → Times → Result ℕ Refusal → Type 0

@@ -6,12 +6,12 @@ ghost use Rattle.std.specs.Time.{instant_nanos};
 ghost use Rattle.std.specs.Io.KnownBytes.{IsAtEnd};
 ghost use Rattle.shop_request.specs.Reading.{IsReadOn};
 ghost use Rattle.shop_request.specs.Parses.{IsDetermined};
-ghost use Rattle.shop_serve.specs.Clients.{AwaitsMore, ClosesLate, IsAttended, IsAttendedAt, CanOpenOne, IsClosedBy, IsMute, IsOldest, IsOpened, IsSpoiled, IsTurnedAway, MakesRoom, MayGo, NoneMayGo, StopsAt, TakesAnswer, is_begun, is_late, is_unanswered, unanswered};
+ghost use Rattle.shop_serve.specs.Clients.{AwaitsMore, ClosesLate, IsAttended, IsAttendedAt, CanOpenOne, IsClosedBy, IsMute, IsOldest, IsOpened, IsOver, IsSpoiled, IsTurnedAway, MakesRoom, MayGo, NoneMayGo, StopsAt, TakesAnswer, is_begun, is_late, is_unanswered, unanswered};
 ghost use Rattle.shop_serve.specs.Making.{IsAsked, put_answer, put_made, put_task};
 ghost use Rattle.shop_planning.specs.PlanTasks.{instance_in};
 ghost use Rattle.shop_serve.specs.declared.clients.ConnectionStatus.TheVariants as status;
 ghost use Rattle.shop_serve.specs.Serving.{Advances, HasServed, IsAnsweredThen};
-ghost use Rattle.shop_serve.specs.Times.{Tells, TellsNone};
+ghost use Rattle.shop_serve.specs.Times.{StandsUntil, TellsNone};
 ghost use Rattle.shop_serve.specs.declared.transfers.Given.TheVariants as given;
 ghost use Rattle.shop_serve.specs.declared.transfers.Taken.TheVariants as taken;
 
@@ -21,7 +21,7 @@ use crate::ports::Port;
 use crate::searching::{FAIR_CALLS, RunningTask};
 use crate::sites::Site;
 use crate::transfers::{Given, Rest, Taken, drop_rest, hand_over, take_bytes};
-use crate::watches::Watch;
+use crate::watches::{Watch, is_done};
 use shop_book::Book;
 use shop_planning::PlanTask;
 use shop_request::Head;
@@ -31,9 +31,6 @@ use std::time::{Duration, Instant};
 
 /// How many seconds a connection has to send its request, from when it was accepted, and then to take its answer.
 pub const PATIENCE: u64 = 10;
-
-// How each answer to a request begins that was read to its last byte and done.
-const DONE: &[u8] = b"HTTP/1.1 200 ";
 
 /// The most connections that are open at once.
 pub const MAX_CLIENTS: usize = 256;
@@ -143,7 +140,7 @@ fn ask<C: Connection, K: Watch, B: Book>(
     ensures goes_on { result ≡ taken.Waits → (client.new.since ≡ client.old.since)
         × TellsNone (K.times watch.old) (K.times watch.new) }
     ensures since { result ≡ taken.Whole → IsSome client.new.task
-        → Tells (K.times watch.old) (K.times watch.new) client.new.since }
+        → StandsUntil (K.times watch.old) (K.times watch.new) client.new.since }
     ensures awaits { result ≡ taken.Waits → AwaitsMore client.old.received.items client.old.needed
         → AwaitsMore client.new.received.items client.new.needed }
     ensures over { result ≡ taken.Over
@@ -241,14 +238,16 @@ fn finish<C: Connection>(client: &mut Client<C>) -> ConnectionStatus
     ensures task { client.new.task ≡ client.old.task }
     ensures contents { C.contents client.new.stream ≡ C.contents client.old.stream }
     ensures ended { C.has_ended client.old.stream → C.has_ended client.new.stream }
+    ensures over { result ≡ status.Over → IsOver C.Connection client.new }
 {
     match drop_rest(&mut client.stream) {
-        Rest::Ended | Rest::Lost => return ConnectionStatus::Over,
+        Rest::Ended => return ConnectionStatus::Over,
+        Rest::Lost => return ConnectionStatus::Over,
         Rest::MayCome | Rest::Comes => (),
     }
     match &client.answer {
-        Some(answer) if !answer.starts_with(DONE) => ConnectionStatus::Stays,
-        _ => ConnectionStatus::Over,
+        Some(answer) if is_done(answer) => ConnectionStatus::Over,
+        _ => ConnectionStatus::Stays,
     }
 }
 

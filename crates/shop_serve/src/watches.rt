@@ -1,10 +1,10 @@
 //! What a server is told beside its connections: its time, which stands still while a request is answered, backups, and whether
 //! the store's names still lead to its files.
 
-ghost use Rattle.std.specs.Prelude.{◌≡◌, ◌+◌, ◌-◌, ◌≤◌, None, min, unwrap_or, option_map};
+ghost use Rattle.std.specs.Prelude.{◌≡◌, ◌+◌, ◌-◌, ◌<◌, ◌≤◌, IfSome, None, min, unwrap_or, option_map};
 ghost use Rattle.std.specs.Duration.{as_nanos, max_nanos};
 ghost use Rattle.std.specs.Time.{instant_nanos};
-ghost use Rattle.shop_serve.specs.Watches.{failed_after, is_done, is_store_fault};
+ghost use Rattle.shop_serve.specs.Watches.{IsTimeAt, failed_after, is_done, is_store_fault, still_after, still_nanos};
 
 use crate::dates::second_now;
 use crate::faults::ServeFault;
@@ -20,9 +20,10 @@ use std::time::{Clock, Duration, Instant};
 /// What tells a server's time, and makes its backups.
 pub(crate) trait Watch {
     ghost use Rattle.std.specs.Prelude.{◌≡◌, ℕ, IfSome, Option};
-    ghost use Rattle.shop_serve.specs.Times.{Copies, Looks, Times, Tells, TellsNone};
+    ghost use Rattle.shop_serve.specs.Times.{Copies, Looks, Stands, Times, Tells, TellsNone};
 
-    /// The times that it told so far, what came of backups meanwhile, and where the store's names led, where they are known.
+    /// The times that it told so far, where it stood still, what came of backups meanwhile, and where the store's names led, where they
+    /// are known.
     ghost times: { Self → Times };
 
     /// The second that its clock reads, where it is known.
@@ -34,7 +35,7 @@ pub(crate) trait Watch {
 
     /// Stands still until the time is told next.
     fn stop(&mut self)
-        ensures { TellsNone (times self.old) (times self.new) };
+        ensures { Stands (times self.old) (times self.new) };
 
     /// The second that it is, counted from 1970-01-01 00:00 UTC; 0 where it can't be read, or is before that.
     fn second(&self) -> u64
@@ -58,15 +59,20 @@ pub(crate) trait Watch {
         ensures { TellsNone (times self.old) (times self.new) };
 }
 
-/// A clock without the time for which it stood still, the names of a store, its backups, where any are made, and whether it
-/// failed.
+// A time without that for which it stood still: the last one, since when it stands still, if it does, and for how long it did before.
+#[derive(Clone, Copy)]
+struct Timer {
+    last: Instant,
+    stopped: Option<Instant>,
+    still: Duration,
+}
+
+/// The timer of a clock, the names of a store, its backups, where any are made, and whether it failed.
 #[derive(Drop)]
 pub(crate) struct Stopwatch<'a, R> {
     clock: &'a R,
     alloc: Global,
-    last: Instant,
-    stopped: Option<Instant>,
-    still: Duration,
+    timer: Timer,
     names: &'a Names,
     backups: Option<&'a Backups>,
     lines: &'a mut Lines,
@@ -86,9 +92,11 @@ impl<'a, R: Clock> Stopwatch<'a, R> {
             Ok(last) => Ok(Stopwatch {
                 clock,
                 alloc,
-                last,
-                stopped: None,
-                still: Duration::ZERO,
+                timer: Timer {
+                    last,
+                    stopped: None,
+                    still: Duration::ZERO,
+                },
                 names,
                 backups,
                 lines,
@@ -101,10 +109,7 @@ impl<'a, R: Clock> Stopwatch<'a, R> {
 
 // For how long a clock stood still that reads this now, and stood still before and from this on.
 fn still_until(still: Duration, stopped: Option<Instant>, reading: Instant) -> Duration
-    ensures { as_nanos result
-        ≡ min (as_nanos still
-        + (instant_nanos reading
-        - unwrap_or (option_map instant_nanos stopped) (instant_nanos reading))) max_nanos }
+    ensures { as_nanos result ≡ still_after (as_nanos still) stopped reading }
 {
     match stopped {
         Some(from) => still.saturating_add(reading.saturating_duration_since(from)),
@@ -112,8 +117,53 @@ fn still_until(still: Duration, stopped: Option<Instant>, reading: Instant) -> D
     }
 }
 
-// Whether an answer tells that a message was done.
-fn is_done(answer: &[u8]) -> bool
+// The time that a clock which reads this tells, less that for which it stood still; where that is more, the last one again.
+fn time_at(reading: Instant, still: Duration, last: Instant) -> Instant
+    ensures less { as_nanos still ≤ instant_nanos reading
+        → instant_nanos result + as_nanos still ≡ instant_nanos reading }
+    ensures more { instant_nanos reading < as_nanos still → result ≡ last }
+{
+    match reading.checked_sub(still) {
+        Some(time) => time,
+        None => last,
+    }
+}
+
+// A timer that goes on, whose clock reads this, or can't be read: then its time is the last one again.
+fn go_on(timer: Timer, reading: Option<Instant>) -> Timer
+    ensures goes { result.stopped ≡ None }
+    ensures unread { reading ≡ None → result ≡ record timer { stopped = None } }
+    ensures still { IfSome reading (λ r. as_nanos result.still ≡ still_nanos timer r) }
+    ensures time { IfSome reading (λ r. IsTimeAt r timer result) }
+{
+    match reading {
+        Some(reading) => {
+            let still = still_until(timer.still, timer.stopped, reading);
+            Timer {
+                last: time_at(reading, still, timer.last),
+                stopped: None,
+                still,
+            }
+        }
+        None => Timer {
+            stopped: None,
+            ..timer
+        },
+    }
+}
+
+// A timer that stands still from here on, where its clock reads this; where that can't be read it goes on.
+fn stand_still(timer: Timer, reading: Option<Instant>) -> Timer
+    ensures { result ≡ record timer { stopped = reading } }
+{
+    Timer {
+        stopped: reading,
+        ..timer
+    }
+}
+
+/// Whether an answer tells that what was asked for was done: its request was read to the last byte.
+pub(crate) fn is_done(answer: &[u8]) -> bool
     ensures { result ≡ is_done answer.now }
 {
     answer.starts_with(b"HTTP/1.1 200 ")
@@ -192,16 +242,12 @@ impl<'a, R: Clock + Eprint + Files> Watch for Stopwatch<'a, R> {
 
     // Where the clock can't be read it is the last time again.
     fn now(&mut self) -> Instant {
-        if let Ok(reading) = Instant::now(self.clock) {
-            self.still = still_until(self.still, self.stopped, reading);
-            self.last = reading.checked_sub(self.still).unwrap_or(self.last);
-        }
-        self.stopped = None;
-        self.last
+        self.timer = go_on(self.timer, Instant::now(self.clock).ok());
+        self.timer.last
     }
 
     fn stop(&mut self) {
-        self.stopped = Instant::now(self.clock).ok();
+        self.timer = stand_still(self.timer, Instant::now(self.clock).ok());
     }
 
     fn second(&self) -> u64 {

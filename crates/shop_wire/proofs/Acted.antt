@@ -1,6 +1,6 @@
 -- What a request was told, and what it did.
 use Rattle.std.proofs.Common.{◌≡◌, ◌≢◌, ℕ, ◌+◌, ◌⊎◌, arith, nat_lt, inl, inr, List, map, Bool, true, false, Option, Some, None, Result, Ok, Err, refl, sym, ap, subst, ◌∙◌}
-use Rattle.std.specs.Prelude.{MatchOption, option_map, ⊤, if◌then◌else◌}
+use Rattle.std.specs.Prelude.{IfSome, MatchOption, option_map, ⊤, if◌then◌else◌}
 use Rattle.std.specs.declared.string.String.{String}
 use Rattle.shop_records.specs.declared.messages.Message.{Message as MessageOf}
 use Rattle.shop_records.specs.declared.messages.Query.{Query}
@@ -8,7 +8,7 @@ use Rattle.shop_records.specs.declared.messages.Reply.{Reply}
 use Rattle.shop_records.specs.declared.messages.Reply.TheVariants.{Refused}
 use Rattle.shop_records.specs.declared.refusals.Refusal.{Refusal}
 use Rattle.shop_records.specs.declared.refusals.Refusal.TheVariants.{BadMessage, NoMemory, StoreFault}
-use Rattle.shop_records.specs.Messages.{IsMessage, pair_of}
+use Rattle.shop_records.specs.Messages.{IsMessage, pair_of, refusal_in}
 use Rattle.shop_records.specs.Content.{Content, kept_at}
 use Rattle.shop_machine.specs.Machine.{Step, StepAt}
 use Rattle.shop_answers.specs.Queries.{Answers}
@@ -18,7 +18,7 @@ use Rattle.shop_book.specs.declared.books.Book.{Ghosts}
 use Rattle.shop_book.specs.declared.books.TheConstants.{MAX_FAILURES}
 use Rattle.shop_book.specs.Failures.{one_more_failure}
 use Rattle.shop_desk.specs.Faults.{CountsUp, StoreFailed}
-use Rattle.shop_desk.specs.Handled.{HasAccount, LeftBy}
+use Rattle.shop_desk.specs.Handled.{HasAccount, LeftBy, RefusalKeeps}
 use Rattle.shop_desk.proofs.Blame.{up_reply}
 use Rattle.shop_desk.proofs.Accounts.{account_same, account_step}
 use Rattle.shop_text.specs.Printing.{CountsRefusal, IsFailure, IsTextMade}
@@ -30,7 +30,7 @@ use Rattle.shop_request.specs.declared.routes.Route.TheVariants.{Message, Plan, 
 use Rattle.shop_request.specs.Requests.{asking}
 use Rattle.shop_wire.specs.AnswerBytes.{Telling, replied, printed}
 use Rattle.shop_wire.specs.Replays.{ExchangesLead, IsNoMessage, PlansStep, line_message, with_reply}
-use Rattle.shop_wire.specs.Serves.{AskStep, HasServedInput, IsInputHandledAt, MessageStep, PrintStep, TellsText, asked_at, body_plans, code_at, numbered, parse_message, text_at}
+use Rattle.shop_wire.specs.Serves.{AskStep, HasServedInput, IsInputHandledAt, KeepsElse, MessageStep, PrintStep, TellsText, asked_at, body_plans, code_at, numbered, parse_message, text_at}
 use Rattle.shop_wire.specs.Tellings.{IsToldOf, IsUnread, PrintsCounted, TellsCounted}
 use Rattle.shop_wire.proofs.Answered.{told_reply, unread_not_store}
 use Rattle.shop_wire.proofs.Crashes.{leads_one, leads_unread, no_memory_step}
@@ -131,6 +131,13 @@ AccountOf old o telling next = HasAccount json_texts old (map (λ e. e.0) (with_
 refused_account : (m : Content) (refusal : Refusal) (o : Option MessageOf) → AccountOf m o (replied (Refused refusal)) m
 refused_account m refusal None = account_same json_texts m m refl
 refused_account m refusal (Some message) = account_same json_texts m m refl
+
+-- a message that was refused left each content
+pub message_kept : {B : Type 0} (book : Ghosts B) (before after : B) (body : List ℕ) (message : MessageOf) (reply : Reply) → line_message body ≡ Some message → RefusalKeeps book before after reply
+    → KeepsElse book before after (asking Message body) (replied reply)
+message_kept book before after body message reply is keeps clean_disk m held (inl none) = absurd (cc (is, none))
+message_kept book before after body message reply is keeps clean_disk m held (inr (refusal, told)) =
+    subst (λ r. IfSome (refusal_in r) (λ _. book.holds after m)) (told_reply reply (Refused refusal) told) (keeps clean_disk m held)
 
 module _ {B : Type 0} (book : Ghosts B) (before after : B) (m : Content) where
   pub message_served : (body : List ℕ) (message : MessageOf) (reply : Reply) (next : Content) → line_message body ≡ Some message → IsMessage message → Step json_texts m message reply next

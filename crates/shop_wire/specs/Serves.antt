@@ -284,10 +284,23 @@ pub record IsAnswerWritten (says : Telling → Type 0) (held_old held_new : Opti
   pub written : Appends held_old held_new bytes
   pub run : says telling
 
--- the parse was served by a book: each sound content that a book with a clean disk held before led to one that it holds now
+-- no message came, or it was refused
+abbrev pub DoesNothing : ParseResult → Telling → Type 0
+DoesNothing parsed telling = (parse_message parsed ≡ None) ⊎ ((refusal : Refusal) × (telling ≡ replied (Refused refusal)))
+
+-- Where no message came or it was refused, a book with a clean disk holds each content that it held, whether a history gives it or not.
+abbrev pub KeepsElse : {B : Type 0} → Ghosts B → B → B → ParseResult → Telling → Type 0
+KeepsElse book before after parsed telling = OnContent book before after (λ m. DoesNothing parsed telling → book.holds after m)
+
+-- The parse was served by a book: each sound content that a book with a clean disk held before led to one that it holds now; and where
+-- no message was accepted each content, sound or not, is held still.
+pub record IsServedFor {B : Type 0} (book : Ghosts B) (before after : B) (parsed : ParseResult) (telling : Telling) : Type 0 where
+  pub run : OnContent book before after (λ m. IsSound json_texts m → HasServedInput book before after m parsed telling)
+  pub keeps : KeepsElse book before after parsed telling
+
 abbrev pub IsServedAs : {B : Type 0} → Ghosts B → B → B → Option (List ℕ) → Option (List ℕ) → ParseResult → List ℕ → Type 0
 IsServedAs book before after held_old held_new parsed unwritten =
-    IsAnswerWritten (λ telling. OnContent book before after (λ m. IsSound json_texts m → HasServedInput book before after m parsed telling)) held_old held_new parsed unwritten
+    IsAnswerWritten (IsServedFor book before after parsed) held_old held_new parsed unwritten
 
 -- What an input stands for was served.
 abbrev pub IsServed : {B : Type 0} → Ghosts B → B → B → Option (List ℕ) → Option (List ℕ) → Option (List ℕ) → List ℕ → Type 0

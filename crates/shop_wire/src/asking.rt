@@ -11,7 +11,7 @@ ghost use Rattle.shop_request.specs.Requests.{asking};
 ghost use Rattle.shop_request.specs.declared.routes.Route.TheVariants.{Message as AtMessage, Ticket as AtTicket, Yield as AtYield};
 ghost use Rattle.shop_wire.specs.AnswerBytes.{replied};
 ghost use Rattle.shop_wire.specs.Replays.{line_message};
-ghost use Rattle.shop_wire.specs.Serves.{AskStep, HandlesInputAt, HasServedInput, asked_at, body_query, code_at, is_of, name_at, path_query, text_at};
+ghost use Rattle.shop_wire.specs.Serves.{AskStep, HandlesInputAt, HasServedInput, KeepsElse, asked_at, body_query, code_at, is_of, name_at, path_query, text_at};
 ghost use Rattle.shop_wire.specs.Tellings.{HasPrintedText, IsRead, PrintsCounted, telling_of};
 
 use crate::answers::value_in;
@@ -55,6 +55,7 @@ fn message_reply<B: Book>(
     ensures served { OnContent B.Book book.old book.new
         (λ m. IsSound json_texts m
         → HasServedInput B.Book book.old book.new m (asking AtMessage body.now) (replied result.0)) }
+    ensures stays { KeepsElse B.Book book.old book.new (asking AtMessage body.now) (replied result.0) }
     ensures timed { HandlesInputAt B.Book book.old book.new at (asking AtMessage body.now) }
     ensures told { IfSome result.1 (λ text. text ≡ json_texts.of_reply result.0) }
     ensures clean_disk { B.has_clean_disk book.new → B.has_clean_disk book.old }
@@ -71,6 +72,7 @@ fn message_told<B: Book>(alloc: Global, book: &mut B, body: &[u8], at: u64) -> T
     ensures served { OnContent B.Book book.old book.new
         (λ m. IsSound json_texts m
         → HasServedInput B.Book book.old book.new m (asking AtMessage body.now) (telling_of result)) }
+    ensures stays { KeepsElse B.Book book.old book.new (asking AtMessage body.now) (telling_of result) }
     ensures timed { HandlesInputAt B.Book book.old book.new at (asking AtMessage body.now) }
     ensures printed { HasPrintedText result }
     ensures clean_disk { B.has_clean_disk book.new → B.has_clean_disk book.old }
@@ -240,6 +242,7 @@ pub(crate) fn respond<B: Book>(
     ensures served { OnContent B.Book book.old book.new
         (λ m. IsSound json_texts m
         → HasServedInput B.Book book.old book.new m (asking route text.now) (telling_of result)) }
+    ensures stays { KeepsElse B.Book book.old book.new (asking route text.now) (telling_of result) }
     ensures timed { HandlesInputAt B.Book book.old book.new at (asking route text.now) }
     ensures printed { HasPrintedText result }
     ensures clean_disk { B.has_clean_disk book.new → B.has_clean_disk book.old }

@@ -74,6 +74,7 @@ pub(crate) fn body_told<B: Book>(alloc: Global, book: &mut B, body: &[u8]) -> To
     ensures served { OnContent B.Book book.old book.new
         (λ m. IsSound json_texts m
         → HasServedInput B.Book book.old book.new m (asking AtPlans body.now) (telling_of result)) }
+    ensures stays { OnContent B.Book book.old book.new (λ m. B.holds book.new m) }
     ensures printed { HasPrintedText result }
     ensures clean_disk { B.has_clean_disk book.new → B.has_clean_disk book.old }
     ensures failures { CountsUp (B.failed book.old) (B.failed book.new) }

@@ -7,7 +7,7 @@ use Rattle.shop_request.specs.Parses.{IsDetermined}
 use Rattle.shop_serve.specs.declared.clients.Client.{Client}
 use Rattle.shop_serve.specs.Making.{IsAsked, IsMadeMeanwhile}
 use Rattle.shop_serve.specs.Serving.{IsAnsweredThen}
-use Rattle.shop_serve.specs.Times.{Tells}
+use Rattle.shop_serve.specs.Times.{StandsUntil}
 use Rattle.shop_serve.proofs.Attending.{made-asked, made-own, made-timed, made-whole}
 use Rattle.shop_serve.proofs.Turns.{none_served}
 use Rattle.shop_serve.proofs.clients.ask.Goals as goal
@@ -29,37 +29,37 @@ pub returns-clause-own : goal.returns-clause-own
 returns-clause-own g c =
     let before : Client g.row.C.Denot = record { stream = c.take_bytes.new.stream; since = c.args.client.now.since; received = c.take_bytes.new.received; needed = c.take_bytes.new.needed; task = c.args.client.now.task; answer = c.args.client.now.answer; sent = c.args.client.now.sent } in
     let seen = g.K.Watch.times c.args.watch.now in
+    let still = g.K.Watch.times c.stop.new.self in
     let between = g.K.Watch.times c.made_of.new.watch in
     let seeing = g.K.Watch.times c.now.new.self in
     let book = c.made_of.new.book in
-    let made = subst (λ (t : _). IsMadeMeanwhile c.args.site.now g.B.Book c.args.book.now book t between before.received.items c.in-Some.made) c.stop.ensures
-    (subst (λ (received : List ℕ). IsMadeMeanwhile c.args.site.now g.B.Book c.args.book.now book (g.K.Watch.times c.stop.new.self) between received c.in-Some.made) c.deref.ensures.value c.in-Some.ensures.made) in
+    let made = subst (λ (received : List ℕ). IsMadeMeanwhile c.args.site.now g.B.Book c.args.book.now book still between received c.in-Some.made) c.deref.ensures.value c.in-Some.ensures.made in
     subst (λ (l : Client g.row.C.Denot). IfSome l.answer (λ answer. IsAnsweredThen c.args.site.now g.B.Book c.args.book.now book seen seeing l.since l.received.items answer.items)) (sym c.put_made.ensures)
-    (made-own g.C.Connection c.args.site.now g.B.Book c.args.book.now book seen between seeing before c.in-Some.made c.now.result made c.now.ensures)
+    (made-own g.C.Connection c.args.site.now g.B.Book c.args.book.now book seen still between seeing before c.in-Some.made c.now.result c.stop.ensures made c.now.ensures)
 
 pub returns-clause-since : goal.returns-clause-since
 returns-clause-since g c whole =
     let before : Client g.row.C.Denot = record { stream = c.take_bytes.new.stream; since = c.args.client.now.since; received = c.take_bytes.new.received; needed = c.take_bytes.new.needed; task = c.args.client.now.task; answer = c.args.client.now.answer; sent = c.args.client.now.sent } in
     let seen = g.K.Watch.times c.args.watch.now in
+    let still = g.K.Watch.times c.stop.new.self in
     let between = g.K.Watch.times c.made_of.new.watch in
     let seeing = g.K.Watch.times c.now.new.self in
     let book = c.made_of.new.book in
-    let made = subst (λ (t : _). IsMadeMeanwhile c.args.site.now g.B.Book c.args.book.now book t between before.received.items c.in-Some.made) c.stop.ensures
-    (subst (λ (received : List ℕ). IsMadeMeanwhile c.args.site.now g.B.Book c.args.book.now book (g.K.Watch.times c.stop.new.self) between received c.in-Some.made) c.deref.ensures.value c.in-Some.ensures.made) in
-    subst (λ (l : Client g.row.C.Denot). IsSome l.task → Tells seen seeing l.since) (sym c.put_made.ensures)
-    (made-timed g.C.Connection c.args.site.now g.B.Book c.args.book.now book seen between seeing before c.in-Some.made c.now.result made c.now.ensures)
+    let made = subst (λ (received : List ℕ). IsMadeMeanwhile c.args.site.now g.B.Book c.args.book.now book still between received c.in-Some.made) c.deref.ensures.value c.in-Some.ensures.made in
+    subst (λ (l : Client g.row.C.Denot). IsSome l.task → StandsUntil seen seeing l.since) (sym c.put_made.ensures)
+    (made-timed g.C.Connection c.args.site.now g.B.Book c.args.book.now book seen still between seeing before c.in-Some.made c.now.result c.stop.ensures made c.now.ensures)
 
 pub returns-clause-asked : goal.returns-clause-asked
 returns-clause-asked g c =
     let before : Client g.row.C.Denot = record { stream = c.take_bytes.new.stream; since = c.args.client.now.since; received = c.take_bytes.new.received; needed = c.take_bytes.new.needed; task = c.args.client.now.task; answer = c.args.client.now.answer; sent = c.args.client.now.sent } in
     let seen = g.K.Watch.times c.args.watch.now in
+    let still = g.K.Watch.times c.stop.new.self in
     let between = g.K.Watch.times c.made_of.new.watch in
     let seeing = g.K.Watch.times c.now.new.self in
     let book = c.made_of.new.book in
-    let made = subst (λ (t : _). IsMadeMeanwhile c.args.site.now g.B.Book c.args.book.now book t between before.received.items c.in-Some.made) c.stop.ensures
-    (subst (λ (received : List ℕ). IsMadeMeanwhile c.args.site.now g.B.Book c.args.book.now book (g.K.Watch.times c.stop.new.self) between received c.in-Some.made) c.deref.ensures.value c.in-Some.ensures.made) in
+    let made = subst (λ (received : List ℕ). IsMadeMeanwhile c.args.site.now g.B.Book c.args.book.now book still between received c.in-Some.made) c.deref.ensures.value c.in-Some.ensures.made in
     subst (λ (l : Client g.row.C.Denot). IfSome l.task (λ t. (t.last ≡ None) × IsAsked c.args.site.now g.B.Book c.args.book.now book l.received.items (instance_in t.task))) (sym c.put_made.ensures)
-    (made-asked g.C.Connection c.args.site.now g.B.Book c.args.book.now book seen between seeing before c.in-Some.made c.now.result made)
+    (made-asked g.C.Connection c.args.site.now g.B.Book c.args.book.now book seen still between seeing before c.in-Some.made c.now.result made)
 
 pub returns-clause-whole : goal.returns-clause-whole
 returns-clause-whole g c whole =

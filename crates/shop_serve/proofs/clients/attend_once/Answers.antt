@@ -17,6 +17,7 @@ returns-in-Whole-clause-over g c over =
         attended-ended g.C.Connection c.args.site.now g.B.Book c.args.client.now c.attend.new.client c.finish.new.client c.args.book.now c.attend.new.book (g.K.Watch.times c.args.watch.now) (g.K.Watch.times c.attend.new.watch)
             c.finish.ensures.kept c.finish.ensures.since c.finish.ensures.task c.finish.ensures.contents c.finish.ensures.ended whole attended,
         spent g.C.Connection c.args.site.now g.B.Book c.attend.new.client c.finish.new.client c.finish.ensures.kept whole,
+        c.finish.ensures.over over,
       ),
     )
 

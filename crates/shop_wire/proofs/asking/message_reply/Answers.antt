@@ -1,6 +1,6 @@
 use Rattle.shop_desk.proofs.Blame.{up_answer}
 use Rattle.shop_wire.specs.Replays.{line_message}
-use Rattle.shop_wire.proofs.Acted.{message_served, message_refused, message_timed, unread_timed}
+use Rattle.shop_wire.proofs.Acted.{message_kept, message_served, message_refused, message_timed, unread_timed}
 use Rattle.shop_wire.proofs.asking.message_reply.Goals as goal
 
 pub returns-in-Ok-clause-served : goal.returns-in-Ok-clause-served
@@ -23,3 +23,10 @@ returns-in-Err-clause-served g c = λ clean_disk m held sound.
 
 pub returns-in-Err-clause-timed : goal.returns-in-Err-clause-timed
 returns-in-Err-clause-timed g c = λ clean_disk m held sound. unread_timed g.B.Book c.args.book.now c.args.book.now m c.args.at (line_message c.args.body.now) c.in-Err.refusal c.in-Err.ensures held
+
+pub returns-in-Ok-clause-stays : goal.returns-in-Ok-clause-stays
+returns-in-Ok-clause-stays g c =
+    message_kept g.B.Book c.args.book.now c.handle_with_text_at.new.book c.args.body.now c.in-Ok.message c.handle_with_text_at.result.0 c.in-Ok.ensures c.handle_with_text_at.ensures.refused
+
+pub returns-in-Err-clause-stays : goal.returns-in-Err-clause-stays
+returns-in-Err-clause-stays g c = λ clean_disk m held nothing. held

@@ -1,7 +1,7 @@
 use Rattle.std.proofs.Common.{sym, subst}
 use Rattle.shop_desk.proofs.Blame.{up_reply}
 use Rattle.shop_request.specs.Requests.{asking}
-use Rattle.shop_wire.specs.Serves.{HasServedInput, IsInputHandledAt, parse_message}
+use Rattle.shop_wire.specs.Serves.{HasServedInput, IsInputHandledAt, KeepsElse, parse_message}
 use Rattle.shop_wire.specs.Tellings.{telling_of}
 use Rattle.shop_wire.proofs.Acted.{asked_served, else_timed, ticket_served, yield_served}
 use Rattle.shop_wire.proofs.asking.respond.Goals as goal
@@ -54,3 +54,19 @@ returns-in-Yield-clause-timed g c = λ clean_disk m held sound.
 
 pub returns-in_default-clause-timed : goal.returns-in_default-clause-timed
 returns-in_default-clause-timed g c = λ clean_disk m held sound. else_timed g.B.Book c.args.book.now c.ask_reply.new.book m c.args.at c.args.route c.args.text.now c.in_default.not-Message
+
+pub returns-in-Message-clause-stays : goal.returns-in-Message-clause-stays
+returns-in-Message-clause-stays g c =
+    subst (λ r. KeepsElse g.B.Book c.args.book.now c.message_told.new.book (asking r c.args.text.now) (telling_of c.message_told.result)) (sym c.in-Message.is) c.message_told.ensures.stays
+
+pub returns-in-Plans-clause-stays : goal.returns-in-Plans-clause-stays
+returns-in-Plans-clause-stays g c = λ clean_disk m held nothing. c.body_told.ensures.stays clean_disk m held
+
+pub returns-in-Ticket-clause-stays : goal.returns-in-Ticket-clause-stays
+returns-in-Ticket-clause-stays g c = λ clean_disk m held nothing. c.ticket_told.ensures.keeps.stays clean_disk m held
+
+pub returns-in-Yield-clause-stays : goal.returns-in-Yield-clause-stays
+returns-in-Yield-clause-stays g c = λ clean_disk m held nothing. c.yield_told.ensures.keeps.stays clean_disk m held
+
+pub returns-in_default-clause-stays : goal.returns-in_default-clause-stays
+returns-in_default-clause-stays g c = λ clean_disk m held nothing. c.ask_reply.ensures.keeps.stays clean_disk m held

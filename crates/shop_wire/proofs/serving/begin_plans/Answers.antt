@@ -14,7 +14,10 @@ returns-in-Ok-write_made-clause-answered g c = λ e.
       bytes = whole;
       told = append-nil whole;
       written = c.in-Ok-write_made.ensures.ok whole c.told_text.ensures;
-      run = refused_told g.B.Book c.args.book.now c.build_body.new.book c.args.body.now c.in-Err.refusal telling c.refused.ensures.told c.in-Err.ensures.refused;
+      run = record {
+        run = refused_told g.B.Book c.args.book.now c.build_body.new.book c.args.body.now c.in-Err.refusal telling c.refused.ensures.told c.in-Err.ensures.refused;
+        keeps = λ clean_disk m held nothing. c.build_body.ensures.keeps.stays clean_disk m held;
+      };
     }
 
 pub returns-in-Err-write_made-clause-err : goal.returns-in-Err-write_made-clause-err
@@ -27,6 +30,9 @@ returns-in-Err-write_made-clause-err g c =
         bytes = part.0;
         told = part.2;
         written = part.3;
-        run = refused_told g.B.Book c.args.book.now c.build_body.new.book c.args.body.now c.in-Err.refusal telling c.refused.ensures.told c.in-Err.ensures.refused;
+        run = record {
+          run = refused_told g.B.Book c.args.book.now c.build_body.new.book c.args.body.now c.in-Err.refusal telling c.refused.ensures.told c.in-Err.ensures.refused;
+          keeps = λ clean_disk m held nothing. c.build_body.ensures.keeps.stays clean_disk m held;
+        };
       },
     )
