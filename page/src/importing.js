@@ -287,9 +287,10 @@ function csvRows(row) {
 // A cell: what is read, and what the file has where that is another text. A bad cell, and one that was mended, is a field.
 function csvCell({at, fields, cells, texts, faults}, name, i) {
   const fault = faults[name], cell = cells[i], isMended = csv.chosen.mended?.[at]?.[name] !== undefined;
-  const was = cell === cell?.trim() ? shortened(cell) : quoted(cell ?? ""), isOther = cell !== null && texts[i] !== cell;
+  const read = name === "turn" ? word(texts[i]) : texts[i];
+  const was = cell === cell?.trim() ? shortened(cell) : quoted(cell ?? ""), isOther = cell !== null && read !== cell;
   const from = () => el("span", {class: "turned", text: was ? `← ${was}` : tr`← empty`});
-  if (!fault && !isMended) return el("td", {text: shortened(texts[i])}, isOther ? from() : null);
+  if (!fault && !isMended) return el("td", {text: shortened(read)}, isOther ? from() : null);
   const field = el("input", {
     value: cell ?? "",
     "data-key": `csv ${at} ${name}`,
@@ -298,7 +299,7 @@ function csvCell({at, fields, cells, texts, faults}, name, i) {
     "aria-describedby": fault ? `csv-${at}` : "",
     on: {change: () => mendCell(at, name, field.value)}
   });
-  return el("td", {class: fault ? "badfield" : "", text: fault ? "✗ " : isOther ? `${shortened(texts[i])} ← ` : ""}, field);
+  return el("td", {class: fault ? "badfield" : "", text: fault ? "✗ " : isOther ? `${shortened(read)} ← ` : ""}, field);
 }
 
 // Which orders a file becomes, and a moment later which of them are there already.

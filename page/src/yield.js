@@ -14,7 +14,7 @@ function showYield() {
   fill($("yieldBars"),
     () => [el("h2", {text: tr`Where the material is`}), rows.length ? null : quiet(noMaterial()), ...rows.map(yieldRow),
       ...(rows.length ? [yieldHint(), yieldTable(rows)] : []),
-      shop.materials.length > rows.length
+      rows.length && shop.materials.length > rows.length
         ? quiet(tr`Shown are ${rows.length} of ${
             shop.materials.length} materials, among them the one that is chosen under Stock.`)
         : null]);

@@ -22,6 +22,8 @@ SHOWN = "[...document.querySelectorAll('#csvPreview tbody tr')].map(row => [...r
 LEFT = "[...document.querySelectorAll('#csvRowsLeft li')].map(e => e.textContent)"
 FAULTS = "[...document.querySelectorAll('#csvPreview > .fault')].map(e => e.textContent)"
 CODES = "[...document.querySelectorAll('#fileCodes p')].map(e => e.textContent)"
+# The fields of a row of the preview, behind its line of the file.
+FIELDS_SHOWN = ("line", "material", "length", "width", "turn", "count", "worth")
 CELL = "document.querySelector('#csvPreview input[data-key={}]')"
 
 
@@ -464,4 +466,8 @@ def in_german(trial):
         it.until(f"{CODES}[0] === 'Aufträge VIELE-1 bis VIELE-2 mit je höchstens 200 Zeilen.'")
         trial.equal(it.text("sendCsv"), "201 Zeilen als 2 Aufträge bestellen")
         is_german(it, "import-many")
+        picked(it, "drehbar.csv", "Länge;Breite;Stück;Drehbar;Material\n600;400;1;ja;GLASS\n500;400;1;x;GLASS\n400;300;1;;GLASS\n")
+        it.until(f"{SHOWN}.length === 3")
+        turns = FIELDS_SHOWN.index("turn") + 1
+        trial.equal([row[turns] for row in it.value(SHOWN)], ["ja", "ja← x", "nein← leer"])
         is_quiet(it)
