@@ -163,7 +163,7 @@ def wanted(path, is_apart):
 @case(
     "a shop too large for the memory at hand",
     "If a store of 20000 parts doesn't fit into the memory that the program may have, each command on it ends with `fault memory` and a second line "
-    "that says about how much the store takes, and both files stay byte for byte. A store without a part opens with as much memory.",
+    "that says about how much the store takes, and both files stay as they were, but for the salts in the head of the log. A store without a part opens with as much memory.",
 )
 def too_large(trial):
     if trial.is_watched():
@@ -177,16 +177,22 @@ def too_large(trial):
             is_too_large(trial, path, words)
 
 
+def but_for_salts(found):
+    """What lies there, without the salts and checksums in the head of the log, which each opening of a store writes anew."""
+    *others, log = found
+    return [*others, log[:16] + log[32:]]
+
+
 def is_too_large(trial, path, words):
     """With less than the least memory that it takes, a command on this store ends because memory ran out, and on a small one it doesn't."""
     command, *more = words
     is_apart = command == "audit" or "--read-only" in more
     enough = least_room(trial, (command, "--store", "large.db", *more))
     line = f"large.db: memory ran out; end other programs, or give this one more; its shop takes some {wanted(path, is_apart)} MB"
-    before = lies_there(path)
+    before = but_for_salts(lies_there(path))
     for less in (1, 2, 3):
         ran = within(trial, enough - less, (command, "--store", "large.db", *more))
         trial.ended(ran, 1, err="fault memory\n", why=line, sent=f"{command} {more} with {enough - less} MB")
         small = within(trial, enough - less, (command, "--store", "small.db", *more))
         trial.equal(small.err.startswith(b"fault memory"), False, f"{command} {more} of a small store with {enough - less} MB")
-    trial.equal(lies_there(path) == before, True, f"{command} {more}: both files as they were")
+    trial.equal(but_for_salts(lies_there(path)) == before, True, f"{command} {more}: both files as they were")
