@@ -421,6 +421,10 @@ def hundreds(trial):
         it.key("Enter")
         it.until("document.querySelectorAll('#cutList li').length === 143")
         trial.equal(it.sheets("ticket-of-many-cuts"), 1)
+        # (the heading has the focus, and paper shows none)
+        it.call("Emulation.setEmulatedMedia", media="print")
+        trial.equal(it.value("[document.activeElement.id, getComputedStyle(document.activeElement).outlineStyle]"), ["jobTitle", "none"])
+        it.call("Emulation.setEmulatedMedia", media="")
         it.at_widths("many")
         is_quiet(it)
 
