@@ -1,4 +1,4 @@
--- What a check of planned units tells.
+-- What a check of planned units reports.
 use Rattle.std.proofs.Common.{◌≡◌, ℕ, ◌+◌, ◌<◌, ◌≤◌, ◌↔◌, List, [], ◌∷◌, ◌++◌, length, map, take, get_or, ap, sym, refl, subst, ◌∙◌, arith}
 use Rattle.std.specs.Prelude.{IfErr, IfOk, Result, Ok, Err, ◌^◌, All, Contains, IsTrue}
 use Rattle.std.proofs.lemmas.List.{map_more}
@@ -48,26 +48,26 @@ checked_order wants k sizes bound us c planned at_hand no_more missing paid prov
           All-weaker (λ (x : Want). pieces_of (cutting_of us) x.demand ≤ x.left) (λ (x : Want). pieces_of (cutting_of us) x.demand + missing_of (cutting_of us) x ≡ x.left)
           (λ x le. omega (arith, le)) wants no_more;
       paid = paid;
-      proof = (λ told. (none.0 (proved.0 told).1, (proved.0 told).0), λ both. proved.1 (both.1, none.1 both.0));
+      proof = (λ reported. (none.0 (proved.0 reported).1, (proved.0 reported).0), λ both. proved.1 (both.1, none.1 both.0));
     }
 
 pub cheapest_order : (wants : List Want) (k : ℕ) (sizes : List StockSize) (bound : ℕ) (us : List PlannedUnit) (c : CheckedOrder) → IsChecked wants k sizes bound us c
     → IsCostBound wants k sizes bound → IsTrue c.proved → IsCheapest wants k sizes (cutting_of us)
-cheapest_order wants k sizes bound us c is holds told =
-    let both = is.proof.0 told in
+cheapest_order wants k sizes bound us c is holds reported =
+    let both = is.proof.0 reported in
     record { cut = is.cut; makes_all = both.0; least = λ cutting cut makes. omega (arith, holds cutting cut makes, both.1, is.paid) }
 
 -- one of which it doesn't hold
 pub fails_all : {A : Type 0} (P : A → Type 0) (xs : List A) (i : ℕ) (x : A) → i < length xs → x ≡ get_or xs i x → (P x → ⊥) → All P xs → ⊥
 fails_all P xs i x lt is never all = never (subst P (sym is) (All-get_or P xs i x lt all))
 
--- what is proved of what a check tells
-pub told_cheapest : (wants : List Want) (k : ℕ) (sizes : List StockSize) (bound : ℕ) (us : List PlannedUnit) (r : Result CheckedOrder CheckFault) → IfOk r (IsChecked wants k sizes bound us)
+-- what is proved of what a check reports
+pub reported_cheapest : (wants : List Want) (k : ℕ) (sizes : List StockSize) (bound : ℕ) (us : List PlannedUnit) (r : Result CheckedOrder CheckFault) → IfOk r (IsChecked wants k sizes bound us)
     → IfOk r (λ c. IsCostBound wants k sizes bound → IsTrue c.proved → IsCheapest wants k sizes (cutting_of us))
-told_cheapest wants k sizes bound us (Ok c) is = cheapest_order wants k sizes bound us c is
-told_cheapest wants k sizes bound us (Err f) is = tt
+reported_cheapest wants k sizes bound us (Ok c) is = cheapest_order wants k sizes bound us c is
+reported_cheapest wants k sizes bound us (Err f) is = tt
 
--- a plan of the order is refused only for its cost or for want of memory
+-- a plan of the order is refused only for its cost or because memory ran out
 pub refused_plan : (wants : List Want) (k : ℕ) (sizes : List StockSize) (us : List PlannedUnit) (r : Result CheckedOrder CheckFault) → IfErr r (IsCheckFault wants k sizes us)
     → IsOrderPlan wants k sizes us → cost_of sizes (cutting_of us) < 2 ^ 128 → IfErr r (λ f. f ≡ NoMemory)
 refused_plan wants k sizes us (Ok c) fault is cheap = tt

@@ -13,7 +13,7 @@ use Rattle.std.proofs.Math.Nat.{le_refl, mod-add-div}
 use Rattle.cut_wants.specs.declared.wants.Want.{Want}
 use Rattle.cut_bound.specs.declared.stock.StockSize.{StockSize}
 use Rattle.cut_bound.specs.Cuttings.{CutUnit, Cutting, IsCostBound, cost_of}
-use Rattle.cut_bound.specs.Orders.{IsCommonDivisor, told_cost}
+use Rattle.cut_bound.specs.Orders.{IsCommonDivisor, reported_cost}
 use Rattle.cut_bound.proofs.ListedPlans.{All-left, All-right}
 use Rattle.cut_bound.proofs.PaidWorths.{ceil_le}
 use Rattle.cut_bound.proofs.UnitSums.{each_at}
@@ -75,7 +75,7 @@ rounded g bound times cost is le =
     ]
 
 pub multiple_bound : (wants : List Want) (k : ℕ) (sizes : List StockSize) (bound divisor : ℕ) → IsCommonDivisor sizes divisor → IsCostBound wants k sizes bound
-    → IsCostBound wants k sizes (told_cost divisor bound)
+    → IsCostBound wants k sizes (reported_cost divisor bound)
 multiple_bound wants k sizes bound divisor common least us is makes =
     let m = cost_multiple sizes divisor us common.divides in
     let le = rounded divisor bound m.times (cost_of sizes us) m.is (least us is makes) in

@@ -29,7 +29,7 @@ use Rattle.cut_bound.specs.Cuttings.{IsCostBound}
 use Rattle.cut_bound.specs.Bounds.{AreRated, IsGreatestCost, IsMost, SetsPrice, cost_at, sizes_of}
 use Rattle.cut_bound.specs.Ratings.{AreRatable, IsRating, is_large, rated_wants}
 use Rattle.cut_bound.specs.Prices.{is_below_step, priced, step_of}
-use Rattle.cut_bound.specs.Orders.{IsCommonDivisor, IsPricedBound, IsRatedBound, told_cost, cost_fault, fault_by, is_bad_step, is_no_step, order_fault}
+use Rattle.cut_bound.specs.Orders.{IsCommonDivisor, IsPricedBound, IsRatedBound, reported_cost, cost_fault, fault_by, is_bad_step, is_no_step, order_fault}
 use Rattle.cut_bound.proofs.BarRatings.{bar_most}
 use Rattle.cut_bound.proofs.Multiples.{multiple_bound}
 use Rattle.cut_bound.proofs.PaidWorths.{bound_holds}
@@ -184,7 +184,7 @@ pub rated_holds : (kind : Kind) (k : ℕ) (step : Option ℕ) (sizes : List Stoc
     → IsRatedBound kind k step sizes wants bound → IsCostBound wants k sizes bound
 rated_holds kind k step sizes wants bound good flat b =
     picked_bound wants rated k sizes bound good.own (rated_picked kind k step b.across b.down wants)
-    (subst (IsCostBound rated k sizes) (sym b.told)
+    (subst (IsCostBound rated k sizes) (sym b.reported)
     (multiple_bound rated k sizes b.cost b.divisor b.common (greatest_holds rated k sizes b.rated b.cost (rated_own kind k step b.across b.down wants good.own) most b.all_rated b.greatest)))
   where
     rated : List Want
@@ -239,10 +239,10 @@ unfolding unrated
 all_unrated [] = refl
 all_unrated (z ∷ zs) = ap (λ ys. z ∷ ys) (all_unrated zs)
 
-pub unpriced : (kind : Kind) (k : ℕ) (step : Option ℕ) (sizes : List StockSize) (wants : List Want) (divisor bound : ℕ) → IsCommonDivisor sizes divisor → bound ≡ told_cost divisor 0
+pub unpriced : (kind : Kind) (k : ℕ) (step : Option ℕ) (sizes : List StockSize) (wants : List Want) (divisor bound : ℕ) → IsCommonDivisor sizes divisor → bound ≡ reported_cost divisor 0
     → IsPricedBound kind k step sizes wants [] bound
 unfolding unrated
-unpriced kind k step sizes wants divisor bound common told =
+unpriced kind k step sizes wants divisor bound common reported =
     record {
       exact = record {
         across = xs;
@@ -264,9 +264,9 @@ unpriced kind k step sizes wants divisor bound common told =
         };
         divisor = divisor;
         common = common;
-        told = told;
+        reported = reported;
       };
-      least = subst (IsCostBound wants k sizes) (sym told) (multiple_bound wants k sizes 0 divisor common (λ us is makes. omega arith));
+      least = subst (IsCostBound wants k sizes) (sym reported) (multiple_bound wants k sizes 0 divisor common (λ us is makes. omega arith));
     }
   where
     xs : Classes

@@ -53,8 +53,8 @@ pub record IsCommonDivisor (sizes : List StockSize) (divisor : ℕ) : Type 0 whe
   pub greatest : (d : ℕ) → All (λ s. d ∣ s.cost) sizes → d ∣ divisor
 
 -- the least multiple that is no less, or 10^18 where that is less
-abbrev pub told_cost : (divisor cost : ℕ) → ℕ
-told_cost divisor cost = min (div_ceil cost divisor * divisor) MAX_BOUND
+abbrev pub reported_cost : (divisor cost : ℕ) → ℕ
+reported_cost divisor cost = min (div_ceil cost divisor * divisor) MAX_BOUND
 
 -- Each size with what a unit of it is worth at most at the wants' worths, and the greatest cost at the rate of a size that
 -- sets the price, as a multiple of what divides all costs. Without a step sheets are rated over some classes of widths and
@@ -70,7 +70,7 @@ pub record IsRatedBound (kind : Kind) (kerf : ℕ) (step : Option ℕ) (sizes : 
   pub greatest : IsGreatestCost rated (worth_left (rated_wants kind kerf step across down wants)) cost
   pub divisor : ℕ
   pub common : IsCommonDivisor sizes divisor
-  pub told : bound ≡ told_cost divisor cost
+  pub reported : bound ≡ reported_cost divisor cost
 
 -- the same at the prices of those wants that have one: no cutting of the sizes at hand that makes all wants costs less
 pub record IsPricedBound (kind : Kind) (kerf : ℕ) (step : Option ℕ) (sizes : List StockSize) (wants : List Want) (numbers : List ℕ) (bound : ℕ) : Type 0 where

@@ -1,4 +1,4 @@
--- Planned units: when a list of them is a plan of an order, and what a check tells of it.
+-- Planned units: when a list of them is a plan of an order, and what a check reports it.
 use Rattle.std.specs.Prelude.{◌≡◌, ℕ, ◌+◌, ◌-◌, ◌<◌, ◌≤◌, ◌^◌, ◌↔◌, IsTrue, List, [], ◌∷◌, ◌++◌, All, IfSome, Some, length, map, replicate, slice_get}
 use Rattle.cut_measure.specs.Measures.{Extent}
 use Rattle.cut_tree.specs.declared.token.TheConstants.{MAX_CUTS}

@@ -24,8 +24,8 @@ use cut_sheets::bound::total_left;
 use std::alloc::{AllocError, Global};
 
 // The least multiple of a divisor that is no less than a cost, or 10^18 where that is less.
-fn told_cost(divisor: u64, cost: u128) -> u64
-    ensures { result ≡ orders.told_cost divisor cost }
+fn reported_cost(divisor: u64, cost: u128) -> u64
+    ensures { result ≡ orders.reported_cost divisor cost }
 {
     let most = MAX_BOUND as u128;
     if divisor == 0 {
@@ -52,7 +52,7 @@ fn bars_bound(
 {
     let rated = rated_bars(alloc, kerf, sizes, priced)?;
     let cost = greatest_cost(&rated, total_left(priced));
-    Ok(told_cost(divisor_of(sizes), cost))
+    Ok(reported_cost(divisor_of(sizes), cost))
 }
 
 // The bound of sheets in steps, at the prices of some of the wants.
@@ -69,7 +69,7 @@ fn steps_bound(
 {
     let rated = rated_sheets(alloc, kerf, step, sizes, priced)?;
     let cost = greatest_cost(&rated, total_left(priced));
-    Ok(told_cost(divisor_of(sizes), cost))
+    Ok(reported_cost(divisor_of(sizes), cost))
 }
 
 // The bound of sheets without a step, at the prices of some of the wants.
@@ -88,7 +88,7 @@ fn classes_bound(
     let counted = counted_wants(alloc, kerf, &grid, priced)?;
     let rated = rated_classes(alloc, kerf, &grid, sizes, priced)?;
     let cost = greatest_cost(&rated, total_left(&counted));
-    Ok(told_cost(divisor_of(sizes), cost))
+    Ok(reported_cost(divisor_of(sizes), cost))
 }
 
 // The bound at the prices of some of the wants.
@@ -121,7 +121,7 @@ fn rated_bound(
 /// worths are: a number outside 1..=1000000000 is none, and a sheet's want whose side and kerf are
 /// shorter than the step has none. One table is made: with this step, or where sheets have none
 /// over classes of their sides that begin at about so many points of each axis. A bar ignores both.
-/// A bound that is more than all units at hand cost tells that they don't suffice
+/// A bound that is more than all units at hand cost reports that they don't suffice
 /// (`stock_falls_short`).
 pub fn priced_cost(
     alloc: Global,
@@ -148,7 +148,7 @@ pub fn unpriced_cost(sizes: &[StockSize]) -> u64
     ensures { (kind : Kind) (kerf : ℕ) (step : Option ℕ) (wants : List Want)
         → IsPricedBound kind kerf step sizes.now wants [] result }
 {
-    told_cost(divisor_of(sizes), 0)
+    reported_cost(divisor_of(sizes), 0)
 }
 
 // The worths of wants.

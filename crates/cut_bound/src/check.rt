@@ -1,5 +1,5 @@
 //! The check of any list of planned units: it passes exactly those that are a plan of the order,
-//! and tells what they leave and cost. So whoever made them need not be trusted.
+//! and reports what they leave and cost. So whoever made them need not be trusted.
 
 ghost use Rattle.std.specs.Prelude.{◌≡◌, ◌-◌, ◌≤◌, ◌<◌, ◌^◌, ◌↔◌, ◌⊎◌, All, IfErr, IfNone, IfOk, IfSome, IsTrue, map};
 ghost use Rattle.cut_bound.specs.Cuttings.{AreAtHand, IsCostBound, cost_of, pieces_of, units_at};
@@ -35,7 +35,7 @@ pub enum CheckFault {
     TooMany,
     /// The cost has no number of 128 bits.
     TooCostly,
-    /// Want of memory.
+    /// Lack of memory.
     NoMemory,
 }
 
@@ -143,8 +143,8 @@ fn checked_units(
 
 /// Checks any list of planned units against a bound of the cost. It passes exactly those of which
 /// each has a plan for its size, of which no more than are at hand, and which make no more than is
-/// left; a cost of over 128 bits and want of memory aside. Where the bound is one and `proved` is
-/// told, no cutting that makes all costs less.
+/// left; a cost of over 128 bits and lack of memory aside. Where the bound is one and `proved` is
+/// reported, no cutting that makes all costs less.
 pub fn check_order(
     alloc: Global,
     kerf: u32,

@@ -1,5 +1,5 @@
 //! What holds of all prices and stocks: worths bound what it costs to make all that is left, and
-//! tell a stock that doesn't suffice.
+//! report a stock that doesn't suffice.
 
 ghost use Rattle.std.specs.Prelude.{◌≡◌, ◌≤◌, ◌<◌, ◌^◌, ℕ, List, [], ◌∷◌, All, Contains, IsSome, IsTrue, None};
 ghost use Rattle.std.specs.Int.{div_ceil};
@@ -13,7 +13,7 @@ ghost use Rattle.cut_bound.specs.declared.stock.RatedSize.{RatedSize};
 ghost use Rattle.cut_bound.specs.Cuttings.{Cutting, IsCostBound, IsCutting, MakesAll, cost_at_hand};
 ghost use Rattle.cut_bound.specs.Bounds.{AreRated, IsGreatestCost, SetsPrice, cost_at, sizes_of};
 ghost use Rattle.cut_bound.specs.Prices.{ArePicked};
-ghost use Rattle.cut_bound.specs.Orders.{IsCommonDivisor, told_cost};
+ghost use Rattle.cut_bound.specs.Orders.{IsCommonDivisor, reported_cost};
 ghost use Rattle.cut_bound.specs.Planned.{HoldsPiece};
 ghost use Rattle.cut_bound.specs.declared.limits.TheConstants.{MAX_BOUGHT_SIZES, MAX_BOUND, MAX_CALLS, MAX_ORDER_WANTS, MAX_PARTS, MAX_ORDER_UNITS};
 
@@ -47,7 +47,7 @@ pub fn picked_wants_bound()
 pub fn bounds_are_multiples()
     ensures { (wants : List Want) (k : ℕ) (sizes : List StockSize) (bound divisor : ℕ)
         → IsCommonDivisor sizes divisor → IsCostBound wants k sizes bound
-        → IsCostBound wants k sizes (told_cost divisor bound) }
+        → IsCostBound wants k sizes (reported_cost divisor bound) }
 {}
 
 /// The limits of an order, in numbers.

@@ -15,5 +15,5 @@ pub const MAX_CALLS: u32 = 5000;
 /// The most units of an answer.
 pub const MAX_ORDER_UNITS: u32 = 100_000;
 
-/// The greatest bound that is told.
+/// The greatest bound that is reported.
 pub const MAX_BOUND: u64 = 1_000_000_000_000_000_000;

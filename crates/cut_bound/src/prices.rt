@@ -64,7 +64,7 @@ pub fn priced(
 
 /// The prices of wants that have one, in their order.
 pub fn prices_of(alloc: Global, priced: &[Want]) -> Result<Vec<Price>, AllocError>
-    ensures { IfOk result (λ told. told.items ≡ map prices.price_of priced.now) }
+    ensures { IfOk result (λ reported. reported.items ≡ map prices.price_of priced.now) }
 {
     priced
         .iter()

@@ -38,7 +38,7 @@ pub fn plan_of(alloc: Global, unit: Unit, text: &str) -> Result<Plan> {
 }
 
 /// How many cuts a plan has, how many pieces of demands 1 and 3, and its text; or the text's fault.
-pub fn plan_told(alloc: Global, unit: Unit, text: &str) -> Result<String> {
+pub fn plan_reported(alloc: Global, unit: Unit, text: &str) -> Result<String> {
     let plan = match read(alloc, unit, text)? {
         Ok(plan) => plan,
         Err(fault) => {
@@ -47,13 +47,13 @@ pub fn plan_told(alloc: Global, unit: Unit, text: &str) -> Result<String> {
         }
     };
     let (cuts, first, third) = (plan.cuts(), plan.count(1), plan.count(3));
-    let mut told = format!(in alloc; "{cuts} cuts, {first} of 1, {third} of 3 =")?;
-    plan.write(&mut told)?;
-    Ok(told)
+    let mut reported = format!(in alloc; "{cuts} cuts, {first} of 1, {third} of 3 =")?;
+    plan.write(&mut reported)?;
+    Ok(reported)
 }
 
 /// Whether two texts spell the same plan, each on its unit. A plan is its copy.
-pub fn same_told(alloc: Global, unit: Unit, other: Unit, texts: &str) -> Result<String> {
+pub fn same_reported(alloc: Global, unit: Unit, other: Unit, texts: &str) -> Result<String> {
     let (first, second) = texts.split_once(": ").unwrap_or((texts, ""));
     let plan = plan_of(alloc, unit, first)?;
     let other = plan_of(alloc, other, second)?;
@@ -65,57 +65,57 @@ pub fn same_told(alloc: Global, unit: Unit, other: Unit, texts: &str) -> Result<
 }
 
 /// The steps of a plan.
-pub fn steps_told(alloc: Global, plan: &Plan) -> Result<String> {
+pub fn steps_reported(alloc: Global, plan: &Plan) -> Result<String> {
     let steps = plan.steps(alloc)?;
-    let mut told = String::new(alloc);
+    let mut reported = String::new(alloc);
     for step in &steps {
         let (node, what) = (step.node, step.what);
         let (x, y, w, h) = (step.x, step.y, step.w, step.h);
-        writeln!(told, "{node} at ({x}, {y}), {w} by {h}: {what:?}")?;
+        writeln!(reported, "{node} at ({x}, {y}), {w} by {h}: {what:?}")?;
     }
-    Ok(told)
+    Ok(reported)
 }
 
 /// The pieces of a plan, in order.
-pub fn leaves_told(alloc: Global, plan: &Plan) -> Result<String> {
+pub fn leaves_reported(alloc: Global, plan: &Plan) -> Result<String> {
     let leaves = plan.leaves(alloc)?;
-    let mut told = String::new(alloc);
+    let mut reported = String::new(alloc);
     for leaf in &leaves {
         let (demand, turned, w, h) = (leaf.demand, leaf.turned, leaf.w, leaf.h);
-        writeln!(told, "{demand}, {w} by {h}, turned {turned}")?;
+        writeln!(reported, "{demand}, {w} by {h}, turned {turned}")?;
     }
-    Ok(told)
+    Ok(reported)
 }
 
 // Rows, each a line.
-fn rows_told(alloc: Global, rows: &[Row]) -> Result<String> {
-    let mut told = String::new(alloc);
+fn rows_reported(alloc: Global, rows: &[Row]) -> Result<String> {
+    let mut reported = String::new(alloc);
     for row in rows {
         let (node, owner) = (row.node, row.owner);
         let (x, y, w, h) = (row.x, row.y, row.w, row.h);
-        writeln!(told, "{node} at ({x}, {y}), {w} by {h}: {owner:?}")?;
+        writeln!(reported, "{node} at ({x}, {y}), {w} by {h}: {owner:?}")?;
     }
-    Ok(told)
+    Ok(reported)
 }
 
 /// What a plan leaves of its unit.
-pub fn laid_told(alloc: Global, plan: &Plan) -> Result<String> {
+pub fn laid_reported(alloc: Global, plan: &Plan) -> Result<String> {
     let rows = plan.lay(alloc, Stop::All)?;
-    rows_told(alloc, rows.as_slice())
+    rows_reported(alloc, rows.as_slice())
 }
 
 // What is left of a unit where the work on its plan halted, where it may have halted so.
-fn halted_told(alloc: Global, plan: &Plan, halt: Halt) -> Result<String> {
+fn halted_reported(alloc: Global, plan: &Plan, halt: Halt) -> Result<String> {
     if !plan.allows(&halt) {
         return Ok(String::from_str(alloc, "not allowed")?);
     }
     let rows = plan.lay(alloc, Stop::After(halt))?;
-    rows_told(alloc, rows.as_slice())
+    rows_reported(alloc, rows.as_slice())
 }
 
 /// What is left of a unit where work halted after the first cuts, at the next of which a part may be lost.
-pub fn first_told(alloc: Global, plan: &Plan, cuts: u32, lost: bool) -> Result<String> {
-    halted_told(alloc, plan, Halt::First { cuts, lost })
+pub fn first_reported(alloc: Global, plan: &Plan, cuts: u32, lost: bool) -> Result<String> {
+    halted_reported(alloc, plan, Halt::First { cuts, lost })
 }
 
 // The number of a cut, where there is one.
@@ -128,18 +128,18 @@ fn cut_of(word: &str) -> Result<Option<u32>> {
 
 /// What is left of a unit where work halted after the cuts of a list, and maybe a part was lost at the cut after a
 /// semicolon: `0 2; 1`.
-pub fn listed_told(alloc: Global, plan: &Plan, words: &str) -> Result<String> {
+pub fn listed_reported(alloc: Global, plan: &Plan, words: &str) -> Result<String> {
     let (made, lost) = words.split_once(';').unwrap_or((words, ""));
     let lost = cut_of(lost)?;
     let mut cuts = CutList::new(alloc);
     for cut in made.split_whitespace() {
         cuts.push(cut.parse()?)?;
     }
-    halted_told(alloc, plan, Halt::Listed { cuts, lost })
+    halted_reported(alloc, plan, Halt::Listed { cuts, lost })
 }
 
 /// The fault of so many cuts without an end, on a bar of 200000.
-pub fn endless_told(alloc: Global, cuts: u32) -> Result<String> {
+pub fn endless_reported(alloc: Global, cuts: u32) -> Result<String> {
     let mut text = String::new(alloc);
     for i in 0..cuts {
         write!(text, "x{} ", 199999u32.saturating_sub(i))?;
@@ -149,7 +149,7 @@ pub fn endless_told(alloc: Global, cuts: u32) -> Result<String> {
         h: 1,
         kerf: 1,
     };
-    plan_told(alloc, unit, text.as_str().trim_end())
+    plan_reported(alloc, unit, text.as_str().trim_end())
 }
 
 fn are_bar_pieces(pieces: &[(u32, u32)]) -> bool
@@ -168,19 +168,19 @@ fn bar(alloc: Global, unit: Unit, pieces: &[(u32, u32)]) -> Result<Result<Plan, 
 }
 
 /// The text of the plan of a bar of a piece of demand 1 and one of demand 2, or its fault.
-pub fn two_pieces_told(alloc: Global, unit: Unit, first: u32, second: u32) -> Result<String> {
+pub fn two_pieces_reported(alloc: Global, unit: Unit, first: u32, second: u32) -> Result<String> {
     match bar(alloc, unit, &[(1, first), (2, second)])? {
         Ok(plan) => {
-            let mut told = String::new(alloc);
-            plan.write(&mut told)?;
-            Ok(told)
+            let mut reported = String::new(alloc);
+            plan.write(&mut reported)?;
+            Ok(reported)
         }
         Err(fault) => Ok(format!(in alloc; "{fault:?}")?),
     }
 }
 
 /// How many cuts the plan of a bar of so many pieces of 1 has, or its fault.
-pub fn many_pieces_told(alloc: Global, unit: Unit, count: u32) -> Result<String> {
+pub fn many_pieces_reported(alloc: Global, unit: Unit, count: u32) -> Result<String> {
     let pieces = [(1, 1); 300];
     let some = pieces.get(..count as usize).context("too many pieces")?;
     match bar(alloc, unit, some)? {

@@ -26,36 +26,36 @@ fn numbers_of(words: &str) -> Result<[u32; 8]> {
 }
 
 // What comes of a line about wants, or else of one about numbers alone.
-fn wanted_told(alloc: Global, name: &str, numbers: [u32; 8], text: &str) -> Result<String> {
+fn wanted_reported(alloc: Global, name: &str, numbers: [u32; 8], text: &str) -> Result<String> {
     let [w, h, kerf, a, b, ..] = numbers;
     let unit = Unit { w, h, kerf };
     let wants = wants::wants_of(alloc, text)?;
     match name {
-        "worth" => wants::worth_told(alloc, unit, &wants),
-        "tree" => wants::tree_told(alloc, unit, &wants),
-        "reached" => wants::reached_told(alloc, unit, a, &wants),
-        "sheet" => wants::sheet_told(alloc, unit, a, &wants),
-        "sheet-cuts" => wants::cuts_told(alloc, unit, a, &wants),
-        "bar-bound" => wants::bound_told(alloc, Kind::Bar, unit, a, &wants),
-        "sheet-bound" => wants::bound_told(alloc, Kind::Sheet, unit, a, &wants),
-        "alike" => wants::alike_told(alloc, unit),
-        "table" => wants::table_told(alloc),
-        "bar-size" => measures::size_told(alloc, Kind::Bar, w, h),
-        "sheet-size" => measures::size_told(alloc, Kind::Sheet, w, h),
-        "bar-limits" => measures::limits_told(alloc, Kind::Bar, w, h, kerf),
-        "sheet-limits" => measures::limits_told(alloc, Kind::Sheet, w, h, kerf),
-        "kept" => measures::kept_told(alloc, w, h, kerf, a),
-        "endless" => cuts::endless_told(alloc, w),
-        "two-pieces" => cuts::two_pieces_told(alloc, unit, a, b),
-        "many-pieces" => cuts::many_pieces_told(alloc, unit, a),
-        "faults" => wants::faults_told(alloc),
+        "worth" => wants::worth_reported(alloc, unit, &wants),
+        "tree" => wants::tree_reported(alloc, unit, &wants),
+        "reached" => wants::reached_reported(alloc, unit, a, &wants),
+        "sheet" => wants::sheet_reported(alloc, unit, a, &wants),
+        "sheet-cuts" => wants::cuts_reported(alloc, unit, a, &wants),
+        "bar-bound" => wants::bound_reported(alloc, Kind::Bar, unit, a, &wants),
+        "sheet-bound" => wants::bound_reported(alloc, Kind::Sheet, unit, a, &wants),
+        "alike" => wants::alike_reported(alloc, unit),
+        "table" => wants::table_reported(alloc),
+        "bar-size" => measures::size_reported(alloc, Kind::Bar, w, h),
+        "sheet-size" => measures::size_reported(alloc, Kind::Sheet, w, h),
+        "bar-limits" => measures::limits_reported(alloc, Kind::Bar, w, h, kerf),
+        "sheet-limits" => measures::limits_reported(alloc, Kind::Sheet, w, h, kerf),
+        "kept" => measures::kept_reported(alloc, w, h, kerf, a),
+        "endless" => cuts::endless_reported(alloc, w),
+        "two-pieces" => cuts::two_pieces_reported(alloc, unit, a, b),
+        "many-pieces" => cuts::many_pieces_reported(alloc, unit, a),
+        "faults" => wants::faults_reported(alloc),
         _ => Err(Error::msg("no line begins so")),
     }
 }
 
 // What comes of a line about a plan, where work may have halted at a cut, after the one before it or after some that are
 // listed.
-fn planned_told(
+fn planned_reported(
     alloc: Global,
     name: &str,
     plan: &Plan,
@@ -63,50 +63,50 @@ fn planned_told(
     words: &str,
 ) -> Result<String> {
     match name {
-        "steps" => cuts::steps_told(alloc, plan),
-        "leaves" => cuts::leaves_told(alloc, plan),
-        "first" => cuts::first_told(alloc, plan, cut, lost),
-        "listed" => cuts::listed_told(alloc, plan, words),
-        _ => cuts::laid_told(alloc, plan),
+        "steps" => cuts::steps_reported(alloc, plan),
+        "leaves" => cuts::leaves_reported(alloc, plan),
+        "first" => cuts::first_reported(alloc, plan, cut, lost),
+        "listed" => cuts::listed_reported(alloc, plan, words),
+        _ => cuts::laid_reported(alloc, plan),
     }
 }
 
 // What comes of a line about a plan that a text spells on a unit, or else of one about wants.
-fn spelled_told(alloc: Global, name: &str, numbers: [u32; 8], text: &str) -> Result<String> {
+fn spelled_reported(alloc: Global, name: &str, numbers: [u32; 8], text: &str) -> Result<String> {
     let [w, h, kerf, a, b, c, ..] = numbers;
     let unit = Unit { w, h, kerf };
     match name {
-        "plan" => cuts::plan_told(alloc, unit, text),
+        "plan" => cuts::plan_reported(alloc, unit, text),
         "same" => {
             let other = Unit {
                 w: a,
                 h: b,
                 kerf: c,
             };
-            cuts::same_told(alloc, unit, other, text)
+            cuts::same_reported(alloc, unit, other, text)
         }
         "steps" | "leaves" | "first" | "listed" | "laid" => {
             let (text, words) = text.split_once(": ").unwrap_or((text, ""));
             let plan = cuts::plan_of(alloc, unit, text)?;
-            planned_told(alloc, name, &plan, (a, b == 1), words)
+            planned_reported(alloc, name, &plan, (a, b == 1), words)
         }
-        _ => wanted_told(alloc, name, numbers, text),
+        _ => wanted_reported(alloc, name, numbers, text),
     }
 }
 
 // What comes of a line.
-fn told(alloc: Global, line: &str) -> Result<String> {
+fn reported(alloc: Global, line: &str) -> Result<String> {
     let (name, words) = line.split_once(' ').unwrap_or((line, ""));
     match name {
-        "code" => measures::code_told(alloc, words),
-        "codes" => measures::codes_told(alloc, words),
-        "part" => measures::part_told(alloc, words),
-        "parts" => measures::parts_told(alloc, words),
-        "number" => measures::number_told(alloc, words),
-        "length" => measures::length_told(alloc, words),
+        "code" => measures::code_reported(alloc, words),
+        "codes" => measures::codes_reported(alloc, words),
+        "part" => measures::part_reported(alloc, words),
+        "parts" => measures::parts_reported(alloc, words),
+        "number" => measures::number_reported(alloc, words),
+        "length" => measures::length_reported(alloc, words),
         _ => {
             let (words, text) = words.split_once(": ").unwrap_or((words, ""));
-            spelled_told(alloc, name, numbers_of(words)?, text)
+            spelled_reported(alloc, name, numbers_of(words)?, text)
         }
     }
 }
@@ -119,10 +119,10 @@ fn main(rt: HostRuntime) -> Result<()> {
     let mut output = BufWriter::new(alloc, io::writer(&rt))?;
     for line in BufReader::new(alloc, rt.reader())?.lines(alloc) {
         let line = line?;
-        let told = told(alloc, line.as_str())?;
+        let reported = reported(alloc, line.as_str())?;
         writeln!(output, "> {}", line.as_str())?;
-        output.write_all(told.as_bytes())?;
-        if !told.as_str().ends_with('\n') {
+        output.write_all(reported.as_bytes())?;
+        if !reported.as_str().ends_with('\n') {
             output.write_all(b"\n")?;
         }
     }

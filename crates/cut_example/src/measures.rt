@@ -5,7 +5,7 @@ use cut_measure::{Code, Kind, Limits, PartName, Size, read_mm, read_number, writ
 use std::alloc::Global;
 
 /// The size of two sides, where a unit of the kind may have them.
-pub fn size_told(alloc: Global, kind: Kind, w: u32, h: u32) -> Result<String> {
+pub fn size_reported(alloc: Global, kind: Kind, w: u32, h: u32) -> Result<String> {
     let Some(size) = Size::new(kind, w, h) else {
         return Ok(String::from_str(alloc, "no size")?);
     };
@@ -14,7 +14,13 @@ pub fn size_told(alloc: Global, kind: Kind, w: u32, h: u32) -> Result<String> {
 }
 
 /// A kerf and the sides that a remnant has at least, where a material of the kind may have them.
-pub fn limits_told(alloc: Global, kind: Kind, kerf: u32, long: u32, short: u32) -> Result<String> {
+pub fn limits_reported(
+    alloc: Global,
+    kind: Kind,
+    kerf: u32,
+    long: u32,
+    short: u32,
+) -> Result<String> {
     let Some(limits) = Limits::new(kind, kerf, long, short) else {
         return Ok(String::from_str(alloc, "no limits")?);
     };
@@ -23,7 +29,7 @@ pub fn limits_told(alloc: Global, kind: Kind, kerf: u32, long: u32, short: u32) 
 }
 
 /// Whether limits of a sheet with a kerf of 1 keep a sheet.
-pub fn kept_told(alloc: Global, long: u32, short: u32, w: u32, h: u32) -> Result<String> {
+pub fn kept_reported(alloc: Global, long: u32, short: u32, w: u32, h: u32) -> Result<String> {
     let limits = Limits::new(Kind::Sheet, 1, long, short).context("no limits")?;
     let size = Size::new(Kind::Sheet, w, h).context("no size")?;
     let kept = limits.keeps(size);
@@ -31,7 +37,7 @@ pub fn kept_told(alloc: Global, long: u32, short: u32, w: u32, h: u32) -> Result
 }
 
 /// The code of a text, which is what the code is read as and written as.
-pub fn code_told(alloc: Global, text: &str) -> Result<String> {
+pub fn code_reported(alloc: Global, text: &str) -> Result<String> {
     let Some(code) = Code::read(text) else {
         return Ok(String::from_str(alloc, "no code")?);
     };
@@ -44,7 +50,7 @@ pub fn code_told(alloc: Global, text: &str) -> Result<String> {
 }
 
 /// How two codes stand to each other.
-pub fn codes_told(alloc: Global, text: &str) -> Result<String> {
+pub fn codes_reported(alloc: Global, text: &str) -> Result<String> {
     let (first, second) = text.split_once(' ').unwrap_or((text, ""));
     let first = Code::read(first).context("no code")?;
     let second = Code::read(second).context("no code")?;
@@ -53,18 +59,18 @@ pub fn codes_told(alloc: Global, text: &str) -> Result<String> {
 }
 
 /// The name of a part that a text names, and the text that it is written as.
-pub fn part_told(alloc: Global, text: &str) -> Result<String> {
+pub fn part_reported(alloc: Global, text: &str) -> Result<String> {
     let Some(name) = PartName::read(text) else {
         return Ok(String::from_str(alloc, "no part")?);
     };
     let (act, node) = (name.act(), name.node());
-    let mut told = format!(in alloc; "act {act}, node {node} =")?;
-    name.write(&mut told)?;
-    Ok(told)
+    let mut reported = format!(in alloc; "act {act}, node {node} =")?;
+    name.write(&mut reported)?;
+    Ok(reported)
 }
 
 /// How two parts are ordered.
-pub fn parts_told(alloc: Global, text: &str) -> Result<String> {
+pub fn parts_reported(alloc: Global, text: &str) -> Result<String> {
     let (first, second) = text.split_once(' ').unwrap_or((text, ""));
     let first = PartName::read(first).context("no part")?;
     let second = PartName::read(second).context("no part")?;
@@ -73,7 +79,7 @@ pub fn parts_told(alloc: Global, text: &str) -> Result<String> {
 }
 
 /// A number without leading zeros.
-pub fn number_told(alloc: Global, text: &str) -> Result<String> {
+pub fn number_reported(alloc: Global, text: &str) -> Result<String> {
     match read_number(text.as_bytes()) {
         Some(number) => Ok(format!(in alloc; "{number}")?),
         None => Ok(String::from_str(alloc, "no number")?),
@@ -81,11 +87,11 @@ pub fn number_told(alloc: Global, text: &str) -> Result<String> {
 }
 
 /// The tenths of a length in millimetres, and the text that they are written as.
-pub fn length_told(alloc: Global, text: &str) -> Result<String> {
+pub fn length_reported(alloc: Global, text: &str) -> Result<String> {
     let Some(tenths) = read_mm(text) else {
         return Ok(String::from_str(alloc, "no length")?);
     };
-    let mut told = format!(in alloc; "{tenths} =")?;
-    write_mm(tenths, &mut told)?;
-    Ok(told)
+    let mut reported = format!(in alloc; "{tenths} =")?;
+    write_mm(tenths, &mut reported)?;
+    Ok(reported)
 }

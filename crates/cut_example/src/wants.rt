@@ -13,7 +13,7 @@ use cut_plan::{
 use cut_tree::{BarFault, Cause, SpellFault};
 use std::alloc::Global;
 
-// A want of five numbers, and a sixth that tells whether it may turn.
+// A want of five numbers, and a sixth that reports whether it may turn.
 fn want_of(words: &str) -> Result<Want> {
     let [demand, w, h, left, worth, turns, ..] = crate::numbers_of(words)?;
     Ok(Want {
@@ -53,7 +53,7 @@ fn bar(alloc: Global, unit: Unit, wants: &[Want]) -> Result<Result<Proposal, Pla
 }
 
 /// What the plan of a bar is worth, or its fault.
-pub fn worth_told(alloc: Global, unit: Unit, wants: &[Want]) -> Result<String>
+pub fn worth_reported(alloc: Global, unit: Unit, wants: &[Want]) -> Result<String>
     requires { AreDemands wants.now }
 {
     match bar(alloc, unit, wants)? {
@@ -63,17 +63,17 @@ pub fn worth_told(alloc: Global, unit: Unit, wants: &[Want]) -> Result<String>
 }
 
 /// The plan of a bar.
-pub fn tree_told(alloc: Global, unit: Unit, wants: &[Want]) -> Result<String>
+pub fn tree_reported(alloc: Global, unit: Unit, wants: &[Want]) -> Result<String>
     requires { AreDemands wants.now }
 {
     let proposal = bar(alloc, unit, wants)??;
-    let mut told = String::new(alloc);
-    proposal.plan.write(&mut told)?;
-    Ok(told)
+    let mut reported = String::new(alloc);
+    proposal.plan.write(&mut reported)?;
+    Ok(reported)
 }
 
 /// How many sums pieces of a bar reach, and what they are worth at one of them; or the fault.
-pub fn reached_told(alloc: Global, unit: Unit, sum: u32, wants: &[Want]) -> Result<String>
+pub fn reached_reported(alloc: Global, unit: Unit, sum: u32, wants: &[Want]) -> Result<String>
     requires { AreDemands wants.now }
 {
     let size = size_of(Kind::Bar, unit)?;
@@ -103,7 +103,7 @@ fn sheet(
 }
 
 /// What the plan of a sheet is worth, how many pieces were dropped, and what no plan is worth more than; or its fault.
-pub fn sheet_told(alloc: Global, unit: Unit, step: u32, wants: &[Want]) -> Result<String>
+pub fn sheet_reported(alloc: Global, unit: Unit, step: u32, wants: &[Want]) -> Result<String>
     requires { AreDemands wants.now }
 {
     match sheet(alloc, unit, step, wants)? {
@@ -117,7 +117,7 @@ pub fn sheet_told(alloc: Global, unit: Unit, step: u32, wants: &[Want]) -> Resul
 }
 
 /// How many cuts the plan of a sheet has.
-pub fn cuts_told(alloc: Global, unit: Unit, step: u32, wants: &[Want]) -> Result<String>
+pub fn cuts_reported(alloc: Global, unit: Unit, step: u32, wants: &[Want]) -> Result<String>
     requires { AreDemands wants.now }
 {
     let proposal = sheet(alloc, unit, step, wants)??;
@@ -126,7 +126,7 @@ pub fn cuts_told(alloc: Global, unit: Unit, step: u32, wants: &[Want]) -> Result
 }
 
 /// What no unit is worth more than and how many units it takes, or the fault.
-pub fn bound_told(
+pub fn bound_reported(
     alloc: Global,
     kind: Kind,
     unit: Unit,
@@ -152,7 +152,7 @@ fn scaled(alloc: Global, unit: Unit, zeros: &str) -> Result<(u64, u32, u64)> {
 }
 
 /// Whether a sheet is planned alike for worths a hundred million times as high.
-pub fn alike_told(alloc: Global, unit: Unit) -> Result<String> {
+pub fn alike_reported(alloc: Global, unit: Unit) -> Result<String> {
     let (worth, dropped, ceiling) = scaled(alloc, unit, "")?;
     let high = scaled(alloc, unit, "00000000")?;
     let times = 100000000;
@@ -217,7 +217,7 @@ fn count_differing(alloc: Global, kerf: u32, wants: &[Want]) -> Result<u32>
 }
 
 /// On how many bars the plan is worth something else than a plain table says, over 256 choices of two wants.
-pub fn table_told(alloc: Global) -> Result<String> {
+pub fn table_reported(alloc: Global) -> Result<String> {
     let mut differing = 0u32;
     for choice in 0..256u32 {
         let (a, b) = (choice % 4 + 1, choice / 4 % 4 + 1);
@@ -236,7 +236,7 @@ pub fn table_told(alloc: Global) -> Result<String> {
 }
 
 /// How faults are printed.
-pub fn faults_told(alloc: Global) -> Result<String> {
+pub fn faults_reported(alloc: Global) -> Result<String> {
     let fault = SpellFault {
         token: 6,
         cause: Cause::Extra,

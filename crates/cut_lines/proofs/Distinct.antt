@@ -6,7 +6,7 @@ use Rattle.std.proofs.Math.Seq.{drop-cons}
 use Rattle.cut_tree.specs.SamePatterns.{same_pattern}
 use Rattle.cut_bound.specs.declared.planned.PlannedUnit.{PlannedUnit}
 use Rattle.cut_lines.specs.declared.lines.Line.{Line}
-use Rattle.cut_lines.specs.Lines.{PlanLine, distinct, told}
+use Rattle.cut_lines.specs.Lines.{PlanLine, distinct, reported}
 
 module _ (f : PlannedUnit → PlanLine) (us rest : List PlannedUnit) (u : PlannedUnit) (is : us ≡ u ∷ rest) where
   -- a plan that comes again stands later
@@ -23,7 +23,7 @@ from_one us i u within is =
     drop-cons us i u within ∙ ap (λ v. v ∷ drop (suc i) us) (sym is) ∙ ap (λ k. u ∷ drop k us) after
 
 -- a line more
-pub one_more : (done : List Line) (line : Line) (p : PlanLine) (rest : List PlanLine) → told line ≡ p
-    → map told (done ++ line ∷ []) ++ rest ≡ map told done ++ p ∷ rest
+pub one_more : (done : List Line) (line : Line) (p : PlanLine) (rest : List PlanLine) → reported line ≡ p
+    → map reported (done ++ line ∷ []) ++ rest ≡ map reported done ++ p ∷ rest
 one_more [] line p rest is = ap (λ q. q ∷ rest) is
-one_more (d ∷ ds) line p rest is = ap (λ ls. told d ∷ ls) (one_more ds line p rest is)
+one_more (d ∷ ds) line p rest is = ap (λ ls. reported d ∷ ls) (one_more ds line p rest is)

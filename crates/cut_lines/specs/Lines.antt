@@ -1,4 +1,4 @@
--- The lines that tell a plan of a whole order.
+-- The lines that report a plan of a whole order.
 use Rattle.std.specs.Prelude.{◌≡◌, ℕ, suc, ◌==◌, List, [], ◌∷◌, ◌++◌, codes, if◌then◌else◌, Bool, filter, map, sum_by, string_bytes}
 use Rattle.std.specs.List.{list_any}
 use Rattle.std.specs.List.Sorted.{IsPermutation, IsSorted}
@@ -34,9 +34,9 @@ plan_line units plan = record { times = times_of units plan; text = text_of plan
 abbrev pub plan_lines : List PlannedUnit → List PlanLine
 plan_lines units = map (λ u. plan_line units u.plan) (distinct units)
 
--- what a line of the program tells
-abbrev pub told : Line → PlanLine
-told l = record { times = l.times.0; text = string_bytes l.text }
+-- what a line of the program reports
+abbrev pub reported : Line → PlanLine
+reported l = record { times = l.times.0; text = string_bytes l.text }
 
 abbrev pub line_text : PlanLine → List ℕ
 line_text l = decimal l.times ++ codes " " ++ l.text ++ codes "\n"
@@ -60,9 +60,9 @@ in_order a b = ordering_then (nat_cmp b.times.0 a.times.0) (string_cmp a.text b.
 -- the summary, and each different plan once, in order
 pub record AreOrderLines (summary : OrderSummary) (units : List PlannedUnit) (text : List ℕ) : Type 0 where
   pub lines : List Line
-  pub each : IsPermutation (plan_lines units) (map told lines)
+  pub each : IsPermutation (plan_lines units) (map reported lines)
   pub ordered : IsSorted in_order lines
-  pub says : text ≡ summary_text summary ++ lines_text (map told lines)
+  pub says : text ≡ summary_text summary ++ lines_text (map reported lines)
 
 -- ---- units of several sizes
 
@@ -78,9 +78,9 @@ sized_text name (l ∷ ls) = name ++ codes " " ++ line_text l ++ sized_text name
 -- of units of one size each different plan once, in order, with the name of the size before it
 pub record AreSizedLines (name : List ℕ) (units : List PlannedUnit) (text : List ℕ) : Type 0 where
   pub lines : List Line
-  pub each : IsPermutation (plan_lines units) (map told lines)
+  pub each : IsPermutation (plan_lines units) (map reported lines)
   pub ordered : IsSorted in_order lines
-  pub says : text ≡ sized_text name (map told lines)
+  pub says : text ≡ sized_text name (map reported lines)
 
 -- of the sizes from a place on, which have these names, the lines of each, size by size
 abbrev pub AreBlocks : List PlannedUnit → (place : ℕ) → (names : List (List ℕ)) → List ℕ → Type 0

@@ -1,4 +1,4 @@
-//! The lines that tell a plan of a whole order.
+//! The lines that report a plan of a whole order.
 #![tactic(auto)]
 
 mod lines;

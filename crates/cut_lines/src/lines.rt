@@ -1,4 +1,4 @@
-//! The lines that tell a plan of a whole order: how many units it takes, what bounds them, and each different plan.
+//! The lines that report a plan of a whole order: how many units it takes, what bounds them, and each different plan.
 
 ghost use Rattle.std.specs.Prelude.{◌≡◌, ◌+◌, ◌++◌, ◌<◌, ◌^◌, OnOk, IfOk, drop, get_or, length, map, string_bytes};
 ghost use Rattle.cut_bound.specs.declared.planned.PlannedUnit.{PlannedUnit};
@@ -11,7 +11,7 @@ use cut_tree::Plan;
 use std::alloc::{AllocError, Global};
 use std::cmp::Reverse;
 
-/// What is told of a plan of a whole order before its plans of units.
+/// What is reported about a plan of a whole order before its plans of units.
 #[derive(Clone, Copy, Debug, PartialEq, Eq)]
 pub struct OrderSummary {
     /// How many units it takes.
@@ -61,7 +61,7 @@ fn comes_again(units: &[PlannedUnit], place: usize) -> bool
 }
 
 fn line_of(alloc: Global, units: &[PlannedUnit], plan: &Plan) -> Result<Line, AllocError>
-    ensures { IfOk result (λ line. lines.told line ≡ lines.plan_line units.now plan.now) }
+    ensures { IfOk result (λ line. lines.reported line ≡ lines.plan_line units.now plan.now) }
 {
     let mut text = String::new(alloc);
     plan.write(&mut text)?;
@@ -71,7 +71,7 @@ fn line_of(alloc: Global, units: &[PlannedUnit], plan: &Plan) -> Result<Line, Al
 
 // A line for each different plan.
 fn lines_of(alloc: Global, units: &[PlannedUnit]) -> Result<Vec<Line>, AllocError>
-    ensures { IfOk result (λ list. map lines.told list.items ≡ lines.plan_lines units.now) }
+    ensures { IfOk result (λ list. map lines.reported list.items ≡ lines.plan_lines units.now) }
 {
     let mut list = Vec::new(alloc);
     for i in 0..units.len() {
@@ -86,7 +86,7 @@ fn lines_of(alloc: Global, units: &[PlannedUnit]) -> Result<Vec<Line>, AllocErro
 // Appends the lines.
 fn write_lines(list: &[Line], out: &mut String) -> Result<(), AllocError>
     ensures { OnOk result (string_bytes out.new
-        ≡ string_bytes out.old ++ lines.lines_text (map lines.told list.now)) }
+        ≡ string_bytes out.old ++ lines.lines_text (map lines.reported list.now)) }
 {
     for line in list {
         write!(out, "{} {}\n", line.times.0, line.text)?;
@@ -97,7 +97,7 @@ fn write_lines(list: &[Line], out: &mut String) -> Result<(), AllocError>
 // Appends the lines, each with the name of its size before it.
 fn write_sized_lines(name: &str, list: &[Line], out: &mut String) -> Result<(), AllocError>
     ensures { OnOk result (string_bytes out.new
-        ≡ string_bytes out.old ++ lines.sized_text name.now (map lines.told list.now)) }
+        ≡ string_bytes out.old ++ lines.sized_text name.now (map lines.reported list.now)) }
 {
     for line in list {
         write!(out, "{name} {} {}\n", line.times.0, line.text)?;

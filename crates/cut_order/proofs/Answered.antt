@@ -22,7 +22,7 @@ use Rattle.cut_bound.proofs.PlannedUnits.{planned_all}
 use Rattle.cut_bound.proofs.UnitSums.{each_at, falls_short}
 use Rattle.cut_order.specs.declared.question.TheConstants.{MAX_COST}
 use Rattle.cut_order.specs.declared.answer.OrderPlan.{OrderPlan}
-use Rattle.cut_order.specs.Answers.{IsAnswerOf, IsToldBound}
+use Rattle.cut_order.specs.Answers.{IsAnswerOf, IsReportedBound}
 use Rattle.cut_order.specs.Places.{IsFewOrderPlan, IsFilledOrFull, unit_count}
 
 -- a unit costs no more than the dearest size may
@@ -56,7 +56,7 @@ pub answered : (kind : Kind) (k : ℕ) (s stages : Option ℕ) (sizes : List Sto
     → All (IsFilledOrFull sizes plan.units.items) wants → ∥ IsPricedBound kind k s sizes wants numbers plan.bound ∥₁ → IsChecked wants k sizes plan.bound plan.units.items checked
     → checked.cost < 2 ^ 63 → plan.missing.items ≡ checked.missing.items → plan.cost ≡ checked.cost → plan.proved ≡ checked.proved
     → plan.prices.items ≡ map price_of (priced kind k (step_of s) wants numbers) → IsTrue plan.short ↔ (All (λ s. IsSome s.limit) sizes × (cost_at_hand sizes < plan.bound)) → IsAnswerOf kind k s stages sizes wants plan
-answered kind k s stages sizes wants numbers plan checked planned filled bound is small missing cost proved told short =
+answered kind k s stages sizes wants numbers plan checked planned filled bound is small missing cost proved reported short =
     let least : IsCostBound wants k sizes plan.bound = λ us cut makes. ∥∥₁_elim bound le_prop (λ b. b.least us cut makes) in
     record {
       planned = planned;
@@ -66,7 +66,7 @@ answered kind k s stages sizes wants numbers plan checked planned filled bound i
       paid = cost ∙ is.paid;
       small = omega (arith, cost, small);
       least = least;
-      exact = ∥∥₁_map bound (λ b. (let told : IsToldBound kind k s sizes wants plan = record { numbers = numbers; told = told; exact = b } in told));
+      exact = ∥∥₁_map bound (λ b. (let reported : IsReportedBound kind k s sizes wants plan = record { numbers = numbers; reported = reported; exact = b } in reported));
       proof = (
         λ t. let both = is.proof.0 (sym proved ∙ t) in (both.0, cost ∙ both.1),
         λ both. proved ∙ is.proof.1 (both.0, sym cost ∙ both.1),

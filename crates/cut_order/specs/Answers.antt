@@ -21,9 +21,9 @@ pub record Asks (kind : Kind) (kerf : ℕ) (step stages : Option ℕ) (sizes : L
   pub wants_asked : question.wants.items ≡ wants
 
 -- the bound, and its prices
-pub record IsToldBound (kind : Kind) (kerf : ℕ) (step : Option ℕ) (sizes : List StockSize) (wants : List Want) (plan : OrderPlan) : Type 0 where
+pub record IsReportedBound (kind : Kind) (kerf : ℕ) (step : Option ℕ) (sizes : List StockSize) (wants : List Want) (plan : OrderPlan) : Type 0 where
   pub numbers : List ℕ
-  pub told : plan.prices.items ≡ map price_of (priced kind kerf (step_of step) wants numbers)
+  pub reported : plan.prices.items ≡ map price_of (priced kind kerf (step_of step) wants numbers)
   pub exact : IsPricedBound kind kerf step sizes wants numbers plan.bound
 
 -- Each unit has a plan for its size, of at most so many stages, and as many are at hand. Of each want the pieces planned and those missing are what is
@@ -38,7 +38,7 @@ pub record IsAnswerOf (kind : Kind) (kerf : ℕ) (step stages : Option ℕ) (siz
   pub paid : plan.cost ≡ cost_of sizes (cutting_of plan.units.items)
   pub small : plan.cost < 2 ^ 63
   pub least : IsCostBound wants kerf sizes plan.bound
-  pub exact : ∥ IsToldBound kind kerf step sizes wants plan ∥₁
+  pub exact : ∥ IsReportedBound kind kerf step sizes wants plan ∥₁
   pub proof : IsTrue plan.proved ↔ (MakesAll wants (cutting_of plan.units.items) × (plan.cost ≡ plan.bound))
   pub cheapest : IsTrue plan.proved → IsCheapest wants kerf sizes (cutting_of plan.units.items)
   pub lacking : IsTrue plan.short ↔ (All (λ s. IsSome s.limit) sizes × (cost_at_hand sizes < plan.bound))

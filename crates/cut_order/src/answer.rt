@@ -1,4 +1,4 @@
-//! What is told of an order: the units and their plans, what is missing, the cost, and the bound.
+//! What is reported about an order: the units and their plans, what is missing, the cost, and the bound.
 
 ghost use Rattle.std.specs.Prelude.{◌≡◌, ◌≤◌, ◌<◌, ◌^◌, ◌↔◌, All, IfOk, IsSome, IsTrue, length, map};
 ghost use Rattle.cut_bound.specs.Prices as prices;
@@ -57,14 +57,14 @@ fn is_short(sizes: &[StockSize], bound: u64) -> bool
     sizes.iter().all(|stock| stock.limit.is_some()) && cost_at_hand(sizes) < bound as u128
 }
 
-// A check's want of memory, handed on.
+// A check's lack of memory, handed on.
 fn want_of_memory(_fault: CheckFault) -> AllocError
     requires { _fault ≡ fault.NoMemory }
 {
     AllocError
 }
 
-// What the check tells of units that are a plan of the order.
+// What the check reports of units that are a plan of the order.
 fn checked(
     alloc: Global,
     question: &Question,
@@ -85,18 +85,18 @@ fn checked(
 }
 
 // The prices of a bound.
-fn told_prices(
+fn reported_prices(
     alloc: Global,
     question: &Question,
     numbers: &[u32],
 ) -> Result<Vec<Price>, AllocError>
-    ensures { IfOk result (λ told. told.items ≡ map price_of (prices.priced question.now.kind
+    ensures { IfOk result (λ reported. reported.items ≡ map price_of (prices.priced question.now.kind
         question.now.kerf (prices.step_of question.now.step) question.now.wants.items numbers.now)) }
 {
     let (kind, kerf, step) = (question.kind, question.kerf, question.step);
     let priced = priced(alloc, kind, kerf, step, &question.wants, numbers)?;
-    let told = prices_of(alloc, &priced)?;
-    Ok(told)
+    let reported = prices_of(alloc, &priced)?;
+    Ok(reported)
 }
 
 /// The answer by units that are completed.
@@ -114,7 +114,7 @@ pub fn answer_of(
     let question = &certified.question;
     let bound = certified.certificate.bound;
     let checked = checked(alloc, question, &units, bound)?;
-    let prices = told_prices(alloc, question, &certified.certificate.numbers)?;
+    let prices = reported_prices(alloc, question, &certified.certificate.numbers)?;
     let short = is_short(&question.sizes, bound);
     Ok(OrderPlan {
         units,

@@ -166,14 +166,14 @@ fn planned_units(
     Ok(Some(units))
 }
 
-// What the check tells of units, if they are a plan of the order.
+// What the check reports of units, if they are a plan of the order.
 fn checked(
     alloc: Global,
     question: &Question,
     units: &[PlannedUnit],
 ) -> Result<Option<CheckedOrder>, AllocError>
     requires { AreStaged question.now.stages units.now }
-    ensures { IfOk result (λ told. IfSome told (λ _. IsFewOrderPlan question.now.wants.items
+    ensures { IfOk result (λ reported. IfSome reported (λ _. IsFewOrderPlan question.now.wants.items
         question.now.kerf question.now.stages question.now.sizes.items units.now)) }
 {
     if unit_count(units) > MAX_ORDER_UNITS as u128 {

@@ -1,6 +1,6 @@
 //! Plans of whole orders: by which units, and which plans of them, all that is left is cut at a low
-//! cost, and a bound that tells how far that is from the best. Whoever searches for them need not
-//! be trusted: what is told is checked and proved.
+//! cost, and a bound that reports how far that is from the best. Whoever searches for them need not
+//! be trusted: what is reported is checked and proved.
 #![tactic(auto)]
 
 mod answer;

@@ -29,7 +29,7 @@ struct Pending {
     points: usize,
 }
 
-/// A search for plans of an order. Whatever it looks at, what it tells is checked: units are a plan
+/// A search for plans of an order. Whatever it looks at, what it reports is checked: units are a plan
 /// of the order, and the bound comes with prices and is proved.
 #[derive(Drop)]
 pub struct OrderSearch {
@@ -96,7 +96,7 @@ impl OrderSearch {
         Ok(search)
     }
 
-    /// A search that made no table yet. Each plan that it tells has at most so many stages, 2 to
+    /// A search that made no table yet. Each plan that it reports has at most so many stages, 2 to
     /// 255, if there is a limit. The sizes are a stock (`is_stock`), and demands are in
     /// 1..=2147483647. Faults in the order of `PlanFault`: no want or more than 100, one that is
     /// out of range or stands twice; a sheet's step of 0; a bar that is too long, or a sheet of too

@@ -5,7 +5,7 @@ use Rattle.std.specs.List.{list_all}
 use Rattle.std.proofs.Math.Nat.{mod-one}
 use Rattle.std.proofs.lemmas.Nat.{mul-le}
 use Rattle.std.proofs.lemmas.Bool.{ne_eqb}
-use Rattle.std.proofs.lemmas.Bool.Decides.{eqb_tells}
+use Rattle.std.proofs.lemmas.Bool.Decides.{eqb_reports}
 use Rattle.std.proofs.lemmas.List.Elements.{All-contains}
 use Rattle.std.proofs.lemmas.List.Sums.{sum_by-cons}
 use Rattle.cut_tree.specs.declared.token.TheConstants.{MAX_CUTS}
@@ -127,7 +127,7 @@ absent wants k d (Cut Y a t u) w h l none = omega (arith, absent wants k d t w a
 find_demand : (xs : List Want) (d : ℕ) → ((x : Want) × Contains xs x × (x.demand ≡ d)) ⊎ ((x : Want) → Contains xs x → x.demand ≢ d)
 find_demand [] d = inr (λ x has. absurd (omega (arith, has.1)))
 find_demand (y ∷ ys) d =
-    elim (eqb_tells y.demand d) [
+    elim (eqb_reports y.demand d) [
       | inl (t, e) ↦ inl (y, Contains-head y ys, e)
       | inr (t, n) ↦ elim (find_demand ys d) [
         | inl f ↦ inl (f.0, Contains-tail y ys f.0 f.1, f.2)
@@ -220,7 +220,7 @@ sum_small : (g : Want → ℕ) (xs : List Want) → ((x : Want) → Contains xs 
 sum_small g [] each = omega arith
 sum_small g (x ∷ xs) each = omega (arith, each x (Contains-head x xs), sum_small g xs (λ y h. each y (Contains-tail x xs y h)), sum_by-cons g x xs)
 
--- the cuts of what is laid out are no more than a number can tell
+-- the cuts of what is laid out are no more than a number can report
 pub few_laid : (size : Extent) (k s : ℕ) (wants : List Want) (counts : List ℕ) (kept tree : Tree) → HaveOwnDemands wants
     → IsCutting (wants_up k s wants) (steps_down k s size.w) (steps_down k s size.h) counts kept → Places wants k kept size.w size.h tree → length counts ≡ length wants
     → cut_count tree ≤ 3 * (length wants * 250000)

@@ -27,7 +27,7 @@ pub enum PlanFault {
     TableTooLarge,
     /// No want fits the unit.
     NothingFits,
-    /// Want of memory.
+    /// Lack of memory.
     NoMemory,
 }
 

@@ -47,8 +47,8 @@ enum Step {
     Table,
     /// It passed on to something else.
     Passed,
-    /// It has something to tell.
-    Told(Found),
+    /// It has something to report.
+    Reported(Found),
 }
 
 /// How far the search is.
@@ -164,8 +164,8 @@ impl BarSearch {
         Ok(units)
     }
 
-    /// Tells a draft, if it is the best so far.
-    fn tell(&mut self, alloc: Global, draft: &Draft) -> Result<Step, AllocError> {
+    /// Reports a draft, if it is the best so far.
+    fn report(&mut self, alloc: Global, draft: &Draft) -> Result<Step, AllocError> {
         let missing = draft.missing();
         if missing > self.missing || missing == self.missing && draft.cost >= self.cost {
             return Ok(Step::Passed);
@@ -173,7 +173,7 @@ impl BarSearch {
         self.missing = missing;
         self.cost = draft.cost;
         self.plan = Some(draft.copy(alloc)?);
-        Ok(Step::Told(Found::Units(self.units_of(alloc, draft)?)))
+        Ok(Step::Reported(Found::Units(self.units_of(alloc, draft)?)))
     }
 
     /// A plan without tables, and the program with its plans.
@@ -192,7 +192,7 @@ impl BarSearch {
         offer_grids(alloc, order, &mut relax)?;
         self.relax = Some(relax);
         self.stage = Stage::Bound;
-        self.tell(alloc, &draft)
+        self.report(alloc, &draft)
     }
 
     /// Goes on with the program of the bound.
@@ -211,14 +211,14 @@ impl BarSearch {
         Ok(Step::Table)
     }
 
-    /// Tells the prices of the bound.
-    fn tell_prices(&mut self, alloc: Global) -> Result<Step, AllocError> {
+    /// Reports the prices of the bound.
+    fn report_prices(&mut self, alloc: Global) -> Result<Step, AllocError> {
         self.stage = Stage::Round;
         match &self.rated {
             None => Ok(Step::Passed),
             Some(rated) => {
                 let numbers = Vec::from_slice(alloc, &rated.worths)?;
-                Ok(Step::Told(Found::Prices { numbers, points: 0 }))
+                Ok(Step::Reported(Found::Prices { numbers, points: 0 }))
             }
         }
     }
@@ -242,8 +242,8 @@ impl BarSearch {
         let Some(mut correct) = self.correct.take() else {
             return Ok(Step::Passed);
         };
-        let told = if filled {
-            self.tell(alloc, &correct.draft)?
+        let reported = if filled {
+            self.report(alloc, &correct.draft)?
         } else {
             Step::Passed
         };
@@ -253,7 +253,7 @@ impl BarSearch {
             correct.begin_round(alloc)?;
             self.correct = Some(correct);
         }
-        Ok(told)
+        Ok(reported)
     }
 
     /// Goes on with value correction.
@@ -278,7 +278,7 @@ impl BarSearch {
             self.correct = None;
         }
         match self.dive.take() {
-            Some(dive) if filled => self.tell(alloc, &dive.draft),
+            Some(dive) if filled => self.report(alloc, &dive.draft),
             _ => Ok(Step::Passed),
         }
     }
@@ -326,7 +326,7 @@ impl BarSearch {
         if missing == self.missing && draft.cost == self.cost {
             self.plan = Some(draft.copy(alloc)?);
         }
-        self.tell(alloc, draft)
+        self.report(alloc, draft)
     }
 
     /// Goes on with the pieces that were taken apart.
@@ -341,16 +341,16 @@ impl BarSearch {
             self.correct = Some(correct);
             return Ok(Step::Table);
         }
-        let told = if progress == Progress::Filled {
+        let reported = if progress == Progress::Filled {
             self.keep(alloc, &correct.draft)?
         } else {
             Step::Passed
         };
-        if correct.rounds > 1 && matches!(told, Step::Passed) {
+        if correct.rounds > 1 && matches!(reported, Step::Passed) {
             correct.begin_round(alloc)?;
             self.correct = Some(correct);
         }
-        Ok(told)
+        Ok(reported)
     }
 
     /// One step.
@@ -358,12 +358,12 @@ impl BarSearch {
         match self.stage {
             Stage::Quick => self.begin(alloc),
             Stage::Bound => self.go_on_bound(alloc, goal),
-            Stage::Prices => self.tell_prices(alloc),
+            Stage::Prices => self.report_prices(alloc),
             Stage::Round => self.round(alloc),
             Stage::Correct => self.go_on_correct(alloc, goal),
             Stage::Dive => self.go_on_dive(alloc, goal),
             Stage::Repair => self.go_on_repair(alloc, goal),
-            Stage::Ended => Ok(Step::Told(Found::Ended)),
+            Stage::Ended => Ok(Step::Reported(Found::Ended)),
         }
     }
 
@@ -387,7 +387,7 @@ impl BarSearch {
         for _ in 0..STEPS {
             match self.step(alloc, goal)? {
                 Step::Table => return Ok(Found::Nothing),
-                Step::Told(found) => return Ok(found),
+                Step::Reported(found) => return Ok(found),
                 Step::Passed => {}
             }
         }

@@ -16,7 +16,7 @@ pub struct FoundUnit {
 /// What a step found.
 #[derive(Drop)]
 pub enum Found {
-    /// Nothing to tell yet.
+    /// Nothing to report yet.
     Nothing,
     /// Prices that may give a better bound: one a want, 0 where it has none, at most 1000000000.
     Prices {

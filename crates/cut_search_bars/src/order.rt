@@ -5,7 +5,7 @@ use cut_measure::Size;
 use cut_wants::wants::Want;
 use std::alloc::{AllocError, Global};
 
-/// The greatest worth of what one unit holds, so that no table overflows and each worth may be told
+/// The greatest worth of what one unit holds, so that no table overflows and each worth may be reported
 /// as a price.
 const MAX_UNIT_WORTH: u128 = 1_000_000_000;
 
@@ -73,7 +73,7 @@ pub fn total(worths: &[u32], left: &[u32]) -> u128 {
 }
 
 impl Order {
-    /// The order of these wants, by this stock. The cells are still to be told.
+    /// The order of these wants, by this stock. The cells are still to be reported.
     pub fn new(
         alloc: Global,
         kerf: u32,

@@ -1,4 +1,4 @@
--- What is told of each cause.
+-- What is reported about each cause.
 use Rattle.std.specs.Prelude.{ℕ, List, [], ◌∷◌, ◌++◌, codes}
 use Rattle.std.specs.Fmt.{signed_decimal}
 use Rattle.shop_advice.specs.declared.causes.FileCause.{FileCause}

@@ -1,4 +1,4 @@
--- What a server tells of its answers, and of its backups.
+-- What a server reports about its answers, and of its backups.
 use Rattle.std.specs.Prelude.{ℕ, Bool, not, ◌&&◌, ◌==◌, List, ◌++◌, Option, Some, None, codes, decimal, if◌then◌else◌}
 use Rattle.std.specs.List.{starts_with, ends_with}
 use Rattle.shop_advice.specs.Causes.{backup_text}
@@ -9,12 +9,12 @@ use Rattle.shop_advice.specs.declared.causes.FailureCause.TheVariants.{Full, Shu
 abbrev pub is_unavailable : List ℕ → Bool
 is_unavailable bytes = starts_with (λ a b. a == b) bytes (codes "HTTP/1.1 503 ")
 
-abbrev pub tells_memory : List ℕ → Bool
-tells_memory bytes = ends_with (λ a b. a == b) bytes (codes ":98}")
+abbrev pub reports_memory : List ℕ → Bool
+reports_memory bytes = ends_with (λ a b. a == b) bytes (codes ":98}")
 
--- an answer, by its bytes, tells that the store failed
-abbrev pub tells_failure : List ℕ → Bool
-tells_failure bytes = is_unavailable bytes && not (tells_memory bytes)
+-- an answer, by its bytes, reports that the store failed
+abbrev pub reports_failure : List ℕ → Bool
+reports_failure bytes = is_unavailable bytes && not (reports_memory bytes)
 
 abbrev pub failure_note : FailureCause → List ℕ
 failure_note Full = codes "cutshop: answered 99 StoreFault; the disk is full; make room, and messages are accepted again\n"
@@ -24,7 +24,7 @@ failure_note Passing = codes "cutshop: answered 99 StoreFault; look at the store
 -- an answer, by its bytes, has the status 503: memory was wanting, or the store failed, for this cause
 abbrev pub answer_note : List ℕ → FailureCause → Option (List ℕ)
 answer_note bytes cause =
-    if tells_failure bytes then Some (failure_note cause)
+    if reports_failure bytes then Some (failure_note cause)
     else (if is_unavailable bytes
     then Some (codes "cutshop: answered 98 NoMemory; end other programs, or give this one more memory\n")
     else None)

@@ -1,4 +1,4 @@
-//! Causes, each with the words that tell it.
+//! Causes, each with the words that report it.
 
 ghost use Rattle.std.specs.Prelude.{◌≡◌, ◌∷◌, ◌++◌, IfOk, string_bytes};
 ghost use Rattle.shop_advice.specs.Causes as spec;
@@ -64,7 +64,7 @@ pub enum StoreCause {
     Moved,
     /// Files that a restore put aside are still beside it.
     Before,
-    /// It can't be read and written, and nothing tells why.
+    /// It can't be read and written, and nothing reports why.
     Failed,
 }
 
@@ -104,7 +104,7 @@ pub enum BackupCause {
     Unread,
     /// It is to be restored, and hasn't both files, or they hold no book.
     NoBackup,
-    /// Files can't be made in it, and nothing tells why.
+    /// Files can't be made in it, and nothing reports why.
     Failed,
 }
 
@@ -186,7 +186,7 @@ pub enum ShopCause {
 }
 
 impl FileCause {
-    /// What is told of it.
+    /// What is reported about it.
     pub fn text(self) -> &'static str
         ensures { result.now ≡ spec.file_text self }
     {
@@ -202,7 +202,7 @@ impl FileCause {
 }
 
 impl StoreCause {
-    /// What is told of it.
+    /// What is reported about it.
     pub fn text(self) -> &'static str
         ensures { result.now ≡ spec.store_text self }
     {
@@ -247,7 +247,7 @@ impl StoreCause {
 }
 
 impl BackupCause {
-    /// What is told of it.
+    /// What is reported about it.
     pub fn text(self) -> &'static str
         ensures { result.now ≡ spec.backup_text self }
     {
@@ -271,7 +271,7 @@ impl BackupCause {
 }
 
 impl VersionCause {
-    /// What is told of it.
+    /// What is reported about it.
     pub fn text(self) -> &'static str
         ensures { result.now ≡ spec.version_text self }
     {
@@ -330,7 +330,7 @@ impl RowName {
 }
 
 impl ShopCause {
-    /// What is told of it. After the last words of some stands a key, or what TOML wants.
+    /// What is reported about it. After the last words of some stands a key, or what TOML wants.
     pub fn text(self) -> &'static str
         ensures { result.now ≡ spec.shop_text self }
     {

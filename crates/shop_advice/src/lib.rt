@@ -12,5 +12,5 @@ pub use causes::{
     VersionCause,
 };
 pub use looks::{backup_cause, is_disk_full, is_there, kind_cause, look_at_file, look_at_store};
-pub use notes::{answer_note, backup_note, no_backup_note, tells_failure};
+pub use notes::{answer_note, backup_note, no_backup_note, reports_failure};
 pub use shop_lines::{ShopPlace, look_at_shop};

@@ -1,4 +1,4 @@
-//! What a server tells of an answer for which memory was wanting, or the store failed, and of its backups.
+//! What a server reports of an answer for which memory was wanting, or the store failed, and of its backups.
 
 ghost use Rattle.std.specs.Prelude.{◌≡◌, IfOk, option_map, string_bytes};
 ghost use Rattle.shop_advice.specs.Notes as spec;
@@ -14,17 +14,17 @@ fn is_unavailable(answer: &[u8]) -> bool
 }
 
 // Whether the text of an answer ends as one for which memory was wanting.
-fn tells_memory(answer: &[u8]) -> bool
-    ensures { result ≡ spec.tells_memory answer.now }
+fn reports_memory(answer: &[u8]) -> bool
+    ensures { result ≡ spec.reports_memory answer.now }
 {
     answer.ends_with(b":98}")
 }
 
-/// Whether an answer tells, by its bytes, that the store failed (99): it has the status 503, and isn't that of wanting memory (98).
-pub fn tells_failure(answer: &[u8]) -> bool
-    ensures { result ≡ spec.tells_failure answer.now }
+/// Whether an answer reports, by its bytes, that the store failed (99): it has the status 503, and isn't that of wanting memory (98).
+pub fn reports_failure(answer: &[u8]) -> bool
+    ensures { result ≡ spec.reports_failure answer.now }
 {
-    is_unavailable(answer) && !tells_memory(answer)
+    is_unavailable(answer) && !reports_memory(answer)
 }
 
 // The words for a store that failed.
@@ -42,13 +42,13 @@ fn failure_note(cause: FailureCause) -> &'static str
     }
 }
 
-/// What is told of an answer, by its bytes: of one with the status 503 that memory was wanting (98) or that the store failed
-/// (99), and for which cause, and nothing of another. `cause` says nothing but of an answer that tells a failure
-/// (`tells_failure`).
+/// What is reported about an answer, by its bytes: of one with the status 503 that memory was wanting (98) or that the store failed
+/// (99), and for which cause, and nothing of another. `cause` says nothing but of an answer that reports a failure
+/// (`reports_failure`).
 pub fn answer_note(answer: &[u8], cause: FailureCause) -> Option<&'static str>
     ensures { option_map (λ note. note.now) result ≡ spec.answer_note answer.now cause }
 {
-    if tells_failure(answer) {
+    if reports_failure(answer) {
         return Some(failure_note(cause));
     }
     if is_unavailable(answer) {
@@ -59,14 +59,14 @@ pub fn answer_note(answer: &[u8], cause: FailureCause) -> Option<&'static str>
     None
 }
 
-/// What is told of a backup that was made: its number, and the folder in which it is.
+/// What is reported about a backup that was made: its number, and the folder in which it is.
 pub fn backup_note(alloc: Global, number: u32, folder: &str) -> Result<String, AllocError>
     ensures { IfOk result (λ note. string_bytes note ≡ spec.backup_note number folder.now) }
 {
     format!(in alloc; "cutshop: made backup {number} in {folder}\n")
 }
 
-/// What is told of a backup that couldn't be made in a folder.
+/// What is reported about a backup that couldn't be made in a folder.
 pub fn no_backup_note(alloc: Global, cause: BackupCause, folder: &str) -> Result<String, AllocError>
     ensures { IfOk result (λ note. string_bytes note ≡ spec.no_backup_note cause folder.now) }
 {

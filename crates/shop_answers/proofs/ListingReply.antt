@@ -5,7 +5,7 @@ use Rattle.std.specs.List.{slice_range}
 use Rattle.std.proofs.lemmas.Bool.{ltb-false, ltb-true}
 use Rattle.std.proofs.lemmas.List.{length-take-le, take_all}
 use Rattle.shop_answers.specs.declared.listing.TheConstants.{MAX_LISTED}
-use Rattle.shop_answers.specs.Listing.{are_more, first_told}
+use Rattle.shop_answers.specs.Listing.{are_more, first_reported}
 
 module _ {T : Type 0} where
   take_taken : (n m : ℕ) (xs : List T) → n ≤ m → take n (take m xs) ≡ take n xs
@@ -21,21 +21,21 @@ module _ {T : Type 0} where
       by true e = ap (nat_lt n) (length-take-le (suc n) xs (omega (arith, ltb-true n (length xs) e))) ∙ lt-ltb n (suc n) (omega arith) ∙ sym e
       by false e = ap (λ l. nat_lt n (length l)) (take_all (suc n) xs (omega (arith, ltb-false n (length xs) e)))
 
-  -- rows of which one more was listed than are told
-  pub first_listed : (rows all : List T) → rows ≡ take (MAX_LISTED + 1) all → first_told rows ≡ first_told all
-  first_listed rows all is = ap first_told is ∙ take_taken MAX_LISTED (MAX_LISTED + 1) all (omega arith)
+  -- rows of which one more was listed than are reported
+  pub first_listed : (rows all : List T) → rows ≡ take (MAX_LISTED + 1) all → first_reported rows ≡ first_reported all
+  first_listed rows all is = ap first_reported is ∙ take_taken MAX_LISTED (MAX_LISTED + 1) all (omega arith)
 
   pub more_listed : (rows all : List T) → rows ≡ take (MAX_LISTED + 1) all → are_more rows ≡ are_more all
   more_listed rows all is = ap are_more is ∙ more_taken MAX_LISTED all
 
-  -- a list without more is told as a whole
-  pub all_told : (rows : List T) → length rows ≤ MAX_LISTED → rows ≡ first_told rows
-  all_told rows h = sym (take_all MAX_LISTED rows h)
+  -- a list without more is reported as a whole
+  pub all_reported : (rows : List T) → length rows ≤ MAX_LISTED → rows ≡ first_reported rows
+  all_reported rows h = sym (take_all MAX_LISTED rows h)
 
   -- the first rows where there are so many, and else all
   pub told_by : (rows : Bor (List T)) (found : Option (Bor (List T)))
       → MatchOption found ((MAX_LISTED < 0) ⊎ (length rows.now < MAX_LISTED)) (λ x. (0 ≤ MAX_LISTED) × (MAX_LISTED ≤ length rows.now) × (x.now ≡ slice_range rows.now 0 MAX_LISTED) × (length x.now + 0 ≡ MAX_LISTED))
-      → (unwrap_or found rows).now ≡ first_told rows.now
+      → (unwrap_or found rows).now ≡ first_reported rows.now
   told_by rows None (inl h) = absurd (omega (arith, h))
-  told_by rows None (inr h) = all_told rows.now (omega (arith, h))
+  told_by rows None (inr h) = all_reported rows.now (omega (arith, h))
   told_by rows (Some x) h = h.2

@@ -1,4 +1,4 @@
--- The lines of an order, their sums, and what is told of orders.
+-- The lines of an order, their sums, and what is reported about orders.
 use Rattle.std.proofs.Common.{◌≡◌, ℕ, zero, suc, ◌+◌, ◌*◌, ◌^◌, ◌<◌, ◌≤◌, inl, inr, List, [], ◌∷◌, ◌++◌, get_or, length, map, take, Bool, true, false, refl, sym, ap, ◌∙◌, arith}
 use Rattle.std.specs.Prelude.{Some, AllPairs, sum_by}
 use Rattle.std.proofs.lemmas.List.Sums.{sum_by_more}
@@ -11,7 +11,7 @@ use Rattle.shop_records.specs.Elements.{IsIn}
 use Rattle.shop_records.specs.Lists.{AreLines, demand_row, order_row}
 use Rattle.shop_records.proofs.Basics.{all_in}
 use Rattle.shop_records.proofs.Puts.{Pairwise, pairs_in}
-use Rattle.shop_answers.specs.Listing.{IsAdded, are_more, first_told, IsOrderRow, AreOrderRows, IsOrdersAnswer, IsLinesAnswer}
+use Rattle.shop_answers.specs.Listing.{IsAdded, are_more, first_reported, IsOrderRow, AreOrderRows, IsOrdersAnswer, IsLinesAnswer}
 
 -- ---- lines that rise
 
@@ -114,7 +114,7 @@ rows_alike content (order ∷ orders) (x ∷ xs) (y ∷ ys) a b =
 
 pub orders_alike : (content : Content) (orders : List (List ℕ)) (one other : Reply) → IsOrdersAnswer content orders one → IsOrdersAnswer content orders other → one ≡ other
 orders_alike content orders one other a b =
-    a.2 ∙ ap (reply.Orders (are_more orders)) (rows_alike content (first_told orders) a.0 b.0 a.1 b.1) ∙ sym b.2
+    a.2 ∙ ap (reply.Orders (are_more orders)) (rows_alike content (first_reported orders) a.0 b.0 a.1 b.1) ∙ sym b.2
 
 pub order_alike : (content : Content) (order : List ℕ) (there : Bool) (one other : Reply) → IsLinesAnswer content order there one → IsLinesAnswer content order there other → one ≡ other
 order_alike content order false one other a b = a ∙ sym b
@@ -123,9 +123,9 @@ order_alike content order true one other a b =
 
 -- ---- one order more
 
-pub told_more : (content : Content) (orders : List (List ℕ)) (rows : List OrderRow) (order : List ℕ) (row : OrderRow) → AreOrderRows content orders rows → IsOrderRow content order row
+pub reported_more : (content : Content) (orders : List (List ℕ)) (rows : List OrderRow) (order : List ℕ) (row : OrderRow) → AreOrderRows content orders rows → IsOrderRow content order row
     → AreOrderRows content (orders ++ order ∷ []) (rows ++ row ∷ [])
-told_more content [] [] order row all one = (one, tt)
-told_more content [] (r ∷ rows) order row all one = absurd all
-told_more content (o ∷ orders) [] order row all one = absurd all
-told_more content (o ∷ orders) (r ∷ rows) order row all one = (all.0, told_more content orders rows order row all.1 one)
+reported_more content [] [] order row all one = (one, tt)
+reported_more content [] (r ∷ rows) order row all one = absurd all
+reported_more content (o ∷ orders) [] order row all one = absurd all
+reported_more content (o ∷ orders) (r ∷ rows) order row all one = (all.0, reported_more content orders rows order row all.1 one)

@@ -17,7 +17,7 @@ use Rattle.shop_records.specs.declared.messages.Reply.{Reply}
 use Rattle.shop_records.specs.declared.messages.Reply.TheVariants.{Refused}
 use Rattle.shop_records.specs.Columns.{is_free}
 use Rattle.shop_machine.specs.Decisions.{first_of}
-use Rattle.shop_answers.specs.Planning.{demands_refusal, numbers_refusal, want_of, wants_of, planned_size, planning_refusal, bound_refusal, IsPlanned, IsBounded, IsPlanAnswer, IsBoundAnswer, numbers_in, AreFound, AreAsked, TellsReply}
+use Rattle.shop_answers.specs.Planning.{demands_refusal, numbers_refusal, want_of, wants_of, planned_size, planning_refusal, bound_refusal, IsPlanned, IsBounded, IsPlanAnswer, IsBoundAnswer, numbers_in, AreFound, AreAsked, ReportsReply}
 
 -- ---- the demands of a query
 
@@ -41,11 +41,11 @@ asked_ok at material numbers demands found first second wants is one two allowed
           ∙ same_by at found (recursion_from_All (λ (f : FoundDemand). f.demand ≡ at f.number) found rows.2) ∙ ap (wants_of at) rows.1,
     )
 
--- ---- what is told
+-- ---- what is reported
 
-pub tells_more : (P Q : Reply → Type 0) → ((answer : Reply) → P answer → Q answer) → (result : Result Reply Refusal) → TellsReply P result → TellsReply Q result
-tells_more P Q more (Ok answer) it = more answer it
-tells_more P Q more (Err refusal) it = λ other. more (Refused refusal) (it other)
+pub reports_more : (P Q : Reply → Type 0) → ((answer : Reply) → P answer → Q answer) → (result : Result Reply Refusal) → ReportsReply P result → ReportsReply Q result
+reports_more P Q more (Ok answer) it = more answer it
+reports_more P Q more (Err refusal) it = λ other. more (Refused refusal) (it other)
 
 pub planned_answer : (found : Option Part) (known : Option Material) (part : Part) (material : Material) (at : ℕ → Option Demand) (numbers : List ℕ) (step : ℕ) (wants : List Want)
     → found ≡ Some part → known ≡ Some material → is_free part.state ≡ true → numbers_refusal at part.material numbers ≡ None → wants ≡ wants_of at numbers

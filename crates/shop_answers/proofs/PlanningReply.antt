@@ -1,4 +1,4 @@
--- A plan that is told for a part can be reserved on it.
+-- A plan that is reported for a part can be reserved on it.
 use Rattle.std.proofs.Common.{◌≡◌, ◌≢◌, ℕ, zero, suc, ◌+◌, ◌≤◌, ◌<◌, ◌⊎◌, inl, inr, List, [], ◌∷◌, length, nat_lt, slice_index_or, Bool, true, false, refl, sym, ap, subst, ◌∙◌, arith}
 use Rattle.std.specs.Prelude.{Option, Some, None, ◌&&◌, ◌==◌, not, MatchOption, if◌then◌else◌}
 use Rattle.std.specs.List.{list_any, cons_option}
@@ -166,10 +166,10 @@ module _ (at : ℕ → Option Demand) (material : List ℕ) where
     none_over tree within [] h = refl
     none_over tree within (leaf ∷ leaves) h = rw (not_over tree within leaf (h leaf (inl refl))) (none_over tree within leaves (λ l i. h l (inr i)))
 
--- ---- a told plan
+-- ---- a reported plan
 
 -- the text is that of a legal plan of the wants within the counts
-record IsTold (size : Extent) (k : ℕ) (wants : List Want) (text : List ℕ) : Type 0 where
+record IsReported (size : Extent) (k : ℕ) (wants : List Want) (text : List ℕ) : Type 0 where
   pub plan : Pattern
   pub is : IsPlan plan
   pub text_is : text ≡ text_of plan.tree
@@ -183,24 +183,24 @@ module _ (ceiling dropped : ℕ) (text : List ℕ) (worth : ℕ) where
   abbrev answer : Reply
   answer = reply.Plan ceiling dropped text worth
 
-  proposed : (kind : Kind) (size : Extent) (k s : ℕ) (wants : List Want) → IsProposed kind (planned_size kind size) k s wants answer → IsTold (planned_size kind size) k wants text
+  proposed : (kind : Kind) (size : Extent) (k s : ℕ) (wants : List Want) → IsProposed kind (planned_size kind size) k s wants answer → IsReported (planned_size kind size) k wants text
   proposed Bar size k s wants p =
       record { plan = p.0.plan; is = p.1; text_is = cc; width = p.2.unit.0; height = p.2.unit.1; kerf = p.2.unit.2; legal = p.2.planned.legal; within = p.2.planned.within }
   proposed Sheet size k s wants p =
       record { plan = p.0.plan; is = p.1; text_is = cc; width = p.2.unit.0; height = p.2.unit.1; kerf = p.2.unit.2; legal = p.2.laid.legal; within = p.2.laid.within }
 
-  told : (kind : Kind) (size : Extent) (k s : ℕ) (wants : List Want) → IsPlanned kind (planned_size kind size) k s wants answer → IsTold (planned_size kind size) k wants text
-  told kind size k s wants it = by (plan_fault kind (planned_size kind size) k s wants) it
+  reported : (kind : Kind) (size : Extent) (k s : ℕ) (wants : List Want) → IsPlanned kind (planned_size kind size) k s wants answer → IsReported (planned_size kind size) k wants text
+  reported kind size k s wants it = by (plan_fault kind (planned_size kind size) k s wants) it
     where
       by : (o : Option PlanFault)
           → MatchOption o (IsProposed kind (planned_size kind size) k s wants answer ⊎ ((answer ≡ reply.Refused (planner_refusal fault.TableTooLarge)) × HasManyCuts kind (planned_size kind size) k s wants))
           (λ why. answer ≡ reply.Refused (planner_refusal why))
-          → IsTold (planned_size kind size) k wants text
+          → IsReported (planned_size kind size) k wants text
       by None (inl p) = proposed kind size k s wants p
       by None (inr e) = cc
       by (Some why) e = cc
 
-  -- the rows after a told plan
+  -- the rows after a reported plan
   record HasRows (found : Option Part) (known : Option Material) (at : ℕ → Option Demand) (numbers : List ℕ) : Type 0 where
     pub row : Part
     pub material : Material
@@ -208,7 +208,7 @@ module _ (ceiling dropped : ℕ) (text : List ℕ) (worth : ℕ) where
     pub there : known ≡ Some material
     pub free : is_free row.state ≡ true
     pub allowed : demands_refusal at row.material numbers ≡ None
-    pub plan : IsTold (planned_size material.kind row.size) material.limits.kerf (wants_of at numbers) text
+    pub plan : IsReported (planned_size material.kind row.size) material.limits.kerf (wants_of at numbers) text
 
   rows_of : (found : Option Part) (known : Option Material) (at : ℕ → Option Demand) (numbers : List ℕ) (step : ℕ) → IsPlanAnswer found known at numbers step answer → HasRows found known at numbers
   rows_of found known at numbers step it = by found known (planning_refusal found known at numbers) refl it
@@ -232,7 +232,7 @@ module _ (ceiling dropped : ℕ) (text : List ℕ) (worth : ℕ) where
             there = refl;
             free = not-false (is_free row.state) free.0;
             allowed = list.1;
-            plan = told material.kind row.size material.limits.kerf step (wants_of at numbers) it;
+            plan = reported material.kind row.size material.limits.kerf step (wants_of at numbers) it;
           }
 
   -- ---- the same text sent as a reservation
@@ -286,7 +286,7 @@ module _ (ceiling dropped : ℕ) (text : List ℕ) (worth : ℕ) where
         ap (λ x. (let r : Pattern = record { tree = x; w = p.w; h = p.h; kerf = p.kerf } in r)) t ∙ ap (λ x. (let r : Pattern = record { tree = q.tree; w = x; h = p.h; kerf = p.kerf } in r)) w
         ∙ ap (λ x. (let r : Pattern = record { tree = q.tree; w = q.w; h = x; kerf = p.kerf } in r)) h ∙ ap (λ x. (let r : Pattern = record { tree = q.tree; w = q.w; h = q.h; kerf = x } in r)) k
 
-    -- the text is read as the told plan
+    -- the text is read as the reported plan
     same_reading : (q : Pattern) → IsReading m part text q → q ≡ plan
     same_reading q r =
         let row = same_some r.row rows.row (sym r.found ∙ rows.here) in

@@ -1,4 +1,4 @@
--- What is told of a content by lists, which are cut after so many rows; of a job with its plan; of an order with its lines;
+-- What is reported about a content by lists, which are cut after so many rows; of a job with its plan; of an order with its lines;
 -- of a terminal; of entries; of pieces; and of the nodes of a job's plan.
 use Rattle.std.specs.Prelude.{◌≡◌, ℕ, ◌+◌, ◌^◌, ◌<◌, ◌≤◌, List, [], ◌∷◌, length, map, take, filter_map, Bool, true, false, nat_lt, Option, Some, None, is_some, option_map, option_and_then, nat_le, if◌then◌else◌, sum_by}
 use Rattle.cut_measure.specs.Names.{Name}
@@ -28,26 +28,26 @@ use Rattle.shop_records.specs.Content.{Content, material_at, part_at, job_at, ha
 use Rattle.shop_records.specs.Columns.{is_whole}
 use Rattle.shop_records.specs.Lists.{AreLines, begun_by, demand_row, due_for_job, order_row, piece_row, step_row, IsLastNumber}
 
--- the first rows of a list, as many as are told
-abbrev pub first_told : {T : Type 0} → List T → List T
-first_told rows = take MAX_LISTED rows
+-- the first rows of a list, as many as are reported
+abbrev pub first_reported : {T : Type 0} → List T → List T
+first_reported rows = take MAX_LISTED rows
 
--- others follow the last one told
+-- others follow the last one reported
 abbrev pub are_more : {T : Type 0} → List T → Bool
 are_more rows = nat_lt MAX_LISTED (length rows)
 
-abbrev pub told_parts : Option Material → List ℕ → List Part → Reply
-told_parts None code parts = reply.Refused NoMaterial
-told_parts (Some m) code parts = reply.Parts code (are_more parts) (first_told parts)
+abbrev pub reported_parts : Option Material → List ℕ → List Part → Reply
+reported_parts None code parts = reply.Refused NoMaterial
+reported_parts (Some m) code parts = reply.Parts code (are_more parts) (first_reported parts)
 
 -- the material that is asked for is there, or none is asked for
 abbrev pub is_known : Content → Option (List ℕ) → Bool
 is_known content None = true
 is_known content (Some asked) = is_some (material_at content asked)
 
-abbrev pub told_demands : Content → Bool → List Demand → Reply
-told_demands content false demands = reply.Refused NoMaterial
-told_demands content true demands = reply.Demands (map (demand_row content) (first_told demands)) (are_more demands)
+abbrev pub reported_demands : Content → Bool → List Demand → Reply
+reported_demands content false demands = reply.Refused NoMaterial
+reported_demands content true demands = reply.Demands (map (demand_row content) (first_reported demands)) (are_more demands)
 
 -- The job of a number with its part. A job whose part isn't there is none; in each content that a history gives the part of
 -- every job is there.
@@ -55,7 +55,7 @@ abbrev pub job_with_part : Content → ℕ → Option (Job × Part)
 job_with_part content number =
     option_and_then (λ (job : Job). option_map (λ (part : Part). (job, part)) (part_at content job.part)) (job_at content number)
 
--- how a waiting job is told in a list, of which this is known
+-- how a waiting job is reported in a list, of which this is known
 abbrev pub row_of : (begun due job : ℕ) (name : Name) (cuts : ℕ) → Part → JobRow
 row_of begun due job name cuts part =
     record { begun = begun; cuts = cuts; due = due; h = part.size.h; job = job; material = part.material; part = name; w = part.size.w }
@@ -66,13 +66,13 @@ job_row content job part = row_of (begun_by content job.act) (due_for_job conten
 abbrev pub job_row_at : Content → ℕ → Option JobRow
 job_row_at content number = option_map (λ (found : Job × Part). job_row content found.0 found.1) (job_with_part content number)
 
--- the first of the jobs with these numbers are told
-abbrev pub told_jobs : Content → List ℕ → Reply
-told_jobs content numbers = reply.Jobs (filter_map (job_row_at content) (first_told numbers)) (are_more numbers)
+-- the first of the jobs with these numbers are reported
+abbrev pub reported_jobs : Content → List ℕ → Reply
+reported_jobs content numbers = reply.Jobs (filter_map (job_row_at content) (first_reported numbers)) (are_more numbers)
 
-abbrev pub told_job : Content → Option (Job × Part) → Reply
-told_job content None = reply.Refused NoJob
-told_job content (Some (job, part)) =
+abbrev pub reported_job : Content → Option (Job × Part) → Reply
+reported_job content None = reply.Refused NoJob
+reported_job content (Some (job, part)) =
     reply.Job (begun_by content job.act) (cut_count job.plan.tree) part.size.h job.act job.kerf part.material job.part job.state (text_of job.plan.tree) part.size.w
 
 -- a sum with one number more of 32 bits, exact where 64 bits hold it
@@ -107,17 +107,17 @@ AreOrderRows content [] (row ∷ rows) = ⊥
 AreOrderRows content (order ∷ orders) [] = ⊥
 AreOrderRows content (order ∷ orders) (row ∷ rows) = IsOrderRow content order row × AreOrderRows content orders rows
 
--- what may be told of orders with these codes: the first of them
+-- what may be reported of orders with these codes: the first of them
 abbrev pub IsOrdersAnswer : Content → List (List ℕ) → Reply → Type 0
-IsOrdersAnswer content orders answer = (rows : List OrderRow) × AreOrderRows content (first_told orders) rows × (answer ≡ reply.Orders (are_more orders) rows)
+IsOrdersAnswer content orders answer = (rows : List OrderRow) × AreOrderRows content (first_reported orders) rows × (answer ≡ reply.Orders (are_more orders) rows)
 
--- what may be told of the lines of an order: all of them, where it is there
+-- what may be reported of the lines of an order: all of them, where it is there
 abbrev pub IsLinesAnswer : Content → (order : List ℕ) → (there : Bool) → Reply → Type 0
 IsLinesAnswer content order false answer = answer ≡ reply.Refused NoOrder
 IsLinesAnswer content order true answer =
     (lines : List Demand) × AreLines content order lines × (answer ≡ reply.Lines (map (demand_row content) lines) order)
 
--- what may be told of a terminal
+-- what may be reported of a terminal
 abbrev pub IsTerminalAnswer : Content → ℕ → Reply → Type 0
 IsTerminalAnswer content terminal answer = (last : ℕ) × IsLastNumber content terminal last × (answer ≡ reply.Terminal last terminal)
 
@@ -133,30 +133,30 @@ shown_from bytes [] = []
 shown_from bytes (entry ∷ entries) =
     if nat_le MAX_LISTED_BYTES bytes then [] else entry ∷ shown_from (bytes + entry_bytes entry) entries
 
--- the first entries, as many as are told
+-- the first entries, as many as are reported
 abbrev pub shown_within : List EntryTold → List EntryTold
-shown_within entries = shown_from 0 (first_told entries)
+shown_within entries = shown_from 0 (first_reported entries)
 
--- others follow the last one told
+-- others follow the last one reported
 abbrev pub are_hidden : List EntryTold → Bool
 are_hidden entries = nat_lt (length (shown_within entries)) (length entries)
 
-abbrev pub told_history : List EntryTold → Reply
-told_history entries = reply.History (shown_within entries) (are_hidden entries)
+abbrev pub reported_history : List EntryTold → Reply
+reported_history entries = reply.History (shown_within entries) (are_hidden entries)
 
--- why nothing is told of a subject, if nothing is
+-- why nothing is reported about a subject, if nothing is
 abbrev pub subject_refusal : Content → Subject → Option Refusal
 subject_refusal content (subject.Order code) = if has_order content code then None else Some NoOrder
 subject_refusal content (subject.Job number) = if is_some (job_at content number) then None else Some NoJob
 subject_refusal content (subject.Part name) = if is_some (part_at content name) then None else Some NoPart
 
-abbrev pub told_story : Option Refusal → List EntryTold → Reply
-told_story (Some refusal) entries = reply.Refused refusal
-told_story None entries = reply.Story (shown_within entries) (are_hidden entries)
+abbrev pub reported_story : Option Refusal → List EntryTold → Reply
+reported_story (Some refusal) entries = reply.Refused refusal
+reported_story None entries = reply.Story (shown_within entries) (are_hidden entries)
 
 -- ---- pieces
 
--- Why nothing is told of pieces of an order, a batch or a unit, if nothing is. A unit may be in any state, and a batch of which
+-- Why nothing is reported about pieces of an order, a batch or a unit, if nothing is. A unit may be in any state, and a batch of which
 -- nothing was received has no pieces.
 abbrev pub unit_refusal : Option Part → Option Refusal
 unit_refusal None = Some NoPart
@@ -167,14 +167,14 @@ source_refusal content (source.Order code) = if has_order content code then None
 source_refusal content (source.Batch code) = None
 source_refusal content (source.Unit name) = unit_refusal (part_at content name)
 
--- the first pieces are told
-abbrev pub told_pieces : Content → Option Refusal → List Part → Reply
-told_pieces content (Some refusal) pieces = reply.Refused refusal
-told_pieces content None pieces = reply.Pieces (are_more pieces) (filter_map (piece_row content) (first_told pieces))
+-- the first pieces are reported
+abbrev pub reported_pieces : Content → Option Refusal → List Part → Reply
+reported_pieces content (Some refusal) pieces = reply.Refused refusal
+reported_pieces content None pieces = reply.Pieces (are_more pieces) (filter_map (piece_row content) (first_reported pieces))
 
--- how a piece of a demand is told that was made then
-abbrev pub told_piece : Part → Demand → (at : ℕ) → PieceRow
-told_piece part demand at =
+-- how a piece of a demand is reported that was made then
+abbrev pub reported_piece : Part → Demand → (at : ℕ) → PieceRow
+reported_piece part demand at =
     record {
       at = at;
       batch = part.batch;
@@ -190,7 +190,7 @@ told_piece part demand at =
 
 -- ---- the nodes of a plan
 
--- what may be told of the nodes of a job's plan: all of them, where the job and its part are there
+-- what may be reported of the nodes of a job's plan: all of them, where the job and its part are there
 abbrev pub IsStepsAnswer : Content → Option (Job × Part) → Reply → Type 0
 IsStepsAnswer content None answer = answer ≡ reply.Refused NoJob
 IsStepsAnswer content (Some (job, part)) answer =

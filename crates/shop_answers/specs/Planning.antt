@@ -87,7 +87,7 @@ found_wants found = filter_map (λ (f : FoundDemand). want_of f.number f.demand)
 
 -- ---- what the planners may answer
 
--- the refusal that tells of a planner's fault
+-- the refusal that reports a planner's fault
 abbrev pub planner_refusal : PlanFault → Refusal
 planner_refusal fault.BadWant = BadWant
 planner_refusal fault.BadStep = BadStep
@@ -175,11 +175,11 @@ abbrev pub HasNumber : FoundDemand → Type 0
 HasNumber found = (1 ≤ found.number) × (found.number ≤ MAX_NUMBERS)
 
 -- a reply is one of these, or a refusal is, memory aside
-abbrev pub TellsReply : (Reply → Type 0) → Result Reply Refusal → Type 0
-TellsReply what (Ok answer) = what answer
-TellsReply what (Err refusal) = refusal ≢ NoMemory → what (reply.Refused refusal)
+abbrev pub ReportsReply : (Reply → Type 0) → Result Reply Refusal → Type 0
+ReportsReply what (Ok answer) = what answer
+ReportsReply what (Err refusal) = refusal ≢ NoMemory → what (reply.Refused refusal)
 
--- neither tells of a failed store
+-- neither reports a failed store
 abbrev pub SparesStore : Result Reply Refusal → Type 0
 SparesStore (Ok answer) = answer ≢ reply.Refused StoreFault
 SparesStore (Err refusal) = refusal ≢ StoreFault

@@ -1,4 +1,4 @@
-//! How much of the history an answer tells.
+//! How much of the history an answer reports.
 
 ghost use Rattle.std.specs.Prelude.{◌≡◌, ◌+◌, ◌<◌, ◌||◌, nat_le, length};
 ghost use Rattle.shop_answers.specs.declared.listing.TheConstants.{MAX_LISTED, MAX_LISTED_BYTES};
@@ -16,12 +16,12 @@ fn bytes_of(text: &Text) -> u64
 
 /// Bytes of messages and replies with one entry more, or the greatest number of 64 bits where there are more. It is exact
 /// as long as another entry may follow.
-pub fn bytes_with(bytes: u64, told: &EntryTold) -> u64
+pub fn bytes_with(bytes: u64, reported: &EntryTold) -> u64
     ensures reached { nat_le MAX_LISTED_BYTES result
-        ≡ nat_le MAX_LISTED_BYTES (bytes + entry_bytes told.now) }
-    ensures exact { result < MAX_LISTED_BYTES → result ≡ bytes + entry_bytes told.now }
+        ≡ nat_le MAX_LISTED_BYTES (bytes + entry_bytes reported.now) }
+    ensures exact { result < MAX_LISTED_BYTES → result ≡ bytes + entry_bytes reported.now }
 {
-    let own = bytes_of(&told.message).saturating_add(bytes_of(&told.reply));
+    let own = bytes_of(&reported.message).saturating_add(bytes_of(&reported.reply));
     bytes.saturating_add(own)
 }
 

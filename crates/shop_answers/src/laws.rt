@@ -1,4 +1,4 @@
-//! What holds of every plan that is told for a part, and of what is told of orders.
+//! What holds of every plan that is reported for a part, and of what is reported about orders.
 
 ghost use Rattle.std.specs.Prelude.{◌≡◌, ◌≢◌, ◌⊎◌, ℕ, List, Option, None};
 ghost use Rattle.cut_measure.specs.Names.{Name};
@@ -7,7 +7,7 @@ ghost use Rattle.shop_records.specs.declared.messages.Command.TheVariants.{Reser
 ghost use Rattle.shop_records.specs.declared.records.Demand.{Demand};
 ghost use Rattle.shop_records.specs.declared.messages.Query.TheVariants.{Plan, Orders, Lines};
 ghost use Rattle.shop_records.specs.declared.messages.Reply.{Reply};
-ghost use Rattle.shop_records.specs.declared.messages.Reply.TheVariants as told;
+ghost use Rattle.shop_records.specs.declared.messages.Reply.TheVariants as reported;
 ghost use Rattle.shop_records.specs.declared.refusals.Refusal.{Refusal};
 ghost use Rattle.shop_records.specs.declared.refusals.Refusal.TheVariants.{BadTree, NumbersSpent, NoMemory, StoreFault};
 ghost use Rattle.shop_records.specs.Messages.{Texts, pair_of};
@@ -18,16 +18,16 @@ ghost use Rattle.shop_records.specs.Lists.{AreLines};
 ghost use Rattle.shop_answers.specs.Queries.{IsAnswer, Answers};
 ghost use Rattle.shop_records.specs.Soundness.{IsSound};
 
-/// The tree of a plan that is told for a part can be reserved on it, as long as nothing else happens: sent under a new pair
-/// it is refused only `BadTree` for a tree without a piece, `NumbersSpent`, and for want of memory or a failed store.
-pub fn told_plans_can_be_reserved()
+/// The tree of a plan that is reported for a part can be reserved on it, as long as nothing else happens: sent under a new pair
+/// it is refused only `BadTree` for a tree without a piece, `NumbersSpent`, and because memory ran out or a failed store.
+pub fn reported_plans_can_be_reserved()
     ensures { (texts : Texts) (m : Content) (part : Name) (demands : List ℕ)
         (step ceiling dropped worth : ℕ) (tree : List ℕ) (message : Message) (refusal : Refusal)
         (next : Content)
         → IsSound texts m → Answers m (Plan part demands step)
-        (told.Plan ceiling dropped tree worth)
+        (reported.Plan ceiling dropped tree worth)
         → message.command ≡ Reserve part tree → kept_at m (pair_of message) ≡ None
-        → Step texts m message (told.Refused refusal) next
+        → Step texts m message (reported.Refused refusal) next
         → refusal ≢ NoMemory → refusal ≢ StoreFault → (refusal ≡ NumbersSpent)
         ⊎ ((refusal ≡ BadTree) × HasNoPiece m part tree) }
 {}

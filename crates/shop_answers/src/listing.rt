@@ -24,46 +24,46 @@ use shop_records::{
 };
 use std::alloc::{AllocError, Global};
 
-/// The most rows that a list tells of parts, demands or jobs.
+/// The most rows that a list reports of parts, demands or jobs.
 pub const MAX_LISTED: usize = 100;
 
 /// A list of entries ends with the one with which so many bytes of messages and replies, as they are kept, are reached.
 pub const MAX_LISTED_BYTES: u64 = 1_000_000;
 
-/// Whether others follow the last row of a list that is told.
+/// Whether others follow the last row of a list that is reported.
 pub fn are_more<T>(rows: &[T]) -> bool
     ensures { result ≡ listing.are_more rows.now }
 {
     rows.len() > MAX_LISTED
 }
 
-/// The first rows of a list, as many as are told.
-pub fn first_told<T>(rows: &[T]) -> &[T]
-    ensures { result.now ≡ listing.first_told rows.now }
+/// The first rows of a list, as many as are reported.
+pub fn first_reported<T>(rows: &[T]) -> &[T]
+    ensures { result.now ≡ listing.first_reported rows.now }
 {
     rows.get(..MAX_LISTED).unwrap_or(rows)
 }
 
 // The same in a list of its own.
-fn told_rows<T: Copy + Drop>(alloc: Global, rows: &[T]) -> Result<RowList<T>, AllocError>
-    ensures { IfOk result (λ told. told ≡ listing.first_told rows.now) }
+fn reported_rows<T: Copy + Drop>(alloc: Global, rows: &[T]) -> Result<RowList<T>, AllocError>
+    ensures { IfOk result (λ reported. reported ≡ listing.first_reported rows.now) }
 {
-    let mut told = RowList::new(alloc);
-    for row in first_told(rows) {
-        told.push(*row)?;
+    let mut reported = RowList::new(alloc);
+    for row in first_reported(rows) {
+        reported.push(*row)?;
     }
-    Ok(told)
+    Ok(reported)
 }
 
 /// The answer to a query for the parts of a material that is there, from the first that are listed: all, or one more than
-/// are told. Refused `NoMemory` alone.
+/// are reported. Refused `NoMemory` alone.
 pub fn answer_parts(alloc: Global, material: Code, rows: &[Part]) -> Reply
     ensures answer { (parts : List PartOf) → rows.now ≡ take (MAX_LISTED + 1) parts
         → result ≢ Refused NoMemory
-        → result ≡ Parts material (listing.are_more parts) (listing.first_told parts) }
+        → result ≡ Parts material (listing.are_more parts) (listing.first_reported parts) }
     ensures store { result ≢ Refused StoreFault }
 {
-    match told_rows(alloc, rows) {
+    match reported_rows(alloc, rows) {
         Ok(parts) => Reply::Parts {
             material,
             more: are_more(rows),
@@ -73,7 +73,7 @@ pub fn answer_parts(alloc: Global, material: Code, rows: &[Part]) -> Reply
     }
 }
 
-/// How a demand is told, with the day on which its order is due.
+/// How a demand is reported, with the day on which its order is due.
 pub fn demand_row(demand: &Demand, due: u32) -> DemandRow
     ensures { (m : Content) → lists.due_of m demand.now.order ≡ due
         → result ≡ lists.demand_row m demand.now }
@@ -84,12 +84,12 @@ pub fn demand_row(demand: &Demand, due: u32) -> DemandRow
     }
 }
 
-/// The answer to a query for open demands, from the first that are listed: all, or one more than are told; and from the rows
-/// of those that are told.
+/// The answer to a query for open demands, from the first that are listed: all, or one more than are reported; and from the rows
+/// of those that are reported.
 pub fn answer_demands(rows: &[Demand], demands: DemandRows) -> Reply
     ensures answer { (m : Content) (all : List DemandOf) → rows.now ≡ take (MAX_LISTED + 1) all
-        → demands ≡ map (lists.demand_row m) (listing.first_told rows.now)
-        → result ≡ listing.told_demands m true all }
+        → demands ≡ map (lists.demand_row m) (listing.first_reported rows.now)
+        → result ≡ listing.reported_demands m true all }
     ensures store { result ≢ Refused StoreFault }
 {
     Reply::Demands {
@@ -98,7 +98,7 @@ pub fn answer_demands(rows: &[Demand], demands: DemandRows) -> Reply
     }
 }
 
-/// How a waiting job is told in a list: the terminal that has begun it, the day on which it is due, its number, the name of its
+/// How a waiting job is reported in a list: the terminal that has begun it, the day on which it is due, its number, the name of its
 /// part, how many cuts its plan has, and the part's row.
 pub fn job_row(begun: u32, due: u32, job: u32, name: PartName, cuts: u32, part: &Part) -> JobRow
     ensures { result ≡ listing.row_of begun due job name cuts part.now }
@@ -172,7 +172,7 @@ fn said(alloc: Global, note: Option<OrderNote>) -> (u32, Text)
     }
 }
 
-/// How an order is told, from what is said of it and from all its lines. Where they rise, 64 bits hold each sum.
+/// How an order is reported, from what is said of it and from all its lines. Where they rise, 64 bits hold each sum.
 pub fn order_row(alloc: Global, order: Code, note: Option<OrderNote>, lines: &[Demand]) -> OrderRow
     ensures { (m : Content) → note_at m order ≡ note
         → AllPairs (λ (a b : DemandOf). a.line < b.line) lines.now
@@ -195,11 +195,11 @@ pub fn order_row(alloc: Global, order: Code, note: Option<OrderNote>, lines: &[D
     }
 }
 
-/// The answer to a query for orders, from the codes of the first that are listed: all, or one more than are told; and from
-/// the rows of those that are told.
+/// The answer to a query for orders, from the codes of the first that are listed: all, or one more than are reported; and from
+/// the rows of those that are reported.
 pub fn answer_orders(codes: &[Code], orders: OrderList) -> Reply
     ensures answer { (m : Content) (all : List (List ℕ)) → codes.now ≡ take (MAX_LISTED + 1) all
-        → listing.AreOrderRows m (listing.first_told codes.now) orders
+        → listing.AreOrderRows m (listing.first_reported codes.now) orders
         → listing.IsOrdersAnswer m all result }
     ensures store { result ≢ Refused StoreFault }
 {
@@ -213,7 +213,7 @@ pub fn answer_orders(codes: &[Code], orders: OrderList) -> Reply
 pub fn answer_job(alloc: Global, job: &Job, part: &Part, begun: u32) -> Reply
     ensures answer { (m : Content) → lists.begun_by m job.now.act ≡ begun
         → result ≢ Refused NoMemory
-        → result ≡ listing.told_job m (Some (job.now, part.now)) }
+        → result ≡ listing.reported_job m (Some (job.now, part.now)) }
     ensures store { result ≢ Refused StoreFault }
 {
     match tree_text(alloc, &job.plan) {
@@ -233,9 +233,9 @@ pub fn answer_job(alloc: Global, job: &Job, part: &Part, begun: u32) -> Reply
     }
 }
 
-/// How a piece of a demand is told that was made at this time.
+/// How a piece of a demand is reported that was made at this time.
 pub fn piece_row(part: &Part, demand: &Demand, at: u64) -> PieceRow
-    ensures { result ≡ listing.told_piece part.now demand.now at }
+    ensures { result ≡ listing.reported_piece part.now demand.now at }
 {
     PieceRow {
         at,
@@ -251,12 +251,12 @@ pub fn piece_row(part: &Part, demand: &Demand, at: u64) -> PieceRow
     }
 }
 
-/// The answer to a query for pieces, from the first that are listed: all, or one more than are told; and from the rows of those
-/// that are told.
+/// The answer to a query for pieces, from the first that are listed: all, or one more than are reported; and from the rows of those
+/// that are reported.
 pub fn answer_pieces(rows: &[Part], pieces: PieceList) -> Reply
     ensures answer { (m : Content) (all : List PartOf) → rows.now ≡ take (MAX_LISTED + 1) all
-        → pieces ≡ filter_map (lists.piece_row m) (listing.first_told rows.now)
-        → result ≡ listing.told_pieces m None all }
+        → pieces ≡ filter_map (lists.piece_row m) (listing.first_reported rows.now)
+        → result ≡ listing.reported_pieces m None all }
     ensures store { result ≢ Refused StoreFault }
 {
     Reply::Pieces {
@@ -265,7 +265,7 @@ pub fn answer_pieces(rows: &[Part], pieces: PieceList) -> Reply
     }
 }
 
-/// How a node of a job's plan is told: with its demand, where it is a piece whose demand is there, and with the part that has
+/// How a node of a job's plan is reported: with its demand, where it is a piece whose demand is there, and with the part that has
 /// the job's and the node's number, where there is one.
 pub fn step_row(step: Step, demand: Option<Demand>, part: Option<Part>) -> StepRow
     ensures { (m : Content) (job : ℕ) → lists.demand_at_node m step.what ≡ demand

@@ -9,7 +9,7 @@ ghost use Rattle.shop_records.specs.declared.records.Demand.{Demand as DemandOf}
 ghost use Rattle.shop_records.specs.declared.refusals.Refusal.TheVariants.{NoMemory, StoreFault};
 ghost use Rattle.shop_records.specs.declared.messages.Reply.TheVariants.{Refused};
 ghost use Rattle.shop_answers.specs.Planning as planning;
-ghost use Rattle.shop_answers.specs.Planning.{AreAsked, AreFound, HasNumber, IsPlanAnswer, IsBoundAnswer, IsPlanned, IsBounded, TellsReply, are_bad_numbers, numbers_in, planned_size, numbers_refusal};
+ghost use Rattle.shop_answers.specs.Planning.{AreAsked, AreFound, HasNumber, IsPlanAnswer, IsBoundAnswer, IsPlanned, IsBounded, ReportsReply, are_bad_numbers, numbers_in, planned_size, numbers_refusal};
 
 use cut_measure::{Code, Kind, MAX_NUMBERS, RowList, Size};
 use cut_plan::{MAX_WANTS, PlanFault, Want, least_units, plan_bar, plan_sheet};
@@ -109,7 +109,7 @@ fn want_of(found: &FoundDemand) -> Option<Want>
     })
 }
 
-/// The wants for demands of which something is left, in their order. An Err is want of memory.
+/// The wants for demands of which something is left, in their order. An Err is lack of memory.
 pub fn wants_of(alloc: Global, found: &[FoundDemand]) -> Result<Vec<Want>, AllocError>
     requires { All HasNumber found.now }
     ensures wants { IfOk result
@@ -148,7 +148,7 @@ fn asked_wants(
     }
 }
 
-/// The text of a plan's tree. An Err is want of memory.
+/// The text of a plan's tree. An Err is lack of memory.
 pub fn tree_text(alloc: Global, plan: &Plan) -> Result<Text, AllocError>
     ensures { IfOk result (λ text. text ≡ text_of plan.now.tree) }
 {
@@ -157,7 +157,7 @@ pub fn tree_text(alloc: Global, plan: &Plan) -> Result<Text, AllocError>
     Ok(Text::of(text))
 }
 
-/// The refusal that tells of a planner's fault.
+/// The refusal that reports a planner's fault.
 pub fn planner_refusal(fault: PlanFault) -> Refusal
     ensures value { result ≡ planning.planner_refusal fault }
     ensures store { result ≢ StoreFault }
@@ -181,7 +181,7 @@ fn bar_reply(
 ) -> Result<Reply, Refusal>
     requires kerf { kerf ≤ MAX_KERF }
     requires demands { AreDemands wants.now }
-    ensures told { TellsReply (IsPlanned Bar (planned_size Bar size) kerf step wants.now) result }
+    ensures reported { ReportsReply (IsPlanned Bar (planned_size Bar size) kerf step wants.now) result }
     ensures store { planning.SparesStore result }
 {
     let Some(bar) = Size::new(Kind::Bar, size.w(), 1) else {
@@ -213,7 +213,7 @@ fn sheet_reply(
 ) -> Result<Reply, Refusal>
     requires kerf { kerf ≤ MAX_KERF }
     requires demands { AreDemands wants.now }
-    ensures told { TellsReply (IsPlanned Sheet size kerf step wants.now) result }
+    ensures reported { ReportsReply (IsPlanned Sheet size kerf step wants.now) result }
     ensures store { planning.SparesStore result }
 {
     let proposal = match plan_sheet(alloc, size, kerf, step, wants) {
@@ -241,7 +241,7 @@ fn planned(
     wants: &[Want],
 ) -> Result<Reply, Refusal>
     requires { AreDemands wants.now }
-    ensures told { TellsReply (IsPlanned material.now.kind
+    ensures reported { ReportsReply (IsPlanned material.now.kind
         (planned_size material.now.kind size) material.now.limits.kerf step wants.now) result }
     ensures store { planning.SparesStore result }
 {
@@ -252,15 +252,15 @@ fn planned(
     }
 }
 
-fn plan_told(
+fn plan_reported(
     alloc: Global,
     part: Option<Part>,
     material: Option<Material>,
     demands: &Option<FoundList>,
     step: u32,
 ) -> Result<Reply, Refusal>
-    ensures told { (at : ℕ → Option DemandOf) (numbers : List ℕ) → AreAsked at numbers demands.now
-        → TellsReply (IsPlanAnswer part material at numbers step) result }
+    ensures reported { (at : ℕ → Option DemandOf) (numbers : List ℕ) → AreAsked at numbers demands.now
+        → ReportsReply (IsPlanAnswer part material at numbers step) result }
     ensures store { planning.SparesStore result }
 {
     let Some(part) = part else {
@@ -287,7 +287,7 @@ fn bounded(
     wants: &[Want],
 ) -> Result<Reply, Refusal>
     requires { material.now.kind ≡ Bar → size.h ≡ 1 }
-    ensures told { TellsReply (IsBounded material.now.kind size material.now.limits.kerf step wants.now)
+    ensures reported { ReportsReply (IsBounded material.now.kind size material.now.limits.kerf step wants.now)
         result }
     ensures store { planning.SparesStore result }
 {
@@ -307,7 +307,7 @@ fn bounded(
     }
 }
 
-fn bound_told(
+fn bound_reported(
     alloc: Global,
     code: Code,
     material: Option<Material>,
@@ -316,8 +316,8 @@ fn bound_told(
     demands: &Option<FoundList>,
     step: u32,
 ) -> Result<Reply, Refusal>
-    ensures told { (at : ℕ → Option DemandOf) (numbers : List ℕ) → AreAsked at numbers demands.now
-        → TellsReply (IsBoundAnswer material code (record { w = w; h = h }) at numbers step) result }
+    ensures reported { (at : ℕ → Option DemandOf) (numbers : List ℕ) → AreAsked at numbers demands.now
+        → ReportsReply (IsBoundAnswer material code (record { w = w; h = h }) at numbers step) result }
     ensures store { planning.SparesStore result }
 {
     let Some(material) = material else {
@@ -349,7 +349,7 @@ pub fn answer_plan(
         → result ≢ Refused NoMemory → IsPlanAnswer part material at numbers step result }
     ensures store { result ≢ Refused StoreFault }
 {
-    match plan_told(alloc, part, material, demands, step) {
+    match plan_reported(alloc, part, material, demands, step) {
         Ok(reply) => reply,
         Err(refusal) => Reply::Refused(refusal),
     }
@@ -372,7 +372,7 @@ pub fn answer_bound(
         → IsBoundAnswer material code (record { w = w; h = h }) at numbers step result }
     ensures store { result ≢ Refused StoreFault }
 {
-    match bound_told(alloc, code, material, w, h, demands, step) {
+    match bound_reported(alloc, code, material, w, h, demands, step) {
         Ok(reply) => reply,
         Err(refusal) => Reply::Refused(refusal),
     }

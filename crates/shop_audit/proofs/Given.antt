@@ -31,7 +31,7 @@ next_number n count number e f = omega (arith, e, f)
 -- what one message adds is in the other content, where its entry and what is kept of it are
 module _ (texts : Texts) (whole before after : Content) (message : Message) (read : Reading) (answer : Reply) (accepts : Accepts texts before message read answer after) (within : IsWithin before whole)
     (number : ℕ) (next : number ≡ entry_count before + 1) (entry : EntryRow) (kept : Kept) (entered : entry_at whole number ≡ Some entry) (stored : kept_at whole entry.pair ≡ Some kept)
-    (written : entry_at after number ≡ Some entry) (told : kept_at after entry.pair ≡ Some kept) where
+    (written : entry_at after number ≡ Some entry) (reported : kept_at after entry.pair ≡ Some kept) where
   abbrev made : EntryRow
   made = entry_of (entry_count before + 1) (max accepts.at (last_time before)) message accepts.change
 
@@ -67,7 +67,7 @@ module _ (texts : Texts) (whole before after : Content) (message : Message) (rea
       elim (found_one pairs_total pairs_exact before.kept (pair_of message) row q r (sym (ap (λ (ks : FinMap pair_cmp Kept). get ks q) kept_with) ∙ is)) [
         | inl h ↦
             let same : q ≡ entry.pair = h.0 ∙ sym of_message in
-            ap (λ (p : Pair). kept_at whole p) same ∙ stored ∙ sym told ∙ sym (ap (λ (p : Pair). kept_at after p) same) ∙ is
+            ap (λ (p : Pair). kept_at whole p) same ∙ stored ∙ sym reported ∙ sym (ap (λ (p : Pair). kept_at after p) same) ∙ is
         | inr h ↦ within.kept q r h.1
       ]
 
@@ -104,11 +104,11 @@ module _ {F : Type 0} (texts : Texts) (book : Ghosts F) (whole : Content) (mid n
   -- the book holds what one message more gave, where its entry and what is kept of it are in the other content
   pub given_next : (entry : EntryRow) (kept : Kept) → entry_at whole number ≡ Some entry → kept_at whole entry.pair ≡ Some kept → entry_at h.next number ≡ Some entry → kept_at h.next entry.pair ≡ Some kept
       → book.holds final h.next → HoldsPart texts book whole final number
-  given_next entry kept entered stored written told holds =
+  given_next entry kept entered stored written reported holds =
       record {
         content = h.next;
         given = record { history = record { message = message; read = made_by.0 } ∷ g.given.history; gives = (g.content, answer, g.given.gives, is_message, none, made_by.1); sound = h.sound };
         many = one_longer (record { message = message; read = made_by.0 }) g.given.history count g.many ∙ sym next;
-        within = within_next texts whole g.content h.next message made_by.0 answer made_by.1 g.within number (next_number (entry_count g.content) count number many next) entry kept entered stored written told;
+        within = within_next texts whole g.content h.next message made_by.0 answer made_by.1 g.within number (next_number (entry_count g.content) count number many next) entry kept entered stored written reported;
         holds = holds;
       }

@@ -17,17 +17,17 @@ lines_fault book.NoMemory = NoMemory
 lines_fault book.Store = Store
 lines_fault book.WrongVersion = Store
 
--- the entry of a number as it is told, where it is there and its message is kept
-abbrev pub told_at : Content → (number : ℕ) → Option EntryTold
-told_at m number = option_and_then (told_entry m) (entry_at m number)
+-- the entry of a number as it is reported, where it is there and its message is kept
+abbrev pub reported_at : Content → (number : ℕ) → Option EntryTold
+reported_at m number = option_and_then (told_entry m) (entry_at m number)
 
--- the object that an entry is told as, and a line's end; nothing where there is none
+-- the object that an entry is reported as, and a line's end; nothing where there is none
 abbrev pub line_of : Option EntryTold → List ℕ
 line_of None = []
-line_of (Some told) = compact_text (entry_data told) ++ codes "\n"
+line_of (Some reported) = compact_text (entry_data reported) ++ codes "\n"
 
 abbrev pub line_at : Content → (number : ℕ) → List ℕ
-line_at m number = line_of (told_at m number)
+line_at m number = line_of (reported_at m number)
 
 -- the lines of the first entries behind a number, so many, rising
 abbrev pub lines : Content → (after count : ℕ) → List ℕ

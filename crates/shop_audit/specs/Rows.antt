@@ -1,4 +1,4 @@
--- How a row is told by its table and its key.
+-- How a row is reported by its table and its key.
 use Rattle.std.specs.Prelude.{List, ℕ, ◌++◌, codes}
 use Rattle.std.specs.Fmt.{decimal}
 use Rattle.shop_audit.specs.declared.rows.Row.{Row}

@@ -10,7 +10,7 @@ use Rattle.shop_machine.specs.History.{Entry, GivesAll, entered_pairs, pairs_of}
 use Rattle.shop_book.specs.declared.books.Book.{Ghosts}
 
 -- A content is whole where a history gives it of which no entry was forgotten, so that the messages of its entries, in their
--- order, are that history's: both are told here from the newest on.
+-- order, are that history's: both are reported here from the newest on.
 pub record IsWhole (texts : Texts) (content : Content) : Type 0 where
   pub history : List Entry
   pub gives : GivesAll texts history content

@@ -58,15 +58,15 @@ fn is_text_of(
     written: Option<Text>,
     text: &Text,
 ) -> Result<bool, AllocError> {
-    let told = match written {
-        Some(told) => told,
+    let reported = match written {
+        Some(reported) => reported,
         None => reply_text(alloc, reply)?,
     };
-    Ok(told.as_str() == text.as_str())
+    Ok(reported.as_str() == text.as_str())
 }
 
 // Whether a message was accepted with a reply of this text. The reply's own text may have been written.
-fn is_told(
+fn is_reported(
     alloc: Global,
     reply: &Reply,
     written: Option<Text>,
@@ -168,8 +168,8 @@ fn written<F: Book>(
     if !entered {
         return Ok(Found::Differs);
     }
-    let told = has_kept(alloc, anew, entry, kept)?;
-    if told {
+    let reported = has_kept(alloc, anew, entry, kept)?;
+    if reported {
         Ok(Found::Same)
     } else {
         Ok(Found::Differs)
@@ -196,8 +196,8 @@ fn does_again<F: Book>(
         return Ok(Found::Other);
     }
     let (reply, text) = handle_with_text_at(alloc, anew, message, entry.at);
-    let told = is_told(alloc, &reply, text, &kept.reply)?;
-    if !told {
+    let reported = is_reported(alloc, &reply, text, &kept.reply)?;
+    if !reported {
         return Ok(Found::Other);
     }
     written(alloc, anew, number, entry, kept)

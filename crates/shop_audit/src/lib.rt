@@ -1,4 +1,4 @@
-//! What the entries of a store tell: as lines, and done anew in memory, to see whether the store is whole.
+//! What the entries of a store report: as lines, and done anew in memory, to see whether the store is whole.
 #![tactic(auto)]
 
 mod again;

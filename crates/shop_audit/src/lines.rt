@@ -6,7 +6,7 @@ ghost use Rattle.shop_streams.specs.Streams.{HasFailed};
 ghost use Rattle.shop_book.specs.Failures.{CountsFailure};
 ghost use Rattle.shop_book.specs.Kept.{OnContent, Unchanged};
 ghost use Rattle.shop_audit.specs.Compared.{IsLookedAt};
-ghost use Rattle.shop_audit.specs.Lines.{AppendsPart, history_text, line_at, line_of, lines, told_at};
+ghost use Rattle.shop_audit.specs.Lines.{AppendsPart, history_text, line_at, line_of, lines, reported_at};
 ghost use Rattle.shop_audit.specs.declared.lines.LinesFault.TheVariants.{Write};
 
 use crate::progress::Progress;
@@ -53,13 +53,13 @@ impl From<BookFault> for LinesFault {
 }
 
 // The entry of a number as a reply has it, if the book has that entry and keeps its message.
-fn told_at<B: Book>(
+fn reported_at<B: Book>(
     alloc: Global,
     book: &mut B,
     number: u64,
 ) -> Result<Option<EntryTold>, BookFault>
-    ensures told { OnContent B.Book book.old book.new
-        (λ m. IfOk result (λ told. told ≡ told_at m number)) }
+    ensures reported { OnContent B.Book book.old book.new
+        (λ m. IfOk result (λ reported. reported ≡ reported_at m number)) }
     ensures keeps { Unchanged B.Book (CountsFailure result) book.old book.new }
 {
     let Some(entry) = book.entry(number)? else {
@@ -90,12 +90,12 @@ fn write_bytes<W: Sink>(bytes: &[u8], sink: &mut W) -> Result<(), LinesFault>
 }
 
 /// An entry as a line: the object that a reply has for it.
-pub fn entry_line(alloc: Global, told: Option<EntryTold>) -> Result<String, AllocError>
-    ensures { IfOk result (λ line. string_bytes line ≡ line_of told) }
+pub fn entry_line(alloc: Global, reported: Option<EntryTold>) -> Result<String, AllocError>
+    ensures { IfOk result (λ line. string_bytes line ≡ line_of reported) }
 {
     let mut line = String::new(alloc);
-    if let Some(told) = told {
-        let text = entry_text(alloc, &told)?;
+    if let Some(reported) = reported {
+        let text = entry_text(alloc, &reported)?;
         line.push_str(text.as_str())?;
         line.push_str("\n")?;
     }
@@ -117,8 +117,8 @@ fn write_entry<B: Book, W: Sink>(
     ensures worked { OnOk result (W.failed sink.new ≡ W.failed sink.old) }
     ensures keeps { IsLookedAt B.Book book.old book.new }
 {
-    let told = told_at(alloc, book, number)?;
-    let line = entry_line(alloc, told)?;
+    let reported = reported_at(alloc, book, number)?;
+    let line = entry_line(alloc, reported)?;
     write_bytes(line.as_bytes(), sink)
 }
 

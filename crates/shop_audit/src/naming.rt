@@ -360,7 +360,7 @@ fn first_before_meta<B: Book, F: Book>(
     first_material(alloc, book, anew)
 }
 
-// The row that a stray order of a job is told as.
+// The row that a stray order of a job is reported as.
 fn use_row(stray: &StrayUse) -> Row {
     match stray {
         StrayUse::Use(job, order) => Row::Use(*job, *order),

@@ -1,4 +1,4 @@
--- What is told of backups that were to be taken away.
+-- What is reported about backups that were to be taken away.
 use Rattle.std.specs.Prelude.{ℕ, List, ◌++◌, codes, decimal}
 
 -- one of this number stayed in a folder

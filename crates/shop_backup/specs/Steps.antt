@@ -8,7 +8,7 @@ use Rattle.shop_backup.specs.declared.shelves.StoreFile.TheVariants.{Store, Log}
 -- that is named as a backup there, whole or not, were listed, and those of what is named as a whole one. And under a number: its
 -- folder was made, under a name that no backup has; a file was written to it, with these bytes, and is on the disk; it got the name
 -- of a backup, which is on the disk, too; what was made of it was taken away. And of a backup that was there: it was taken away; or
--- it was to be, and stayed, which who runs the shop is told.
+-- it was to be, and stayed, which whoever runs the shop learns.
 pub data BackupStep : Type 0 where
   looked : BackupStep
   listed : List ℕ → List ℕ → BackupStep

@@ -24,7 +24,7 @@ pub(crate) enum CopyFault {
     Write,
 }
 
-// Copies a piece of what is left of a source, and tells whether there was one.
+// Copies a piece of what is left of a source, and reports whether there was one.
 fn copy_piece<S: Source, W: Sink>(source: &mut S, sink: &mut W) -> Result<bool, CopyFault>
     ensures more { result ≡ Ok true → (piece : List ℕ)
         × Consumes (S.left source.old) (S.left source.new) piece
@@ -192,7 +192,7 @@ fn begin_next<S: Source, W: Sink, T: BackupTarget<S, W>>(
     Ok(begun)
 }
 
-// Takes one backup away, or has it told that it stays.
+// Takes one backup away, or has it reported that it stays.
 fn pass<S: Source, W: Sink, T: BackupTarget<S, W>>(target: &mut T, number: u32)
     ensures { (step : BackupStep) × IsPassing number step
         × Adds (T.done target.old) (T.done target.new) (step ∷ []) }
@@ -212,7 +212,7 @@ fn pass_all<S: Source, W: Sink, T: BackupTarget<S, W>>(target: &mut T, old: &[u3
     }
 }
 
-/// Makes a backup under the number behind the greatest that is there, whole or not, from 1 on, and tells the number. A place that
+/// Makes a backup under the number behind the greatest that is there, whole or not, from 1 on, and reports the number. A place that
 /// isn't the one of the start, or in which others may write, gets none.
 ///
 /// At `Ok` both files were copied whole, were on the disk before the backup got its name, and that is on the disk, too; then, where

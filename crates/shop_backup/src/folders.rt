@@ -57,7 +57,7 @@ fn make_folder<R: Files>(rt: &R, path: &str) -> io::Result<()> {
     maker.mode(0o700).create(rt, path)
 }
 
-// Makes a folder and takes it away again, or one that was left there, and tells whether the name was free.
+// Makes a folder and takes it away again, or one that was left there, and reports whether the name was free.
 fn try_name<R: Files>(rt: &R, path: &str) -> io::Result<bool> {
     match make_folder(rt, path) {
         Ok(()) => {

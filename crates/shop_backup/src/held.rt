@@ -58,7 +58,7 @@ impl HeldFolder {
         false
     }
 
-    /// Takes a file away that is in it, or a link, and tells whether it did.
+    /// Takes a file away that is in it, or a link, and reports whether it did.
     pub(crate) fn remove(&self, name: &str) -> bool {
         os::unlink_at(self.fd.as_raw_fd(), name.as_bytes()) == 0
     }

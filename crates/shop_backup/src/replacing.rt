@@ -14,7 +14,7 @@ use std::fs::{self, File, Files, Metadata, OpenFile, OpenOptions, Permissions};
 use std::io::{self, ErrorKind};
 use std::os::unix::fs::{MetadataExt, OpenOptionsExt, PermissionsExt};
 
-/// What a book tells of its entries.
+/// What a book reports about its entries.
 #[derive(Clone, Copy, Debug, PartialEq, Eq)]
 pub struct BookEntries {
     /// How many there are.
@@ -25,7 +25,7 @@ pub struct BookEntries {
 
 /// What judges whether files hold a book.
 pub trait Judges {
-    /// What the book that a store's file and its log hold tells of its entries, or none where they hold no book. The files are
+    /// What the book that a store's file and its log hold reports about its entries, or none where they hold no book. The files are
     /// only read.
     fn book_entries(
         &mut self,
@@ -346,7 +346,7 @@ impl<'a, R: Files, J: Judges> Replacing<'a, R, J> {
         }
     }
 
-    // Where no log is there, or one without a byte, the store gets the log's name, too, and this tells so: no start takes a store for
+    // Where no log is there, or one without a byte, the store gets the log's name, too, and this reports so: no start takes a store for
     // its own log, nor a log without its store, so that what a stop leaves now isn't taken for a new shop.
     fn shield(&self) -> Result<bool, RestoreFault> {
         let log = self.paths.log.as_str();
@@ -400,11 +400,11 @@ impl<'a, R: Files, J: Judges> Place for Replacing<'a, R, J> {
 
 /// Puts a backup in the place of a store: the files that were there are `FILE.before` and `FILE.before-wal` then, where they were
 /// there. `FILE.new` and `FILE.new-wal` are copies of the backup's files before they get their names; of an earlier try they are
-/// taken away. The answer is what the backup's book tells of its entries.
+/// taken away. The answer is what the backup's book reports about its entries.
 ///
 /// `Store(InUse)` where a program has the store open; `NoBackup` where the folder has no store with its log, or they hold no book;
 /// `Before` where `FILE.before` or `FILE.before-wal` is there. At these nothing was changed. `NoMemory`, and `Store` with another
-/// cause, for want of memory and for what the system refuses; then what was done stays, and the next start finds the old files, the new
+/// cause, because memory ran out and for what the system refuses; then what was done stays, and the next start finds the old files, the new
 /// ones, or some that it refuses.
 pub fn put_back<R: Files, J: Judges + Drop>(
     rt: &R,

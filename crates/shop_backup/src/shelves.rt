@@ -86,12 +86,12 @@ pub trait BackupTarget<S: Source, W: Sink> {
         ensures holds { holds self.new ≡ holds self.old }
         ensures cleared { Adds (done self.old) (done self.new) (cleared number ∷ []) };
 
-    /// Takes a whole backup away, if it holds its two files and nothing else, and tells whether it did.
+    /// Takes a whole backup away, if it holds its two files and nothing else, and reports whether it did.
     fn take_away(&mut self, number: u32) -> bool
         ensures gone { IsTrue result → Adds (done self.old) (done self.new) (taken number ∷ []) }
         ensures stays { result ≡ false → done self.new ≡ done self.old };
 
-    /// Has it told of a backup that it couldn't be taken away.
+    /// Has it reported that a backup couldn't be taken away.
     fn stay(&mut self, number: u32)
         ensures { Adds (done self.old) (done self.new) (stayed number ∷ []) };
 }

@@ -1,4 +1,4 @@
--- Reservations of told parts by the plans that are told for them don't stand in each other's way.
+-- Reservations of reported parts by the plans that are reported for them don't stand in each other's way.
 use Rattle.std.proofs.Common.{◌≡◌, ◌≢◌, ℕ, ◌+◌, ◌≤◌, List, [], ◌∷◌, map, true, refl, sym, ap, subst, ◌∙◌, inl, inr, arith, eqb-true}
 use Rattle.std.specs.Prelude.{Some, None, All, Contains, slice_get, ◌==◌, ◌&&◌}
 use Rattle.std.specs.List.{AllByRecursion}
@@ -29,11 +29,11 @@ use Rattle.shop_answers.specs.Planning.{found_refusal, left_of}
 use Rattle.shop_machine.specs.Machine.{Run}
 use Rattle.shop_machine.proofs.Allowed.{or_none}
 use Rattle.shop_plans.specs.declared.answers.PlansReply.{PlansReply}
-use Rattle.shop_plans.specs.declared.answers.ToldPlan.{ToldPlan}
+use Rattle.shop_plans.specs.declared.answers.ReportedPlan.{ReportedPlan}
 use Rattle.shop_plans.specs.declared.questions.PlansQuery.{PlansQuery}
 use Rattle.shop_planning.specs.declared.instance.PlanInstance.{PlanInstance}
 use Rattle.shop_planning.specs.declared.instance.StockPart.{StockPart}
-use Rattle.shop_planning.specs.declared.telling.Entry.{Entry}
+use Rattle.shop_planning.specs.declared.response.Entry.{Entry}
 use Rattle.shop_planning.specs.Answers.{IsPlansReply}
 use Rattle.shop_planning.specs.Asked.{demands_for, parts_for}
 use Rattle.shop_planning.specs.Entries.{entries_of, is_of}
@@ -42,10 +42,10 @@ use Rattle.shop_planning.specs.Shares.{are_alike, share_of, shares_of}
 use Rattle.shop_planning.specs.Stock.{firsts}
 use Rattle.shop_planning.proofs.Firsts.{all_firsts}
 use Rattle.shop_bookings.specs.Bookings.{AreBookable, Booking, IsBookable, OnlySpent, booked, sent_by}
-use Rattle.shop_bookings.specs.Told.{AreBookedBy, IsBookedBy, IsToldFor}
+use Rattle.shop_bookings.specs.Reported.{AreBookedBy, IsBookedBy, IsReportedFor}
 use Rattle.shop_bookings.proofs.Asked.{IsPartOf, IsWantOf, parts_found, wants_found}
 use Rattle.shop_bookings.proofs.Fitting as fitting
-use Rattle.shop_bookings.proofs.Slots.{Slot, slots_are, slots_from, slots_sum, told_slot}
+use Rattle.shop_bookings.proofs.Slots.{Slot, slots_are, slots_from, slots_sum, reported_slot}
 use Rattle.shop_bookings.proofs.Together.{stand_together}
 use Rattle.shop_bookings.proofs.Pieces.{contains_in, few_pieces, shared, sum_within}
 
@@ -141,17 +141,17 @@ module _ (texts : Texts) (m : Content) (sound : IsSound texts m) (q : PlansQuery
       (All-weaker (IsPlannedUnit wants material.limits.kerf sizes) (λ u. IsShare wants material.limits.kerf sizes (share_of units u))
       (λ u is. record { stock = is.stock; there = is.there; planned = is.planned }) units planned))
 
-  -- a part and a plan that is told for it have a slot
-  slot_of : (part : Name) (text : List ℕ) → IsToldFor reply.plans.items part text → (slot : Slot) × IsIn slot slots × (slot.part.name ≡ part) × (text ≡ text_of slot.unit.plan.tree)
-  slot_of part text told =
-      let p = any_in (λ (p : ToldPlan). Contains p.parts part × (text ≡ p.tree)) reply.plans.items told in
-      let e = in_map (λ (e : Entry). e.told) answer.plans.list p.0 (subst (IsIn p.0) answer.plans.plans p.1) in
-      let P = λ (e : Entry). (name : Name) → IsIn name e.told.parts → (slot : Slot) × IsIn slot slots × (slot.part.name ≡ name) × (e.told.tree ≡ text_of slot.unit.plan.tree) in
+  -- a part and a plan that is reported for it have a slot
+  slot_of : (part : Name) (text : List ℕ) → IsReportedFor reply.plans.items part text → (slot : Slot) × IsIn slot slots × (slot.part.name ≡ part) × (text ≡ text_of slot.unit.plan.tree)
+  slot_of part text reported =
+      let p = any_in (λ (p : ReportedPlan). Contains p.parts part × (text ≡ p.tree)) reply.plans.items reported in
+      let e = in_map (λ (e : Entry). e.reported) answer.plans.list p.0 (subst (IsIn p.0) answer.plans.plans p.1) in
+      let P = λ (e : Entry). (name : Name) → IsIn name e.reported.parts → (slot : Slot) × IsIn slot slots × (slot.part.name ≡ name) × (e.reported.tree ≡ text_of slot.unit.plan.tree) in
       let all = All-permutation P (entries_of sizes answer.plans.ranked shares) answer.plans.list answer.plans.each
-      (all_from P (entries_of sizes answer.plans.ranked shares) (λ e i name j. told_slot sizes answer.plans.ranked [] shares e name i j)) in
-      let inside : IsIn part e.0.told.parts = subst (λ (x : ToldPlan). IsIn part x.parts) e.2 (contains_in p.0.parts part p.2.0) in
+      (all_from P (entries_of sizes answer.plans.ranked shares) (λ e i name j. reported_slot sizes answer.plans.ranked [] shares e name i j)) in
+      let inside : IsIn part e.0.reported.parts = subst (λ (x : ReportedPlan). IsIn part x.parts) e.2 (contains_in p.0.parts part p.2.0) in
       let r = all_in P answer.plans.list all e.0 e.1 part inside in
-      (r.0, r.1, r.2, p.2.1 ∙ ap (λ (x : ToldPlan). x.tree) e.2 ∙ r.3)
+      (r.0, r.1, r.2, p.2.1 ∙ ap (λ (x : ReportedPlan). x.tree) e.2 ∙ r.3)
 
   same_sides : (s : StockSize) (p : StockPart) → is_of s p ≡ true → (p.size.w ≡ s.size.w) × (p.size.h ≡ s.size.h)
   same_sides s p e =
@@ -161,7 +161,7 @@ module _ (texts : Texts) (m : Content) (sound : IsSound texts m) (q : PlansQuery
 
   booked_by : (message : Message) → IsBookedBy m reply message → Booked m slots message
   booked_by message by =
-      let slot = slot_of by.part by.text by.told in
+      let slot = slot_of by.part by.text by.reported in
       let is = slots_are sizes answer.plans.ranked [] shares slot.0 slot.1 in
       let share = all_in (IsShare wants material.limits.kerf sizes) shares shares_are slot.0.unit is.unit in
       let part = all_in (IsPartOf m q.material material.kind) answer.plans.ranked parts_are slot.0.part is.part in

@@ -15,7 +15,7 @@ use Rattle.shop_records.specs.Elements.{IsIn}
 use Rattle.shop_records.proofs.Basics.{all_in, in_append, in_first, in_later, in_map, map_in}
 use Rattle.shop_records.proofs.Puts.{all_from}
 use Rattle.shop_planning.specs.declared.instance.StockPart.{StockPart}
-use Rattle.shop_planning.specs.declared.telling.Entry.{Entry}
+use Rattle.shop_planning.specs.declared.response.Entry.{Entry}
 use Rattle.shop_planning.specs.Entries.{entries_from, entry_by, entry_of, is_of, taken}
 
 -- a part that is cut, and the unit as which it is
@@ -85,21 +85,21 @@ module _ (sizes : List StockSize) (ranked : List StockPart) where
           let r = more j in
           record { unit = inr r.unit; stock = r.stock; there = r.there; part = r.part; of = r.of }
 
-  -- a part that is told with a plan has a slot whose unit has the plan
+  -- a part that is reported with a plan has a slot whose unit has the plan
   abbrev HasSlot : List Slot → Entry → Name → Type 0
-  HasSlot slots e name = (slot : Slot) × IsIn slot slots × (slot.part.name ≡ name) × (e.told.tree ≡ text_of slot.unit.plan.tree)
+  HasSlot slots e name = (slot : Slot) × IsIn slot slots × (slot.part.name ≡ name) × (e.reported.tree ≡ text_of slot.unit.plan.tree)
 
-  entry_slot : (before : ℕ) (u : PlannedUnit) (s : StockSize) (l : Option ℕ) (e : Entry) (name : Name) → e ≡ entry_by l ranked before u s → IsIn name e.told.parts
+  entry_slot : (before : ℕ) (u : PlannedUnit) (s : StockSize) (l : Option ℕ) (e : Entry) (name : Name) → e ≡ entry_by l ranked before u s → IsIn name e.reported.parts
       → HasSlot (map (slot_of u) (limited l (taken ranked before u s))) e name
-  entry_slot before u s None e name is i = absurd (subst (λ (f : Entry). IsIn name f.told.parts) is i)
+  entry_slot before u s None e name is i = absurd (subst (λ (f : Entry). IsIn name f.reported.parts) is i)
   entry_slot before u s (Some n) e name is i =
-      let p = in_map (λ (p : StockPart). p.name) (taken ranked before u s) name (subst (λ (f : Entry). IsIn name f.told.parts) is i) in
-      (slot_of u p.0, map_in (slot_of u) (taken ranked before u s) p.0 p.1, sym p.2, ap (λ (f : Entry). f.told.tree) is)
+      let p = in_map (λ (p : StockPart). p.name) (taken ranked before u s) name (subst (λ (f : Entry). IsIn name f.reported.parts) is i) in
+      (slot_of u p.0, map_in (slot_of u) (taken ranked before u s) p.0 p.1, sym p.2, ap (λ (f : Entry). f.reported.tree) is)
 
-  pub told_slot : (before us : List PlannedUnit) (e : Entry) (name : Name) → IsIn e (entries_from sizes ranked before us) → IsIn name e.told.parts
+  pub reported_slot : (before us : List PlannedUnit) (e : Entry) (name : Name) → IsIn e (entries_from sizes ranked before us) → IsIn name e.reported.parts
       → HasSlot (slots_from sizes ranked before us) e name
-  told_slot before [] e name i j = absurd i
-  told_slot before (u ∷ us) e name i j = by (λ k. told_slot (before ++ u ∷ []) us e name k j) (slice_get sizes u.place) i
+  reported_slot before [] e name i j = absurd i
+  reported_slot before (u ∷ us) e name i j = by (λ k. reported_slot (before ++ u ∷ []) us e name k j) (slice_get sizes u.place) i
     where
       n : ℕ
       n = units_at (cutting_of before) u.place

@@ -1,2 +1,2 @@
 pub mod Bookings
-pub mod Told
+pub mod Reported

@@ -13,7 +13,7 @@ ghost use Rattle.shop_planning.specs.declared.instance.PlanInstance.{PlanInstanc
 ghost use Rattle.shop_planning.specs.Answers.{IsPlansReply};
 ghost use Rattle.shop_planning.specs.Questions.{IsInstance};
 ghost use Rattle.shop_bookings.specs.Bookings.{Booking, AreBookable, OnlySpent, sent_by};
-ghost use Rattle.shop_bookings.specs.Told.{AreBookedBy};
+ghost use Rattle.shop_bookings.specs.Reported.{AreBookedBy};
 
 /// Reservations of different standing parts, whose plans have together no more pieces of a demand than are left of it, are
 /// accepted one after another, in whatever order they come: refused are only those for which numbers are spent, want of
@@ -24,9 +24,9 @@ pub fn bookings_stand_together()
         → Run texts old (sent_by bookings) answers new → All OnlySpent answers }
 {}
 
-/// As long as nothing else happens in between, each plan that is told for a part can be reserved, in any order, all of them
-/// or some: refused are only those for which numbers are spent, want of memory and a failed store aside.
-pub fn told_plans_are_reserved()
+/// As long as nothing else happens in between, each plan that is reported for a part can be reserved, in any order, all of them
+/// or some: refused are only those for which numbers are spent, lack of memory and a failed store aside.
+pub fn reported_plans_are_reserved()
     ensures { (texts : Texts) (old new : Content) (q : PlansQuery) (instance : InstanceOfQuestion)
         (reply : PlansReply) (messages : List Message) (answers : List Reply)
         → IsSound texts old → IsInstance old q instance → IsPlansReply instance reply

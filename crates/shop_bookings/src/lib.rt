@@ -3,4 +3,4 @@
 
 mod laws;
 
-pub use laws::{bookings_stand_together, told_plans_are_reserved};
+pub use laws::{bookings_stand_together, reported_plans_are_reserved};

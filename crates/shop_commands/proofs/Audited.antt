@@ -19,20 +19,20 @@ use Rattle.shop_commands.specs.Faults.{book_fault, written_fault}
 use Rattle.shop_commands.specs.Sinks.{SinkChange, Adds, SinkFailed}
 use Rattle.shop_commands.specs.declared.faults.Fault.{Fault}
 
--- a book's fault is want of memory or a failed store
+-- a book's fault is lack of memory or a failed store
 pub failure : (fault : BookFault) (f : Fault) → f ≡ book_fault fault → IsFailure f
 failure book.NoMemory f is = inl is
 failure book.Store f is = inr is
 failure book.WrongVersion f is = inr is
 
 module _ {B : Type 0} (book : Ghosts B) (before after : B) (out : SinkChange) where
-  -- a book that was found whole, and told so
+  -- a book that was found whole, and reported so
   pub judged_whole : {X : Type 0} (audit : Audit) → IsAuditOf book before after audit → audit.verdict ≡ Whole → (result : Result X Fault)
       → OnOk result (Adds out (whole_lines audit.entries)) → OnOk result (IsJudged book before after out)
   judged_whole audit of is result adds =
       on_ok_weaker result
-      (λ told. record {
-        told = λ clean m held. (of.whole clean m held is, subst (λ n. Adds out (whole_lines n)) (of.entries clean m held) told);
+      (λ reported. record {
+        reported = λ clean m held. (of.whole clean m held is, subst (λ n. Adds out (whole_lines n)) (of.entries clean m held) reported);
         keeps = of.keeps;
       })
       adds
@@ -53,19 +53,19 @@ module _ {B : Type 0} (book : Ghosts B) (before after : B) (out : SinkChange) wh
           before = before;
           after = after;
           given = given;
-          told = λ clean m held. subst (λ (r : Result _ LinesFault). OnOk r (Adds out (Text m))) is (adds clean m held);
+          reported = λ clean m held. subst (λ (r : Result _ LinesFault). OnOk r (Adds out (Text m))) is (adds clean m held);
           keeps = keeps;
         }
 
     -- a fault of the lines, and what it says of the sink
     by_fault : (fault : LinesFault) (f : Fault) → f ≡ written_fault fault → (fault ≡ lines.Write → SinkFailed out)
         → OnContent book before after (λ m. AppendsPart out.old out.new (Text m)) → IsHistoryStopped book gives last f out
-    by_fault lines.NoMemory f is failed part = inr (inl (inl is), record { before = before; after = after; given = given; told = part; keeps = keeps })
-    by_fault lines.Store f is failed part = inr (inl (inr is), record { before = before; after = after; given = given; told = part; keeps = keeps })
-    by_fault lines.Write f is failed part = inr (inr (is, failed refl), record { before = before; after = after; given = given; told = part; keeps = keeps })
+    by_fault lines.NoMemory f is failed part = inr (inl (inl is), record { before = before; after = after; given = given; reported = part; keeps = keeps })
+    by_fault lines.Store f is failed part = inr (inl (inr is), record { before = before; after = after; given = given; reported = part; keeps = keeps })
+    by_fault lines.Write f is failed part = inr (inr (is, failed refl), record { before = before; after = after; given = given; reported = part; keeps = keeps })
 
     pub history_stopped : (result : Result (Unit {0}) LinesFault) (fault : LinesFault) (f : Fault) → result ≡ Err fault → f ≡ written_fault fault
         → (fault ≡ lines.Write → SinkFailed out) → OnContent book before after (λ m. OnErr result (AppendsPart out.old out.new (Text m)))
         → IsHistoryStopped book gives last f out
-    history_stopped result fault f is told failed part =
-        by_fault fault f told failed (λ clean m held. subst (λ (r : Result _ LinesFault). OnErr r (AppendsPart out.old out.new (Text m))) is (part clean m held))
+    history_stopped result fault f is reported failed part =
+        by_fault fault f reported failed (λ clean m held. subst (λ (r : Result _ LinesFault). OnErr r (AppendsPart out.old out.new (Text m))) is (part clean m held))

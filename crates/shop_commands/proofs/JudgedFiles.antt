@@ -1,4 +1,4 @@
--- Lines that are judged, and what is told of a file that has them.
+-- Lines that are judged, and what is reported about a file that has them.
 use Rattle.std.proofs.Common.{◌≡◌, List, ℕ, Bool, true, Option, Some, None, Result, Ok, Err, inl, inr, length, refl, subst, sym}
 use Rattle.std.specs.Prelude.{IfErr, IfOk, OnOk, is_some}
 use Rattle.std.proofs.lemmas.Result.{IfErr-weaker, on_ok_weaker}
@@ -36,11 +36,11 @@ module _ (given : Bool) (text : List ℕ) (lines slice : List OrderLine) (spelt 
   pub bad_file : (fault : Fault) → IsJudgedBad given slice fault → IsOrderFileFault given text fault
   bad_file fault bad = inr (slice, subst (IsOrders text) (sym is) spelt, inl bad)
 
-  module _ {X : Type 0} (bytes : X → List ℕ) (told : Option ImportAs) (result : Result X Fault) (good : IsJudgedGood given slice) where
-    pub line_ok : IfOk result (λ line. bytes line ≡ orders_line told text (length slice)) → IfOk result (λ line. IsOrdersLine given told text (bytes line))
+  module _ {X : Type 0} (bytes : X → List ℕ) (reported : Option ImportAs) (result : Result X Fault) (good : IsJudgedGood given slice) where
+    pub line_ok : IfOk result (λ line. bytes line ≡ orders_line reported text (length slice)) → IfOk result (λ line. IsOrdersLine given reported text (bytes line))
     line_ok = made result
       where
-        made : (r : Result X Fault) → IfOk r (λ line. bytes line ≡ orders_line told text (length slice)) → IfOk r (λ line. IsOrdersLine given told text (bytes line))
+        made : (r : Result X Fault) → IfOk r (λ line. bytes line ≡ orders_line reported text (length slice)) → IfOk r (λ line. IsOrdersLine given reported text (bytes line))
         made (Ok line) says = (slice, subst (IsOrders text) (sym is) spelt, good, says)
         made (Err fault) says = tt
 

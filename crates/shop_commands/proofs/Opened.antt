@@ -59,4 +59,4 @@ module _ {B : Type 0} (book : Ghosts B) where
 
     pub text_stopped : (result : Result (Unit {0}) PrintFault) → Prints book before after said out result → (fault : PrintFault) (f : Fault) → result ≡ Err fault
         → f ≡ print_fault fault → IsTextStopped book gives said f out
-    text_stopped result prints fault f is told = stopped fault f (subst (Prints book before after said out) is prints) told
+    text_stopped result prints fault f is reported = stopped fault f (subst (Prints book before after said out) is prints) reported

@@ -56,7 +56,7 @@ module _ (wanted : ℕ) (text : List ℕ) (i d : ℕ) (within : i < length text)
 
 -- ---- a line that isn't written to its end
 
-pub unwritten : {X : Type 0} (given : Bool) (told : Option ImportAs) (bytes line : List ℕ) (out : SinkChange) → IsOrdersLine given told bytes line → AddsPrefix out line
-    → (result : Result X Fault) → IfErr result (λ fault. (fault ≡ Write) × SinkFailed out) → IfErr result (λ fault. IsOrdersStopped given told fault out)
-unwritten given told bytes line out made prefix (Ok x) is = tt
-unwritten given told bytes line out made prefix (Err fault) is = inr (inr (bytes, line, made, is.0, prefix, is.1))
+pub unwritten : {X : Type 0} (given : Bool) (reported : Option ImportAs) (bytes line : List ℕ) (out : SinkChange) → IsOrdersLine given reported bytes line → AddsPrefix out line
+    → (result : Result X Fault) → IfErr result (λ fault. (fault ≡ Write) × SinkFailed out) → IfErr result (λ fault. IsOrdersStopped given reported fault out)
+unwritten given reported bytes line out made prefix (Ok x) is = tt
+unwritten given reported bytes line out made prefix (Err fault) is = inr (inr (bytes, line, made, is.0, prefix, is.1))

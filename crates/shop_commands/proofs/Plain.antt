@@ -199,8 +199,8 @@ of_advice a fault of =
     let word = string_bytes a.word in
     let joint_of = joint a.cause in
     let named = joined about joint_of of.about (of_joint a.cause) in
-    let told = joined (about ++ joint_of) why named (of_cause a.cause) in
-    (about ++ joint_of ++ why ++ word, joined (about ++ joint_of ++ why) word told of.word, refl)
+    let reported = joined (about ++ joint_of) why named (of_cause a.cause) in
+    (about ++ joint_of ++ why ++ word, joined (about ++ joint_of ++ why) word reported of.word, refl)
 
 no_memory : IsSecondLine no_memory_line
 no_memory = (codes "memory ran out; end other programs, or give this one more", refl, refl)

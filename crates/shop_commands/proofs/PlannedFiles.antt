@@ -18,8 +18,8 @@ use Rattle.shop_commands.specs.Stored.{IsShopRead}
 pub taken_ok : (lines : List OrderLine) (entries : List MaterialEntry) (asked : OrderPlan) (slice : List (Bor (List ℕ))) (text : List ℕ)
     → slice ≡ asked.sizes.items → IsLinesText lines entries asked.material.now (map (λ t. t.now) slice) asked.stages text
     → IsLinesText lines entries asked.material.now (sizes_asked asked) asked.stages text
-taken_ok lines entries asked slice text is told =
-    subst (λ sizes. IsLinesText lines entries asked.material.now (map (λ t. t.now) sizes) asked.stages text) is told
+taken_ok lines entries asked slice text is reported =
+    subst (λ sizes. IsLinesText lines entries asked.material.now (map (λ t. t.now) sizes) asked.stages text) is reported
 
 module _ {X : Type 0} (bytes : X → List ℕ) (asked : OrderPlan) (result : Result X Fault) where
   pub from_shop : (lines : List OrderLine) (entries slice : List MaterialEntry) → IsShopRead entries → slice ≡ entries
@@ -29,8 +29,8 @@ module _ {X : Type 0} (bytes : X → List ℕ) (asked : OrderPlan) (result : Res
     where
       made : (r : Result X Fault) → IfOk r (λ text. (first_bad_entry slice ≡ None) × IsLinesText lines slice asked.material.now (sizes_asked asked) asked.stages (bytes text))
           → IfOk r (λ text. IsShopLines lines asked (bytes text))
-      made (Ok text) told = record { entries = slice; read = subst IsShopRead (sym is) read; taken = told.0; told = told.1 }
-      made (Err fault) told = tt
+      made (Ok text) reported = record { entries = slice; read = subst IsShopRead (sym is) read; taken = reported.0; reported = reported.1 }
+      made (Err fault) reported = tt
 
   pub from_shop_fault : (lines : List OrderLine) (entries slice : List MaterialEntry) → IsShopRead entries → slice ≡ entries
       → IfErr result (IsPlanFaultBy lines slice asked) → IfErr result (IsShopLinesFault lines asked)

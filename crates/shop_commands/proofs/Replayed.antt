@@ -11,7 +11,7 @@ use Rattle.shop_commands.specs.Performs.{IsReplayStopped}
 use Rattle.shop_commands.specs.Sinks.{SinkChange, SinkFailed}
 use Rattle.shop_commands.specs.Sources.{SourceChange, SourceFailed}
 
--- `Read` and `Write` tell of a replay's own
+-- `Read` and `Write` report of a replay's own
 read_of : (g : ReplayFault) → replay_fault g ≡ Read → g ≡ replay.Read
 read_of replay.Read is = refl
 read_of replay.Write is = absurd (cc is)

@@ -17,7 +17,7 @@ use Rattle.shop_commands.specs.declared.faults.Fault.TheVariants.{File, Text, Or
 use Rattle.shop_commands.specs.declared.faults.Torn.TheVariants as torn
 use Rattle.shop_commands.specs.Faults.{fault_text}
 
--- ---- what is told of each cause
+-- ---- what is reported about each cause
 
 -- of the first fault of a problem's text
 abbrev pub problem_text : TextCause → List ℕ
@@ -69,7 +69,7 @@ cause_text cause.Before = codes " messages were kept before entries began"
 cause_text cause.Reply = codes "another reply"
 cause_text cause.Row = []
 
--- what stands between what is told of and the cause
+-- what stands between what is reported about and the cause
 abbrev pub joint : Cause → List ℕ
 joint cause.Before = []
 joint c = codes ": "
@@ -97,7 +97,7 @@ IsOfStep refusal.TableTooLarge = ⊤
 IsOfStep refusal.BadStep = ⊤
 IsOfStep r = ⊥
 
--- This cause may be told after the line of this fault: `fault store` speaks of stores, and of the cause that the fault has.
+-- This cause may be reported after the line of this fault: `fault store` speaks of stores, and of the cause that the fault has.
 abbrev pub FitsFault : Fault → Cause → Type 0
 FitsFault File (cause.File c) = ⊤
 FitsFault (Text fault) (cause.Problem c) = c ≡ fault.cause
@@ -170,12 +170,12 @@ no_memory_line = codes "  memory ran out; end other programs, or give this one m
 abbrev pub fault_line : Fault → List ℕ
 fault_line fault = fault_text fault ++ 10 ∷ []
 
--- the fault is an order file's, whose line tells all
+-- the fault is an order file's, whose line reports all
 abbrev pub is_order : Fault → Bool
 is_order (Order fault) = true
 is_order fault = false
 
--- What stands after a fault's line: nothing after an order file's; else one line, which tells a cause that fits, or that memory
+-- What stands after a fault's line: nothing after an order file's; else one line, which reports a cause that fits, or that memory
 -- ran out.
 abbrev pub FollowsFault : Fault → List ℕ → Type 0
 FollowsFault fault line =
@@ -187,5 +187,5 @@ abbrev pub IsSecondLine : List ℕ → Type 0
 IsSecondLine line = (words : List ℕ) × IsPlain words × (line ≡ codes "  " ++ words ++ codes "\n")
 
 -- a fault's line, and what stands after it
-abbrev pub IsFaultTold : Fault → List ℕ → Type 0
-IsFaultTold fault told = (line : List ℕ) × FollowsFault fault line × (told ≡ fault_line fault ++ line)
+abbrev pub IsFaultReported : Fault → List ℕ → Type 0
+IsFaultReported fault reported = (line : List ℕ) × FollowsFault fault line × (reported ≡ fault_line fault ++ line)

@@ -1,4 +1,4 @@
--- What is told of the entries of a store, and of one that is whole.
+-- What is reported about the entries of a store, and of one that is whole.
 use Rattle.std.specs.Prelude.{◌≡◌, ◌⊎◌, ℕ, List, ◌++◌, codes, Option, Some, None, Result, Ok, Err}
 use Rattle.std.specs.Fmt.{decimal}
 use Rattle.shop_records.specs.Content.{Content, entry_count}
@@ -20,16 +20,16 @@ use Rattle.shop_commands.specs.declared.faults.Torn.{Torn}
 use Rattle.shop_commands.specs.Faults.{store_fault}
 use Rattle.shop_commands.specs.Sinks.{SinkChange, Adds, AddsNone, AddsPrefix, SinkFailed}
 
--- the number behind which entries are told, 0 where none is given
+-- the number behind which entries are reported, 0 where none is given
 abbrev pub number_of : Option ℕ → ℕ
 number_of None = 0
 number_of (Some after) = after
 
--- what tells that a store can't be opened; of one that isn't there it may be told as of a file
+-- what reports that a store can't be opened; of one that isn't there it may be reported as of a file
 abbrev pub IsFaultOf : Fault → OpenFault → Type 0
 IsFaultOf fault why = (fault ≡ store_fault why) ⊎ ((fault ≡ File) × (why ≡ opening.Store Missing))
 
--- the opener gave no book, and this tells why
+-- the opener gave no book, and this reports why
 abbrev pub IsUnfound : {B : Type 0} → (Result B OpenFault → Type 0) → Fault → Type 0
 IsUnfound gives fault = (why : OpenFault) × gives (Err why) × IsFaultOf fault why
 
@@ -46,22 +46,22 @@ IsFailure fault = (fault ≡ NoMemory) ⊎ (fault ≡ Store Failed)
 module _ {B : Type 0} (book : Ghosts B) where
   -- A book that the opener gave was looked at: this holds of each content that it held, with a clean disk. It holds what it
   -- held, and a crash leaves nothing that it couldn't before.
-  pub record IsToldFrom (gives : Result B OpenFault → Type 0) (says : Content → Type 0) : Type 0 where
+  pub record IsReportedFrom (gives : Result B OpenFault → Type 0) (says : Content → Type 0) : Type 0 where
     pub before : B
     pub after : B
     pub given : gives (Ok before)
-    pub told : OnContent book before after says
+    pub reported : OnContent book before after says
     pub keeps : IsLookedAt book before after
 
   -- all entries with greater numbers were written, one a line
   abbrev pub IsHistoryDone : (Result B OpenFault → Type 0) → (after : ℕ) → (out : SinkChange) → Type 0
-  IsHistoryDone gives after out = IsToldFrom gives (λ m. Adds out (history_text m after))
+  IsHistoryDone gives after out = IsReportedFrom gives (λ m. Adds out (history_text m after))
 
   -- the store isn't opened, and nothing was written; or memory ran out, the store failed or a write did, and a first part was
   abbrev pub IsHistoryStopped : (Result B OpenFault → Type 0) → (after : ℕ) → Fault → (out : SinkChange) → Type 0
   IsHistoryStopped gives after fault out =
       (IsUnfound gives fault × AddsNone out)
-      ⊎ ((IsFailure fault ⊎ ((fault ≡ Write) × SinkFailed out)) × IsToldFrom gives (λ m. AddsPrefix out (history_text m after)))
+      ⊎ ((IsFailure fault ⊎ ((fault ≡ Write) × SinkFailed out)) × IsReportedFrom gives (λ m. AddsPrefix out (history_text m after)))
 
   -- A book was audited: it has so many entries, and it is found whole only where each content that it held is. It holds what it held.
   pub record IsAuditOf (before after : B) (audit : Audit) : Type 0 where
@@ -69,9 +69,9 @@ module _ {B : Type 0} (book : Ghosts B) where
     pub whole : OnContent book before after (λ m. audit.verdict ≡ Whole → IsWhole json_texts m)
     pub keeps : IsLookedAt book before after
 
-  -- Each content that the book held is whole, and so many entries were told. It holds what it held.
+  -- Each content that the book held is whole, and so many entries were reported. It holds what it held.
   pub record IsJudged (before after : B) (out : SinkChange) : Type 0 where
-    pub told : OnContent book before after (λ m. IsWhole json_texts m × Adds out (whole_lines (entry_count m)))
+    pub reported : OnContent book before after (λ m. IsWhole json_texts m × Adds out (whole_lines (entry_count m)))
     pub keeps : IsLookedAt book before after
 
   -- the store was opened, and is whole

@@ -1,4 +1,4 @@
--- What stops the program's work, and the line that tells it.
+-- What stops the program's work, and the line that reports it.
 use Rattle.std.specs.Prelude.{ℕ, List, ◌++◌, codes}
 use Rattle.std.specs.Fmt.{decimal}
 use Rattle.cut_plan.specs.declared.faults.PlanFault.{PlanFault}

@@ -57,8 +57,8 @@ pub record AreCounts : Type 0 where
   pub received : MAX_RECEIVED ≡ 1000000000000000
   pub count : MAX_COUNT ≡ 1000000
   pub worth : MAX_WORTH ≡ 1000000000
-  pub told : MAX_LISTED ≡ 100
-  pub told_bytes : MAX_LISTED_BYTES ≡ 1000000
+  pub reported : MAX_LISTED ≡ 100
+  pub reported_bytes : MAX_LISTED_BYTES ≡ 1000000
   pub note : MAX_NOTE_LEN ≡ 200
   pub failures : MAX_FAILURES ≡ 18446744073709551615
 
@@ -79,12 +79,12 @@ pub record AreConnections : Type 0 where
   pub fair : questions.FAIR_CALLS ≡ 200
   pub served : MAX_SERVED ≡ 18446744073709551615
 
--- of the command line: a step, and the longest that is told, steps of a search, the limits of a plan's stages, a port, connections,
--- backups that stay, names of a server, the number behind which entries are told, sizes of a plan, the terminal and the number of a
+-- of the command line: a step, and the longest that is reported, steps of a search, the limits of a plan's stages, a port, connections,
+-- backups that stay, names of a server, the number behind which entries are reported, sizes of a plan, the terminal and the number of a
 -- message, and the version
 pub record AreWords : Type 0 where
   pub step : MAX_STEP_LENGTH ≡ 200000
-  pub told_step : MAX_GIVEN_STEP ≡ 200000
+  pub reported_step : MAX_GIVEN_STEP ≡ 200000
   pub calls : MAX_CALLS ≡ 5000
   pub least_stages : MIN_STAGES ≡ 2
   pub stages : MAX_STAGES ≡ 255

@@ -86,7 +86,7 @@ abbrev pub IsJudgedBad : (given : Bool) → List OrderLine → Fault → Type 0
 IsJudgedBad given lines fault =
     ((given ≡ true) × IsShopUnread fault) ⊎ ((shop : Option (List MaterialEntry)) × IsKnownShop given shop × IsBadBy shop lines fault)
 
--- ---- what is told
+-- ---- what is reported
 
 -- a text has this first fault, or memory ran out
 abbrev pub IsUnordered : List ℕ → Fault → Type 0
@@ -97,17 +97,17 @@ count_line count = decimal count ++ codes " lines\n"
 
 -- the message that makes an order of a text, as the shop reads it
 abbrev pub import_line : ImportAs → List ℕ → List ℕ
-import_line told text =
-    json_texts.of_message (record { terminal = told.terminal; number = told.number; command = Import told.order Csv text }) ++ 10 ∷ []
+import_line reported text =
+    json_texts.of_message (record { terminal = reported.terminal; number = reported.number; command = Import reported.order Csv text }) ++ 10 ∷ []
 
 abbrev pub orders_line : Option ImportAs → List ℕ → (count : ℕ) → List ℕ
 orders_line None text count = count_line count
-orders_line (Some told) text count = import_line told text
+orders_line (Some reported) text count = import_line reported text
 
--- the line that is told of an order file's bytes, which spell good lines
+-- the line that is reported about an order file's bytes, which spell good lines
 abbrev pub IsOrdersLine : (given : Bool) → Option ImportAs → List ℕ → List ℕ → Type 0
-IsOrdersLine given told text line =
-    (lines : List OrderLine) × IsOrders text lines × IsJudgedGood given lines × (line ≡ orders_line told text (length lines))
+IsOrdersLine given reported text line =
+    (lines : List OrderLine) × IsOrders text lines × IsJudgedGood given lines × (line ≡ orders_line reported text (length lines))
 
 -- the line of good bytes can't be made: memory ran out, or they are no text
 abbrev pub IsUnsaid : List ℕ → Fault → Type 0
@@ -121,11 +121,11 @@ IsOrderFileFault given text fault =
 
 -- the line of a file's bytes was written
 abbrev pub IsOrdersDone : (given : Bool) → Option ImportAs → (out : SinkChange) → Type 0
-IsOrdersDone given told out = (bytes line : List ℕ) × IsOrdersLine given told bytes line × Adds out line
+IsOrdersDone given reported out = (bytes line : List ℕ) × IsOrdersLine given reported bytes line × Adds out line
 
 -- the file can't be read, or its bytes have a fault, and nothing was written; or a write failed, and a first part was
 abbrev pub IsOrdersStopped : (given : Bool) → Option ImportAs → Fault → (out : SinkChange) → Type 0
-IsOrdersStopped given told fault out =
+IsOrdersStopped given reported fault out =
     (((fault ≡ NoMemory) ⊎ (fault ≡ File)) × AddsNone out)
     ⊎ ((((bytes : List ℕ) × IsOrderFileFault given bytes fault) × AddsNone out)
-    ⊎ ((bytes line : List ℕ) × IsOrdersLine given told bytes line × (fault ≡ Write) × AddsPrefix out line × SinkFailed out))
+    ⊎ ((bytes line : List ℕ) × IsOrdersLine given reported bytes line × (fault ≡ Write) × AddsPrefix out line × SinkFailed out))

@@ -19,7 +19,7 @@ use Rattle.shop_words.specs.declared.words.TheConstants.{VERSION}
 use Rattle.shop_words.specs.CommandLine.{AsksFor, AsksNothing, shop_app}
 use Rattle.shop_words.specs.Mistakes.{IsMistakeOf, mistake_text}
 use Rattle.shop_words.specs.declared.mistakes.Mistake.{Mistake}
-use Rattle.shop_commands.specs.Advice.{IsFaultTold, fault_line, no_memory_line}
+use Rattle.shop_commands.specs.Advice.{IsFaultReported, fault_line, no_memory_line}
 use Rattle.shop_commands.specs.Audits.{IsAuditDone, IsAuditStopped, IsHistoryDone, IsHistoryStopped, number_of}
 use Rattle.shop_commands.specs.Orders.{IsOrdersDone, IsOrdersStopped}
 use Rattle.shop_commands.specs.Plans.{IsFileLines, IsFileLinesFault, IsFilePlan, IsFileFault, IsFileWhole, IsFileWholeFault}
@@ -65,14 +65,14 @@ version_line = codes "cutshop " ++ VERSION.now ++ codes "\n"
 
 -- The fault's line and what stands after it were written, or where memory for them ran out, those of that; of either a first
 -- part alone where the sink failed.
-abbrev pub TellsFault : Fault → (err : SinkChange) → Type 0
-TellsFault fault err =
-    ((told : List ℕ) × IsFaultTold fault told × IsWritten err told) ⊎ IsWritten err (fault_line NoMemory ++ no_memory_line)
+abbrev pub ReportsFault : Fault → (err : SinkChange) → Type 0
+ReportsFault fault err =
+    ((reported : List ℕ) × IsFaultReported fault reported × IsWritten err reported) ⊎ IsWritten err (fault_line NoMemory ++ no_memory_line)
 
--- what was done has status 0 and nothing is told, and what stopped has status 1 and is told
+-- what was done has status 0 and nothing is reported, and what stopped has status 1 and is reported
 abbrev pub Concludes : Result (Unit {0}) Fault → (err : SinkChange) → ℕ → Type 0
 Concludes (Ok _) err status = (status ≡ 0) × AddsNone err
-Concludes (Err fault) err status = (status ≡ 1) × TellsFault fault err
+Concludes (Err fault) err status = (status ≡ 1) × ReportsFault fault err
 
 -- ---- over what the opener of stores gives for a path, and over what that gives which only reads their files
 
@@ -84,7 +84,7 @@ module _ {B A : Type 0} (book : Ghosts B) (apart : Ghosts A) (gives : List ℕ �
   IsDone (Serve s) input out =
       (address : Address) × IsAddressOf s address × IsServeDone book (gives s.store.now) address s.limit (option_map (λ p. p.now) s.page) (option_map (λ p. p.now) s.backup) out
   IsDone (PlanLines asked) input out = IsPlanDone (λ bytes. IsFileLines bytes asked) out
-  IsDone (Orders file shop told) input out = IsOrdersDone (is_some shop) told out
+  IsDone (Orders file shop reported) input out = IsOrdersDone (is_some shop) reported out
   IsDone (Ticket store job false) input out = IsTextDone book (gives store.now) (λ m. ticket_of m job) out
   IsDone (Ticket store job true) input out = IsTextDone apart (reads store.now) (λ m. ticket_of m job) out
   IsDone (Yield store material false) input out = IsTextDone book (gives store.now) (λ m. yield_of m material) out
@@ -102,7 +102,7 @@ module _ {B A : Type 0} (book : Ghosts B) (apart : Ghosts A) (gives : List ℕ �
   IsStopped (Serve s) fault input out =
       (address : Address) × IsAddressOf s address × IsServeStopped book (gives s.store.now) address s.limit (option_map (λ p. p.now) s.page) (option_map (λ p. p.now) s.backup) fault out
   IsStopped (PlanLines asked) fault input out = IsMadeStopped (λ bytes. IsFileLines bytes asked) (λ bytes. IsFileLinesFault bytes asked) fault out
-  IsStopped (Orders file shop told) fault input out = IsOrdersStopped (is_some shop) told fault out
+  IsStopped (Orders file shop reported) fault input out = IsOrdersStopped (is_some shop) reported fault out
   IsStopped (Ticket store job false) fault input out = IsTextStopped book (gives store.now) (λ m. ticket_of m job) fault out
   IsStopped (Ticket store job true) fault input out = IsTextStopped apart (reads store.now) (λ m. ticket_of m job) fault out
   IsStopped (Yield store material false) fault input out = IsTextStopped book (gives store.now) (λ m. yield_of m material) fault out
@@ -112,46 +112,46 @@ module _ {B A : Type 0} (book : Ghosts B) (apart : Ghosts A) (gives : List ℕ �
   IsStopped (Audit store read_only) fault input out = IsAuditStopped (reads store.now) fault out
   IsStopped (Restore store from) fault input out = IsRestoreStopped store.now from.now fault out
 
-  -- what was asked was done and nothing was told, with status 0; or a fault was told, with status 1
+  -- what was asked was done and nothing was reported, with status 0; or a fault was reported, with status 1
   abbrev pub IsConcluded : (input : SourceChange) → (out err : SinkChange) → Request → ℕ → Type 0
   IsConcluded input out err request status =
       ((status ≡ 0) × IsDone request input out × AddsNone err)
-      ⊎ ((status ≡ 1) × ((fault : Fault) × IsStopped request fault input out × TellsFault fault err))
+      ⊎ ((status ≡ 1) × ((fault : Fault) × IsStopped request fault input out × ReportsFault fault err))
 
 module _ (out err : SinkChange) where
-  -- help was written and nothing was told, with status 0; or the output failed, and that was told, with status 1
+  -- help was written and nothing was reported, with status 0; or the output failed, and that was reported, with status 1
   abbrev pub IsHelped : ℕ → Type 0
   IsHelped status =
-      ((status ≡ 0) × AddsSome out × AddsNone err) ⊎ ((status ≡ 1) × AddsSome out × SinkFailed out × TellsFault Write err)
+      ((status ≡ 0) × AddsSome out × AddsNone err) ⊎ ((status ≡ 1) × AddsSome out × SinkFailed out × ReportsFault Write err)
 
-  -- the version was written and nothing was told, with status 0; or the output failed, and that was told
-  abbrev pub IsVersionTold : ℕ → Type 0
-  IsVersionTold status =
+  -- the version was written and nothing was reported, with status 0; or the output failed, and that was reported
+  abbrev pub IsVersionReported : ℕ → Type 0
+  IsVersionReported status =
       ((status ≡ 0) × Adds out version_line × AddsNone err)
-      ⊎ ((status ≡ 1) × AddsPrefix out version_line × SinkFailed out × TellsFault Write err)
+      ⊎ ((status ≡ 1) × AddsPrefix out version_line × SinkFailed out × ReportsFault Write err)
 
-  -- What `clap` said of this kind was told: help, the version, or a mistake, with status 2 and nothing as output; or that memory
+  -- What `clap` said of this kind was reported: help, the version, or a mistake, with status 2 and nothing as output; or that memory
   -- ran out.
-  abbrev pub IsTold : ErrorKind → ℕ → Type 0
-  IsTold kind status =
+  abbrev pub IsReported : ErrorKind → ℕ → Type 0
+  IsReported kind status =
       ((kind ≡ DisplayHelp) × IsHelped status)
-      ⊎ ((kind ≡ DisplayVersion) × IsVersionTold status)
+      ⊎ ((kind ≡ DisplayVersion) × IsVersionReported status)
       ⊎ ((kind ≢ DisplayHelp) × (kind ≢ DisplayVersion) × (kind ≢ OutOfMemory) × (status ≡ 2) × AddsNone out × AddsSome err)
-      ⊎ ((status ≡ 1) × AddsNone out × TellsFault NoMemory err)
+      ⊎ ((status ≡ 1) × AddsNone out × ReportsFault NoMemory err)
 
--- a mistake was told, with status 2; or that memory for its text ran out
-abbrev pub IsMistakeTold : Mistake → (err : SinkChange) → ℕ → Type 0
-IsMistakeTold mistake err status = ((status ≡ 2) × IsWritten err (mistake_text mistake)) ⊎ ((status ≡ 1) × TellsFault NoMemory err)
+-- a mistake was reported, with status 2; or that memory for its text ran out
+abbrev pub IsMistakeReported : Mistake → (err : SinkChange) → ℕ → Type 0
+IsMistakeReported mistake err status = ((status ≡ 2) × IsWritten err (mistake_text mistake)) ⊎ ((status ≡ 1) × ReportsFault NoMemory err)
 
 -- what `clap` finds wrong with the words
 abbrev pub faults_of : List Text → List ErrorKind
 faults_of words = clap.fault_of shop_app words
 
 -- The words ask for something, which was done or stopped by a fault; or `clap` said something to them; or it took them, and they
--- ask for nothing, by a mistake that was told.
+-- ask for nothing, by a mistake that was reported.
 abbrev pub IsPerformed : {B A : Type 0} → Ghosts B → Ghosts A → (List ℕ → Result B OpenFault → Type 0) → (List ℕ → Result A OpenFault → Type 0) → List Text → (input : SourceChange) → (out err : SinkChange) → ℕ → Type 0
 IsPerformed book apart gives reads words input out err status =
     ((request : Request) × (faults_of words ≡ []) × AsksFor (subcommand_of shop_app words) request × IsConcluded book apart gives reads input out err request status)
-    ⊎ ((kind : ErrorKind) × ((kind ≡ OutOfMemory) ⊎ IsAmong kind (faults_of words)) × IsTold out err kind status)
+    ⊎ ((kind : ErrorKind) × ((kind ≡ OutOfMemory) ⊎ IsAmong kind (faults_of words)) × IsReported out err kind status)
     ⊎ ((faults_of words ≡ []) × AsksNothing (subcommand_of shop_app words)
-    × ((mistake : Mistake) × IsMistakeOf (subcommand_of shop_app words) mistake × IsMistakeTold mistake err status) × AddsNone out)
+    × ((mistake : Mistake) × IsMistakeOf (subcommand_of shop_app words) mistake × IsMistakeReported mistake err status) × AddsNone out)

@@ -46,7 +46,7 @@ abbrev pub HasPlanFault : Extent → List Piece → (kerf step : ℕ) → PlanFa
 HasPlanFault size pieces kerf step fault =
     (plan_fault Sheet size kerf step (wants_of pieces) ≡ Some fault) ⊎ ((fault ≡ TableTooLarge) × HasManyKept size kerf step (wants_of pieces))
 
--- memory ran out, or the planner has a fault, and it is told by its number and name
+-- memory ran out, or the planner has a fault, and it is reported by its number and name
 abbrev pub IsPlanless : Extent → List Piece → (kerf step : ℕ) → Fault → Type 0
 IsPlanless size pieces kerf step fault =
     (fault ≡ NoMemory) ⊎ ((cause : PlanFault) × (fault ≡ planner_fault cause) × HasPlanFault size pieces kerf step cause)
@@ -64,7 +64,7 @@ IsFileFault bytes kerf step fault = (fault ≡ NoMemory) ⊎ ((size : Extent) ×
 abbrev pub IsFileWhole : List ℕ → (kerf : ℕ) → (step stages : Option ℕ) → List ℕ → Type 0
 IsFileWhole bytes kerf step stages lines = (size : Extent) × (pieces : List Piece) × IsProblem bytes size pieces × IsWholeText size pieces kerf step stages lines
 
--- all pieces can't be planned, and that is told by its number and name
+-- all pieces can't be planned, and that is reported by its number and name
 abbrev pub IsWholeless : Extent → List Piece → (kerf : ℕ) → (step : Option ℕ) → Fault → Type 0
 IsWholeless size pieces kerf step fault = (cause : PlanFault) × (fault ≡ planner_fault cause) × IsWholeFault size pieces kerf step cause
 
@@ -88,7 +88,7 @@ pub record IsShopLines (lines : List OrderLine) (asked : OrderPlan) (text : List
   pub entries : List MaterialEntry
   pub read : IsShopRead entries
   pub taken : first_bad_entry entries ≡ None
-  pub told : IsLinesText lines entries asked.material.now (sizes_asked asked) asked.stages text
+  pub reported : IsLinesText lines entries asked.material.now (sizes_asked asked) asked.stages text
 
 -- bytes spell good lines, and these are the lines of their plans
 pub record IsFileLines (bytes : List ℕ) (asked : OrderPlan) (text : List ℕ) : Type 0 where

@@ -23,6 +23,6 @@ source_change source before after =
       reads_new = source.reads after;
     }
 
--- a read failed; or as many reads were made as a replay makes, and the source, where it tells its bytes, had as many
+-- a read failed; or as many reads were made as a replay makes, and the source, where it reports its bytes, had as many
 abbrev pub SourceFailed : SourceChange → Type 0
 SourceFailed input = HasFailed input.failed_old input.failed_new ⊎ (AreReads input.reads_old most_reads input.reads_new × IsLong 0 input.left)

@@ -1,4 +1,4 @@
--- What the commands on a store do: tickets, yield reports, and serving. A real file tells no bytes, so that a file was read or
+-- What the commands on a store do: tickets, yield reports, and serving. A real file reports no bytes, so that a file was read or
 -- a store was opened is said of some bytes and of what the store's opener may give: some book, or some fault.
 use Rattle.std.specs.Prelude.{◌≡◌, ◌≤◌, ◌⊎◌, None, Some, length, ℕ, List, ◌++◌, codes, string_bytes, is_some, Option, Result, Ok, Err, All}
 use Rattle.std.specs.Fmt.{decimal}
@@ -78,7 +78,7 @@ IsSite address path folder site =
     ((page : Option (List ℕ)) × IsPageRead path page × HasPage site page × IsGuardOf address (is_some page) (is_some folder) (string_bytes site.run) site.guard)
     × IsRun (string_bytes site.run) × (string_bytes site.version ≡ VERSION.now)
 
--- the opener gave no book, and this tells why
+-- the opener gave no book, and this reports why
 abbrev pub IsUnopened : {B : Type 0} → (Result B OpenFault → Type 0) → Fault → Type 0
 IsUnopened gives fault = (why : OpenFault) × gives (Err why) × (fault ≡ store_fault why)
 
@@ -127,12 +127,12 @@ module _ {B : Type 0} (book : Ghosts B) where
   abbrev pub IsShopped : B → B → List MaterialEntry → Type 0
   IsShopped before after entries = HasShop book before after entries (All IsAccepted)
 
-  -- The entries are there, the port was told, it was looked how many messages are kept, which changes nothing, and at most as many
+  -- The entries are there, the port was reported, it was looked how many messages are kept, which changes nothing, and at most as many
   -- requests were served as the limit says.
   pub record IsBookServed (site : Site) (before after : B) (entries : List MaterialEntry) (port : ℕ) (limit : Option ℕ) (out : SinkChange) : Type 0 where
     pub mid : B
     pub shop : IsShopped before mid entries
-    pub told : Adds out (listening_line port)
+    pub reported : Adds out (listening_line port)
     pub counted : B
     pub count : Result ℕ BookFault
     pub keeps : Unchanged book (CountsFailure count) mid counted
@@ -154,7 +154,7 @@ module _ {B : Type 0} (book : Ghosts B) where
   pub record IsBookLeft (site : Site) (before after : B) (entries : List MaterialEntry) (port : ℕ) (limit : Option ℕ) (fault : Fault) (out : SinkChange) : Type 0 where
     pub mid : B
     pub shop : IsShopped before mid entries
-    pub told : Adds out (listening_line port)
+    pub reported : Adds out (listening_line port)
     pub counted : B
     pub count : Result ℕ BookFault
     pub keeps : Unchanged book (CountsFailure count) mid counted
@@ -163,7 +163,7 @@ module _ {B : Type 0} (book : Ghosts B) where
     pub dates : Unchanged book (CountsFailure last) counted dated
     pub left : IsUnaccepted site dated after limit fault
 
-  -- the store's names lead to other files by now, or no backup can be made of it, and nothing was done; or the entries aren't all there; or they are, and the port isn't told; or
+  -- the store's names lead to other files by now, or no backup can be made of it, and nothing was done; or the entries aren't all there; or they are, and the port isn't reported; or
   -- it is, and serving stopped
   abbrev pub IsBookUnserved : Site → (before after : B) → List MaterialEntry → (port : ℕ) → Option ℕ → Fault → (out : SinkChange) → Type 0
   IsBookUnserved site before after entries port limit fault out =

@@ -27,8 +27,8 @@ use std::fs::Files;
 /// What stands after the line of a fault where memory ran out.
 const NO_MEMORY: &str = "  memory ran out; end other programs, or give this one more\n";
 
-/// What is told where no memory is there to tell a fault.
-pub(crate) const NO_MEMORY_TOLD: &str =
+/// What is reported where no memory is there to report a fault.
+pub(crate) const NO_MEMORY_REPORTED: &str =
     "fault memory\n  memory ran out; end other programs, or give this one more\n";
 
 /// Why a fault came, as far as it is known.
@@ -86,7 +86,7 @@ pub struct Advice {
     pub word: String,
 }
 
-// What is told of the first fault of a problem's text.
+// What is reported about the first fault of a problem's text.
 fn problem_text(cause: TextCause) -> &'static str
     ensures { result.now ≡ spec.problem_text cause }
 {
@@ -99,7 +99,7 @@ fn problem_text(cause: TextCause) -> &'static str
     }
 }
 
-// What is told of a refusal.
+// What is reported about a refusal.
 fn refused_text(refusal: Refusal) -> &'static str
     ensures { result.now ≡ spec.refused_text refusal }
 {
@@ -125,7 +125,7 @@ fn refused_text(refusal: Refusal) -> &'static str
     }
 }
 
-// What is told of a port.
+// What is reported about a port.
 fn port_text(cause: PortCause) -> &'static str
     ensures { result.now ≡ spec.port_text cause }
 {
@@ -138,7 +138,7 @@ fn port_text(cause: PortCause) -> &'static str
     }
 }
 
-// What is told of a cause.
+// What is reported about a cause.
 fn cause_text(cause: Cause) -> &'static str
     ensures { result.now ≡ spec.cause_text cause }
 {
@@ -200,7 +200,7 @@ fn shown<'a>(text: &'a str) -> &'a str
     }
 }
 
-// The same, as a text of its own. None for want of memory, as below.
+// The same, as a text of its own. None because memory ran out, as below.
 fn plain(alloc: Global, text: &str) -> Option<String>
     ensures { IfSome result (λ plain. IsPlain (string_bytes plain)) }
 {
@@ -208,7 +208,7 @@ fn plain(alloc: Global, text: &str) -> Option<String>
     format!(in alloc; "{text}").ok()
 }
 
-/// An advice of a cause. None for want of memory.
+/// An advice of a cause. None because memory ran out.
 pub(crate) fn advice_of(alloc: Global, about: &str, cause: Cause, word: &str) -> Option<Advice>
     ensures { IfSome result (IsOf cause) }
 {
@@ -449,7 +449,7 @@ fn version_advice(alloc: Global, name: &str, cause: VersionCause) -> Option<Advi
     advice_of(alloc, name, Cause::Version(cause), "")
 }
 
-/// Why a stream failed. None of another fault, and for want of memory.
+/// Why a stream failed. None of another fault, and because memory ran out.
 pub(crate) fn stream_advice(alloc: Global, fault: &Fault) -> Option<Advice>
     ensures { IfSome result (IsAdviceOf fault.now) }
 {
@@ -489,7 +489,7 @@ fn row_words(alloc: Global, row: Row) -> Result<String, AllocError> {
     Ok(words)
 }
 
-// Why a store, a port or a folder of backups of a request couldn't be used. None of another fault, and for want of memory.
+// Why a store, a port or a folder of backups of a request couldn't be used. None of another fault, and because memory ran out.
 fn system_advice(alloc: Global, request: &Request<'_>, fault: Fault) -> Option<Advice>
     ensures { IfSome result (IsAdviceOf fault) }
 {
@@ -503,7 +503,7 @@ fn system_advice(alloc: Global, request: &Request<'_>, fault: Fault) -> Option<A
     }
 }
 
-/// Why the work on a request stopped; `is_new` where its store wasn't there before. None for want of memory to say it, of an order
+/// Why the work on a request stopped; `is_new` where its store wasn't there before. None because memory ran out to say it, of an order
 /// file's fault, and where memory ran out over no store.
 pub(crate) fn advise<R: Files>(
     rt: &R,
@@ -608,7 +608,7 @@ pub(crate) fn fault_lines(
     advice: Option<Advice>,
 ) -> Result<String, AllocError>
     requires { IfSome advice (IsAdviceOf fault) }
-    ensures { IfOk result (λ text. spec.IsFaultTold fault (string_bytes text)) }
+    ensures { IfOk result (λ text. spec.IsFaultReported fault (string_bytes text)) }
 {
     if is_order(&fault) {
         return line_alone(alloc, fault);

@@ -1,4 +1,4 @@
-//! `cutshop history` and `cutshop audit`: what the entries of a store tell.
+//! `cutshop history` and `cutshop audit`: what the entries of a store report.
 
 ghost use Rattle.std.specs.Prelude.{◌≡◌, IfErr, IfOk, IsErr, Ok, OnOk, string_bytes};
 ghost use Rattle.shop_book.specs.Ledgers.{content_in};
@@ -107,7 +107,7 @@ fn entries_line(alloc: Global, entries: u64) -> Result<String, AllocError>
 }
 
 // Prints how many entries a store has that is whole, and that it is.
-fn tell_whole<W: Sink>(alloc: Global, entries: u64, sink: &mut W) -> Result<(), Fault>
+fn report_whole<W: Sink>(alloc: Global, entries: u64, sink: &mut W) -> Result<(), Fault>
     ensures ok { OnOk result
         (Adds (change_of W.Sink sink.old sink.new) (spec.whole_lines entries)) }
     ensures err { IfErr result (IsUnjudged (change_of W.Sink sink.old sink.new)) }
@@ -117,7 +117,7 @@ fn tell_whole<W: Sink>(alloc: Global, entries: u64, sink: &mut W) -> Result<(), 
 }
 
 // Prints how many entries a store has that isn't whole, and gives the fault that says why.
-fn tell_torn<W: Sink>(alloc: Global, entries: u64, torn: Torn, sink: &mut W) -> Result<(), Fault>
+fn report_torn<W: Sink>(alloc: Global, entries: u64, torn: Torn, sink: &mut W) -> Result<(), Fault>
     ensures never { IsErr result }
     ensures err { IfErr result (IsUnjudged (change_of W.Sink sink.old sink.new)) }
 {
@@ -160,7 +160,7 @@ fn differing_row<B: Book>(
 }
 
 // Prints how many entries a store has of which a row differs, and gives the fault that names the first such row.
-fn tell_row<B: Book, W: Sink>(
+fn report_row<B: Book, W: Sink>(
     alloc: Global,
     book: &mut B,
     anew: &mut MemBook,
@@ -171,7 +171,7 @@ fn tell_row<B: Book, W: Sink>(
     ensures err { IfErr result (IsUnjudged (change_of W.Sink sink.old sink.new)) }
 {
     let row = differing_row(alloc, book, anew, entries)?;
-    tell_torn(alloc, entries, Torn::Row(row), sink)
+    report_torn(alloc, entries, Torn::Row(row), sink)
 }
 
 // Audits a book over one in memory, and prints how many entries it has and that it is whole, where it is.
@@ -188,14 +188,14 @@ fn judge<B: Book, W: Sink, P: Progress>(
     let mut anew = MemBook::new(alloc);
     let audit = audit(alloc, book, &mut anew, progress)?;
     match audit.verdict {
-        Verdict::Whole => tell_whole(alloc, audit.entries, sink),
-        Verdict::KeptBefore(count) => tell_torn(alloc, audit.entries, Torn::Before(count), sink),
-        Verdict::Reply(number) => tell_torn(alloc, audit.entries, Torn::Reply(number), sink),
-        Verdict::Row => tell_row(alloc, book, &mut anew, audit.entries, sink),
+        Verdict::Whole => report_whole(alloc, audit.entries, sink),
+        Verdict::KeptBefore(count) => report_torn(alloc, audit.entries, Torn::Before(count), sink),
+        Verdict::Reply(number) => report_torn(alloc, audit.entries, Torn::Reply(number), sink),
+        Verdict::Row => report_row(alloc, book, &mut anew, audit.entries, sink),
     }
 }
 
-/// Tells whether a store is whole. Its files are read into memory, and neither of them changes.
+/// Reports whether a store is whole. Its files are read into memory, and neither of them changes.
 pub(crate) fn audit_store<R: Eprint + Clock, B: Book + Drop, O: Opens<B>, W: Sink>(
     rt: &R,
     apart: O,

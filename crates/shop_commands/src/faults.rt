@@ -1,4 +1,4 @@
-//! Why a command stopped, and the line that tells it.
+//! Why a command stopped, and the line that reports it.
 
 ghost use Rattle.std.specs.Prelude.{◌≡◌};
 ghost use Rattle.shop_commands.specs.Faults as spec;
@@ -85,7 +85,7 @@ pub enum Fault {
     Read,
     /// The output can't be written.
     Write,
-    /// Want of memory.
+    /// Lack of memory.
     NoMemory,
     /// The store can't be read and written, or is no database.
     Store(StoreCause),

@@ -51,7 +51,7 @@ fn steps_advice(alloc: Global, file: &str, steps: Steps) -> Option<Advice>
 }
 
 /// What helps where a plan of a file is refused for its step, or as it is too large: the steps that serve it, `--whole`, or a
-/// shorter bar. None for want of memory, and where the file can't be read any more.
+/// shorter bar. None because memory ran out, and where the file can't be read any more.
 #[tactic(auto, using(crate::proofs::StepAdvice::of_step))]
 pub(crate) fn step_advice<R: Files>(
     rt: &R,

@@ -1,4 +1,4 @@
-//! What a server tells of itself on standard error. A line that can't be made or written is left out.
+//! What a server reports of itself on standard error. A line that can't be made or written is left out.
 
 ghost use Rattle.std.specs.Prelude.{◌≡◌, IfOk, string_bytes};
 ghost use Rattle.shop_commands.specs.Log as spec;
@@ -11,27 +11,27 @@ use std::alloc::{AllocError, Global};
 use std::io::Eprint;
 use std::time::Clock;
 
-// What it tells when it begins where it judges no name.
+// What it reports when it begins where it judges no name.
 const ANY_HOST: &str =
     "cutshop: Host isn't judged; with --host or --origin only requests for names of this shop are answered\n";
 
-// What it tells when it begins, of a store that was made.
+// What it reports when it begins, of a store that was made.
 fn new_line(alloc: Global, store: &str) -> Result<String, AllocError>
     ensures { IfOk result (λ line. string_bytes line ≡ spec.new_line store.now) }
 {
     format!(in alloc; "cutshop {VERSION}: serving {store}, a new store")
 }
 
-// What it tells when it begins, of a store that was there.
+// What it reports when it begins, of a store that was there.
 fn known_line(alloc: Global, store: &str) -> Result<String, AllocError>
     ensures { IfOk result (λ line. string_bytes line ≡ spec.known_line store.now) }
 {
     format!(in alloc; "cutshop {VERSION}: serving {store}, a store that was there")
 }
 
-// What it tells when it begins, of a store that was made or was there.
-fn told_line(alloc: Global, store: &str, is_new: bool) -> Result<String, AllocError>
-    ensures { IfOk result (λ line. string_bytes line ≡ spec.told_line store.now is_new) }
+// What it reports when it begins, of a store that was made or was there.
+fn reported_line(alloc: Global, store: &str, is_new: bool) -> Result<String, AllocError>
+    ensures { IfOk result (λ line. string_bytes line ≡ spec.reported_line store.now is_new) }
 {
     if is_new {
         new_line(alloc, store)
@@ -51,11 +51,11 @@ fn kept_text(alloc: Global, kept: Option<u32>) -> Result<String, AllocError>
 }
 
 // The line with which it begins, of both.
-fn begin_line(alloc: Global, told: &str, kept: &str) -> Result<String, AllocError>
-    ensures { IfOk result (λ line. string_bytes line ≡ spec.begin_line told.now kept.now) }
+fn begin_line(alloc: Global, reported: &str, kept: &str) -> Result<String, AllocError>
+    ensures { IfOk result (λ line. string_bytes line ≡ spec.begin_line reported.now kept.now) }
 {
     let mut line = String::new(alloc);
-    line.push_str(told)?;
+    line.push_str(reported)?;
     line.push_str(kept)?;
     line.push_str("\n")?;
     Ok(line)
@@ -74,7 +74,7 @@ fn note<R: Eprint + Clock>(rt: &R, lines: &mut Lines, line: Result<String, Alloc
     }
 }
 
-/// Tells that a store is served, which was made or was there, and how many messages it keeps, where that was counted.
+/// Reports that a store is served, which was made or was there, and how many messages it keeps, where that was counted.
 pub(crate) fn note_begin<R: Eprint + Clock>(
     rt: &R,
     alloc: Global,
@@ -83,21 +83,25 @@ pub(crate) fn note_begin<R: Eprint + Clock>(
     is_new: bool,
     kept: Option<u32>,
 ) {
-    if let Ok(told) = told_line(alloc, store, is_new) {
+    if let Ok(reported) = reported_line(alloc, store, is_new) {
         if let Ok(kept) = kept_text(alloc, kept) {
-            note(rt, lines, begin_line(alloc, told.as_str(), kept.as_str()));
+            note(
+                rt,
+                lines,
+                begin_line(alloc, reported.as_str(), kept.as_str()),
+            );
         }
     }
 }
 
-/// Tells that requests under whatever name are answered, if they are.
+/// Reports that requests under whatever name are answered, if they are.
 pub(crate) fn note_host<R: Eprint + Clock>(rt: &R, lines: &mut Lines, site: &Site) {
     if !site.judges_host() {
         lines.write(rt, ANY_HOST);
     }
 }
 
-/// Tells that the backups lie where they are lost with the store, if they do.
+/// Reports that the backups lie where they are lost with the store, if they do.
 pub(crate) fn note_disk<R: Eprint + Clock>(rt: &R, lines: &mut Lines, backups: Option<&Backups>) {
     if let Some(backups) = backups {
         if backups.is_on_store_disk() {
@@ -106,7 +110,7 @@ pub(crate) fn note_disk<R: Eprint + Clock>(rt: &R, lines: &mut Lines, backups: O
     }
 }
 
-/// Tells that the machine's clock is behind the last entry by over an hour, where it is, by its number and its time.
+/// Reports that the machine's clock is behind the last entry by over an hour, where it is, by its number and its time.
 pub(crate) fn note_last<R: Eprint + Clock>(
     rt: &R,
     lines: &mut Lines,
@@ -117,7 +121,7 @@ pub(crate) fn note_last<R: Eprint + Clock>(
     }
 }
 
-/// Tells that a store isn't served any more.
+/// Reports that a store isn't served any more.
 pub(crate) fn note_end<R: Eprint + Clock>(rt: &R, alloc: Global, lines: &mut Lines, store: &str) {
     note(rt, lines, end_line(alloc, store));
 }

@@ -93,7 +93,7 @@ fn wanted_text(alloc: Global, is_apart: bool, bytes: u64) -> Result<String, Allo
     format!(in alloc; "{megabytes} MB")
 }
 
-/// How much the store of a request takes about, where memory ran out. None for want of memory, and where no store is there.
+/// How much the store of a request takes about, where memory ran out. None because memory ran out, and where no store is there.
 pub(crate) fn memory_advice<R: Files>(
     rt: &R,
     alloc: Global,

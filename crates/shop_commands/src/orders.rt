@@ -190,14 +190,14 @@ fn count_line(alloc: Global, count: usize) -> Result<String, AllocError>
 }
 
 // The line of the message that makes an order of a text.
-fn import_line(alloc: Global, told: ImportAs, text: &str) -> Result<String, AllocError>
-    ensures { IfOk result (λ line. string_bytes line ≡ spec.import_line told text.now) }
+fn import_line(alloc: Global, reported: ImportAs, text: &str) -> Result<String, AllocError>
+    ensures { IfOk result (λ line. string_bytes line ≡ spec.import_line reported text.now) }
 {
     let message = Message {
-        terminal: told.terminal,
-        number: told.number,
+        terminal: reported.terminal,
+        number: reported.number,
         command: Command::Import {
-            order: told.order,
+            order: reported.order,
             form: Form::Csv,
             text: Text::from_str(alloc, text)?,
         },
@@ -209,62 +209,62 @@ fn import_line(alloc: Global, told: ImportAs, text: &str) -> Result<String, Allo
 // The line that is written of a text that has so many lines.
 fn line_of(
     alloc: Global,
-    told: Option<ImportAs>,
+    reported: Option<ImportAs>,
     text: &[u8],
     count: usize,
 ) -> Result<String, Fault>
-    ensures ok { IfOk result (λ line. string_bytes line ≡ spec.orders_line told text.now count) }
+    ensures ok { IfOk result (λ line. string_bytes line ≡ spec.orders_line reported text.now count) }
     ensures err { IfErr result (spec.IsUnsaid text.now) }
 {
-    let Some(told) = told else {
+    let Some(reported) = reported else {
         let line = count_line(alloc, count)?;
         return Ok(line);
     };
     match str::from_utf8(text) {
         Ok(text) => {
-            let line = import_line(alloc, told, text)?;
+            let line = import_line(alloc, reported, text)?;
             Ok(line)
         }
         Err(_) => Err(Fault::File),
     }
 }
 
-/// The line that is told of an order file's bytes: how many lines they have, or the message that makes an order of them. Their
-/// first fault, the shop file's, the first bad field of the lines, or want of memory; `File` for a text that is no UTF-8 and has
+/// The line that is reported about an order file's bytes: how many lines they have, or the message that makes an order of them. Their
+/// first fault, the shop file's, the first bad field of the lines, or lack of memory; `File` for a text that is no UTF-8 and has
 /// no fault.
 #[tactic(auto, using(crate::proofs::JudgedFiles::line_ok, crate::proofs::JudgedFiles::line_err, crate::proofs::JudgedFiles::bad_file))]
 pub fn orders_line<R: Files>(
     rt: &R,
     alloc: Global,
     shop: Option<&str>,
-    told: Option<ImportAs>,
+    reported: Option<ImportAs>,
     text: &[u8],
 ) -> Result<String, Fault>
     ensures ok { IfOk result
-        (λ line. spec.IsOrdersLine (is_some shop.entry) told text.now (string_bytes line)) }
+        (λ line. spec.IsOrdersLine (is_some shop.entry) reported text.now (string_bytes line)) }
     ensures err { IfErr result (spec.IsOrderFileFault (is_some shop.entry) text.now) }
 {
     let lines = lines_in(alloc, text)?;
     let rows = lines.as_slice();
     judge_by(rt, alloc, shop, rows)?;
-    line_of(alloc, told, text, rows.len())
+    line_of(alloc, reported, text, rows.len())
 }
 
-/// Writes the line that is told of an order file.
+/// Writes the line that is reported about an order file.
 pub fn check_orders<R: Files, W: Sink>(
     rt: &R,
     alloc: Global,
     file: &str,
     shop: Option<&str>,
-    told: Option<ImportAs>,
+    reported: Option<ImportAs>,
     sink: &mut W,
 ) -> Result<(), Fault>
     ensures ok { OnOk result
-        (spec.IsOrdersDone (is_some shop.entry) told (change_of W.Sink sink.old sink.new)) }
+        (spec.IsOrdersDone (is_some shop.entry) reported (change_of W.Sink sink.old sink.new)) }
     ensures err { IfErr result
-        (λ f. spec.IsOrdersStopped (is_some shop.entry) told f (change_of W.Sink sink.old sink.new)) }
+        (λ f. spec.IsOrdersStopped (is_some shop.entry) reported f (change_of W.Sink sink.old sink.new)) }
 {
     let bytes = read_file(rt, alloc, file)?;
-    let line = orders_line(rt, alloc, shop, told, &bytes)?;
+    let line = orders_line(rt, alloc, shop, reported, &bytes)?;
     write_text(sink, line.as_str())
 }

@@ -9,13 +9,13 @@ ghost use Rattle.cut_order.specs.Stocks.{IsStageLimit};
 ghost use Rattle.shop_words.specs.CommandLine.{HasMeasures};
 ghost use Rattle.shop_commands.specs.Advice.{IsAdviceOf};
 ghost use Rattle.shop_commands.specs.Performs as spec;
-ghost use Rattle.shop_commands.specs.Performs.{Concludes, IsDone, IsHelped, IsMadeStopped, IsMistakeTold, IsPerformed, IsPlanDone, IsPlanStopped, IsStopped, IsTold, TellsFault};
+ghost use Rattle.shop_commands.specs.Performs.{Concludes, IsDone, IsHelped, IsMadeStopped, IsMistakeReported, IsPerformed, IsPlanDone, IsPlanStopped, IsStopped, IsReported, ReportsFault};
 ghost use Rattle.shop_commands.specs.Plans.{IsFileFault, IsFileLines, IsFileLinesFault, IsFilePlan, IsFileWhole, IsFileWholeFault};
 ghost use Rattle.shop_commands.specs.Sinks.{change_of};
 ghost use Rattle.shop_commands.specs.Stored.{IsAddressOf};
 ghost use Rattle.shop_commands.specs.Sources.{source_change};
 
-use crate::advice::{Advice, NO_MEMORY_TOLD, advise, fault_lines, makes_store, stream_advice};
+use crate::advice::{Advice, NO_MEMORY_REPORTED, advise, fault_lines, makes_store, stream_advice};
 use crate::audits::{audit_store, print_history};
 use crate::faults::Fault;
 use crate::files::{read_file, write_text};
@@ -42,14 +42,14 @@ use std::random::RandomSource;
 use std::time::Clock;
 
 // Writes the lines of a fault, and gives the status of a program that stopped.
-fn tell_fault<E: Sink>(alloc: Global, fault: Fault, advice: Option<Advice>, errors: &mut E) -> u8
+fn write_fault<E: Sink>(alloc: Global, fault: Fault, advice: Option<Advice>, errors: &mut E) -> u8
     requires { IfSome advice (IsAdviceOf fault) }
     ensures status { result ≡ 1 }
-    ensures told { TellsFault fault (change_of E.Sink errors.old errors.new) }
+    ensures reported { ReportsFault fault (change_of E.Sink errors.old errors.new) }
 {
     let _ = match fault_lines(alloc, fault, advice) {
         Ok(lines) => write_text(errors, lines.as_str()),
-        Err(_) => write_text(errors, NO_MEMORY_TOLD),
+        Err(_) => write_text(errors, NO_MEMORY_REPORTED),
     };
     1
 }
@@ -57,10 +57,10 @@ fn tell_fault<E: Sink>(alloc: Global, fault: Fault, advice: Option<Advice>, erro
 /// Writes the lines of a fault of a stream or of memory, and gives the status of a program that stopped.
 pub(crate) fn report_fault<E: Sink>(alloc: Global, fault: Fault, errors: &mut E) -> u8
     ensures status { result ≡ 1 }
-    ensures told { TellsFault fault (change_of E.Sink errors.old errors.new) }
+    ensures reported { ReportsFault fault (change_of E.Sink errors.old errors.new) }
 {
     let advice = stream_advice(alloc, &fault);
-    tell_fault(alloc, fault, advice, errors)
+    write_fault(alloc, fault, advice, errors)
 }
 
 // Writes the plan of a problem file.
@@ -180,7 +180,11 @@ fn do_request<
             stages,
         } => plan_order(rt, alloc, file, *kerf, *step, *calls, *stages, sink),
         Request::PlanLines(asked) => plan_lines(rt, alloc, asked, sink),
-        Request::Orders { file, shop, told } => check_orders(rt, alloc, file, *shop, *told, sink),
+        Request::Orders {
+            file,
+            shop,
+            reported,
+        } => check_orders(rt, alloc, file, *shop, *reported, sink),
         Request::Serve(serving) => serve(
             rt,
             stores,
@@ -232,7 +236,7 @@ fn do_request<
     }
 }
 
-// The status of what was done, or of what stopped, which is told.
+// The status of what was done, or of what stopped, which is reported.
 fn conclude<R: Files, E: Sink>(
     rt: &R,
     alloc: Global,
@@ -247,7 +251,7 @@ fn conclude<R: Files, E: Sink>(
         Ok(()) => 0,
         Err(fault) => {
             let advice = advise(rt, alloc, request, is_new, &fault);
-            tell_fault(alloc, fault, advice, errors)
+            write_fault(alloc, fault, advice, errors)
         }
     }
 }
@@ -270,16 +274,16 @@ fn write_help<W: Sink, E: Sink>(alloc: Global, text: &str, sink: &mut W, errors:
     }
 }
 
-// The line that tells the version.
+// The line that reports the version.
 fn version_line(alloc: Global) -> Result<String, AllocError>
     ensures { IfOk result (λ line. string_bytes line ≡ spec.version_line) }
 {
     format!(in alloc; "cutshop {VERSION}\n")
 }
 
-// Tells the version.
+// Reports the version.
 fn write_version<W: Sink, E: Sink>(alloc: Global, sink: &mut W, errors: &mut E) -> u8
-    ensures { IsTold (change_of W.Sink sink.old sink.new)
+    ensures { IsReported (change_of W.Sink sink.old sink.new)
         (change_of E.Sink errors.old errors.new) kind.DisplayVersion result }
 {
     let Ok(line) = version_line(alloc) else {
@@ -293,7 +297,7 @@ fn write_version<W: Sink, E: Sink>(alloc: Global, sink: &mut W, errors: &mut E) 
 
 // Says what `clap` says where the words ask for nothing.
 fn explain<W: Sink, E: Sink>(alloc: Global, error: &Error, sink: &mut W, errors: &mut E) -> u8
-    ensures { IsTold (change_of W.Sink sink.old sink.new) (change_of E.Sink errors.old errors.new)
+    ensures { IsReported (change_of W.Sink sink.old sink.new) (change_of E.Sink errors.old errors.new)
         (kind_of error.now) result }
 {
     let Ok(text) = error_text(alloc, error) else {
@@ -310,9 +314,9 @@ fn explain<W: Sink, E: Sink>(alloc: Global, error: &Error, sink: &mut W, errors:
     }
 }
 
-// Tells a mistake in words that `clap` takes.
-fn tell_mistake<E: Sink>(alloc: Global, mistake: Mistake<'_>, errors: &mut E) -> u8
-    ensures { IsMistakeTold mistake.entry (change_of E.Sink errors.old errors.new) result }
+// Reports a mistake in words that `clap` takes.
+fn report_mistake<E: Sink>(alloc: Global, mistake: Mistake<'_>, errors: &mut E) -> u8
+    ensures { IsMistakeReported mistake.entry (change_of E.Sink errors.old errors.new) result }
 {
     let Ok(text) = mistake_text(alloc, mistake) else {
         return report_fault(alloc, Fault::NoMemory, errors);
@@ -323,7 +327,7 @@ fn tell_mistake<E: Sink>(alloc: Global, mistake: Mistake<'_>, errors: &mut E) ->
 
 /// Does what the words ask for, the program's own name before them, and gives the status: 0 where it was done and for
 /// help, 2 for a mistake in the words, and else 1, with the fault as one line of `errors`, and but for an order file's one more that
-/// begins with two spaces and tells why.
+/// begins with two spaces and reports why.
 pub fn perform<
     R: Files + Net + Clock + Eprint + RandomSource,
     B: Book + Drop,
@@ -354,7 +358,7 @@ pub fn perform<
             let outcome = do_request(rt, stores, apart, alloc, &request, source, sink);
             conclude(rt, alloc, &request, is_new, outcome, errors)
         }
-        Ok(Reading::Mistake(mistake)) => tell_mistake(alloc, mistake, errors),
+        Ok(Reading::Mistake(mistake)) => report_mistake(alloc, mistake, errors),
         Err(error) => explain(alloc, &error, sink, errors),
     }
 }

@@ -1,4 +1,4 @@
-//! How far an audit or a history is, which a terminal at standard error is told.
+//! How far an audit or a history is, shown on a terminal at standard error.
 
 ghost use Rattle.std.specs.Prelude.{◌≡◌, IfOk, string_bytes};
 ghost use Rattle.shop_commands.specs.Log as spec;
@@ -9,19 +9,19 @@ use std::alloc::{AllocError, Global};
 use std::io::Eprint;
 use std::time::{Clock, Duration, Instant};
 
-/// How long nothing is told behind a line, and at first, in milliseconds.
+/// How long nothing is reported behind a line, and at first, in milliseconds.
 const PAUSE: u64 = 500;
 
-/// Tells a terminal at standard error how far a work is. It tells nothing where there is none, or the clock can't be read.
+/// Shows on a terminal at standard error how far a work is. It shows nothing where there is none, or the clock can't be read.
 #[derive_where(Clone, Copy)]
 pub(crate) struct Meter<'a, R> {
     rt: &'a R,
     alloc: Global,
-    // When the last line was told, or it began; none where nothing is told.
-    told: Option<Instant>,
+    // When the last line was reported, or it began; none where nothing is reported.
+    reported: Option<Instant>,
 }
 
-// The line that tells how far it is.
+// The line that reports how far it is.
 fn progress_line(alloc: Global, done: u64, all: u64) -> Result<String, AllocError>
     ensures { IfOk result (λ line. string_bytes line ≡ spec.progress_line done all) }
 {
@@ -30,26 +30,30 @@ fn progress_line(alloc: Global, done: u64, all: u64) -> Result<String, AllocErro
     Ok(line)
 }
 
-// Whether a line was told so shortly before that the next one waits.
-fn is_early(told: Instant, now: Instant) -> bool
-    ensures { result ≡ spec.is_early told now }
+// Whether a line was reported so shortly before that the next one waits.
+fn is_early(reported: Instant, now: Instant) -> bool
+    ensures { result ≡ spec.is_early reported now }
 {
-    now.duration_since(told) < Duration::from_millis(PAUSE)
+    now.duration_since(reported) < Duration::from_millis(PAUSE)
 }
 
 impl<'a, R: Eprint + Clock> Meter<'a, R> {
     /// Begins now.
     pub(crate) fn new(rt: &'a R, alloc: Global) -> Meter<'a, R> {
-        let told = if isatty(STDERR_FILENO) == 1 {
+        let reported = if isatty(STDERR_FILENO) == 1 {
             Instant::now(rt).ok()
         } else {
             None
         };
-        Meter { rt, alloc, told }
+        Meter {
+            rt,
+            alloc,
+            reported,
+        }
     }
 
-    // Tells how far it is. A line that can't be made or written is left out.
-    fn tell(&self, done: u64, all: u64) {
+    // Reports how far it is. A line that can't be made or written is left out.
+    fn report(&self, done: u64, all: u64) {
         if let Ok(line) = progress_line(self.alloc, done, all) {
             let _ = self.rt.eprint(line.as_str());
         }
@@ -58,15 +62,15 @@ impl<'a, R: Eprint + Clock> Meter<'a, R> {
 
 impl<'a, R: Eprint + Clock> Progress for Meter<'a, R> {
     fn note(&mut self, done: u64, all: u64) {
-        let Some(told) = self.told else {
+        let Some(reported) = self.reported else {
             return;
         };
         let Ok(now) = Instant::now(self.rt) else {
             return;
         };
-        if !is_early(told, now) {
-            self.told = Some(now);
-            self.tell(done, all);
+        if !is_early(reported, now) {
+            self.reported = Some(now);
+            self.report(done, all);
         }
     }
 }

@@ -23,7 +23,7 @@ struct BookJudge<B, O> {
     book: PhantomData<B>,
 }
 
-// What a book tells of its entries, or none where its store fails.
+// What a book reports about its entries, or none where its store fails.
 fn entries_of<B: Book>(book: &mut B) -> Result<Option<BookEntries>, AllocError> {
     match book.last_entry() {
         Ok((count, last_time)) => Ok(Some(BookEntries { count, last_time })),
@@ -58,7 +58,7 @@ impl<B: Book + Drop, O: Opens<B>> Judges for BookJudge<B, O> {
     }
 }
 
-// Puts a backup in the place of a store, and gives what its book tells of its entries.
+// Puts a backup in the place of a store, and gives what its book reports about its entries.
 fn put<R: Files, B: Book + Drop, O: Opens<B>>(
     rt: &R,
     opener: O,
@@ -105,8 +105,8 @@ fn restored_lines(
     format!(in alloc; "restored {store} from {from}\nentries {entries}\n{until}")
 }
 
-// The same, from what the book tells of its entries.
-fn told_lines(
+// The same, from what the book reports about its entries.
+fn reported_lines(
     alloc: Global,
     store: &str,
     from: &str,
@@ -118,7 +118,7 @@ fn told_lines(
     restored_lines(alloc, store, from, entries.count, until.as_str())
 }
 
-/// Puts a backup in the place of a store, and tells so, with how many entries it has and until when; `opener` only reads the
+/// Puts a backup in the place of a store, and reports so, with how many entries it has and until when; `opener` only reads the
 /// backup's files.
 pub(crate) fn restore<R: Files, B: Book + Drop, O: Opens<B>, W: Sink>(
     rt: &R,
@@ -134,6 +134,6 @@ pub(crate) fn restore<R: Files, B: Book + Drop, O: Opens<B>, W: Sink>(
         IsRestoreStopped store.now from.now f (change_of W.Sink sink.old sink.new)) }
 {
     let entries = put(rt, opener, alloc, store, from)?;
-    let lines = told_lines(alloc, store, from, entries)?;
+    let lines = reported_lines(alloc, store, from, entries)?;
     write_text(sink, lines.as_str())
 }

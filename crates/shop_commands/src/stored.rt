@@ -236,7 +236,7 @@ fn add_entries<B: Book>(
     }
 }
 
-// The line that tells the port.
+// The line that reports the port.
 fn listening_line(alloc: Global, port: u32) -> Result<String, AllocError>
     ensures { IfOk result (λ text. string_bytes text ≡ spec.listening_line port) }
 {
@@ -253,7 +253,7 @@ fn bind<R: Net>(rt: &R, port: u32) -> Result<Listener, Fault>
     }
 }
 
-// Tells the port, once it is listened to.
+// Reports the port, once it is listened to.
 fn bind_and_announce<R: Net, W: Sink>(
     rt: &R,
     alloc: Global,
@@ -362,7 +362,7 @@ fn end_store<R: Files, B: Book + Drop, O: Opens<B>>(
     }
 }
 
-/// Adds the materials of a shop file to the book of a store, tells the port, and serves connections on it. Where it ends before
+/// Adds the materials of a shop file to the book of a store, reports the port, and serves connections on it. Where it ends before
 /// that, a store that was made for it is taken away.
 pub fn serve<R: Files + Net + Clock + Eprint + RandomSource, B: Book + Drop, O: Opens<B>, W: Sink>(
     rt: &R,

@@ -9,7 +9,7 @@ use Rattle.shop_records.specs.declared.refusals.Refusal.TheVariants.{StoreFault}
 use Rattle.shop_records.specs.declared.messages.Reply.{Reply}
 use Rattle.shop_records.specs.declared.messages.Reply.TheVariants.{Refused}
 use Rattle.shop_records.specs.Messages.{refusal_in}
-use Rattle.shop_desk.specs.Faults.{StoreFailed, TellOfFailures, CountsUp, CountsRefusal, CountsReply, CountsOrContradicts}
+use Rattle.shop_desk.specs.Faults.{StoreFailed, ReportOfFailures, CountsUp, CountsRefusal, CountsReply, CountsOrContradicts}
 
 pub up_same : (a b : ℕ) → b ≡ a → CountsUp a b
 up_same a b is = inl is
@@ -60,12 +60,12 @@ failed_last a b c (inr (inr is)) (inl rose) (inr (inr end)) = inr end
 failed_last a b c (inr before) (inr is) next = inr is
 
 -- replies, and then more of them
-pub tell_more : (a b c : ℕ) (answers more : List Reply) → CountsUp a b → CountsUp b c → TellOfFailures answers a b → TellOfFailures more b c → TellOfFailures (answers ++ more) a c
-tell_more a b c [] more up next first second is = failed_last a b c up (second is) next
-tell_more a b c (r ∷ rs) more up next first second (inl is) = failed_first a b c (first (inl is)) next
-tell_more a b c (r ∷ rs) more up next first second (inr is) = tell_more a b c rs more up next (λ i. first (inr i)) second is
+pub report_more : (a b c : ℕ) (answers more : List Reply) → CountsUp a b → CountsUp b c → ReportOfFailures answers a b → ReportOfFailures more b c → ReportOfFailures (answers ++ more) a c
+report_more a b c [] more up next first second is = failed_last a b c up (second is) next
+report_more a b c (r ∷ rs) more up next first second (inl is) = failed_first a b c (first (inl is)) next
+report_more a b c (r ∷ rs) more up next first second (inr is) = report_more a b c rs more up next (λ i. first (inr i)) second is
 
 -- one reply
-pub tell_one : (a b : ℕ) (answer : Reply) → (answer ≡ Refused StoreFault → StoreFailed a b) → TellOfFailures (answer ∷ []) a b
-tell_one a b answer blame (inl is) = blame (sym is)
-tell_one a b answer blame (inr is) = absurd is
+pub report_one : (a b : ℕ) (answer : Reply) → (answer ≡ Refused StoreFault → StoreFailed a b) → ReportOfFailures (answer ∷ []) a b
+report_one a b answer blame (inl is) = blame (sym is)
+report_one a b answer blame (inr is) = absurd is

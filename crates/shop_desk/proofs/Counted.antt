@@ -1,4 +1,4 @@
--- A decision that is sure never tells of a failed store, so it goes with no failure.
+-- A decision that is sure never reports a failed store, so it goes with no failure.
 use Rattle.std.proofs.Common.{◌≡◌, ◌≢◌, ℕ, Result, Ok, Err, refl}
 use Rattle.std.specs.Prelude.{IfErr}
 use Rattle.shop_records.specs.declared.changes.Change.{Change}

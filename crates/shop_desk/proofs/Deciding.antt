@@ -207,13 +207,13 @@ module _ (texts : Texts) (m : Content) (order text : List ℕ) where
 
   -- the same import again
   again_read : (row : ImportRow) (form : Form) (answer : Reply) → import_at m order ≡ Some row → IsRepeat form text row → TellsKept texts row (Some answer) → Read form (Again (Some answer))
-  again_read row form answer is same tells = subst (λ o. IsImportReading texts o form text (Again (Some answer))) (sym is) (same, tells)
+  again_read row form answer is same reports = subst (λ o. IsImportReading texts o form text (Again (Some answer))) (sym is) (same, reports)
 
   pub again_decided : (row : ImportRow) (form : Form) (answer : Reply) (earlier : Option Reply) → earlier ≡ Some answer → import_at m order ≡ Some row → IsRepeat form text row
       → TellsKept texts row (Some answer) → (before after : ℕ) (result : Result Change Refusal)
       → Decides (again_refusal earlier) (λ change. MatchOption earlier ⊥ (λ a. change ≡ no_change a)) result → IsJudged texts m (Import order form text) before result after
-  again_decided row form answer earlier one is same tells before after result decides =
-      decided_by texts m (Import order form text) (Again (Some answer)) (again_read row form answer is same tells) before after None refl (λ change. change ≡ no_change answer) (λ change it. it) result
+  again_decided row form answer earlier one is same reports before after result decides =
+      decided_by texts m (Import order form text) (Again (Some answer)) (again_read row form answer is same reports) before after None refl (λ change. change ≡ no_change answer) (λ change it. it) result
       (subst (λ o. Decides (again_refusal o) (λ change. MatchOption o ⊥ (λ a. change ≡ no_change a)) result) one decides)
 
   module _ (used : Bool) (is_used : used ≡ has_order m order) where

@@ -12,4 +12,4 @@ pub mod TakenPieces
 pub mod Refusals
 pub mod Handling
 pub mod TakenLeaves
-pub mod ToldEntries
+pub mod ReportedEntries

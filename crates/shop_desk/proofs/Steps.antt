@@ -38,7 +38,7 @@ rose : (before after : ℕ) (below : Bool) → after ≡ (if below then before +
 rose before after true e = inl (omega arith)
 rose before after false e = inr e
 
--- a refusal that tells of a failed store is counted
+-- a refusal that reports a failed store is counted
 pub store_failed : (before after : ℕ) (answer : Reply) → CountsReply answer before after → answer ≡ Refused StoreFault → StoreFailed before after
 store_failed before after answer counts e =
     rose before after (nat_lt before MAX_FAILURES) (subst (λ (r : Reply). CountsReply r before after) e counts)
@@ -51,13 +51,13 @@ counted_made before after change (inr rows) = rows.1
 -- a commit that failed blames the store only where it failed
 pub commit_blamed : (T : Type 0) (before mid after : ℕ) (fault : BookFault) (refusal : Refusal) → mid ≡ before → CountsFailure {T = T} (Err fault) mid after
     → refusal ≡ refusal_for fault → Refused refusal ≡ Refused StoreFault → StoreFailed before after
-commit_blamed T before mid after fault.NoMemory refusal same counts is told = absurd (other refusal is told)
+commit_blamed T before mid after fault.NoMemory refusal same counts is reported = absurd (other refusal is reported)
   where
     other : (refusal : Refusal) → refusal ≡ NoMemory → Refused refusal ≡ Refused StoreFault → ⊥
-    other refusal is told = cc
-commit_blamed T before mid after fault.Store refusal same counts is told =
+    other refusal is reported = cc
+commit_blamed T before mid after fault.Store refusal same counts is reported =
     rose before after (nat_lt before MAX_FAILURES) (subst (λ n. after ≡ (if nat_lt n MAX_FAILURES then n + 1 else MAX_FAILURES)) same counts)
-commit_blamed T before mid after fault.WrongVersion refusal same counts is told = absurd counts
+commit_blamed T before mid after fault.WrongVersion refusal same counts is reported = absurd counts
 
 -- what follows a decision to accept is counted as if it were alone
 pub counted_after : (before mid after : ℕ) (refusal : Refusal) → mid ≡ before → CountsRefusal refusal mid after → CountsRefusal refusal before after
@@ -76,7 +76,7 @@ blamed texts m message before after refusal sound blames is = by (blames (same r
     by (inr rows) = absurd (agrees texts m message rows.0 sound rows.1 rows.2)
 
 module _ (texts : Texts) where
-  -- a reply that an accepted message can get tells of no refusal
+  -- a reply that an accepted message can get reports no refusal
   pub none_made : (answer : Reply) → IsMade answer → refusal_in answer ≡ None
   none_made (Refused refusal) made = absurd made
   none_made _ made = refl
@@ -84,9 +84,9 @@ module _ (texts : Texts) where
   -- the kept reply to the kept message
   pub again_kept : (row : Kept) (message : Message) (answer : Reply) → IsMade answer → row.command ≡ texts.of_message message → row.reply ≡ texts.of_reply answer
       → StepAgain texts row message answer × (answer ≢ Refused StoreFault)
-  again_kept row message answer made command told = (
+  again_kept row message answer made command reported = (
     subst (λ (o : Option Refusal). MatchOption o (KeepsReply texts row message answer) (λ refusal. refusal ≢ NoMemory → refusal ≢ StoreFault → (refusal ≡ NumberReused) × (row.command ≢ texts.of_message message)))
-        (sym (none_made answer made)) (record { made = made; command = command; reply = told }),
+        (sym (none_made answer made)) (record { made = made; command = command; reply = reported }),
     λ e. subst IsMade e made,
   )
 
@@ -114,7 +114,7 @@ module _ (texts : Texts) where
   step_again at old message answer row some step =
       subst (λ o. MatchOption o (StepNewAt texts at old message answer old) (λ row. StepAgain texts row message answer × (old ≡ old))) (sym some) (step, refl)
 
-  -- want of memory and a failed store refuse any message
+  -- lack of memory and a failed store refuse any message
   pub fault_step : (at : ℕ) (m : Content) (message : Message) (refusal : Refusal) (found : Option Kept) → ((refusal ≢ NoMemory) → (refusal ≢ StoreFault) → ⊥)
       → MatchOption found (StepNewAt texts at m message (Refused refusal) m) (λ row. StepAgain texts row message (Refused refusal) × (m ≡ m))
   fault_step at m message refusal None fault = (λ n s. absurd (fault n s), refl)
@@ -130,21 +130,21 @@ module _ (texts : Texts) where
   no_other refusal (inr is) n s = s is
 
   -- the change that is committed fits, whatever reply it holds
-  abbrev pub to_commit : Message → Change → (text told : List ℕ) → Reply → Change
-  to_commit message made text told answer = record made {
+  abbrev pub to_commit : Message → Change → (text reported : List ℕ) → Reply → Change
+  to_commit message made text reported answer = record made {
     begun = option_map (λ (row : JobBegin). record row { terminal = message.terminal }) made.begun;
-    import = option_map (λ (row : ImportRow). record row { reply = told }) made.import;
-    kept = Some (record { pair = pair_of message; kept = record { command = text; reply = told } });
+    import = option_map (λ (row : ImportRow). record row { reply = reported }) made.import;
+    kept = Some (record { pair = pair_of message; kept = record { command = text; reply = reported } });
     reply = answer;
   }
 
   -- the same with the message's entry
-  abbrev pub to_commit_at : (at : ℕ) → Content → Message → Change → (text told : List ℕ) → Reply → Change
-  to_commit_at at m message made text told answer = entering (entry_count m) (last_time m) at message (to_commit message made text told answer)
+  abbrev pub to_commit_at : (at : ℕ) → Content → Message → Change → (text reported : List ℕ) → Reply → Change
+  to_commit_at at m message made text reported answer = entering (entry_count m) (last_time m) at message (to_commit message made text reported answer)
 
-  fits_kept : (at : ℕ) (m : Content) (message : Message) (made : Change) (text told : List ℕ) (answer : Reply) → told ≡ texts.of_reply made.reply
-      → Fits m (keeping_at texts at m message made) → Fits m (to_commit_at at m message made text told answer)
-  fits_kept at m message made text told answer is fits =
+  fits_kept : (at : ℕ) (m : Content) (message : Message) (made : Change) (text reported : List ℕ) (answer : Reply) → reported ≡ texts.of_reply made.reply
+      → Fits m (keeping_at texts at m message made) → Fits m (to_commit_at at m message made text reported answer)
+  fits_kept at m message made text reported answer is fits =
       subst (λ t. Fits m (to_commit_at at m message made text t answer)) (sym is) (record {
         material = fits.material;
         parts = fits.parts;
@@ -171,17 +171,17 @@ module _ (texts : Texts) where
         entry = record { next = fits.entry.next; new = fits.entry.new; later = fits.entry.later; of = refl };
       })
 
-  pub fits_committed : (at : ℕ) (m : Content) (message : Message) (read : Reading) (made : Change) (text told : List ℕ) (answer : Reply) → told ≡ texts.of_reply made.reply
+  pub fits_committed : (at : ℕ) (m : Content) (message : Message) (read : Reading) (made : Change) (text reported : List ℕ) (answer : Reply) → reported ≡ texts.of_reply made.reply
       → kept_at m (pair_of message) ≡ None → IsSound texts m → Reads texts m message.command read → refusal_of m message.command read ≡ None → Makes m message.command read made
-      → Fits m (to_commit_at at m message made text told answer)
-  fits_committed at m message read made text told answer is none sound reads allowed makes =
-      fits_kept at m message made text told answer is (fits_entered texts m message read made at sound reads allowed makes none)
+      → Fits m (to_commit_at at m message made text reported answer)
+  fits_committed at m message read made text reported answer is none sound reads allowed makes =
+      fits_kept at m message made text reported answer is (fits_entered texts m message read made at sound reads allowed makes none)
 
   -- and makes of the content what the change that keeps the message makes of it
-  pub row_committed : (at : ℕ) (m : Content) (message : Message) (made : Change) (text told : List ℕ) (answer : Reply) → text ≡ texts.of_message message → told ≡ texts.of_reply made.reply
-      → changed m (to_commit_at at m message made text told answer) ≡ changed m (keeping_at texts at m message made)
-  row_committed at m message made text told answer is_text is_told =
-      ap (λ t. changed m (to_commit_at at m message made t told answer)) is_text ∙ ap (λ t. changed m (to_commit_at at m message made (texts.of_message message) t answer)) is_told
+  pub row_committed : (at : ℕ) (m : Content) (message : Message) (made : Change) (text reported : List ℕ) (answer : Reply) → text ≡ texts.of_message message → reported ≡ texts.of_reply made.reply
+      → changed m (to_commit_at at m message made text reported answer) ≡ changed m (keeping_at texts at m message made)
+  row_committed at m message made text reported answer is_text is_reported =
+      ap (λ t. changed m (to_commit_at at m message made t reported answer)) is_text ∙ ap (λ t. changed m (to_commit_at at m message made (texts.of_message message) t answer)) is_reported
 
   module _ {Left : Type 0} (stands : Left → Content → Type 0) where
     left_made : (before : Left → Type 0) (old : Content) (message : Message) (answer : Reply) (next : Content) (left : Left) → IsMade answer → stands left next
@@ -227,7 +227,7 @@ module _ (texts : Texts) where
     handled_at at before after holds m message answer next step held sound crash =
         record { handled = record { next = next; step = untimed texts at m next message answer step; held = held; sound = sound; crash = crash }; timed = step }
 
-    -- refused for want of memory or by a failed store
+    -- refused because memory ran out or by a failed store
     pub faulted : (at : ℕ) (before after : Left → Type 0) (holds : Content → Type 0) (m : Content) (message : Message) (refusal : Refusal) → ((refusal ≢ NoMemory) → (refusal ≢ StoreFault) → ⊥)
         → IsSound texts m → holds m → ((left : Left) → after left → before left) → IsHandledAt texts stands at before after holds m message (Refused refusal)
     faulted at before after holds m message refusal fault sound held crash =

@@ -1,4 +1,4 @@
--- Rows of demands that are told in turn.
+-- Rows of demands that are reported in turn.
 use Rattle.std.proofs.Common.{◌≡◌, ℕ, ◌+◌, ◌<◌, List, [], ◌∷◌, ◌++◌, length, map, take, get_or, sym, ap, ◌∙◌}
 use Rattle.std.proofs.lemmas.List.{map-append, take_more}
 use Rattle.shop_records.specs.declared.records.Demand.{Demand}
@@ -6,7 +6,7 @@ use Rattle.shop_records.specs.declared.records.DemandRow.{DemandRow}
 use Rattle.shop_records.specs.Content.{Content}
 use Rattle.shop_records.specs.Lists.{demand_row}
 
--- one more is told
+-- one more is reported
 pub demand_more : (content : Content) (demands : List Demand) (i : ℕ) (demand : Demand) (rows more : List DemandRow) (row : DemandRow) → i < length demands → demand ≡ get_or demands i demand
     → rows ≡ map (demand_row content) (take i demands) → row ≡ demand_row content demand → more ≡ rows ++ row ∷ [] → more ≡ map (demand_row content) (take (i + 1) demands)
 demand_more content demands i demand rows more row lt at before one is =

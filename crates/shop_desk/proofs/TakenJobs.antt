@@ -21,7 +21,7 @@ with_part content number found is = ap (both found.job) is.of_part ∙ by found.
     by None = refl
     by (Some job) = refl
 
--- what is told of a job that lists tell is its row
+-- what is reported about a job that lists report is its row
 same_row : (content : Content) (number : ℕ) → told_row (head_with_part content number) ≡ job_row_at content number
 same_row content number = of_job (job_at content number)
   where

@@ -23,9 +23,9 @@ taken (part ∷ parts) old new goes =
     ∙ ap (λ rows. old.parts ++ rows) (one_more part parts)
 
 -- a visit that came to the end of a list took it all
-pub rack_taken : (list : List Part) (says : (List Part → Type 0) → Type 0) (told : Bool) (old new : RackTaker) → told ≡ true → ((what : List Part → Type 0) → says what → what list)
-    → IsVisit TakesRack {Fault = BookFault} says old (Ok told) new → old.parts ≡ [] → new.parts ≡ rack_rows list
-rack_taken list says told old new went reads visit empty =
+pub rack_taken : (list : List Part) (says : (List Part → Type 0) → Type 0) (reported : Bool) (old new : RackTaker) → reported ≡ true → ((what : List Part → Type 0) → says what → what list)
+    → IsVisit TakesRack {Fault = BookFault} says old (Ok reported) new → old.parts ≡ [] → new.parts ≡ rack_rows list
+rack_taken list says reported old new went reads visit empty =
     let goes : GoesOn TakesRack visit.parts old new = subst (λ b. HasSeen TakesRack visit.parts b old new) (sym visit.answer ∙ went) visit.visitor in
     let begins = reads _ visit.begins in
     let whole : list ≡ visit.parts = begins.1 ∙ ap (λ rest. visit.parts ++ rest) (begins.2 went) ∙ append-nil visit.parts in

@@ -1,4 +1,4 @@
--- Rows of pieces that are told in turn.
+-- Rows of pieces that are reported in turn.
 use Rattle.std.proofs.Common.{◌≡◌, ℕ, ◌+◌, ◌<◌, List, [], ◌∷◌, ◌++◌, length, take, get_or, Option, Some, None, refl, sym, ap, ◌∙◌}
 use Rattle.std.specs.Option.{option_to_list}
 use Rattle.std.specs.Prelude.{filter_map}
@@ -13,7 +13,7 @@ one_row : (o : Option PieceRow) → option_to_list o ≡ filter_map (λ (row : O
 one_row None = refl
 one_row (Some row) = refl
 
--- one more is told, where its demand is there
+-- one more is reported, where its demand is there
 pub piece_more : (content : Content) (parts : List Part) (i : ℕ) (part : Part) (rows more : List PieceRow) (found : Option PieceRow) → i < length parts → part ≡ get_or parts i part
     → rows ≡ filter_map (piece_row content) (take i parts) → found ≡ piece_row content part → more ≡ rows ++ option_to_list found → more ≡ filter_map (piece_row content) (take (i + 1) parts)
 piece_more content parts i part rows more found lt at before one is =

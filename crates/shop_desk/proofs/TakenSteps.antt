@@ -1,4 +1,4 @@
--- Rows of a plan's nodes that are told in turn.
+-- Rows of a plan's nodes that are reported in turn.
 use Rattle.std.proofs.Common.{◌≡◌, ℕ, ◌+◌, ◌<◌, List, [], ◌∷◌, ◌++◌, length, map, take, get_or, sym, ap, ◌∙◌}
 use Rattle.std.proofs.lemmas.List.{map-append, take_more}
 use Rattle.cut_tree.specs.declared.steps.Step.{Step}
@@ -6,7 +6,7 @@ use Rattle.shop_records.specs.declared.pieces.StepRow.{StepRow}
 use Rattle.shop_records.specs.Content.{Content}
 use Rattle.shop_records.specs.Lists.{step_row}
 
--- one more is told
+-- one more is reported
 pub step_more : (content : Content) (job : ℕ) (steps : List Step) (i : ℕ) (other : Step) (rows more : List StepRow) (row : StepRow) → i < length steps
     → rows ≡ map (step_row content job) (take i steps) → row ≡ step_row content job (get_or steps i other) → more ≡ rows ++ row ∷ [] → more ≡ map (step_row content job) (take (i + 1) steps)
 step_more content job steps i other rows more row lt before one is =

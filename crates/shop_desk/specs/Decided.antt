@@ -30,7 +30,7 @@ IsDecided texts m command (Err refusal) = Refuses texts m command refusal
 abbrev pub Contradicts : Texts → Content → Command → Type 0
 Contradicts texts m command = (read : Reading) × Reads texts m command read × (refusal_of m command read ≡ Some StoreFault)
 
--- a decision tells of a failed store only where the store failed, or where rows contradict each other
+-- a decision reports a failed store only where the store failed, or where rows contradict each other
 abbrev pub BlamesStore : Texts → Content → Command → ℕ → Result Change Refusal → ℕ → Type 0
 BlamesStore texts m command before result after =
     IfErr result (λ refusal. refusal ≡ StoreFault → StoreFailed before after ⊎ Contradicts texts m command)

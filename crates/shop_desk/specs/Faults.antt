@@ -13,15 +13,15 @@ use Rattle.shop_book.specs.Failures.{one_more_failure}
 abbrev pub StoreFailed : ℕ → ℕ → Type 0
 StoreFailed before after = (before < after) ⊎ (after ≡ MAX_FAILURES)
 
--- replies tell of a failed store only where it failed meanwhile
-abbrev pub TellOfFailures : List Reply → ℕ → ℕ → Type 0
-TellOfFailures answers before after = IsIn (Refused StoreFault) answers → StoreFailed before after
+-- replies report a failed store only where it failed meanwhile
+abbrev pub ReportOfFailures : List Reply → ℕ → ℕ → Type 0
+ReportOfFailures answers before after = IsIn (Refused StoreFault) answers → StoreFailed before after
 
 -- the count of failures stayed, rose in its range, or stands at its greatest value
 abbrev pub CountsUp : ℕ → ℕ → Type 0
 CountsUp before after = (after ≡ before) ⊎ (((before < after) × (after ≤ MAX_FAILURES)) ⊎ (after ≡ MAX_FAILURES))
 
--- a refusal that tells of a failed store goes with one more failure, and each other one with none
+-- a refusal that reports a failed store goes with one more failure, and each other one with none
 abbrev pub CountsRefusal : Refusal → ℕ → ℕ → Type 0
 CountsRefusal StoreFault before after = after ≡ one_more_failure before
 CountsRefusal _ before after = after ≡ before

@@ -12,7 +12,7 @@ use Rattle.shop_machine.specs.History.{Entry, entered_pairs, messages_of, pairs_
 use Rattle.shop_records.specs.Soundness.{IsSound}
 use Rattle.shop_book.specs.declared.books.Book.{Ghosts}
 use Rattle.shop_book.specs.Kept.{OnContent}
-use Rattle.shop_desk.specs.Faults.{StoreFailed, TellOfFailures, CountsOrContradicts}
+use Rattle.shop_desk.specs.Faults.{StoreFailed, ReportOfFailures, CountsOrContradicts}
 
 module _ (texts : Texts) {Left : Type 0} (stands : Left → Content → Type 0) where
   -- What may be left after a message that wasn't kept: once it is accepted what stands for the next content, and once it
@@ -61,7 +61,7 @@ HandlesAt texts at book before after message answer =
     OnContent book before after (λ m. IsSound texts m
     → IsHandledAt texts book.stands at (book.may_leave before) (book.may_leave after) (book.holds after) m message answer)
 
--- over such a content a failed store is told of only where it failed
+-- over such a content a failed store is reported only where it failed
 abbrev pub BlamesStore : {B : Type 0} → Texts → Ghosts B → B → B → Reply → Type 0
 BlamesStore texts book before after answer =
     OnContent book before after (λ m. IsSound texts m → answer ≡ Refused StoreFault → StoreFailed (book.failed before) (book.failed after))
@@ -116,7 +116,7 @@ HasEntries texts old next =
     ((old ≡ fresh) ⊎ HasAllEntries old)
     → HasAllEntries next × ((history : List Entry) → Gives texts history next → pairs_of history ≡ entered_pairs next)
 
--- The book held old and holds next, a run of the machine later, with its account and its entries, and tells of a failed store
+-- The book held old and holds next, a run of the machine later, with its account and its entries, and reports a failed store
 -- only where it failed.
 pub record HasRun {B : Type 0} (texts : Texts) (book : Ghosts B) (before after : B) (old : Content) (messages : List Message) (answers : List Reply) : Type 0 where
   pub next : Content
@@ -124,6 +124,6 @@ pub record HasRun {B : Type 0} (texts : Texts) (book : Ghosts B) (before after :
   pub held : book.holds after next
   pub sound : IsSound texts next
   pub crash : Leads texts book.stands (book.may_leave before) old messages answers next (book.may_leave after)
-  pub blame : TellOfFailures answers (book.failed before) (book.failed after)
+  pub blame : ReportOfFailures answers (book.failed before) (book.failed after)
   pub account : HasAccount texts old messages answers next
   pub entries : HasEntries texts old next

@@ -12,7 +12,7 @@ use Rattle.shop_book.specs.FoundJobs.{head_of}
 abbrev pub both : Option Job → Option Part → Option (Job × Part)
 both job part = option_and_then (λ (j : Job). option_map (λ (p : Part). (j, p)) part) job
 
--- the job of a number as lists tell it, with its part
+-- the job of a number as lists report it, with its part
 abbrev pub head_with_part : Content → ℕ → Option (JobHead × Part)
 head_with_part m number =
     option_and_then (λ (head : JobHead). option_map (λ (part : Part). (head, part)) (part_at m head.part)) (option_map (head_of m) (job_at m number))

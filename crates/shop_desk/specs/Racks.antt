@@ -4,7 +4,7 @@ use Rattle.shop_records.specs.declared.records.Part.{Part}
 use Rattle.shop_records.specs.Content.{rack_rows}
 use Rattle.shop_desk.specs.declared.racks.RackTaker.{RackTaker}
 
--- a part with a job's name is taken as it is told, unless memory is wanting
+-- a part with a job's name is taken as it is reported, unless memory is wanting
 abbrev pub TakesRack : RackTaker → Part → Bool → RackTaker → Type 0
 TakesRack old part true new = new.parts ≡ old.parts ++ rack_rows (part ∷ [])
 TakesRack old part false new = new.parts ≡ old.parts

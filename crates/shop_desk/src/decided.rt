@@ -50,7 +50,7 @@ fn add_material<B: Book>(
     ensures decision { Judges B.Book json_texts
         (AddMaterial material kind kerf min_long min_short) book.old result book.new }
     ensures keeps { Unchanged B.Book (CountsOrDisagrees result) book.old book.new }
-    ensures told { IfOk result (λ change. IsTrue (is_accepted change.reply)) }
+    ensures reported { IfOk result (λ change. IsTrue (is_accepted change.reply)) }
 {
     let known = book.material(material)?;
     decide_material(alloc, known, material, kind, kerf, min_long, min_short)
@@ -69,7 +69,7 @@ fn receive<B: Book>(
     ensures decision { Judges B.Book json_texts
         (Receive material batch w h count) book.old result book.new }
     ensures keeps { Unchanged B.Book (CountsOrDisagrees result) book.old book.new }
-    ensures told { IfOk result (λ change. IsTrue (is_accepted change.reply)) }
+    ensures reported { IfOk result (λ change. IsTrue (is_accepted change.reply)) }
 {
     let known = book.material(material)?;
     let totals = book.totals(material)?;
@@ -87,7 +87,7 @@ fn add_order<B: Book>(
     ensures decision { Judges B.Book json_texts
         (AddOrder order lines.now) book.old result book.new }
     ensures keeps { Unchanged B.Book (CountsOrDisagrees result) book.old book.new }
-    ensures told { IfOk result (λ change. IsTrue (is_accepted change.reply)) }
+    ensures reported { IfOk result (λ change. IsTrue (is_accepted change.reply)) }
 {
     let used = book.order(order)?;
     let found = found_lines(alloc, book, lines.as_slice())?;
@@ -142,7 +142,7 @@ fn reserve<B: Book>(
 ) -> Result<Change, Refusal>
     ensures decision { Judges B.Book json_texts (Reserve part tree.now) book.old result book.new }
     ensures keeps { Unchanged B.Book (CountsOrDisagrees result) book.old book.new }
-    ensures told { IfOk result (λ change. IsTrue (is_accepted change.reply)) }
+    ensures reported { IfOk result (λ change. IsTrue (is_accepted change.reply)) }
 {
     let row = book.part(part)?;
     let material = material_for(book, &row)?;
@@ -192,7 +192,7 @@ fn job_rows<B: Book>(alloc: Global, book: &mut B, number: u32) -> Result<JobRows
 fn done<B: Book>(alloc: Global, book: &mut B, number: u32) -> Result<Change, Refusal>
     ensures decision { Judges B.Book json_texts (Done number) book.old result book.new }
     ensures keeps { Unchanged B.Book (CountsOrDisagrees result) book.old book.new }
-    ensures told { IfOk result (λ change. IsTrue (is_accepted change.reply)) }
+    ensures reported { IfOk result (λ change. IsTrue (is_accepted change.reply)) }
 {
     let JobRows {
         job,
@@ -214,7 +214,7 @@ fn break_off<B: Book>(
 ) -> Result<Change, Refusal>
     ensures decision { Judges B.Book json_texts (Break number halt.now rest) book.old result book.new }
     ensures keeps { Unchanged B.Book (CountsOrDisagrees result) book.old book.new }
-    ensures told { IfOk result (λ change. IsTrue (is_accepted change.reply)) }
+    ensures reported { IfOk result (λ change. IsTrue (is_accepted change.reply)) }
 {
     let JobRows {
         job,
@@ -230,7 +230,7 @@ fn break_off<B: Book>(
 fn release<B: Book>(alloc: Global, book: &mut B, number: u32) -> Result<Change, Refusal>
     ensures decision { Judges B.Book json_texts (Release number) book.old result book.new }
     ensures keeps { Unchanged B.Book (CountsOrDisagrees result) book.old book.new }
-    ensures told { IfOk result (λ change. IsTrue (is_accepted change.reply)) }
+    ensures reported { IfOk result (λ change. IsTrue (is_accepted change.reply)) }
 {
     let JobRows {
         job,
@@ -246,7 +246,7 @@ fn release<B: Book>(alloc: Global, book: &mut B, number: u32) -> Result<Change, 
 fn scrap<B: Book>(alloc: Global, book: &mut B, part: PartName) -> Result<Change, Refusal>
     ensures decision { Judges B.Book json_texts (Scrap part) book.old result book.new }
     ensures keeps { Unchanged B.Book (CountsOrDisagrees result) book.old book.new }
-    ensures told { IfOk result (λ change. IsTrue (is_accepted change.reply)) }
+    ensures reported { IfOk result (λ change. IsTrue (is_accepted change.reply)) }
 {
     let row = book.part(part)?;
     let totals = totals_for(book, &row)?;
@@ -257,7 +257,7 @@ fn scrap<B: Book>(alloc: Global, book: &mut B, part: PartName) -> Result<Change,
 fn give_back<B: Book>(alloc: Global, book: &mut B, part: PartName) -> Result<Change, Refusal>
     ensures decision { Judges B.Book json_texts (GiveBack part) book.old result book.new }
     ensures keeps { Unchanged B.Book (CountsOrDisagrees result) book.old book.new }
-    ensures told { IfOk result (λ change. IsTrue (is_accepted change.reply)) }
+    ensures reported { IfOk result (λ change. IsTrue (is_accepted change.reply)) }
 {
     let row = book.part(part)?;
     let totals = totals_for(book, &row)?;
@@ -268,7 +268,7 @@ fn give_back<B: Book>(alloc: Global, book: &mut B, part: PartName) -> Result<Cha
 fn amend<B: Book>(alloc: Global, book: &mut B, demand: u32, wanted: u32) -> Result<Change, Refusal>
     ensures decision { Judges B.Book json_texts (Amend demand wanted) book.old result book.new }
     ensures keeps { Unchanged B.Book (CountsOrDisagrees result) book.old book.new }
-    ensures told { IfOk result (λ change. IsTrue (is_accepted change.reply)) }
+    ensures reported { IfOk result (λ change. IsTrue (is_accepted change.reply)) }
 {
     let row = book.demand(demand)?;
     decide_amend(alloc, row, wanted)
@@ -310,7 +310,7 @@ fn left_by_job<B: Book>(
 fn undo<B: Book>(alloc: Global, book: &mut B, number: u32) -> Result<Change, Refusal>
     ensures decision { Judges B.Book json_texts (Undo number) book.old result book.new }
     ensures keeps { Unchanged B.Book (CountsOrDisagrees result) book.old book.new }
-    ensures told { IfOk result (λ change. IsTrue (is_accepted change.reply)) }
+    ensures reported { IfOk result (λ change. IsTrue (is_accepted change.reply)) }
 {
     let JobRows {
         job,
@@ -343,7 +343,7 @@ fn note<B: Book>(
 ) -> Result<Change, Refusal>
     ensures decision { Judges B.Book json_texts (Note order due text.now) book.old result book.new }
     ensures keeps { Unchanged B.Book (CountsOrDisagrees result) book.old book.new }
-    ensures told { IfOk result (λ change. IsTrue (is_accepted change.reply)) }
+    ensures reported { IfOk result (λ change. IsTrue (is_accepted change.reply)) }
 {
     let known = book.order(order)?;
     let said = text.copy(alloc)?;
@@ -369,7 +369,7 @@ fn extend<B: Book>(
 ) -> Result<Change, Refusal>
     ensures decision { Judges B.Book json_texts (Extend order lines.now) book.old result book.new }
     ensures keeps { Unchanged B.Book (CountsOrDisagrees result) book.old book.new }
-    ensures told { IfOk result (λ change. IsTrue (is_accepted change.reply)) }
+    ensures reported { IfOk result (λ change. IsTrue (is_accepted change.reply)) }
 {
     let known = book.order(order)?;
     let there = book.lines_of(alloc, order)?;
@@ -391,7 +391,7 @@ fn extend<B: Book>(
 fn begin<B: Book>(alloc: Global, book: &mut B, number: u32) -> Result<Change, Refusal>
     ensures decision { Judges B.Book json_texts (Begin number) book.old result book.new }
     ensures keeps { Unchanged B.Book (CountsOrDisagrees result) book.old book.new }
-    ensures told { IfOk result (λ change. IsTrue (is_accepted change.reply)) }
+    ensures reported { IfOk result (λ change. IsTrue (is_accepted change.reply)) }
 {
     let job = book.job(alloc, number)?;
     let before = book.begun(number)?;
@@ -402,7 +402,7 @@ fn begin<B: Book>(alloc: Global, book: &mut B, number: u32) -> Result<Change, Re
 pub fn decide<B: Book>(alloc: Global, book: &mut B, command: &Command) -> Result<Change, Refusal>
     ensures decision { Judges B.Book json_texts command.now book.old result book.new }
     ensures keeps { Unchanged B.Book (CountsOrDisagrees result) book.old book.new }
-    ensures told { IfOk result (λ change. IsTrue (is_accepted change.reply)) }
+    ensures reported { IfOk result (λ change. IsTrue (is_accepted change.reply)) }
 {
     match command {
         Command::AddMaterial {
@@ -436,17 +436,17 @@ pub fn decide<B: Book>(alloc: Global, book: &mut B, command: &Command) -> Result
 }
 
 // What is kept of an import, with the text of its reply.
-fn telling(
+fn response(
     alloc: Global,
     import: Option<ImportRow>,
-    told: &Text,
+    reported: &Text,
 ) -> Result<Option<ImportRow>, AllocError>
     ensures { IfOk result (λ row. row
-        ≡ option_map (λ (r : ImportRowOf). record r { reply = told.now }) import) }
+        ≡ option_map (λ (r : ImportRowOf). record r { reply = reported.now }) import) }
 {
     match import {
         Some(row) => {
-            let reply = told.copy(alloc)?;
+            let reply = reported.copy(alloc)?;
             Ok(Some(ImportRow { reply, ..row }))
         }
         None => Ok(None),
@@ -502,7 +502,7 @@ pub fn keeping_message(
         entry,
         reply,
     } = change;
-    let import = telling(alloc, import, &message.kept.reply)?;
+    let import = response(alloc, import, &message.kept.reply)?;
     let begun = begun_by(begun, message.pair.terminal);
     let kept = Change {
         material,

@@ -104,7 +104,7 @@ fn handle_new<B: Book>(
         → IsHandledAt json_texts B.stands at (B.may_leave book.old) (B.may_leave book.new)
         (B.holds book.new) m message.now result.0 }
     ensures refused { RefusalKeeps B.Book book.old book.new result.0 }
-    ensures told { IfSome result.1 (λ text. text ≡ json_texts.of_reply result.0) }
+    ensures reported { IfSome result.1 (λ text. text ≡ json_texts.of_reply result.0) }
     ensures clean_disk { B.has_clean_disk book.new → B.has_clean_disk book.old }
     ensures failures { CountsOrContradicts result.0 (B.failed book.old) (B.failed book.new) }
     ensures store_fault { IsMessage message.now → B.has_clean_disk book.new → (m : Content)
@@ -115,17 +115,17 @@ fn handle_new<B: Book>(
         Ok(change) => change,
         Err(refusal) => return (Reply::Refused(refusal), None),
     };
-    let Ok(told) = reply_text(alloc, &change.reply) else {
+    let Ok(reported) = reply_text(alloc, &change.reply) else {
         return (Reply::Refused(Refusal::NoMemory), None);
     };
-    let copy = told.copy(alloc).ok();
+    let copy = reported.copy(alloc).ok();
     let pair = Pair {
         terminal: message.terminal,
         number: message.number,
     };
     let kept = Kept {
         command: text,
-        reply: told,
+        reply: reported,
     };
     let Ok((change, reply)) = keeping_message(alloc, change, KeptMessage { pair, kept }) else {
         return (Reply::Refused(Refusal::NoMemory), None);
@@ -149,7 +149,7 @@ fn handle_message<B: Book>(
 ) -> (Reply, Option<Text>)
     ensures timed { HandlesAt json_texts at B.Book book.old book.new message.now result.0 }
     ensures refused { RefusalKeeps B.Book book.old book.new result.0 }
-    ensures told { IfSome result.1 (λ text. text ≡ json_texts.of_reply result.0) }
+    ensures reported { IfSome result.1 (λ text. text ≡ json_texts.of_reply result.0) }
     ensures message { IsMessage message.now }
     ensures clean_disk { B.has_clean_disk book.new → B.has_clean_disk book.old }
     ensures failures { CountsOrContradicts result.0 (B.failed book.old) (B.failed book.new) }
@@ -178,7 +178,7 @@ pub fn handle_with_text_at<B: Book>(
     ensures step { Handles json_texts B.Book book.old book.new message.now result.0 }
     ensures timed { HandlesAt json_texts at B.Book book.old book.new message.now result.0 }
     ensures refused { RefusalKeeps B.Book book.old book.new result.0 }
-    ensures told { IfSome result.1 (λ text. text ≡ json_texts.of_reply result.0) }
+    ensures reported { IfSome result.1 (λ text. text ≡ json_texts.of_reply result.0) }
     ensures message { IsMessage message.now }
     ensures clean_disk { B.has_clean_disk book.new → B.has_clean_disk book.old }
     ensures failures { CountsOrContradicts result.0 (B.failed book.old) (B.failed book.new) }
@@ -210,7 +210,7 @@ pub fn handle_with_text<B: Book>(
 ) -> (Reply, Option<Text>)
     ensures step { Handles json_texts B.Book book.old book.new message.now result.0 }
     ensures refused { RefusalKeeps B.Book book.old book.new result.0 }
-    ensures told { IfSome result.1 (λ text. text ≡ json_texts.of_reply result.0) }
+    ensures reported { IfSome result.1 (λ text. text ≡ json_texts.of_reply result.0) }
     ensures message { IsMessage message.now }
     ensures clean_disk { B.has_clean_disk book.new → B.has_clean_disk book.old }
     ensures failures { CountsOrContradicts result.0 (B.failed book.old) (B.failed book.new) }
@@ -466,7 +466,7 @@ pub fn ask<B: Book>(alloc: Global, book: &mut B, query: &Query) -> Reply
 }
 
 /// Handles messages in order, all of which were given this time. It makes room for all replies first, so an `Err` means that
-/// none was handled. A reply tells of a failed store only where it failed meanwhile.
+/// none was handled. A reply reports a failed store only where it failed meanwhile.
 pub fn run_at<B: Book>(
     alloc: Global,
     book: &mut B,
@@ -495,7 +495,7 @@ pub fn run_at<B: Book>(
 }
 
 /// Handles messages in order, without a time. It makes room for all replies first, so an `Err` means that none was handled. A
-/// reply tells of a failed store only where it failed meanwhile.
+/// reply reports a failed store only where it failed meanwhile.
 pub fn run<B: Book>(
     alloc: Global,
     book: &mut B,

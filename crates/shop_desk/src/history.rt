@@ -1,7 +1,7 @@
 //! Answers to the queries about entries: how many there are, those behind a number, and those about a subject.
 
 ghost use Rattle.std.specs.Prelude.{◌≡◌, ◌≢◌, IfOk, IfSome, None, Some, take};
-ghost use Rattle.shop_answers.specs.Listing.{told_history, told_story};
+ghost use Rattle.shop_answers.specs.Listing.{reported_history, reported_story};
 ghost use Rattle.shop_answers.specs.Queries.{Answers};
 ghost use Rattle.shop_records.specs.Content.{entry_count, last_time};
 ghost use Rattle.shop_records.specs.Lists.{entries_about, first_time, told_entries, told_entry};
@@ -12,7 +12,7 @@ ghost use Rattle.shop_records.specs.declared.refusals.Refusal.TheVariants.{NoMem
 ghost use Rattle.shop_book.specs.Failures.{CountsFailure};
 ghost use Rattle.shop_book.specs.Kept.{Unchanged, OnContent};
 ghost use Rattle.shop_desk.specs.Faults.{CountsReply};
-ghost use Rattle.shop_desk.specs.ToldEntries.{ShowsOrHides, Tells, TellsFirst, entries_for};
+ghost use Rattle.shop_desk.specs.ReportedEntries.{ShowsOrHides, Reports, ReportsFirst, entries_for};
 
 use cut_measure::{Code, PartName};
 use shop_book::{Book, BookFault};
@@ -82,8 +82,8 @@ fn told_entry<B: Book>(
     book: &mut B,
     entry: &Entry,
 ) -> Result<Option<EntryTold>, BookFault>
-    ensures told { OnContent B.Book book.old book.new
-        (λ m. IfOk result (λ told. told ≡ told_entry m entry.now)) }
+    ensures reported { OnContent B.Book book.old book.new
+        (λ m. IfOk result (λ reported. reported ≡ told_entry m entry.now)) }
     ensures keeps { Unchanged B.Book (CountsFailure result) book.old book.new }
 {
     let Entry {
@@ -107,7 +107,7 @@ fn told_entry<B: Book>(
     }
 }
 
-// Entries as they are told, and the bytes of their messages and replies.
+// Entries as they are reported, and the bytes of their messages and replies.
 #[derive(Drop)]
 struct Shown {
     entries: EntryList,
@@ -115,8 +115,8 @@ struct Shown {
 }
 
 impl Shown {
-    // Tells an entry after others, if there is one. The answer is true where it isn't told, since the others are all that
-    // is told at once.
+    // Reports an entry after others, if there is one. The answer is true where it isn't reported, since the others are all that
+    // is reported at once.
     fn hides(&mut self, found: Option<EntryTold>) -> Result<bool, AllocError>
         ensures { IfOk result (λ hidden. ShowsOrHides self.old found hidden self.new) }
     {
@@ -132,14 +132,14 @@ impl Shown {
     }
 }
 
-// What is told of entries, and whether others of them follow.
-fn told_rows<B: Book>(
+// What is reported about entries, and whether others of them follow.
+fn reported_rows<B: Book>(
     alloc: Global,
     book: &mut B,
     rows: &[Entry],
 ) -> Result<(EntryList, bool), BookFault>
-    ensures told { OnContent B.Book book.old book.new
-        (λ m. IfOk result (λ told. TellsFirst m rows.now told.0 told.1)) }
+    ensures reported { OnContent B.Book book.old book.new
+        (λ m. IfOk result (λ reported. ReportsFirst m rows.now reported.0 reported.1)) }
     ensures keeps { Unchanged B.Book (CountsFailure result) book.old book.new }
 {
     let mut shown = Shown {
@@ -174,21 +174,21 @@ fn first_rows<B: Book>(
     }
 }
 
-// What is told of the entries with greater numbers, and whether others follow; None where so many entries don't say it.
-fn told_first<B: Book>(
+// What is reported about the entries with greater numbers, and whether others follow; None where so many entries don't say it.
+fn reported_first<B: Book>(
     alloc: Global,
     book: &mut B,
     about: &Option<Subject>,
     after: u64,
     most: usize,
 ) -> Result<Option<(EntryList, bool)>, BookFault>
-    ensures told { OnContent B.Book book.old book.new (λ m. IfOk result (λ found. IfSome found
-        (λ told. Tells m (entries_for m about.now after) told.0 told.1))) }
+    ensures reported { OnContent B.Book book.old book.new (λ m. IfOk result (λ found. IfSome found
+        (λ reported. Reports m (entries_for m about.now after) reported.0 reported.1))) }
     ensures keeps { Unchanged B.Book (CountsFailure result) book.old book.new }
 {
     let found = first_rows(alloc, book, about, after, most)?;
     let rows = found.as_slice();
-    let (entries, more) = told_rows(alloc, book, rows)?;
+    let (entries, more) = reported_rows(alloc, book, rows)?;
     if more {
         return Ok(Some((entries, more)));
     }
@@ -200,37 +200,37 @@ fn told_first<B: Book>(
 }
 
 // The same of all entries with greater numbers, whose list isn't longer than memory.
-fn told_last<B: Book>(
+fn reported_last<B: Book>(
     alloc: Global,
     book: &mut B,
     about: &Option<Subject>,
     after: u64,
 ) -> Result<(EntryList, bool), BookFault>
-    ensures told { OnContent B.Book book.old book.new (λ m. IfOk result
-        (λ told. Tells m (entries_for m about.now after) told.0 told.1)) }
+    ensures reported { OnContent B.Book book.old book.new (λ m. IfOk result
+        (λ reported. Reports m (entries_for m about.now after) reported.0 reported.1)) }
     ensures keeps { Unchanged B.Book (CountsFailure result) book.old book.new }
 {
-    match told_first(alloc, book, about, after, usize::MAX)? {
-        Some(told) => Ok(told),
+    match reported_first(alloc, book, about, after, usize::MAX)? {
+        Some(reported) => Ok(reported),
         None => Err(BookFault::NoMemory),
     }
 }
 
-// What is told of the entries with greater numbers, and whether others follow. One entry more than can be told says it,
+// What is reported about the entries with greater numbers, and whether others follow. One entry more than can be reported says it,
 // unless there are entries whose messages aren't kept: then all entries are looked at.
-fn told<B: Book>(
+fn reported<B: Book>(
     alloc: Global,
     book: &mut B,
     about: &Option<Subject>,
     after: u64,
 ) -> Result<(EntryList, bool), BookFault>
-    ensures told { OnContent B.Book book.old book.new (λ m. IfOk result
-        (λ told. Tells m (entries_for m about.now after) told.0 told.1)) }
+    ensures reported { OnContent B.Book book.old book.new (λ m. IfOk result
+        (λ reported. Reports m (entries_for m about.now after) reported.0 reported.1)) }
     ensures keeps { Unchanged B.Book (CountsFailure result) book.old book.new }
 {
-    match told_first(alloc, book, about, after, MAX_LISTED + 1)? {
-        Some(told) => Ok(told),
-        None => told_last(alloc, book, about, after),
+    match reported_first(alloc, book, about, after, MAX_LISTED + 1)? {
+        Some(reported) => Ok(reported),
+        None => reported_last(alloc, book, about, after),
     }
 }
 
@@ -240,7 +240,7 @@ pub fn history<B: Book>(alloc: Global, book: &mut B, after: u32) -> Reply
         (λ m. Answers m (query.History after) result) }
     ensures keeps { Unchanged B.Book (CountsReply result) book.old book.new }
 {
-    match told(alloc, book, &None, u64::from(after)) {
+    match reported(alloc, book, &None, u64::from(after)) {
         Err(fault) => Reply::Refused(Refusal::from(fault)),
         Ok((entries, more)) => Reply::History { entries, more },
     }
@@ -250,10 +250,10 @@ pub fn history<B: Book>(alloc: Global, book: &mut B, after: u32) -> Reply
 fn known_story<B: Book>(alloc: Global, book: &mut B, about: Subject, after: u32) -> Reply
     ensures answer { OnContent B.Book book.old book.new
         (λ m. result ≢ Refused NoMemory → result ≢ Refused StoreFault
-        → result ≡ told_story None (told_entries m (entries_about m about after))) }
+        → result ≡ reported_story None (told_entries m (entries_about m about after))) }
     ensures keeps { Unchanged B.Book (CountsReply result) book.old book.new }
 {
-    match told(alloc, book, &Some(about), u64::from(after)) {
+    match reported(alloc, book, &Some(about), u64::from(after)) {
         Err(fault) => Reply::Refused(Refusal::from(fault)),
         Ok((entries, more)) => Reply::Story { entries, more },
     }

@@ -73,7 +73,7 @@ fn import_lines<B: Book>(
         → IsJudged json_texts m (Import order Csv text.now) (B.failed book.old) result
         (B.failed book.new)) }
     ensures keeps { Unchanged B.Book (CountsOrDisagrees result) book.old book.new }
-    ensures told { IfOk result (λ change. IsTrue (is_accepted change.reply)) }
+    ensures reported { IfOk result (λ change. IsTrue (is_accepted change.reply)) }
 {
     let used = book.order(order)?;
     let first = book.next_demand()?;
@@ -119,7 +119,7 @@ fn import_problem<B: Book>(
         → IsJudged json_texts m (Import order (Cgcut material) text.now) (B.failed book.old) result
         (B.failed book.new)) }
     ensures keeps { Unchanged B.Book (CountsOrDisagrees result) book.old book.new }
-    ensures told { IfOk result (λ change. IsTrue (is_accepted change.reply)) }
+    ensures reported { IfOk result (λ change. IsTrue (is_accepted change.reply)) }
 {
     let used = book.order(order)?;
     let ReceiptRows { known, totals, act } = receipt_rows(book, material)?;
@@ -145,14 +145,14 @@ fn import_problem<B: Book>(
     )
 }
 
-// The reply, unless it is a refusal: no kept import tells of one.
-fn accepted(told: Option<Reply>) -> Option<Reply>
+// The reply, unless it is a refusal: no kept import reports one.
+fn accepted(reported: Option<Reply>) -> Option<Reply>
     ensures accepted { IfSome result (λ answer. IsTrue (is_accepted answer)) }
-    ensures made { (answer : ReplyOf) → IsMade answer → told ≡ Some answer → result ≡ Some answer }
+    ensures made { (answer : ReplyOf) → IsMade answer → reported ≡ Some answer → result ≡ Some answer }
 {
-    match told {
+    match reported {
         Some(Reply::Refused(_)) => None,
-        told => told,
+        reported => reported,
     }
 }
 
@@ -162,7 +162,7 @@ fn import_again(alloc: Global, row: &ImportRow) -> Result<Change, Refusal>
         → (before after : ℕ) → IsSound json_texts m
         → import_at m order ≡ Some row.now → IsRepeat form text row.now
         → IsJudged json_texts m (Import order form text) before result after }
-    ensures told { IfOk result (λ change. IsTrue (is_accepted change.reply)) }
+    ensures reported { IfOk result (λ change. IsTrue (is_accepted change.reply)) }
 {
     let earlier = accepted(kept_reply(alloc, row.reply.as_str())?);
     decide_again(alloc, earlier)
@@ -181,7 +181,7 @@ fn import_new<B: Book>(
         → IsJudged json_texts m (Import order form.now text.now) (B.failed book.old) result
         (B.failed book.new)) }
     ensures keeps { Unchanged B.Book (CountsOrDisagrees result) book.old book.new }
-    ensures told { IfOk result (λ change. IsTrue (is_accepted change.reply)) }
+    ensures reported { IfOk result (λ change. IsTrue (is_accepted change.reply)) }
 {
     match form {
         Form::Csv => import_lines(alloc, book, order, text),
@@ -203,7 +203,7 @@ fn import_known<B: Book>(
         → IsJudged json_texts m (Import order form.now text.now) (B.failed book.old) result
         (B.failed book.new)) }
     ensures keeps { Unchanged B.Book (CountsOrDisagrees result) book.old book.new }
-    ensures told { IfOk result (λ change. IsTrue (is_accepted change.reply)) }
+    ensures reported { IfOk result (λ change. IsTrue (is_accepted change.reply)) }
 {
     if repeats(row, *form, text) {
         import_again(alloc, row)
@@ -223,7 +223,7 @@ pub fn import_order<B: Book>(
     ensures decision { Judges B.Book json_texts
         (Import order form.now text.now) book.old result book.new }
     ensures keeps { Unchanged B.Book (CountsOrDisagrees result) book.old book.new }
-    ensures told { IfOk result (λ change. IsTrue (is_accepted change.reply)) }
+    ensures reported { IfOk result (λ change. IsTrue (is_accepted change.reply)) }
 {
     match book.import(alloc, order)? {
         Some(row) => import_known(alloc, book, &row, order, form, text),

@@ -7,7 +7,7 @@ ghost use Rattle.shop_records.specs.declared.messages.Query.TheVariants as query
 ghost use Rattle.shop_records.specs.declared.messages.Reply.TheVariants.{Refused, Parts, Demands};
 ghost use Rattle.shop_records.specs.declared.refusals.Refusal.TheVariants.{NoMemory, StoreFault};
 ghost use Rattle.shop_answers.specs.declared.listing.TheConstants.{MAX_LISTED};
-ghost use Rattle.shop_answers.specs.Listing.{AreOrderRows, IsLinesAnswer, IsOrderRow, are_more, first_told, job_row_at, job_with_part, told_job};
+ghost use Rattle.shop_answers.specs.Listing.{AreOrderRows, IsLinesAnswer, IsOrderRow, are_more, first_reported, job_row_at, job_with_part, reported_job};
 ghost use Rattle.shop_records.specs.Lists.{AreLines, begun_by, demand_row, job_numbers, open_demands, orders_after, parts_after, waiting_jobs};
 ghost use Rattle.shop_book.specs.Failures.{CountsFailure};
 ghost use Rattle.shop_book.specs.Kept.{Unchanged, OnContent};
@@ -19,7 +19,7 @@ use shop_book::{Book, BookFault, JobHead};
 use shop_rules::{
     Code, CodeList, Demand, DemandList, DemandRow, DemandRows, Job, JobList, JobRow, MAX_LISTED,
     OrderList, OrderRow, Part, Refusal, Reply, answer_demands, answer_job, answer_orders,
-    answer_parts, are_more, demand_row, first_told, job_row, order_row,
+    answer_parts, are_more, demand_row, first_reported, job_row, order_row,
 };
 use std::alloc::{AllocError, Global};
 
@@ -44,7 +44,7 @@ fn known_parts<B: Book>(
     ensures answer { OnContent B.Book book.old book.new
         (λ m. result ≢ Refused NoMemory → result ≢ Refused StoreFault
         → result ≡ Parts material (are_more (parts_after m material after))
-        (first_told (parts_after m material after))) }
+        (first_reported (parts_after m material after))) }
     ensures keeps { Unchanged B.Book (CountsReply result) book.old book.new }
 {
     match book.first_parts(alloc, material, after, MAX_LISTED + 1) {
@@ -68,7 +68,7 @@ pub fn parts<B: Book>(alloc: Global, book: &mut B, material: Code, after: Option
     }
 }
 
-// A demand as it is told.
+// A demand as it is reported.
 fn row_of_demand<B: Book>(book: &mut B, demand: &Demand) -> Result<DemandRow, BookFault>
     ensures row { OnContent B.Book book.old book.new
         (λ m. IfOk result (λ row. row ≡ demand_row m demand.now)) }
@@ -78,7 +78,7 @@ fn row_of_demand<B: Book>(book: &mut B, demand: &Demand) -> Result<DemandRow, Bo
     Ok(demand_row(demand, due))
 }
 
-// Demands as they are told.
+// Demands as they are reported.
 fn demand_rows<B: Book>(
     alloc: Global,
     book: &mut B,
@@ -96,7 +96,7 @@ fn demand_rows<B: Book>(
     Ok(rows)
 }
 
-// The first open demands after a number, one more than are told, and the rows of those that are.
+// The first open demands after a number, one more than are reported, and the rows of those that are.
 fn first_open<B: Book>(
     alloc: Global,
     book: &mut B,
@@ -105,11 +105,11 @@ fn first_open<B: Book>(
 ) -> Result<(DemandList, DemandRows), BookFault>
     ensures demands { OnContent B.Book book.old book.new (λ m. IfOk result (λ found.
         (found.0 ≡ take (MAX_LISTED + 1) (open_demands m after material))
-        × (found.1 ≡ map (demand_row m) (first_told found.0)))) }
+        × (found.1 ≡ map (demand_row m) (first_reported found.0)))) }
     ensures keeps { Unchanged B.Book (CountsFailure result) book.old book.new }
 {
     let open = book.first_demands(alloc, after, material, MAX_LISTED + 1)?;
-    let rows = demand_rows(alloc, book, first_told(open.as_slice()))?;
+    let rows = demand_rows(alloc, book, first_reported(open.as_slice()))?;
     Ok((open, rows))
 }
 
@@ -117,7 +117,7 @@ fn first_open<B: Book>(
 fn known_demands<B: Book>(alloc: Global, book: &mut B, after: u32, material: Option<Code>) -> Reply
     ensures answer { OnContent B.Book book.old book.new
         (λ m. result ≢ Refused NoMemory → result ≢ Refused StoreFault
-        → result ≡ Demands (map (demand_row m) (first_told (open_demands m after material)))
+        → result ≡ Demands (map (demand_row m) (first_reported (open_demands m after material)))
         (are_more (open_demands m after material))) }
     ensures keeps { Unchanged B.Book (CountsReply result) book.old book.new }
 {
@@ -178,7 +178,7 @@ pub fn job_with_part<B: Book>(
     Ok(both(found.job, found.part))
 }
 
-// A job as lists tell it, and its part, where both are there.
+// A job as lists report it, and its part, where both are there.
 fn head_with_part<B: Book>(
     alloc: Global,
     book: &mut B,
@@ -197,8 +197,8 @@ fn head_with_part<B: Book>(
     }
 }
 
-// How a job is told that lists tell so, with its part.
-fn told_head(head: &JobHead, part: &Part) -> JobRow
+// How a job is reported that lists report so, with its part.
+fn reported_head(head: &JobHead, part: &Part) -> JobRow
     ensures { Some result ≡ told_row (Some (head.now, part.now)) }
 {
     job_row(head.begun, head.due, head.act, head.part, head.cuts, part)
@@ -209,12 +209,12 @@ fn push_job(rows: &mut JobList, found: Option<(JobHead, Part)>) -> Result<(), Al
     ensures { OnOk result (rows.new ≡ rows.old ++ filter_map told_row (found ∷ [])) }
 {
     match found {
-        Some((head, part)) => rows.push(told_head(&head, &part)),
+        Some((head, part)) => rows.push(reported_head(&head, &part)),
         None => Ok(()),
     }
 }
 
-// The rows of jobs, as they are told; none of a job that isn't there with its part.
+// The rows of jobs, as they are reported; none of a job that isn't there with its part.
 fn job_rows<B: Book>(alloc: Global, book: &mut B, numbers: &[u32]) -> Result<JobList, BookFault>
     ensures rows { OnContent B.Book book.old book.new
         (λ m. IfOk result (λ rows. rows ≡ filter_map (job_row_at m) numbers.now)) }
@@ -235,12 +235,12 @@ fn first_jobs<B: Book>(
     after: u32,
 ) -> Result<(JobList, bool), BookFault>
     ensures jobs { OnContent B.Book book.old book.new (λ m. IfOk result (λ found.
-        (found.0 ≡ filter_map (job_row_at m) (first_told (job_numbers (waiting_jobs m after))))
+        (found.0 ≡ filter_map (job_row_at m) (first_reported (job_numbers (waiting_jobs m after))))
         × (found.1 ≡ are_more (job_numbers (waiting_jobs m after))))) }
     ensures keeps { Unchanged B.Book (CountsFailure result) book.old book.new }
 {
     let numbers = book.first_jobs(alloc, after, MAX_LISTED + 1)?;
-    let rows = job_rows(alloc, book, first_told(numbers.as_slice()))?;
+    let rows = job_rows(alloc, book, first_reported(numbers.as_slice()))?;
     Ok((rows, are_more(numbers.as_slice())))
 }
 
@@ -271,7 +271,7 @@ fn begun_by<B: Book>(book: &mut B, job: u32) -> Result<u32, BookFault>
 fn known_job<B: Book>(alloc: Global, book: &mut B, job: &Job, part: &Part) -> Reply
     ensures answer { OnContent B.Book book.old book.new
         (λ m. result ≢ Refused NoMemory → result ≢ Refused StoreFault
-        → result ≡ told_job m (Some (job.now, part.now))) }
+        → result ≡ reported_job m (Some (job.now, part.now))) }
     ensures keeps { Unchanged B.Book (CountsReply result) book.old book.new }
 {
     match begun_by(book, job.act) {
@@ -292,7 +292,7 @@ pub fn job<B: Book>(alloc: Global, book: &mut B, number: u32) -> Reply
     }
 }
 
-// How an order is told, from its lines.
+// How an order is reported, from its lines.
 fn row_of_order<B: Book>(alloc: Global, book: &mut B, order: Code) -> Result<OrderRow, BookFault>
     ensures row { OnContent B.Book book.old book.new (λ m. IfOk result (IsOrderRow m order)) }
     ensures keeps { Unchanged B.Book (CountsFailure result) book.old book.new }
@@ -302,7 +302,7 @@ fn row_of_order<B: Book>(alloc: Global, book: &mut B, order: Code) -> Result<Ord
     Ok(order_row(alloc, order, note, lines.as_slice()))
 }
 
-// The rows of orders, as they are told.
+// The rows of orders, as they are reported.
 fn order_rows<B: Book>(alloc: Global, book: &mut B, orders: &[Code]) -> Result<OrderList, BookFault>
     ensures rows { OnContent B.Book book.old book.new
         (λ m. IfOk result (AreOrderRows m orders.now)) }
@@ -316,7 +316,7 @@ fn order_rows<B: Book>(alloc: Global, book: &mut B, orders: &[Code]) -> Result<O
     Ok(rows)
 }
 
-// The codes of the first orders after a code, one more than are told, and the rows of those that are.
+// The codes of the first orders after a code, one more than are reported, and the rows of those that are.
 fn first_orders<B: Book>(
     alloc: Global,
     book: &mut B,
@@ -324,11 +324,11 @@ fn first_orders<B: Book>(
 ) -> Result<(CodeList, OrderList), BookFault>
     ensures orders { OnContent B.Book book.old book.new (λ m. IfOk result (λ found.
         (found.0 ≡ take (MAX_LISTED + 1) (orders_after m after))
-        × AreOrderRows m (first_told found.0) found.1)) }
+        × AreOrderRows m (first_reported found.0) found.1)) }
     ensures keeps { Unchanged B.Book (CountsFailure result) book.old book.new }
 {
     let codes = book.first_orders(alloc, after, MAX_LISTED + 1)?;
-    let rows = order_rows(alloc, book, first_told(codes.as_slice()))?;
+    let rows = order_rows(alloc, book, first_reported(codes.as_slice()))?;
     Ok((codes, rows))
 }
 
@@ -344,7 +344,7 @@ pub fn orders<B: Book>(alloc: Global, book: &mut B, after: Option<Code>) -> Repl
     }
 }
 
-// The lines of an order as they are told.
+// The lines of an order as they are reported.
 fn line_rows<B: Book>(alloc: Global, book: &mut B, order: Code) -> Result<DemandRows, BookFault>
     ensures rows { OnContent B.Book book.old book.new (λ m. IfOk result
         (λ rows. (lines : List DemandOf) × AreLines m order lines

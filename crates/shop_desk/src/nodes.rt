@@ -43,7 +43,7 @@ fn name_at(job: u32, node: u32) -> Option<PartName>
     Some(PartName::new(job, node))
 }
 
-// How a node of a job's plan is told. Where the job's number is none, which no history gives, it is refused as if memory ran
+// How a node of a job's plan is reported. Where the job's number is none, which no history gives, it is refused as if memory ran
 // out.
 fn row_of_step<B: Book>(book: &mut B, job: u32, step: Step) -> Result<StepRow, BookFault>
     ensures row { OnContent B.Book book.old book.new
@@ -58,7 +58,7 @@ fn row_of_step<B: Book>(book: &mut B, job: u32, step: Step) -> Result<StepRow, B
     Ok(step_row(step, demand, part))
 }
 
-// The nodes of a job's plan as they are told.
+// The nodes of a job's plan as they are reported.
 fn step_rows<B: Book>(
     alloc: Global,
     book: &mut B,
@@ -77,7 +77,7 @@ fn step_rows<B: Book>(
     Ok(rows)
 }
 
-// All nodes of the plan of a job as they are told.
+// All nodes of the plan of a job as they are reported.
 fn plan_rows<B: Book>(alloc: Global, book: &mut B, job: &Job) -> Result<StepList, BookFault>
     ensures rows { OnContent B.Book book.old book.new (λ m. IfOk result
         (λ rows. (steps : List StepOf)

@@ -4,7 +4,7 @@ ghost use Rattle.std.specs.Prelude.{◌≡◌, ◌≢◌, ◌+◌, ◌++◌, IfO
 ghost use Rattle.std.specs.Option.{option_to_list};
 ghost use Rattle.shop_answers.specs.Queries.{Answers};
 ghost use Rattle.shop_answers.specs.declared.listing.TheConstants.{MAX_LISTED};
-ghost use Rattle.shop_answers.specs.Listing.{first_told, told_piece, told_pieces};
+ghost use Rattle.shop_answers.specs.Listing.{first_reported, reported_piece, reported_pieces};
 ghost use Rattle.shop_records.specs.declared.messages.Query.TheVariants as query;
 ghost use Rattle.shop_records.specs.declared.messages.Reply.TheVariants.{Refused};
 ghost use Rattle.shop_records.specs.declared.pieces.PieceSource.TheVariants as source;
@@ -19,7 +19,7 @@ use cut_measure::{Code, PartName};
 use shop_book::{Book, BookFault};
 use shop_rules::{
     Demand, MAX_LISTED, Part, PartList, PieceList, PieceRow, PieceSource, Refusal, Reply, State,
-    answer_pieces, first_told, piece_row,
+    answer_pieces, first_reported, piece_row,
 };
 use std::alloc::{AllocError, Global};
 
@@ -57,9 +57,9 @@ fn demand_for<B: Book>(book: &mut B, part: &Part) -> Result<Option<Demand>, Book
     }
 }
 
-// How a part is told that is a piece of a demand, and was made at this time.
+// How a part is reported that is a piece of a demand, and was made at this time.
 fn row_with(part: &Part, demand: Option<Demand>, at: u64) -> Option<PieceRow>
-    ensures { result ≡ option_map (λ (d : DemandOf). told_piece part.now d at) demand }
+    ensures { result ≡ option_map (λ (d : DemandOf). reported_piece part.now d at) demand }
 {
     match demand {
         Some(demand) => Some(piece_row(part, &demand, at)),
@@ -67,7 +67,7 @@ fn row_with(part: &Part, demand: Option<Demand>, at: u64) -> Option<PieceRow>
     }
 }
 
-// How a part is told that is a piece, if its demand is there.
+// How a part is reported that is a piece, if its demand is there.
 fn row_of_piece<B: Book>(book: &mut B, part: &Part) -> Result<Option<PieceRow>, BookFault>
     ensures row { OnContent B.Book book.old book.new
         (λ m. IfOk result (λ row. row ≡ piece_row m part.now)) }
@@ -88,7 +88,7 @@ fn push_piece(rows: &mut PieceList, found: Option<PieceRow>) -> Result<(), Alloc
     }
 }
 
-// The rows of pieces, as they are told; none of a piece whose demand isn't there.
+// The rows of pieces, as they are reported; none of a piece whose demand isn't there.
 fn piece_rows<B: Book>(alloc: Global, book: &mut B, parts: &[Part]) -> Result<PieceList, BookFault>
     ensures rows { OnContent B.Book book.old book.new
         (λ m. IfOk result (λ rows. rows ≡ filter_map (piece_row m) parts.now)) }
@@ -102,7 +102,7 @@ fn piece_rows<B: Book>(alloc: Global, book: &mut B, parts: &[Part]) -> Result<Pi
     Ok(rows)
 }
 
-// The first pieces after a name, one more than are told, and the rows of those that are.
+// The first pieces after a name, one more than are reported, and the rows of those that are.
 fn first_rows<B: Book>(
     alloc: Global,
     book: &mut B,
@@ -111,11 +111,11 @@ fn first_rows<B: Book>(
 ) -> Result<(PartList, PieceList), BookFault>
     ensures pieces { OnContent B.Book book.old book.new (λ m. IfOk result (λ found.
         (found.0 ≡ take (MAX_LISTED + 1) (pieces_after m of after))
-        × (found.1 ≡ filter_map (piece_row m) (first_told found.0)))) }
+        × (found.1 ≡ filter_map (piece_row m) (first_reported found.0)))) }
     ensures keeps { Unchanged B.Book (CountsFailure result) book.old book.new }
 {
     let parts = first_pieces(alloc, book, of, after, MAX_LISTED + 1)?;
-    let rows = piece_rows(alloc, book, first_told(parts.as_slice()))?;
+    let rows = piece_rows(alloc, book, first_reported(parts.as_slice()))?;
     Ok((parts, rows))
 }
 
@@ -128,7 +128,7 @@ fn known_pieces<B: Book>(
 ) -> Reply
     ensures answer { OnContent B.Book book.old book.new
         (λ m. result ≢ Refused NoMemory → result ≢ Refused StoreFault
-        → result ≡ told_pieces m None (pieces_after m of after)) }
+        → result ≡ reported_pieces m None (pieces_after m of after)) }
     ensures keeps { Unchanged B.Book (CountsReply result) book.old book.new }
 {
     match first_rows(alloc, book, of, after) {

@@ -60,11 +60,11 @@ pub fn stop_visits(alloc: Global) -> Result<()> {
             most,
             has_memory: true,
         };
-        let told = book.visit_parts(code, &mut visitor)?;
+        let reported = book.visit_parts(code, &mut visitor)?;
         if !visitor.has_memory {
             return Err(Error::msg("no memory"));
         }
-        if told != all || visitor.names.as_slice() != &bars[..seen] {
+        if reported != all || visitor.names.as_slice() != &bars[..seen] {
             return Err(Error::msg("other parts"));
         }
     }

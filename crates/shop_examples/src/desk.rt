@@ -34,14 +34,14 @@ fn messages_of(alloc: Global, given: &str) -> Result<Vec<Message>> {
 
 // What a book replies to messages, a line each.
 fn run_over<B: Book>(alloc: Global, book: &mut B, messages: &[Message]) -> Result<String> {
-    let mut told = String::new(alloc);
+    let mut reported = String::new(alloc);
     for reply in run(alloc, book, messages)?.iter() {
-        push_reply(alloc, &mut told, reply)?;
+        push_reply(alloc, &mut reported, reply)?;
     }
     if book.failures() > 0 {
         return Err(Error::msg("a book failed"));
     }
-    Ok(told)
+    Ok(reported)
 }
 
 /// What a book replies to the messages of a list, a line each.
@@ -81,7 +81,7 @@ fn number_of(decided: Result<Change, Refusal>) -> Result<u32> {
 }
 
 // What is decided of a receipt of bars one tenth long, where so much was received.
-fn received_told(alloc: Global, steel: Code, received: u64, act: u32, count: u32) -> Result<u32>
+fn received_reported(alloc: Global, steel: Code, received: u64, act: u32, count: u32) -> Result<u32>
     requires { 1 ≤ act }
 {
     let row = Some(row_of(steel)?);
@@ -91,7 +91,7 @@ fn received_told(alloc: Global, steel: Code, received: u64, act: u32, count: u32
 }
 
 // What is decided of a problem of one bar one tenth long and a piece as long, where so much was received.
-fn imported_told(alloc: Global, steel: Code, received: u64, act: u32, first: u32) -> Result<u32>
+fn imported_reported(alloc: Global, steel: Code, received: u64, act: u32, first: u32) -> Result<u32>
     requires act { 1 ≤ act }
     requires first { 1 ≤ first }
 {
@@ -127,22 +127,22 @@ pub fn last_cells(alloc: Global) -> Result<String> {
         return Err(Error::msg("no code"));
     };
     let receipts = [
-        received_told(alloc, steel, 999_999_999_999_999, 1, 1)?,
-        received_told(alloc, steel, 999_999_999_999_999, 1, 2)?,
-        received_told(alloc, steel, 0, 2_147_483_647, 1)?,
-        received_told(alloc, steel, 0, 2_147_483_648, 1)?,
+        received_reported(alloc, steel, 999_999_999_999_999, 1, 1)?,
+        received_reported(alloc, steel, 999_999_999_999_999, 1, 2)?,
+        received_reported(alloc, steel, 0, 2_147_483_647, 1)?,
+        received_reported(alloc, steel, 0, 2_147_483_648, 1)?,
     ];
     let problems = [
-        imported_told(
+        imported_reported(
             alloc,
             steel,
             999_999_999_999_999,
             2_147_483_647,
             2_147_483_647,
         )?,
-        imported_told(alloc, steel, 1_000_000_000_000_000, 2_147_483_648, 1)?,
-        imported_told(alloc, steel, 0, 2_147_483_648, 1)?,
-        imported_told(alloc, steel, 0, 1, 2_147_483_648)?,
+        imported_reported(alloc, steel, 1_000_000_000_000_000, 2_147_483_648, 1)?,
+        imported_reported(alloc, steel, 0, 2_147_483_648, 1)?,
+        imported_reported(alloc, steel, 0, 1, 2_147_483_648)?,
     ];
     Ok(format!(in alloc; "receipts {receipts:?}, problems {problems:?}\n")?)
 }

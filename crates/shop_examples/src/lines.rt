@@ -19,18 +19,18 @@ fn answer<B: Book>(alloc: Global, book: &mut B, value: &Value) -> Reply {
 }
 
 /// Adds the text of a reply, and a line feed.
-pub fn push_reply(alloc: Global, told: &mut String, reply: &Reply) -> Result<()> {
-    told.push_str(reply_text(alloc, reply)?.as_str())?;
-    told.push_str("\n")?;
+pub fn push_reply(alloc: Global, reported: &mut String, reply: &Reply) -> Result<()> {
+    reported.push_str(reply_text(alloc, reply)?.as_str())?;
+    reported.push_str("\n")?;
     Ok(())
 }
 
 /// What a book answers to some lines, a line each.
 pub fn answered<B: Book>(alloc: Global, book: &mut B, lines: &str) -> Result<String> {
-    let mut told = String::new(alloc);
+    let mut reported = String::new(alloc);
     for line in lines.lines() {
         let value = Value::from_str(alloc, line)?;
-        push_reply(alloc, &mut told, &answer(alloc, book, &value))?;
+        push_reply(alloc, &mut reported, &answer(alloc, book, &value))?;
     }
-    Ok(told)
+    Ok(reported)
 }

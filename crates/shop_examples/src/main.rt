@@ -23,12 +23,12 @@ fn check(alloc: Global, name: &str) -> Result<()> {
 }
 
 // What comes of a check of values, or else of one of books, which holds.
-fn told(alloc: Global, name: &str, given: &str) -> Result<String> {
+fn reported(alloc: Global, name: &str, given: &str) -> Result<String> {
     match name {
         "messages" => desk::run_over_memory(alloc, given),
         "last-cells" => desk::last_cells(alloc),
-        "message" => rules::message_told(alloc, given),
-        "reply" => rules::reply_told(alloc, given),
+        "message" => rules::message_reported(alloc, given),
+        "reply" => rules::reply_reported(alloc, given),
         "greatest-bound" => rules::greatest_bound(alloc),
         _ => {
             check(alloc, name)?;
@@ -46,8 +46,8 @@ fn do_all<B: BufRead + Drop, W: Write>(alloc: Global, source: B, output: &mut W)
             writeln!(output, "{line}")?;
         } else {
             let (name, given) = line.split_once(' ').unwrap_or((line, ""));
-            let told = told(alloc, name, given)?;
-            write!(output, "> {line}\n{}", told.as_str())?;
+            let reported = reported(alloc, name, given)?;
+            write!(output, "> {line}\n{}", reported.as_str())?;
         }
     }
     output.flush()?;

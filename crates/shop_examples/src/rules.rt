@@ -14,7 +14,7 @@ fn line_of(alloc: Global, value: &Value) -> Result<String> {
 }
 
 /// The text of the value of a message.
-pub fn message_told(alloc: Global, given: &str) -> Result<String> {
+pub fn message_reported(alloc: Global, given: &str) -> Result<String> {
     match read_message(alloc, &Value::from_str(alloc, given)?) {
         Ok(message) => line_of(alloc, &message_value(alloc, &message)?),
         Err(_) => Err(Error::msg("no message")),
@@ -22,7 +22,7 @@ pub fn message_told(alloc: Global, given: &str) -> Result<String> {
 }
 
 /// The text of the value of a reply that is read, or that the text is none of those.
-pub fn reply_told(alloc: Global, given: &str) -> Result<String> {
+pub fn reply_reported(alloc: Global, given: &str) -> Result<String> {
     let kept = kept_reply(alloc, given)?.is_some();
     match read_reply(alloc, &Value::from_str(alloc, given)?) {
         Ok(reply) => line_of(alloc, &reply_value(alloc, &reply)?),
@@ -33,11 +33,11 @@ pub fn reply_told(alloc: Global, given: &str) -> Result<String> {
 
 /// The text of a bound with the greatest number of units.
 pub fn greatest_bound(alloc: Global) -> Result<String> {
-    let mut told = String::new(alloc);
+    let mut reported = String::new(alloc);
     let bound = Reply::Bound {
         best: 60,
         units: 18446744073709551615,
     };
-    push_reply(alloc, &mut told, &bound)?;
-    Ok(told)
+    push_reply(alloc, &mut reported, &bound)?;
+    Ok(reported)
 }

@@ -390,12 +390,12 @@ made_wide (reply.Pieces more pieces) made = absurd made
 made_wide (reply.Steps job kerf material part state steps) made = absurd made
 made_wide (reply.Refused refusal) h = absurd h
 
-pub told_text_read : (answer : Reply) → HasWideNumbers answer → read (json_texts.of_reply answer) ≡ Some (reply_data answer)
+pub reported_text_read : (answer : Reply) → HasWideNumbers answer → read (json_texts.of_reply answer) ≡ Some (reply_data answer)
 unfolding json_texts
-told_text_read answer wide_ones = reply_read answer wide_ones
+reported_text_read answer wide_ones = reply_read answer wide_ones
 
 pub reply_text_read : (answer : Reply) → IsMade answer → read (json_texts.of_reply answer) ≡ Some (reply_data answer)
-reply_text_read answer h = told_text_read answer (made_wide answer h)
+reply_text_read answer h = reported_text_read answer (made_wide answer h)
 
 pub same_some : {A : Type 0} (a b : A) → Some a ≡ Some b → a ≡ b
 same_some a b e = cc

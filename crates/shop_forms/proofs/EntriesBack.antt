@@ -1,4 +1,4 @@
--- Entries are read back from the replies that tell them.
+-- Entries are read back from the replies that report them.
 use Rattle.std.proofs.Common.{◌≡◌, List, Bool, Some, refl, sym, ap, ◌∙◌, codes}
 use Rattle.std.specs.Prelude.{All, option_map, option_and_then}
 use Rattle.serde_json.specs.Data.{Data, boolean, number, unsigned}
@@ -8,7 +8,7 @@ use Rattle.shop_records.specs.declared.messages.Message.{Message}
 use Rattle.shop_records.specs.declared.messages.Reply.{Reply}
 use Rattle.shop_records.specs.declared.messages.Reply.TheVariants as reply
 use Rattle.shop_records.specs.Messages.{IsMessage, IsMade}
-use Rattle.shop_forms.specs.Forms.{sent_of, reply_of, made_data, message_told, reply_told, reply_data, kept_message_of, kept_reply_of, json_texts, entry_data, entry_fields, entry_in_list, entries_at, entries_read, answer_of, sent_text, made_text, TellsEntry}
+use Rattle.shop_forms.specs.Forms.{sent_of, reply_of, made_data, message_reported, reply_reported, reply_data, kept_message_of, kept_reply_of, json_texts, entry_data, entry_fields, entry_in_list, entries_at, entries_read, answer_of, sent_text, made_text, ReportsEntry}
 use Rattle.shop_forms.proofs.Back.{sent_back, message_text_read, reply_text_read, reply_back}
 use Rattle.shop_forms.proofs.FieldFacts.{wide_there, flag_there}
 use Rattle.shop_forms.proofs.Lists.{rows_there}
@@ -19,7 +19,7 @@ kept_message_back message h = ap (option_and_then sent_of) (message_text_read me
 kept_reply_back : (answer : Reply) → IsMade answer → kept_reply_of (json_texts.of_reply answer) ≡ Some answer
 kept_reply_back answer h = ap (option_and_then reply_of) (reply_text_read answer h) ∙ reply_back answer h
 
--- the object of such a reply is what is told of it in an entry
+-- the object of such a reply is what is reported about it in an entry
 made_is : (answer : Reply) → IsMade answer → made_data answer ≡ reply_data answer
 made_is (reply.AddMaterial material) h = refl
 made_is (reply.Receive act count) h = refl
@@ -64,31 +64,31 @@ fields_there : (d : Data) (e : EntryTold) (message answer : Data) → get (codes
 fields_there d e message answer p q r s sent made =
     rw (wide_there (codes "at") d e.at p, wide_there (codes "entry") d e.entry q, r, s, sent, made) refl
 
-sent_there : (e : EntryTold) (h : TellsEntry e) → sent_text (message_told (kept_message_of e.message)) ≡ Some e.message
+sent_there : (e : EntryTold) (h : ReportsEntry e) → sent_text (message_reported (kept_message_of e.message)) ≡ Some e.message
 sent_there e h =
     let found : kept_message_of e.message ≡ Some h.sent = ap kept_message_of h.message ∙ kept_message_back h.sent h.is_message in
-    ap (λ found. sent_text (message_told found)) found ∙ ap (option_map json_texts.of_message) (sent_back h.sent h.is_message) ∙ ap Some (sym h.message)
+    ap (λ found. sent_text (message_reported found)) found ∙ ap (option_map json_texts.of_message) (sent_back h.sent h.is_message) ∙ ap Some (sym h.message)
 
-made_there : (e : EntryTold) (h : TellsEntry e) → made_text (reply_told (kept_reply_of e.reply)) ≡ Some e.reply
+made_there : (e : EntryTold) (h : ReportsEntry e) → made_text (reply_reported (kept_reply_of e.reply)) ≡ Some e.reply
 made_there e h =
     let found : kept_reply_of e.reply ≡ Some h.answer = ap kept_reply_of h.reply ∙ kept_reply_back h.answer h.is_made in
-    ap (λ found. made_text (reply_told found)) found ∙ ap made_text (made_is h.answer h.is_made) ∙ ap (option_map json_texts.of_reply) (reply_back h.answer h.is_made) ∙ ap Some (sym h.reply)
+    ap (λ found. made_text (reply_reported found)) found ∙ ap made_text (made_is h.answer h.is_made) ∙ ap (option_map json_texts.of_reply) (reply_back h.answer h.is_made) ∙ ap Some (sym h.reply)
 
-entry_back : (e : EntryTold) → TellsEntry e → entry_in_list (entry_data e) ≡ Some e
+entry_back : (e : EntryTold) → ReportsEntry e → entry_in_list (entry_data e) ≡ Some e
 entry_back e h =
-    fields_there (entry_data e) e (message_told (kept_message_of e.message)) (reply_told (kept_reply_of e.reply)) refl refl refl refl (sent_there e h) (made_there e h)
+    fields_there (entry_data e) e (message_reported (kept_message_of e.message)) (reply_reported (kept_reply_of e.reply)) refl refl refl refl (sent_there e h) (made_there e h)
 
 entries_there : (d : Data) (entries : List EntryTold) → entries_at d ≡ Some entries → (more : Bool) → get (codes "more") d ≡ Some (boolean more) → entries_read d ≡ Some (entries, more)
 entries_there d entries is more also = rw (is, flag_there (codes "more") d more also) refl
 
-pub history_back : (entries : List EntryTold) (more : Bool) → All TellsEntry entries → answer_of (reply_data (reply.History entries more)) ≡ Some (reply.History entries more)
+pub history_back : (entries : List EntryTold) (more : Bool) → All ReportsEntry entries → answer_of (reply_data (reply.History entries more)) ≡ Some (reply.History entries more)
 history_back entries more h =
     let d = reply_data (reply.History entries more) in
     ap (option_map (λ (found : List EntryTold × Bool). reply.History found.0 found.1))
-    (entries_there d entries (rows_there entry_data TellsEntry entry_in_list entry_back (codes "entries") d entries refl h) more refl)
+    (entries_there d entries (rows_there entry_data ReportsEntry entry_in_list entry_back (codes "entries") d entries refl h) more refl)
 
-pub story_back : (entries : List EntryTold) (more : Bool) → All TellsEntry entries → answer_of (reply_data (reply.Story entries more)) ≡ Some (reply.Story entries more)
+pub story_back : (entries : List EntryTold) (more : Bool) → All ReportsEntry entries → answer_of (reply_data (reply.Story entries more)) ≡ Some (reply.Story entries more)
 story_back entries more h =
     let d = reply_data (reply.Story entries more) in
     ap (option_map (λ (found : List EntryTold × Bool). reply.Story found.0 found.1))
-    (entries_there d entries (rows_there entry_data TellsEntry entry_in_list entry_back (codes "entries") d entries refl h) more refl)
+    (entries_there d entries (rows_there entry_data ReportsEntry entry_in_list entry_back (codes "entries") d entries refl h) more refl)

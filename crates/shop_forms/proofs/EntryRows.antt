@@ -11,15 +11,15 @@ use Rattle.serde_json.specs.Written.{outline, items_outline}
 use Rattle.serde_json.proofs.Numbers.{number_of-decimal}
 use Rattle.shop_records.specs.declared.journal.EntryTold.{EntryTold}
 use Rattle.shop_forms.specs.Fields.{number_member}
-use Rattle.shop_forms.specs.Forms.{entry_data, kept_message_of, kept_reply_of, message_told, reply_told, HasWideEntry}
+use Rattle.shop_forms.specs.Forms.{entry_data, kept_message_of, kept_reply_of, message_reported, reply_reported, HasWideEntry}
 use Rattle.shop_forms.proofs.Lists.{rows_numbers, rows_deep, rows_json}
-use Rattle.shop_forms.proofs.Readable.{IsReadable, message_told_readable, reply_told_readable}
+use Rattle.shop_forms.proofs.Readable.{IsReadable, message_reported_readable, reply_reported_readable}
 
-message_in : (e : EntryTold) → HasWideEntry e → IsReadable (message_told (kept_message_of e.message))
-message_in e h = message_told_readable (kept_message_of e.message) h.2
+message_in : (e : EntryTold) → HasWideEntry e → IsReadable (message_reported (kept_message_of e.message))
+message_in e h = message_reported_readable (kept_message_of e.message) h.2
 
-reply_in : (e : EntryTold) → HasWideEntry e → IsReadable (reply_told (kept_reply_of e.reply))
-reply_in e h = reply_told_readable (kept_reply_of e.reply) h.3
+reply_in : (e : EntryTold) → HasWideEntry e → IsReadable (reply_reported (kept_reply_of e.reply))
+reply_in e h = reply_reported_readable (kept_reply_of e.reply) h.3
 
 entry_numbers : (e : EntryTold) → HasWideEntry e → HasNumbers (outline (entry_data e))
 entry_numbers e h =
@@ -37,7 +37,7 @@ json_by at entry message answer h k is also = rw (number_of-decimal at h, number
 
 entry_json : (e : EntryTold) → HasWideEntry e → of_json (outline (entry_data e)) ≡ Some (entry_data e)
 entry_json e h =
-    json_by e.at e.entry (message_told (kept_message_of e.message)) (reply_told (kept_reply_of e.reply)) h.0 h.1 (message_in e h).2 (reply_in e h).2
+    json_by e.at e.entry (message_reported (kept_message_of e.message)) (reply_reported (kept_reply_of e.reply)) h.0 h.1 (message_in e h).2 (reply_in e h).2
 
 deep_by : (m n : ℕ) → m ≤ 3 → n ≤ 3 → suc (max 0 (max 0 (max m (max n 0)))) ≤ 4
 deep_by m n h k =
@@ -45,7 +45,7 @@ deep_by m n h k =
 
 entry_deep : (e : EntryTold) → HasWideEntry e → depth (outline (entry_data e)) ≤ 4
 entry_deep e h =
-    deep_by (depth (outline (message_told (kept_message_of e.message)))) (depth (outline (reply_told (kept_reply_of e.reply)))) (message_in e h).1 (reply_in e h).1
+    deep_by (depth (outline (message_reported (kept_message_of e.message)))) (depth (outline (reply_reported (kept_reply_of e.reply)))) (message_in e h).1 (reply_in e h).1
 
 pub entries_numbers : (es : List EntryTold) → All HasWideEntry es → ItemsHaveNumbers (items_outline (items_of (map entry_data es)))
 entries_numbers es h = rows_numbers entry_data HasWideEntry entry_numbers es h

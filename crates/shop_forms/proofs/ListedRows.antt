@@ -1,4 +1,4 @@
--- Rows of lists as values and as text: numbers, the lines of an order, parts on the rack, and what lists tell of.
+-- Rows of lists as values and as text: numbers, the lines of an order, parts on the rack, and what lists report about.
 use Rattle.std.proofs.Common.{◌≡◌, ℕ, suc, ◌<◌, ◌≤◌, ◌^◌, List, map, Some, refl, arith, codes}
 use Rattle.std.specs.Prelude.{All, max}
 use Rattle.std.proofs.Math.Nat.{max-le}
@@ -23,7 +23,7 @@ use Rattle.shop_records.specs.Columns.{state_of}
 use Rattle.shop_records.specs.Messages.{IsLine, IsNumber}
 use Rattle.shop_forms.specs.Fields.{number_of, numbers_at}
 use Rattle.shop_forms.specs.Forms.{line_fields, line_of, lines_at, line_data, lines_data, list_data, material_data, part_data, demand_row_data, job_row_data, order_row_data, piece_data, rack_row_data, step_data}
-use Rattle.shop_forms.specs.Told.{HasWideSides, HasWideLimits, HasWidePart, HasWideDemand, HasWideJob, HasWideOrder, HasWidePiece, HasWideStep, cut_place, demand_cut}
+use Rattle.shop_forms.specs.Reported.{HasWideSides, HasWideLimits, HasWidePart, HasWideDemand, HasWideJob, HasWideOrder, HasWidePiece, HasWideStep, cut_place, demand_cut}
 use Rattle.shop_forms.proofs.FieldFacts.{small_is, number_there, code_there, flag_there}
 use Rattle.shop_forms.proofs.Lists.{rows_numbers, rows_shallow, rows_json, rows_there}
 

@@ -22,7 +22,7 @@ use Rattle.serde_json.specs.Read.{read, of_json, max_depth}
 use Rattle.serde_json.specs.Written.{compact_text, outline}
 use Rattle.serde_json.proofs.Numbers.{number_of-decimal}
 use Rattle.serde_json.proofs.Texts.{print-outline}
-use Rattle.shop_forms.specs.Forms.{message_data, made_data, message_told, reply_told, HasWideMade}
+use Rattle.shop_forms.specs.Forms.{message_data, made_data, message_reported, reply_reported, HasWideMade}
 use Rattle.shop_forms.proofs.ListedRows.{cuts_numbers, cuts_shallow, cuts_json, lines_numbers, lines_shallow, lines_json}
 
 -- the text of a value whose numbers are read back is read as the value
@@ -224,10 +224,10 @@ made_readable (reply.Pieces more pieces) wide_ones = nothing_readable
 made_readable (reply.Steps job kerf material part state steps) wide_ones = nothing_readable
 made_readable (reply.Refused refusal) wide_ones = nothing_readable
 
-pub message_told_readable : (found : Option Message) → IfSome found IsMessage → IsReadable (message_told found)
-message_told_readable None h = nothing_readable
-message_told_readable (Some message) h = message_readable message h
+pub message_reported_readable : (found : Option Message) → IfSome found IsMessage → IsReadable (message_reported found)
+message_reported_readable None h = nothing_readable
+message_reported_readable (Some message) h = message_readable message h
 
-pub reply_told_readable : (found : Option Reply) → IfSome found HasWideMade → IsReadable (reply_told found)
-reply_told_readable None h = nothing_readable
-reply_told_readable (Some answer) h = made_readable answer h
+pub reply_reported_readable : (found : Option Reply) → IfSome found HasWideMade → IsReadable (reply_reported found)
+reply_reported_readable None h = nothing_readable
+reply_reported_readable (Some answer) h = made_readable answer h

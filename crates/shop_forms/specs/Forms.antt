@@ -38,7 +38,7 @@ use Rattle.serde_json.specs.Find.{get}
 use Rattle.serde_json.specs.Read.{read}
 use Rattle.serde_json.specs.View.{items_of}
 use Rattle.serde_json.specs.Written.{compact_text}
-use Rattle.shop_forms.specs.Told.{HasWideSides, HasWideLimits, HasWidePart, HasWideDemand, HasWideJob, HasWideOrder, HasWidePiece, HasWideStep, cut_place, demand_cut, is_turned, name_or_none, order_or_none, state_or_none, what_text}
+use Rattle.shop_forms.specs.Reported.{HasWideSides, HasWideLimits, HasWidePart, HasWideDemand, HasWideJob, HasWideOrder, HasWidePiece, HasWideStep, cut_place, demand_cut, is_turned, name_or_none, order_or_none, state_or_none, what_text}
 use Rattle.shop_forms.specs.Fields.{number_at, wide_at, numbers_at, flag_at, text_at, code_at, name_at, kind_at, after_at, code_after_at, has_keys, word_at, elements_at, all_of, row, kind_text, state_text, job_state_text, text_member, number_member, name_member, flag_member}
 
 -- A command has a row of keys that is read, the keys that are printed but `terminal` and `number`, in byte order, and the same
@@ -60,8 +60,8 @@ material_members material kind kerf min_long min_short =
 abbrev pub material_made : Data → Option Reply
 material_made d = option_map reply.AddMaterial (code_at (codes "material") d)
 
-abbrev pub material_told : List ℕ → Data
-material_told material =
+abbrev pub material_reported : List ℕ → Data
+material_reported material =
     object (text_member (codes "material") material (text_member (codes "ok") (codes "material") no_members))
 
 -- ---- receiving units
@@ -81,8 +81,8 @@ abbrev pub receive_made : Data → Option Reply
 receive_made d =
     option_and_then (λ act. option_map (λ count. reply.Receive act count) (number_at (codes "count") d)) (number_at (codes "act") d)
 
-abbrev pub receive_told : (act count : ℕ) → Data
-receive_told act count =
+abbrev pub receive_reported : (act count : ℕ) → Data
+receive_reported act count =
     object (number_member (codes "act") act (number_member (codes "count") count (text_member (codes "ok") (codes "receive") no_members)))
 
 -- ---- adding an order
@@ -126,8 +126,8 @@ order_made d =
     option_and_then (λ count. option_and_then (λ first. option_map (λ order. reply.AddOrder count first order)
     (code_at (codes "order") d)) (number_at (codes "first") d)) (number_at (codes "count") d)
 
-abbrev pub order_told : (count first : ℕ) → List ℕ → Data
-order_told count first order =
+abbrev pub order_reported : (count first : ℕ) → List ℕ → Data
+order_reported count first order =
     object (number_member (codes "count") count (number_member (codes "first") first (text_member (codes "ok") (codes "order")
     (text_member (codes "order") order no_members))))
 
@@ -144,8 +144,8 @@ abbrev pub reserve_made : Data → Option Reply
 reserve_made d =
     option_and_then (λ cuts. option_map (λ job. reply.Reserve cuts job) (number_at (codes "job") d)) (number_at (codes "cuts") d)
 
-abbrev pub reserve_told : (cuts job : ℕ) → Data
-reserve_told cuts job =
+abbrev pub reserve_reported : (cuts job : ℕ) → Data
+reserve_reported cuts job =
     object (number_member (codes "cuts") cuts (number_member (codes "job") job (text_member (codes "ok") (codes "reserve") no_members)))
 
 -- ---- the end of a job
@@ -160,15 +160,15 @@ job_members word job = text_member (codes "do") word (number_member (codes "job"
 abbrev pub done_members : ℕ → Members
 done_members job = job_members (codes "done") job
 
--- what is told of a job that ended: its number, and the cells of kerf, pieces, rack and scrap
+-- what is reported about a job that ended: its number, and the cells of kerf, pieces, rack and scrap
 abbrev pub ended_cells : Data → Option (ℕ × ℕ × ℕ × ℕ × ℕ)
 ended_cells d =
     option_and_then (λ job. option_and_then (λ kerf. option_and_then (λ pieces. option_and_then (λ rack. option_map (λ scrap.
     (job, kerf, pieces, rack, scrap))
     (wide_at (codes "scrap") d)) (wide_at (codes "rack") d)) (wide_at (codes "pieces") d)) (wide_at (codes "kerf") d)) (number_at (codes "job") d)
 
-abbrev pub ended_told : List ℕ → (job kerf pieces rack scrap : ℕ) → Data
-ended_told word job kerf pieces rack scrap =
+abbrev pub ended_reported : List ℕ → (job kerf pieces rack scrap : ℕ) → Data
+ended_reported word job kerf pieces rack scrap =
     object (number_member (codes "job") job (number_member (codes "kerf") kerf (text_member (codes "ok") word
     (number_member (codes "pieces") pieces (number_member (codes "rack") rack (number_member (codes "scrap") scrap no_members))))))
 
@@ -244,18 +244,18 @@ release_members job = job_members (codes "release") job
 abbrev pub release_made : Data → Option Reply
 release_made d = option_map reply.Release (number_at (codes "job") d)
 
-abbrev pub release_told : ℕ → Data
-release_told job =
+abbrev pub release_reported : ℕ → Data
+release_reported job =
     object (number_member (codes "job") job (text_member (codes "ok") (codes "release") no_members))
 
 -- ---- a part that as a whole gets another state
 
--- a command on a part, and what is told of it, by their word
+-- a command on a part, and what is reported about it, by their word
 abbrev pub turned_members : List ℕ → Name → Members
 turned_members word part = text_member (codes "do") word (name_member (codes "part") part no_members)
 
-abbrev pub turned_told : List ℕ → Name → Data
-turned_told word part = object (text_member (codes "ok") word (name_member (codes "part") part no_members))
+abbrev pub turned_reported : List ℕ → Name → Data
+turned_reported word part = object (text_member (codes "ok") word (name_member (codes "part") part no_members))
 
 abbrev pub scrap_command : Data → Option Command
 scrap_command d = option_map Scrap (name_at (codes "part") d)
@@ -266,8 +266,8 @@ scrap_members part = turned_members (codes "scrap") part
 abbrev pub scrap_made : Data → Option Reply
 scrap_made d = option_map reply.Scrap (name_at (codes "part") d)
 
-abbrev pub scrap_told : Name → Data
-scrap_told part = turned_told (codes "scrap") part
+abbrev pub scrap_reported : Name → Data
+scrap_reported part = turned_reported (codes "scrap") part
 
 abbrev pub return_command : Data → Option Command
 return_command d = option_map GiveBack (name_at (codes "part") d)
@@ -278,8 +278,8 @@ return_members part = turned_members (codes "return") part
 abbrev pub return_made : Data → Option Reply
 return_made d = option_map reply.GiveBack (name_at (codes "part") d)
 
-abbrev pub return_told : Name → Data
-return_told part = turned_told (codes "return") part
+abbrev pub return_reported : Name → Data
+return_reported part = turned_reported (codes "return") part
 
 -- ---- importing an order
 
@@ -333,8 +333,8 @@ abbrev pub amend_made : Data → Option Reply
 amend_made d =
     option_and_then (λ demand. option_map (λ wanted. reply.Amend demand wanted) (number_at (codes "wanted") d)) (number_at (codes "demand") d)
 
-abbrev pub amend_told : (demand wanted : ℕ) → Data
-amend_told demand wanted =
+abbrev pub amend_reported : (demand wanted : ℕ) → Data
+amend_reported demand wanted =
     object (number_member (codes "demand") demand (text_member (codes "ok") (codes "amend") (number_member (codes "wanted") wanted no_members)))
 
 -- ---- a job that is undone
@@ -348,8 +348,8 @@ undo_members job = job_members (codes "undo") job
 abbrev pub undo_made : Data → Option Reply
 undo_made d = option_and_then (λ job. option_map (λ part. reply.Undo job part) (name_at (codes "part") d)) (number_at (codes "job") d)
 
-abbrev pub undo_told : ℕ → Name → Data
-undo_told job part =
+abbrev pub undo_reported : ℕ → Name → Data
+undo_reported job part =
     object (number_member (codes "job") job (text_member (codes "ok") (codes "undo") (name_member (codes "part") part no_members)))
 
 -- ---- what is said of an order
@@ -367,8 +367,8 @@ note_members order due text =
 abbrev pub note_made : Data → Option Reply
 note_made d = option_map reply.Note (code_at (codes "order") d)
 
-abbrev pub note_told : List ℕ → Data
-note_told order = object (text_member (codes "ok") (codes "note") (text_member (codes "order") order no_members))
+abbrev pub note_reported : List ℕ → Data
+note_reported order = object (text_member (codes "ok") (codes "note") (text_member (codes "order") order no_members))
 
 -- ---- further lines of an order
 
@@ -383,8 +383,8 @@ extend_made d =
     option_and_then (λ count. option_and_then (λ first. option_map (λ order. reply.Extend count first order)
     (code_at (codes "order") d)) (number_at (codes "first") d)) (number_at (codes "count") d)
 
-abbrev pub extend_told : (count first : ℕ) → List ℕ → Data
-extend_told count first order =
+abbrev pub extend_reported : (count first : ℕ) → List ℕ → Data
+extend_reported count first order =
     object (number_member (codes "count") count (number_member (codes "first") first (text_member (codes "ok") (codes "extend")
     (text_member (codes "order") order no_members))))
 
@@ -400,8 +400,8 @@ abbrev pub begin_made : Data → Option Reply
 begin_made d =
     option_and_then (λ before. option_map (λ job. reply.Begin before job) (number_at (codes "job") d)) (number_at (codes "before") d)
 
-abbrev pub begin_told : (before job : ℕ) → Data
-begin_told before job =
+abbrev pub begin_reported : (before job : ℕ) → Data
+begin_reported before job =
     object (number_member (codes "before") before (number_member (codes "job") job (text_member (codes "ok") (codes "begin") no_members)))
 
 -- ---- queries, and the replies to them
@@ -409,8 +409,8 @@ begin_told before job =
 abbrev pub totals_query : Data → Option Query
 totals_query d = option_map query.Totals (code_at (codes "material") d)
 
-abbrev pub totals_told : List ℕ → (received stock rack pieces kerf scrap returned : ℕ) → Data
-totals_told material received stock rack pieces kerf scrap returned =
+abbrev pub totals_reported : List ℕ → (received stock rack pieces kerf scrap returned : ℕ) → Data
+totals_reported material received stock rack pieces kerf scrap returned =
     object (number_member (codes "kerf") kerf (text_member (codes "material") material (text_member (codes "ok") (codes "totals")
     (number_member (codes "pieces") pieces (number_member (codes "rack") rack (number_member (codes "received") received
     (number_member (codes "returned") returned (number_member (codes "scrap") scrap (number_member (codes "stock") stock no_members)))))))))
@@ -427,8 +427,8 @@ rack_row_data r =
 abbrev pub rack_data : List RackRow → Data
 rack_data parts = array (items_of (map rack_row_data parts))
 
-abbrev pub rack_told : List ℕ → List RackRow → Data
-rack_told material parts =
+abbrev pub rack_reported : List ℕ → List RackRow → Data
+rack_reported material parts =
     object (text_member (codes "material") material (text_member (codes "ok") (codes "rack") (member (codes "parts") (rack_data parts) no_members)))
 
 abbrev pub trace_query : Data → Option Query
@@ -443,8 +443,8 @@ trace_data batch part root state h of w x y =
 abbrev pub demand_query : Data → Option Query
 demand_query d = option_map query.Demand (number_at (codes "demand") d)
 
-abbrev pub demand_told : (demand line made : ℕ) → (material order : List ℕ) → (reserved wanted : ℕ) → Data
-demand_told demand line made material order reserved wanted =
+abbrev pub demand_reported : (demand line made : ℕ) → (material order : List ℕ) → (reserved wanted : ℕ) → Data
+demand_reported demand line made material order reserved wanted =
     object (number_member (codes "demand") demand (number_member (codes "line") line (number_member (codes "made") made
     (text_member (codes "material") material (text_member (codes "ok") (codes "demand") (text_member (codes "order") order
     (number_member (codes "reserved") reserved (number_member (codes "wanted") wanted no_members))))))))
@@ -454,8 +454,8 @@ plan_query d =
     option_and_then (λ part. option_and_then (λ demands. option_map (λ step. query.Plan part demands step)
     (number_at (codes "step") d)) (numbers_at (codes "demands") d)) (name_at (codes "part") d)
 
-abbrev pub plan_told : (ceiling dropped : ℕ) → List ℕ → (worth : ℕ) → Data
-plan_told ceiling dropped tree worth =
+abbrev pub plan_reported : (ceiling dropped : ℕ) → List ℕ → (worth : ℕ) → Data
+plan_reported ceiling dropped tree worth =
     object (number_member (codes "ceiling") ceiling (number_member (codes "dropped") dropped (text_member (codes "ok") (codes "plan")
     (text_member (codes "tree") tree (number_member (codes "worth") worth no_members)))))
 
@@ -464,8 +464,8 @@ bound_query d =
     option_and_then (λ material. option_and_then (λ w. option_and_then (λ h. option_and_then (λ demands. option_map (λ step. query.Bound material w h demands step)
     (number_at (codes "step") d)) (numbers_at (codes "demands") d)) (number_at (codes "h") d)) (number_at (codes "w") d)) (code_at (codes "material") d)
 
-abbrev pub bound_told : (best units : ℕ) → Data
-bound_told best units =
+abbrev pub bound_reported : (best units : ℕ) → Data
+bound_reported best units =
     object (number_member (codes "best") best (text_member (codes "ok") (codes "bound") (number_member (codes "units") units no_members)))
 
 -- ---- lists of what is there, open or waiting
@@ -509,8 +509,8 @@ material_data m =
     object (number_member (codes "kerf") m.limits.kerf (text_member (codes "kind") (kind_text m.kind) (text_member (codes "material") m.code
     (number_member (codes "min_long") m.limits.min_long (number_member (codes "min_short") m.limits.min_short no_members)))))
 
-abbrev pub materials_told : List Material → Data
-materials_told materials =
+abbrev pub materials_reported : List Material → Data
+materials_reported materials =
     object (member (codes "materials") (rows_data material_data materials) (text_member (codes "ok") (codes "materials") no_members))
 
 -- a part as in a trace, without its place
@@ -520,8 +520,8 @@ part_data p =
     (name_member (codes "part") p.name (name_member (codes "root") p.root (text_member (codes "state") (state_text (state_word p.state))
     (number_member (codes "w") p.size.w no_members)))))))
 
-abbrev pub parts_told : List ℕ → Bool → List Part → Data
-parts_told material more parts =
+abbrev pub parts_reported : List ℕ → Bool → List Part → Data
+parts_reported material more parts =
     object (text_member (codes "material") material (flag_member (codes "more") more (text_member (codes "ok") (codes "parts")
     (member (codes "parts") (rows_data part_data parts) no_members))))
 
@@ -540,9 +540,9 @@ job_row_data j =
     (number_member (codes "h") j.h (number_member (codes "job") j.job (text_member (codes "material") j.material
     (name_member (codes "part") j.part (number_member (codes "w") j.w no_members))))))))
 
--- what is told of rows after a number: the list at its word, and whether others follow
-abbrev pub after_told : {T : Type 0} → List ℕ → (T → Data) → List T → Bool → Data
-after_told word said rows more =
+-- what is reported about rows after a number: the list at its word, and whether others follow
+abbrev pub after_reported : {T : Type 0} → List ℕ → (T → Data) → List T → Bool → Data
+after_reported word said rows more =
     object (member word (rows_data said rows) (flag_member (codes "more") more (text_member (codes "ok") word no_members)))
 
 -- an order as an object, its keys in byte order
@@ -552,24 +552,24 @@ order_row_data o =
     (text_member (codes "order") o.order (number_member (codes "reserved") o.reserved (text_member (codes "text") o.text
     (number_member (codes "wanted") o.wanted no_members)))))))
 
-abbrev pub orders_told : Bool → List OrderRow → Data
-orders_told more orders =
+abbrev pub orders_reported : Bool → List OrderRow → Data
+orders_reported more orders =
     object (flag_member (codes "more") more (text_member (codes "ok") (codes "orders") (member (codes "orders") (rows_data order_row_data orders) no_members)))
 
 -- the lines of an order, each as in a list of demands
-abbrev pub lines_told : List DemandRow → List ℕ → Data
-lines_told lines order =
+abbrev pub lines_reported : List DemandRow → List ℕ → Data
+lines_reported lines order =
     object (member (codes "lines") (rows_data demand_row_data lines) (text_member (codes "ok") (codes "lines") (text_member (codes "order") order no_members)))
 
-abbrev pub job_told : (begun cuts h job kerf : ℕ) → (material : List ℕ) → Name → JobState → (tree : List ℕ) → (w : ℕ) → Data
-job_told begun cuts h job kerf material part state tree w =
+abbrev pub job_reported : (begun cuts h job kerf : ℕ) → (material : List ℕ) → Name → JobState → (tree : List ℕ) → (w : ℕ) → Data
+job_reported begun cuts h job kerf material part state tree w =
     object (number_member (codes "begun") begun (number_member (codes "cuts") cuts (number_member (codes "h") h (number_member (codes "job") job
     (number_member (codes "kerf") kerf (text_member (codes "material") material (text_member (codes "ok") (codes "job")
     (name_member (codes "part") part (text_member (codes "state") (job_state_text state) (text_member (codes "tree") tree
     (number_member (codes "w") w no_members)))))))))))
 
-abbrev pub terminal_told : (last terminal : ℕ) → Data
-terminal_told last terminal =
+abbrev pub terminal_reported : (last terminal : ℕ) → Data
+terminal_reported last terminal =
     object (number_member (codes "last") last (text_member (codes "ok") (codes "terminal") (number_member (codes "terminal") terminal no_members)))
 
 abbrev pub history_query : Data → Option Query
@@ -585,8 +585,8 @@ abbrev pub story_query : Data → Option Query
 story_query d =
     option_and_then (λ about. option_map (λ after. query.Story about after) (number_at (codes "after") d)) (subject_of d)
 
-abbrev pub shop_told : (began entries last : ℕ) → Data
-shop_told began entries last =
+abbrev pub shop_reported : (began entries last : ℕ) → Data
+shop_reported began entries last =
     object (number_member (codes "began") began (number_member (codes "entries") entries (number_member (codes "last") last
     (text_member (codes "ok") (codes "shop") no_members))))
 
@@ -608,8 +608,8 @@ piece_data p =
     (text_member (codes "order") p.order (name_member (codes "part") p.part (name_member (codes "root") p.root
     (number_member (codes "w") p.w no_members))))))))))
 
-abbrev pub pieces_told : Bool → List PieceRow → Data
-pieces_told more pieces =
+abbrev pub pieces_reported : Bool → List PieceRow → Data
+pieces_reported more pieces =
     object (flag_member (codes "more") more (text_member (codes "ok") (codes "pieces") (member (codes "pieces") (rows_data piece_data pieces) no_members)))
 
 abbrev pub steps_query : Data → Option Query
@@ -625,8 +625,8 @@ step_data r =
     (number_member (codes "w") r.step.w (text_member (codes "what") (what_text r.step.what)
     (number_member (codes "x") r.step.x (number_member (codes "y") r.step.y no_members)))))))))))))
 
-abbrev pub steps_told : (job kerf : ℕ) → (material : List ℕ) → Name → JobState → List StepRow → Data
-steps_told job kerf material part state steps =
+abbrev pub steps_reported : (job kerf : ℕ) → (material : List ℕ) → Name → JobState → List StepRow → Data
+steps_reported job kerf material part state steps =
     object (number_member (codes "job") job (number_member (codes "kerf") kerf (text_member (codes "material") material
     (text_member (codes "ok") (codes "steps") (name_member (codes "part") part (text_member (codes "state") (job_state_text state)
     (member (codes "steps") (rows_data step_data steps) no_members)))))))
@@ -763,21 +763,21 @@ reply_of d = option_and_then (λ word. made_of word d) (text_at (codes "ok") d)
 
 -- a reply that an accepted message can get as an object, its keys in byte order; nothing of another one
 abbrev pub made_data : Reply → Data
-made_data (reply.AddMaterial material) = material_told material
-made_data (reply.Receive act count) = receive_told act count
-made_data (reply.AddOrder count first order) = order_told count first order
-made_data (reply.Reserve cuts job) = reserve_told cuts job
-made_data (reply.Done job kerf pieces rack scrap) = ended_told (codes "done") job kerf pieces rack scrap
-made_data (reply.Break job kerf pieces rack scrap) = ended_told (codes "break") job kerf pieces rack scrap
-made_data (reply.Release job) = release_told job
-made_data (reply.Scrap part) = scrap_told part
-made_data (reply.GiveBack part) = return_told part
+made_data (reply.AddMaterial material) = material_reported material
+made_data (reply.Receive act count) = receive_reported act count
+made_data (reply.AddOrder count first order) = order_reported count first order
+made_data (reply.Reserve cuts job) = reserve_reported cuts job
+made_data (reply.Done job kerf pieces rack scrap) = ended_reported (codes "done") job kerf pieces rack scrap
+made_data (reply.Break job kerf pieces rack scrap) = ended_reported (codes "break") job kerf pieces rack scrap
+made_data (reply.Release job) = release_reported job
+made_data (reply.Scrap part) = scrap_reported part
+made_data (reply.GiveBack part) = return_reported part
 made_data (reply.Import act count first order) = import_told act count first order
-made_data (reply.Amend demand wanted) = amend_told demand wanted
-made_data (reply.Undo job part) = undo_told job part
-made_data (reply.Note order) = note_told order
-made_data (reply.Extend count first order) = extend_told count first order
-made_data (reply.Begin before job) = begin_told before job
+made_data (reply.Amend demand wanted) = amend_reported demand wanted
+made_data (reply.Undo job part) = undo_reported job part
+made_data (reply.Note order) = note_reported order
+made_data (reply.Extend count first order) = extend_reported count first order
+made_data (reply.Begin before job) = begin_reported before job
 made_data _ = null
 
 -- ---- entries, with what is kept of their messages
@@ -789,25 +789,25 @@ kept_message_of text = option_and_then sent_of (read text)
 abbrev pub kept_reply_of : List ℕ → Option Reply
 kept_reply_of text = option_and_then reply_of (read text)
 
--- The object that a kept message is, and the one that a kept reply is. A text that is none is told as null; in each content
+-- The object that a kept message is, and the one that a kept reply is. A text that is none is reported as null; in each content
 -- that a history gives, kept texts are messages and replies.
-abbrev pub message_told : Option Message → Data
-message_told None = null
-message_told (Some message) = message_data message
+abbrev pub message_reported : Option Message → Data
+message_reported None = null
+message_reported (Some message) = message_data message
 
-abbrev pub reply_told : Option Reply → Data
-reply_told None = null
-reply_told (Some answer) = made_data answer
+abbrev pub reply_reported : Option Reply → Data
+reply_reported None = null
+reply_reported (Some answer) = made_data answer
 
 -- an entry as an object, its keys in byte order
 abbrev pub entry_data : EntryTold → Data
 entry_data e =
     object (number_member (codes "at") e.at (number_member (codes "entry") e.entry
-    (member (codes "message") (message_told (kept_message_of e.message)) (member (codes "reply") (reply_told (kept_reply_of e.reply)) no_members))))
+    (member (codes "message") (message_reported (kept_message_of e.message)) (member (codes "reply") (reply_reported (kept_reply_of e.reply)) no_members))))
 
--- what is told of entries, by the word of the reply
-abbrev pub entries_told : List ℕ → List EntryTold → Bool → Data
-entries_told word entries more =
+-- what is reported about entries, by the word of the reply
+abbrev pub entries_reported : List ℕ → List EntryTold → Bool → Data
+entries_reported word entries more =
     object (member (codes "entries") (rows_data entry_data entries) (flag_member (codes "more") more (text_member (codes "ok") word no_members)))
 
 -- a reply as an object, its keys in byte order
@@ -827,25 +827,25 @@ reply_data (reply.Undo job part) = made_data (reply.Undo job part)
 reply_data (reply.Note order) = made_data (reply.Note order)
 reply_data (reply.Extend count first order) = made_data (reply.Extend count first order)
 reply_data (reply.Begin before job) = made_data (reply.Begin before job)
-reply_data (reply.Totals material received stock rack pieces kerf scrap returned) = totals_told material received stock rack pieces kerf scrap returned
-reply_data (reply.Rack material parts) = rack_told material parts
+reply_data (reply.Totals material received stock rack pieces kerf scrap returned) = totals_reported material received stock rack pieces kerf scrap returned
+reply_data (reply.Rack material parts) = rack_reported material parts
 reply_data (reply.Trace batch h of part root state w x y) = trace_data batch (name_text part) (name_text root) (state_text state) h of w x y
-reply_data (reply.Demand demand line made material order reserved wanted) = demand_told demand line made material order reserved wanted
-reply_data (reply.Plan ceiling dropped tree worth) = plan_told ceiling dropped tree worth
-reply_data (reply.Bound best units) = bound_told best units
-reply_data (reply.Materials materials) = materials_told materials
-reply_data (reply.Parts material more parts) = parts_told material more parts
-reply_data (reply.Demands demands more) = after_told (codes "demands") demand_row_data demands more
-reply_data (reply.Jobs jobs more) = after_told (codes "jobs") job_row_data jobs more
-reply_data (reply.Job begun cuts h job kerf material part state tree w) = job_told begun cuts h job kerf material part state tree w
-reply_data (reply.Terminal last terminal) = terminal_told last terminal
-reply_data (reply.Orders more orders) = orders_told more orders
-reply_data (reply.Lines lines order) = lines_told lines order
-reply_data (reply.Shop began entries last) = shop_told began entries last
-reply_data (reply.History entries more) = entries_told (codes "history") entries more
-reply_data (reply.Story entries more) = entries_told (codes "story") entries more
-reply_data (reply.Pieces more pieces) = pieces_told more pieces
-reply_data (reply.Steps job kerf material part state steps) = steps_told job kerf material part state steps
+reply_data (reply.Demand demand line made material order reserved wanted) = demand_reported demand line made material order reserved wanted
+reply_data (reply.Plan ceiling dropped tree worth) = plan_reported ceiling dropped tree worth
+reply_data (reply.Bound best units) = bound_reported best units
+reply_data (reply.Materials materials) = materials_reported materials
+reply_data (reply.Parts material more parts) = parts_reported material more parts
+reply_data (reply.Demands demands more) = after_reported (codes "demands") demand_row_data demands more
+reply_data (reply.Jobs jobs more) = after_reported (codes "jobs") job_row_data jobs more
+reply_data (reply.Job begun cuts h job kerf material part state tree w) = job_reported begun cuts h job kerf material part state tree w
+reply_data (reply.Terminal last terminal) = terminal_reported last terminal
+reply_data (reply.Orders more orders) = orders_reported more orders
+reply_data (reply.Lines lines order) = lines_reported lines order
+reply_data (reply.Shop began entries last) = shop_reported began entries last
+reply_data (reply.History entries more) = entries_reported (codes "history") entries more
+reply_data (reply.Story entries more) = entries_reported (codes "story") entries more
+reply_data (reply.Pieces more pieces) = pieces_reported more pieces
+reply_data (reply.Steps job kerf material part state steps) = steps_reported job kerf material part state steps
 reply_data (reply.Refused refusal) =
     object (text_member (codes "name") (refusal_name refusal) (number_member (codes "refused") (refusal_number refusal) no_members))
 
@@ -955,15 +955,15 @@ told_by word d =
     if bytes_eq word (codes "history") then option_map (λ read. reply.History read.0 read.1) (row 3 entries_read d)
     else (if bytes_eq word (codes "story") then option_map (λ read. reply.Story read.0 read.1) (row 3 entries_read d) else None)
 
-abbrev pub told_of : Data → Option Reply
-told_of d = option_and_then (λ word. told_by word d) (text_at (codes "ok") d)
+abbrev pub reported_of : Data → Option Reply
+reported_of d = option_and_then (λ word. told_by word d) (text_at (codes "ok") d)
 
 -- a reply that an accepted message can get, or one about entries
 abbrev pub answer_of : Data → Option Reply
-answer_of d = option_or (reply_of d) (told_of d)
+answer_of d = option_or (reply_of d) (reported_of d)
 
 -- an entry has the texts of a message and of a reply that an accepted message can get
-pub record TellsEntry (e : EntryTold) : Type 0 where
+pub record ReportsEntry (e : EntryTold) : Type 0 where
   pub sent : Message
   pub answer : Reply
   pub is_message : IsMessage sent

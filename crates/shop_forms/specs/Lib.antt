@@ -2,4 +2,4 @@ pub mod Fields
 pub mod Forms
 pub mod Tokens
 pub mod Members
-pub mod Told
+pub mod Reported

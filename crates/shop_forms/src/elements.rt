@@ -59,7 +59,7 @@ pub fn rows_at<T: Read>(
     }
 }
 
-/// A row of a list, as it is told: an object.
+/// A row of a list, as it is reported: an object.
 pub trait Listed {
     /// The object.
     ghost said: { Self → Data };

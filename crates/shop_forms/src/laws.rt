@@ -8,7 +8,7 @@ ghost use Rattle.shop_records.specs.declared.messages.Query.{Query};
 ghost use Rattle.shop_records.specs.declared.messages.Reply.{Reply};
 ghost use Rattle.shop_records.specs.declared.messages.Reply.TheVariants.{History, Story};
 ghost use Rattle.shop_records.specs.Messages.{IsMessage, IsMade};
-ghost use Rattle.shop_forms.specs.Forms.{has_few_cuts, message_of, query_of, reply_of, kept_message_of, answer_of, message_data, reply_data, json_texts, TellsEntry};
+ghost use Rattle.shop_forms.specs.Forms.{has_few_cuts, message_of, query_of, reply_of, kept_message_of, answer_of, message_data, reply_data, json_texts, ReportsEntry};
 
 /// A message of a terminal from 1 on with at most 255 listed cuts, and a reply that an accepted message can get, are read back from their objects.
 pub fn read_back()
@@ -18,13 +18,13 @@ pub fn read_back()
 {}
 
 /// A kept message is read back from its text, terminal 0's too; and entries with their messages and replies are read back
-/// from the objects of the replies that tell them.
+/// from the objects of the replies that report them.
 pub fn entries_read_back()
     ensures message { (message : Message) → IsMessage message
         → kept_message_of (json_texts.of_message message) ≡ Some message }
-    ensures history { (entries : List EntryTold) (more : Bool) → All TellsEntry entries
+    ensures history { (entries : List EntryTold) (more : Bool) → All ReportsEntry entries
         → answer_of (reply_data (History entries more)) ≡ Some (History entries more) }
-    ensures story { (entries : List EntryTold) (more : Bool) → All TellsEntry entries
+    ensures story { (entries : List EntryTold) (more : Bool) → All ReportsEntry entries
         → answer_of (reply_data (Story entries more)) ≡ Some (Story entries more) }
 {}
 

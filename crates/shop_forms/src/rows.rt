@@ -1,4 +1,4 @@
-//! Rows of lists in JSON: the lines of an order, read and written, and the rows that replies tell.
+//! Rows of lists in JSON: the lines of an order, read and written, and the rows that replies report.
 
 ghost use Rattle.std.specs.Prelude.{◌≡◌, codes};
 ghost use Rattle.serde_json.specs.Data.{string};
@@ -6,7 +6,7 @@ ghost use Rattle.serde_json.specs.View.{view};
 ghost use Rattle.shop_records.specs.Messages.{IsLine};
 ghost use Rattle.shop_forms.specs.Forms as form;
 ghost use Rattle.shop_forms.specs.Members.{IsAt};
-ghost use Rattle.shop_forms.specs.Told as told;
+ghost use Rattle.shop_forms.specs.Reported as reported;
 
 use crate::elements::{Listed, Read};
 use crate::fields::{code_at, flag_at, has_keys, number_at};
@@ -81,7 +81,7 @@ impl Listed for OrderLine {
 impl Listed for RackRow {
     ghost said = { form.rack_row_data };
 
-    ghost is_wide = { told.HasWideSides };
+    ghost is_wide = { reported.HasWideSides };
 
     fn write(&self, alloc: Global, writer: &mut Writer) -> Result<(), AllocError> {
         write_object(
@@ -99,7 +99,7 @@ impl Listed for RackRow {
 impl Listed for Material {
     ghost said = { form.material_data };
 
-    ghost is_wide = { told.HasWideLimits };
+    ghost is_wide = { reported.HasWideLimits };
 
     fn write(&self, _alloc: Global, writer: &mut Writer) -> Result<(), AllocError> {
         write_object(
@@ -118,7 +118,7 @@ impl Listed for Material {
 impl Listed for Part {
     ghost said = { form.part_data };
 
-    ghost is_wide = { told.HasWidePart };
+    ghost is_wide = { reported.HasWidePart };
 
     fn write(&self, alloc: Global, writer: &mut Writer) -> Result<(), AllocError> {
         write_object(
@@ -139,7 +139,7 @@ impl Listed for Part {
 impl Listed for DemandRow {
     ghost said = { form.demand_row_data };
 
-    ghost is_wide = { told.HasWideDemand };
+    ghost is_wide = { reported.HasWideDemand };
 
     fn write(&self, _alloc: Global, writer: &mut Writer) -> Result<(), AllocError> {
         let demand = self.demand;
@@ -166,7 +166,7 @@ impl Listed for DemandRow {
 impl Listed for JobRow {
     ghost said = { form.job_row_data };
 
-    ghost is_wide = { told.HasWideJob };
+    ghost is_wide = { reported.HasWideJob };
 
     fn write(&self, alloc: Global, writer: &mut Writer) -> Result<(), AllocError> {
         write_object(
@@ -188,7 +188,7 @@ impl Listed for JobRow {
 impl Listed for OrderRow {
     ghost said = { form.order_row_data };
 
-    ghost is_wide = { told.HasWideOrder };
+    ghost is_wide = { reported.HasWideOrder };
 
     fn write(&self, _alloc: Global, writer: &mut Writer) -> Result<(), AllocError> {
         let OrderRow {
@@ -218,7 +218,7 @@ impl Listed for OrderRow {
 impl Listed for PieceRow {
     ghost said = { form.piece_data };
 
-    ghost is_wide = { told.HasWidePiece };
+    ghost is_wide = { reported.HasWidePiece };
 
     fn write(&self, alloc: Global, writer: &mut Writer) -> Result<(), AllocError> {
         let PieceRow { at, .. } = self;
@@ -242,7 +242,7 @@ impl Listed for PieceRow {
 
 // The name of the part that has a node's number, or an empty text.
 fn part_member(alloc: Global, part: &Option<PartName>) -> Member<'_>
-    ensures { IsAt result (codes "part") (string (told.name_or_none part.now)) }
+    ensures { IsAt result (codes "part") (string (reported.name_or_none part.now)) }
 {
     match part {
         Some(part) => Member::Name("part", part, alloc),
@@ -253,7 +253,7 @@ fn part_member(alloc: Global, part: &Option<PartName>) -> Member<'_>
 impl Listed for StepRow {
     ghost said = { form.step_data };
 
-    ghost is_wide = { told.HasWideStep };
+    ghost is_wide = { reported.HasWideStep };
 
     fn write(&self, alloc: Global, writer: &mut Writer) -> Result<(), AllocError> {
         let step = self.step;

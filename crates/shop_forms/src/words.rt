@@ -1,11 +1,11 @@
-//! The words for kinds and states in JSON, how a plan's node is told, and readings by which the range of a number or a name is
+//! The words for kinds and states in JSON, how a plan's node is reported, and readings by which the range of a number or a name is
 //! known.
 
 ghost use Rattle.std.specs.Prelude.{◌≡◌};
 ghost use Rattle.cut_measure.specs.Names.{IsName};
 ghost use Rattle.shop_records.specs.Messages.{IsNumber};
 ghost use Rattle.shop_forms.specs.Fields.{job_state_text, kind_text, state_text};
-ghost use Rattle.shop_forms.specs.Told.{what_text, cut_place, demand_cut, is_turned, order_or_none, state_or_none};
+ghost use Rattle.shop_forms.specs.Reported.{what_text, cut_place, demand_cut, is_turned, order_or_none, state_or_none};
 
 use cut_measure::{Axis, Code, Kind, PartName};
 use cut_tree::Token;

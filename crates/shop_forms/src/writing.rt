@@ -143,7 +143,7 @@ pub fn write_name(
     write_text(writer, key, name.as_str())
 }
 
-/// The value that a text stands for. A text that was written stands for one, so an Err is want of memory.
+/// The value that a text stands for. A text that was written stands for one, so an Err is lack of memory.
 pub fn value_of(alloc: Global, text: &Text) -> Result<Value, AllocError>
     ensures { IfOk result (λ value. read text.now ≡ Some (view value)) }
 {

@@ -1,4 +1,4 @@
--- Which fault each refusal of the port is told as.
+-- Which fault each refusal of the port is reported as.
 use Rattle.std.proofs.Common.{◌≡◌, ◌⊎◌, ◌∙◌, None, inl, inr, refl, sym, ap, subst}
 use Rattle.std.specs.Prelude.{◌≢◌}
 use Rattle.sqlite_disk.specs.declared.Disk.{Ghosts as DiskGhosts}
@@ -58,10 +58,10 @@ other_fault code cause memory used full none bad = record {
   other = λ _. (cause, refl);
 }
 
--- what a code is told as is what the refusal by it is
+-- what a code is reported as is what the refusal by it is
 coded_fault : (code : ErrorCode) (fault : OpenFault) → IsCodeFault code fault → IsOpenFault (SqliteFailure code) fault
-coded_fault code fault told = record {
-  coded = λ other is. let same : code ≡ other = cc in subst (λ (c : ErrorCode). IsCodeFault c fault) same told;
+coded_fault code fault reported = record {
+  coded = λ other is. let same : code ≡ other = cc in subst (λ (c : ErrorCode). IsCodeFault c fault) same reported;
   other = λ none. absurd (none code refl);
 }
 

@@ -1,4 +1,4 @@
--- What is told of tables that aren't taken over, by what a look at them found.
+-- What is reported about tables that aren't taken over, by what a look at them found.
 use Rattle.std.specs.Prelude.{ℕ, ℤ, List, Option, Some, None, Result, Ok}
 use Rattle.shop_advice.specs.declared.causes.RowKey.{RowKey}
 use Rattle.shop_advice.specs.declared.causes.RowKey.TheVariants as key

@@ -72,7 +72,7 @@ pub record IsOpenedOn {D : Type 0} {g : DiskGhosts D} (image : Image) (conn : He
 abbrev pub pair_image : (log store : List ℕ) → Image
 pair_image log store = record { log = log; db = store }
 
--- Files in memory were opened as a book over this connection, as files with some bytes are. Of a real file no bytes are told, so
+-- Files in memory were opened as a book over this connection, as files with some bytes are. Of a real file no bytes are reported, so
 -- that it is not said with which.
 abbrev pub IsBookApart : {D : Type 0} {g : DiskGhosts D} → Held (FileStore D g) → Remembered → Ledger → ℕ → Type 0
 IsBookApart conn it ledger failures = (log store : List ℕ) × IsOpenedOn (pair_image log store) conn it ledger failures
@@ -87,8 +87,8 @@ pub record IsMerged {D : Type 0} {g : DiskGhosts D} (conn : Held (FileStore D g)
 
 -- ---- why there is none
 
--- what a refusal of the port with this code is: want of memory is told as that, and every other refusal as the store's, by its
--- cause as far as the code tells it
+-- what a refusal of the port with this code is: lack of memory is reported as that, and every other refusal as the store's, by its
+-- cause as far as the code reports it
 pub record IsCodeFault (code : ErrorCode) (fault : OpenFault) : Type 0 where
   pub memory : code ≡ OutOfMemory → fault ≡ NoMemory
   pub used : code ≡ DatabaseBusy → fault ≡ Store InUse
@@ -101,7 +101,7 @@ pub record IsOpenFault (error : Error) (fault : OpenFault) : Type 0 where
   pub coded : (code : ErrorCode) → error ≡ SqliteFailure code → IsCodeFault code fault
   pub other : ((code : ErrorCode) → error ≢ SqliteFailure code) → (cause : StoreCause) × (fault ≡ Store cause)
 
--- what is told of files that were looked at, and not opened
+-- what is reported about files that were looked at, and not opened
 abbrev pub IsLookFault : OpenFault → Type 0
 IsLookFault fault = (fault ≡ NoMemory) ⊎ ((cause : StoreCause) × (fault ≡ Store cause))
 

@@ -120,7 +120,7 @@ fn read_named(rt: &HostRuntime, alloc: Global, path: &str) -> Result<Pair, LookF
 
 /// Reads both files of a store, and changes neither. A store without a byte may have no log.
 ///
-/// `NoMemory` for want of memory; `Store` where it isn't there, another program has it open, it can't be read, or its files aren't
+/// `NoMemory` because memory ran out; `Store` where it isn't there, another program has it open, it can't be read, or its files aren't
 /// what a stop leaves.
 pub fn read_pair(rt: &HostRuntime, alloc: Global, path: &str) -> Result<Pair, OpenFault> {
     match read_named(rt, alloc, path) {
@@ -129,7 +129,7 @@ pub fn read_pair(rt: &HostRuntime, alloc: Global, path: &str) -> Result<Pair, Op
     }
 }
 
-// What a refusal of the port is. A file in memory fails for want of memory alone.
+// What a refusal of the port is. A file in memory fails because memory ran out alone.
 fn apart_fault(error: Error, is_database: bool) -> OpenFault {
     match error {
         Error::SqliteFailure(ErrorCode::OutOfMemory | ErrorCode::SystemIoFailure) => {
@@ -167,7 +167,7 @@ fn open_over<D: Disk + Drop>(
     }
 }
 
-// A file in memory that holds these bytes. None for want of memory.
+// A file in memory that holds these bytes. None because memory ran out.
 fn memory_of(alloc: Global, bytes: &[u8]) -> Option<Memory>
     ensures usable { IfSome result (λ file. IsTrue (memory_is_usable file)) }
     ensures bytes { IfSome result (λ file. memory_bytes file ≡ bytes.now) }
@@ -177,7 +177,7 @@ fn memory_of(alloc: Global, bytes: &[u8]) -> Option<Memory>
     Some(file)
 }
 
-// Files in memory that hold a pair. None for want of memory.
+// Files in memory that hold a pair. None because memory ran out.
 fn files_of(alloc: Global, pair: &Pair) -> Option<Files<Memory>>
     ensures log { IfSome result (λ files. IsTrue (memory_is_usable files.log)) }
     ensures db { IfSome result (λ files. IsTrue (memory_is_usable files.db)) }
@@ -191,7 +191,7 @@ fn files_of(alloc: Global, pair: &Pair) -> Option<Files<Memory>>
 
 /// Opens the book of a pair of files that were read, in memory, where tables of version 1 or 2 become tables of version 3.
 ///
-/// `NoMemory` for want of memory; `Store` where it is no database; `Version` where it has other tables under a book's names, or
+/// `NoMemory` because memory ran out; `Store` where it is no database; `Version` where it has other tables under a book's names, or
 /// those of another version.
 pub fn open_pair(alloc: Global, pair: &Pair) -> Result<ApartBook, OpenFault>
     ensures { IfOk result (λ book. IsOpenedOn (pair_image pair.now.log.items pair.now.store.items)
@@ -204,7 +204,7 @@ pub fn open_pair(alloc: Global, pair: &Pair) -> Result<ApartBook, OpenFault>
     }
 }
 
-// Whether a database in memory has none of a shop's tables. Of one that can't be opened the open tells why.
+// Whether a database in memory has none of a shop's tables. Of one that can't be opened the open reports why.
 fn is_foreign(alloc: Global, pair: &Pair) -> bool {
     let Some(files) = files_of(alloc, pair) else {
         return false;

@@ -104,7 +104,7 @@ pub(crate) fn refused<T>(cause: StoreCause) -> Result<T, LookFault> {
     Err(LookFault::Store(cause))
 }
 
-/// Opens a store's file alone, as an open by the port does. None where that can't be, which the port tells then.
+/// Opens a store's file alone, as an open by the port does. None where that can't be, which the port reports then.
 pub(crate) fn open_alone(rt: &HostRuntime, path: &str) -> Result<Option<File>, LookFault> {
     let Ok(file) = OpenOptions::new().read(true).write(true).open(rt, path) else {
         return Ok(None);
@@ -131,7 +131,7 @@ pub(crate) fn head_of(file: &mut File, length: u64) -> Option<Head> {
     Some(Head { bytes, length })
 }
 
-// What a file holds. None where it can't be read, which the port tells then.
+// What a file holds. None where it can't be read, which the port reports then.
 fn bytes_of(rt: &HostRuntime, path: &str) -> Result<Option<Vec<u8>>, LookFault> {
     match fs::read(rt, path) {
         Ok(bytes) => Ok(Some(bytes)),
@@ -422,8 +422,8 @@ fn look_beside(
     }
 }
 
-/// Looks at the files of a store before they are opened, and tells what is there. `existing`: it has to be there. What is wrong
-/// with them otherwise the open tells.
+/// Looks at the files of a store before they are opened, and reports what is there. `existing`: it has to be there. What is wrong
+/// with them otherwise the open reports.
 pub(crate) fn look_before(
     rt: &HostRuntime,
     alloc: Global,
@@ -439,7 +439,7 @@ pub(crate) fn look_before(
     }
 }
 
-/// Looks for a store that is only read, and tells the name to which no link leads any more.
+/// Looks for a store that is only read, and reports the name to which no link leads any more.
 pub(crate) fn look_before_apart(
     rt: &HostRuntime,
     alloc: Global,

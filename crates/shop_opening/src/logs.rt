@@ -1,4 +1,4 @@
-//! What the bytes of a store's log tell: SQLite's format, as the port (`sqlite_wal`) writes it.
+//! What the bytes of a store's log report: SQLite's format, as the port (`sqlite_wal`) writes it.
 
 use sqlite_wal::checksum_of;
 
@@ -11,7 +11,7 @@ const FRAME_HEAD: usize = 24;
 
 const NO_FRAME: usize = 41;
 
-/// What a log's bytes tell.
+/// What a log's bytes report.
 #[derive(Clone, Copy, Debug, PartialEq, Eq)]
 pub(crate) enum LogState {
     /// No commit is to be taken of it.
@@ -85,7 +85,7 @@ fn ends_commit(frame: &[u8]) -> bool {
     number_at(frame, 4) != 0
 }
 
-// What the frames of a log tell, whose pages have this size. Once a frame isn't good, none behind it is taken; so a whole commit
+// What the frames of a log report, whose pages have this size. Once a frame isn't good, none behind it is taken; so a whole commit
 // there isn't what a stop leaves: frames that are good, which begin behind one that ends a commit and end with one that does.
 fn walk(log: &[u8], size: usize) -> LogState {
     let mut sum = sum_at(log, 24);
@@ -111,7 +111,7 @@ fn walk(log: &[u8], size: usize) -> LogState {
     state
 }
 
-// What a log without a head tells. A merge that was stopped leaves a first byte of 0, with all commits in the store by then; and
+// What a log without a head reports. A merge that was stopped leaves a first byte of 0, with all commits in the store by then; and
 // what is left beside a store that was being made has its mark.
 fn headless(log: &[u8], is_begun: bool) -> LogState {
     if log.first() == Some(&0) || (is_begun && has_mark(log)) {
@@ -121,7 +121,7 @@ fn headless(log: &[u8], is_begun: bool) -> LogState {
     }
 }
 
-/// What a log's bytes tell. `is_begun`: the store beside it has no first byte yet, as one that is being made.
+/// What a log's bytes report. `is_begun`: the store beside it has no first byte yet, as one that is being made.
 pub(crate) fn log_state(log: &[u8], is_begun: bool) -> LogState {
     if log.len() <= NO_FRAME {
         return LogState::Empty;

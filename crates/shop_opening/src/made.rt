@@ -76,7 +76,7 @@ fn empty_file<R: Files>(rt: &R, path: &str) -> Option<Identity> {
     }
 }
 
-// Cuts a file to no byte, if it is this one, and tells whether it has none now.
+// Cuts a file to no byte, if it is this one, and reports whether it has none now.
 fn empty_own<R: Files>(rt: &R, path: &str, own: Option<Identity>) -> bool {
     if !is_own(rt, path, own) {
         return false;

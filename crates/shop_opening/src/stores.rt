@@ -57,9 +57,9 @@ pub trait Opens<B>: Drop {
 
     /// Opens a store's book.
     ///
-    /// `NoMemory` for want of memory; `Store` where the store can't be read and written, is in use, is no database, or has
+    /// `NoMemory` because memory ran out; `Store` where the store can't be read and written, is in use, is no database, or has
     /// files that aren't what a stop leaves; `Version` where it has other tables under a book's names, or those of another
-    /// version. Such a store is left as it was, and one that was made for this is taken away. Where a book is given, `made` tells
+    /// version. Such a store is left as it was, and one that was made for this is taken away. Where a book is given, `made` reports
     /// which of its files were made for it.
     fn open(self, alloc: Global, path: &str, how: OpenAs, made: &mut Made) -> Result<B, OpenFault>
         ensures { gives self path.now result };
@@ -78,7 +78,7 @@ fn damage(rt: &HostRuntime, alloc: Global, path: &str) -> StoreCause
     }
 }
 
-// Why a store can't be opened, where the port doesn't tell.
+// Why a store can't be opened, where the port doesn't report.
 fn other_cause(rt: &HostRuntime, alloc: Global, path: &str) -> StoreCause {
     if is_special(path) {
         StoreCause::NotPlain
@@ -383,7 +383,7 @@ fn close_files<D: Disk + Drop>(
     conn.close_files()
 }
 
-// Copies the log of a store into its file, where it opens as a book. What stands in the way the next open tells.
+// Copies the log of a store into its file, where it opens as a book. What stands in the way the next open reports.
 fn merge(rt: &HostRuntime, alloc: Global, path: &str) {
     if let Ok(book) = open_looked(rt, alloc, path, Unknown, Made::nothing()) {
         drop(close_files(book));
@@ -416,7 +416,7 @@ fn open_there<S: Start>(
     open_looked(rt, alloc, path, start, Made::nothing())
 }
 
-/// Opens the book of a store file. `start` stands for what the files held, once they were looked at and merged. `made` tells then
+/// Opens the book of a store file. `start` stands for what the files held, once they were looked at and merged. `made` reports then
 /// which files were made for it.
 pub fn open_file<S: Start>(
     rt: &HostRuntime,

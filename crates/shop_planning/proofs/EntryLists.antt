@@ -1,4 +1,4 @@
--- The plans that are told, and what is missing, one after another.
+-- The plans that are reported, and what is missing, one after another.
 use Rattle.std.proofs.Common.{◌≡◌, ◌⊎◌, ◌∙◌, ℕ, ◌+◌, ◌<◌, ◌≤◌, List, [], ◌∷◌, ◌++◌, Bool, true, false, ap, drop, get_or, inl, inr, length, refl, sym, take, append_assoc}
 use Rattle.std.specs.Prelude.{◌==◌, if◌then◌else◌, option_map, slice_get, Some, None}
 use Rattle.std.specs.List.{cons_option}
@@ -10,7 +10,7 @@ use Rattle.cut_bound.specs.Cuttings.{units_at}
 use Rattle.cut_bound.specs.Planned.{cutting_of}
 use Rattle.shop_plans.specs.declared.answers.MissingPieces.{MissingPieces}
 use Rattle.shop_planning.specs.declared.instance.StockPart.{StockPart}
-use Rattle.shop_planning.specs.declared.telling.Entry.{Entry}
+use Rattle.shop_planning.specs.declared.response.Entry.{Entry}
 use Rattle.shop_planning.specs.Answers.{missing_rows}
 use Rattle.shop_planning.specs.Entries.{entries_from, entry_of}
 

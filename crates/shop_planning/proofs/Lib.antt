@@ -5,6 +5,6 @@ pub mod DayTurns
 pub mod StockFacts
 pub mod EntryLists
 pub mod NamedOnce
-pub mod Told
+pub mod Reported
 -- the largest rest that is kept
 pub mod LargestRests

@@ -17,12 +17,12 @@ use Rattle.cut_bound.specs.Planned.{cutting_of}
 use Rattle.cut_order.proofs.GrownUnits.{sum_pushed}
 use Rattle.shop_records.specs.Same.{same_name}
 use Rattle.shop_plans.specs.declared.limits.TheConstants.{UNIT_COST}
-use Rattle.shop_plans.specs.declared.answers.ToldPlan.{ToldPlan}
+use Rattle.shop_plans.specs.declared.answers.ReportedPlan.{ReportedPlan}
 use Rattle.shop_plans.specs.declared.questions.BuySize.{BuySize}
 use Rattle.shop_planning.specs.declared.instance.PlanInstance.{PlanInstance}
 use Rattle.shop_planning.specs.declared.instance.StockPart.{StockPart}
-use Rattle.shop_planning.specs.declared.telling.Entry.{Entry}
-use Rattle.shop_planning.specs.Entries.{AreToldPlans, entries_from, entries_of, entry_by, entry_of, is_of}
+use Rattle.shop_planning.specs.declared.response.Entry.{Entry}
+use Rattle.shop_planning.specs.Entries.{AreReportedPlans, entries_from, entries_of, entry_by, entry_of, is_of}
 use Rattle.shop_planning.specs.Naming.{parts_named, times_named}
 use Rattle.shop_planning.specs.Shares.{shares_of}
 use Rattle.shop_planning.specs.Stock.{are_alike, bought_size, firsts, part_size, part_sizes, sizes_of}
@@ -43,7 +43,7 @@ module _ (ranked : List StockPart) (name : Name) where
 
   -- how often a plan names the part
   abbrev named : Entry → ℕ
-  named e = sum_by (λ n. cond (same_name n name) 1 0) e.told.parts
+  named e = sum_by (λ n. cond (same_name n name) 1 0) e.reported.parts
 
   more_taken : (k t : ℕ) (parts : List StockPart) → sum_by one (take (k + t) parts) ≡ sum_by one (take k parts) + sum_by one (take t (drop k parts))
   more_taken k t parts =
@@ -177,13 +177,13 @@ module _ (ranked : List StockPart) (name : Name) where
               ∙ whole are_alike likeness one parts,
         )
 
-pub named_once : (instance : PlanInstance) (kind : Kind) (buy : List BuySize) (units : List PlannedUnit) (told : List ToldPlan) (name : Name)
-    → instance.sizes.items ≡ sizes_of kind instance.parts.items buy → AreToldPlans instance units told → times_named told name ≤ parts_named instance.parts.items name
-named_once instance kind buy units told name sizes is =
+pub named_once : (instance : PlanInstance) (kind : Kind) (buy : List BuySize) (units : List PlannedUnit) (reported : List ReportedPlan) (name : Name)
+    → instance.sizes.items ≡ sizes_of kind instance.parts.items buy → AreReportedPlans instance units reported → times_named reported name ≤ parts_named instance.parts.items name
+named_once instance kind buy units reported name sizes is =
     let parts = instance.parts.items in
-    let count : Entry → ℕ = λ e. sum_by (λ n. cond (same_name n name) 1 0) e.told.parts in
-    let plans : times_named told name ≡ sum_by count is.list =
-    ap (λ ts. times_named ts name) is.plans ∙ mapped_sum (λ (t : ToldPlan). sum_by (λ n. cond (same_name n name) 1 0) t.parts) (λ (e : Entry). e.told) is.list in
+    let count : Entry → ℕ = λ e. sum_by (λ n. cond (same_name n name) 1 0) e.reported.parts in
+    let plans : times_named reported name ≡ sum_by count is.list =
+    ap (λ ts. times_named ts name) is.plans ∙ mapped_sum (λ (t : ReportedPlan). sum_by (λ n. cond (same_name n name) 1 0) t.parts) (λ (e : Entry). e.reported) is.list in
     let moved : sum_by count is.list ≡ sum_by count (entries_of instance.sizes.items is.ranked (shares_of units)) =
     sum_by-IsPermutation count (entries_of instance.sizes.items is.ranked (shares_of units)) is.list is.each in
     let all : sum_by (λ (s : StockSize). among_all is.ranked name s.limit s) instance.sizes.items ≡ parts_named parts name =

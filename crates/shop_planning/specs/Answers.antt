@@ -8,9 +8,9 @@ use Rattle.cut_order.specs.Answers.{IsAnswerOf}
 use Rattle.shop_plans.specs.declared.answers.DemandPrice.{DemandPrice}
 use Rattle.shop_plans.specs.declared.answers.MissingPieces.{MissingPieces}
 use Rattle.shop_plans.specs.declared.answers.PlansReply.{PlansReply}
-use Rattle.shop_plans.specs.Told.{plans_text}
+use Rattle.shop_plans.specs.Reported.{plans_text}
 use Rattle.shop_planning.specs.declared.instance.PlanInstance.{PlanInstance}
-use Rattle.shop_planning.specs.Entries.{AreToldPlans}
+use Rattle.shop_planning.specs.Entries.{AreReportedPlans}
 use Rattle.shop_planning.specs.Rests.{IsLargestRest}
 
 -- a plan of the order that is asked for
@@ -24,21 +24,21 @@ missing_rows (x ∷ xs) [] = []
 missing_rows (x ∷ xs) (n ∷ ns) = if n == 0 then missing_rows xs ns else record { demand = x.demand; pieces = n } ∷ missing_rows xs ns
 
 -- these, by rising demand
-pub record AreToldMissing (wants : List Want) (missing : List ℕ) (told : List MissingPieces) : Type 0 where
-  pub all : IsPermutation (missing_rows wants missing) told
-  pub rising : IsNonDecreasingBy (λ (row : MissingPieces). row.demand) told
+pub record AreReportedMissing (wants : List Want) (missing : List ℕ) (reported : List MissingPieces) : Type 0 where
+  pub all : IsPermutation (missing_rows wants missing) reported
+  pub rising : IsNonDecreasingBy (λ (row : MissingPieces). row.demand) reported
 
-abbrev pub told_price : Price → DemandPrice
-told_price p = record { demand = p.demand; worth = p.worth }
+abbrev pub reported_price : Price → DemandPrice
+reported_price p = record { demand = p.demand; worth = p.worth }
 
--- The answer tells a plan of the order: its units with the parts that are cut, what is missing, its cost and its bound with
+-- The answer reports a plan of the order: its units with the parts that are cut, what is missing, its cost and its bound with
 -- the prices, whether it is proved best, the largest rest that is kept, and whether all parts fall short.
 pub record IsPlansReply (instance : PlanInstance) (reply : PlansReply) : Type 0 where
   pub plan : OrderPlan
   pub answers : IsPlanOf instance plan
-  pub plans : AreToldPlans instance plan.units.items reply.plans.items
-  pub missing : AreToldMissing instance.wants.items plan.missing.items reply.missing
-  pub prices : reply.prices ≡ map told_price plan.prices.items
+  pub plans : AreReportedPlans instance plan.units.items reply.plans.items
+  pub missing : AreReportedMissing instance.wants.items plan.missing.items reply.missing
+  pub prices : reply.prices ≡ map reported_price plan.prices.items
   pub cost : reply.cost ≡ plan.cost
   pub bound : reply.bound ≡ plan.bound
   pub proved : reply.proved ≡ plan.proved

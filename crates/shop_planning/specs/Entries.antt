@@ -1,4 +1,4 @@
--- The plans that are told, each with the parts that are cut by it, and their order.
+-- The plans that are reported, each with the parts that are cut by it, and their order.
 use Rattle.std.specs.Prelude.{◌≡◌, ℕ, ◌+◌, ◌==◌, ◌&&◌, min, Bool, List, [], ◌∷◌, ◌++◌, drop, filter, fold, map, slice_get, take, Option, Some, None, option_map}
 use Rattle.std.specs.List.{cons_option}
 use Rattle.std.specs.List.Sorted.{IsPermutation, IsSorted}
@@ -12,10 +12,10 @@ use Rattle.cut_bound.specs.declared.planned.PlannedUnit.{PlannedUnit}
 use Rattle.cut_bound.specs.declared.stock.StockSize.{StockSize}
 use Rattle.cut_bound.specs.Cuttings.{units_at}
 use Rattle.cut_bound.specs.Planned.{cutting_of}
-use Rattle.shop_plans.specs.declared.answers.ToldPlan.{ToldPlan}
+use Rattle.shop_plans.specs.declared.answers.ReportedPlan.{ReportedPlan}
 use Rattle.shop_planning.specs.declared.instance.PlanInstance.{PlanInstance}
 use Rattle.shop_planning.specs.declared.instance.StockPart.{StockPart}
-use Rattle.shop_planning.specs.declared.telling.Entry.{Entry}
+use Rattle.shop_planning.specs.declared.response.Entry.{Entry}
 use Rattle.shop_planning.specs.Shares.{shares_of}
 
 -- by act, and then by node
@@ -44,7 +44,7 @@ abbrev pub part_entry : List StockPart → (before : ℕ) → PlannedUnit → St
 part_entry ranked before u s =
     record {
       place = first_place (taken ranked before u s);
-      told = record { buy = 0; h = s.size.h; parts = map (λ (part : StockPart). part.name) (taken ranked before u s); tree = text_of u.plan.tree; w = s.size.w };
+      reported = record { buy = 0; h = s.size.h; parts = map (λ (part : StockPart). part.name) (taken ranked before u s); tree = text_of u.plan.tree; w = s.size.w };
     }
 
 -- a plan by which bought units of a size are cut: after all parts, by the place of the size
@@ -52,7 +52,7 @@ abbrev pub bought_entry : PlannedUnit → StockSize → Entry
 bought_entry u s =
     record {
       place = MAX_PARTS + u.place;
-      told = record { buy = u.times; h = s.size.h; parts = []; tree = text_of u.plan.tree; w = s.size.w };
+      reported = record { buy = u.times; h = s.size.h; parts = []; tree = text_of u.plan.tree; w = s.size.w };
     }
 
 abbrev pub entry_by : Option ℕ → List StockPart → (before : ℕ) → PlannedUnit → StockSize → Entry
@@ -73,15 +73,15 @@ entries_of sizes ranked units = entries_from sizes ranked [] units
 
 -- by the places, and then by the texts of the trees
 abbrev pub in_order : Entry → Entry → Ordering
-in_order a b = ordering_then (nat_cmp a.place b.place) (slice_cmp nat_cmp a.told.tree b.told.tree)
+in_order a b = ordering_then (nat_cmp a.place b.place) (slice_cmp nat_cmp a.reported.tree b.reported.tree)
 
 -- A plan for each size and each plan of a unit, with the parts of that size that are cut by it, or how many bought units
 -- are: first those with parts, by the place in the stock's list of the part that stands there first, and then the others,
 -- by the place of their size and then by the text.
-pub record AreToldPlans (instance : PlanInstance) (units : List PlannedUnit) (told : List ToldPlan) : Type 0 where
+pub record AreReportedPlans (instance : PlanInstance) (units : List PlannedUnit) (reported : List ReportedPlan) : Type 0 where
   pub ranked : List StockPart
   pub parts : IsRanked instance.parts.items ranked
   pub list : List Entry
   pub each : IsPermutation (entries_of instance.sizes.items ranked (shares_of units)) list
   pub ordered : IsSorted in_order list
-  pub plans : told ≡ map (λ (e : Entry). e.told) list
+  pub plans : reported ≡ map (λ (e : Entry). e.reported) list

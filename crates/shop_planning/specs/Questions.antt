@@ -52,7 +52,7 @@ abbrev pub planner_fault : Kind → (kerf : ℕ) → (given step : Option ℕ) �
 planner_fault kind k None step sizes wants = order_fault kind k step sizes wants
 planner_fault kind k (Some given) step sizes wants = cost_fault kind k step sizes wants
 
--- the refusal that tells of it
+-- the refusal that reports it
 abbrev pub stock_refusal : PlansQuery → Material → List StockSize → List Want → Option Refusal
 stock_refusal q material sizes wants =
     option_map planner_refusal (planner_fault material.kind material.limits.kerf q.step (step_for material.kind q.step) sizes wants)
@@ -127,7 +127,7 @@ pub record IsQuestionAnswered (content : Content) (q : PlansQuery) (result : Res
   pub instance : PlanInstance
   pub asks : IsInstance content q instance
   pub text : List ℕ
-  pub told : IsPlansText instance text
+  pub reported : IsPlansText instance text
   pub is : result ≡ Ok text
 
 -- an answer, or the first refusal that holds; memory and the store aside

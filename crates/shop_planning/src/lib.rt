@@ -9,11 +9,11 @@ mod laws;
 mod lists;
 mod planning;
 mod posing;
+mod response;
 mod rests;
 mod shares;
 mod stock;
 mod task;
-mod telling;
 
 pub use instance::{PlanInstance, StockPart};
 pub use laws::parts_are_named_once;

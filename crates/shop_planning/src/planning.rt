@@ -34,7 +34,7 @@ fn finish_task(alloc: Global, task: PlanTask) -> Result<Text, AllocError>
 {
     let mut task = task;
     step_search(alloc, &mut task)?;
-    let text = task.tell(alloc)?;
+    let text = task.report(alloc)?;
     Ok(text)
 }
 

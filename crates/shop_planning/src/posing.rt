@@ -246,7 +246,7 @@ fn what_is_asked<B: Book>(
 /// in this order: `BadMessage` for numbers out of their ranges; `NoMaterial`; `BadWant` for a list that is too long or has
 /// something twice, or one of no demand; demand by demand `NoDemand`, `WrongMaterial`; part by part `NoPart`, `NotStanding`,
 /// `WrongMaterial`; `BadSize`; `BadWant` where nothing is left; `BadStep` for a step that is given; `TableTooLarge`;
-/// `NothingFits`. Want of memory and a failed store may come at any point.
+/// `NothingFits`. Lack of memory and a failed store may come at any point.
 pub fn build_instance<B: Book>(
     alloc: Global,
     book: &mut B,

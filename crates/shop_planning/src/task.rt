@@ -8,7 +8,7 @@ ghost use Rattle.cut_order.specs.Searches.{question_of};
 ghost use Rattle.shop_planning.specs.Answers.{IsPlanOf};
 
 use crate::instance::PlanInstance;
-use crate::telling::told_text;
+use crate::response::reported_text;
 use cut_order::{OrderPlan, OrderSearch};
 use cut_plan::PlanFault;
 use shop_records::Text;
@@ -24,7 +24,7 @@ pub struct PlanTask {
         (λ s. Asks instance.kind instance.kerf instance.step instance.stages instance.sizes.items instance.wants.items (question_of s)) } by { Prim.hlevel props },
 }
 
-// A planner's want of memory, handed on.
+// A planner's lack of memory, handed on.
 fn want_of_memory(_fault: PlanFault) -> AllocError
     requires { _fault ≡ NoMemory }
 {
@@ -132,11 +132,11 @@ impl PlanTask {
     }
 
     /// The answer by what was found so far, as text.
-    pub fn tell(&self, alloc: Global) -> Result<Text, AllocError>
+    pub fn report(&self, alloc: Global) -> Result<Text, AllocError>
         ensures { IfOk result (IsPlansText (instance_in self.now)) }
     {
         let plan = self.plan(alloc)?;
-        let text = told_text(alloc, &self.instance, &plan)?;
+        let text = reported_text(alloc, &self.instance, &plan)?;
         Ok(text)
     }
 }

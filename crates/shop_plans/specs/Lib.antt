@@ -1,2 +1,2 @@
 pub mod Questions
-pub mod Told
+pub mod Reported

@@ -6,7 +6,7 @@ ghost use Rattle.json.specs.Tree.{json_tokens};
 ghost use Rattle.serde_json.specs.Written.{outline};
 ghost use Rattle.shop_forms.specs.Forms.{rows_data};
 ghost use Rattle.shop_forms.specs.Tokens.{Adds, AddsValue};
-ghost use Rattle.shop_plans.specs.Told as told;
+ghost use Rattle.shop_plans.specs.Reported as reported;
 
 use crate::questions::NameList;
 use cut_measure::{PartName, RowList};
@@ -34,7 +34,7 @@ pub struct DemandPrice {
 
 /// A plan with the parts that are cut by it, or with how many bought units are. Its sides are tenths of a millimetre.
 #[derive(Debug, Drop)]
-pub struct ToldPlan {
+pub struct ReportedPlan {
     pub buy: u32,
     pub h: u32,
     pub parts: NameList,
@@ -50,7 +50,7 @@ pub struct PlansReply {
     pub cost: u64,
     /// Of which demands how much isn't planned.
     pub missing: RowList<MissingPieces>,
-    pub plans: Vec<ToldPlan>,
+    pub plans: Vec<ReportedPlan>,
     /// The worths that the bound comes from.
     pub prices: RowList<DemandPrice>,
     /// Nothing is missing, and nothing costs less.
@@ -64,9 +64,9 @@ pub struct PlansReply {
 }
 
 impl Listed for MissingPieces {
-    ghost said = { told.missing_data };
+    ghost said = { reported.missing_data };
 
-    ghost is_wide = { told.HasWidePieces };
+    ghost is_wide = { reported.HasWidePieces };
 
     fn write(&self, _alloc: Global, writer: &mut Writer) -> Result<(), AllocError> {
         write_object(
@@ -80,9 +80,9 @@ impl Listed for MissingPieces {
 }
 
 impl Listed for DemandPrice {
-    ghost said = { told.price_data };
+    ghost said = { reported.price_data };
 
-    ghost is_wide = { told.HasWideWorth };
+    ghost is_wide = { reported.HasWideWorth };
 
     fn write(&self, _alloc: Global, writer: &mut Writer) -> Result<(), AllocError> {
         write_object(
@@ -97,7 +97,7 @@ impl Listed for DemandPrice {
 
 // Writes a part's name.
 fn write_name(alloc: Global, writer: &mut Writer, part: &PartName) -> Result<(), AllocError>
-    ensures { OnOk result (AddsValue writer.old writer.new (told.name_data part.now)) }
+    ensures { OnOk result (AddsValue writer.old writer.new (reported.name_data part.now)) }
 {
     let mut name = String::new(alloc);
     part.write(&mut name)?;
@@ -107,7 +107,7 @@ fn write_name(alloc: Global, writer: &mut Writer, part: &PartName) -> Result<(),
 // Writes a list of parts' names.
 fn write_names(alloc: Global, writer: &mut Writer, parts: &[PartName]) -> Result<(), AllocError>
     ensures { OnOk result
-        (AddsValue writer.old writer.new (rows_data told.name_data parts.now)) }
+        (AddsValue writer.old writer.new (rows_data reported.name_data parts.now)) }
 {
     writer.begin_array()?;
     for part in parts {
@@ -117,10 +117,10 @@ fn write_names(alloc: Global, writer: &mut Writer, parts: &[PartName]) -> Result
     Ok(())
 }
 
-impl Listed for ToldPlan {
-    ghost said = { told.plan_data };
+impl Listed for ReportedPlan {
+    ghost said = { reported.plan_data };
 
-    ghost is_wide = { told.HasWideCounts };
+    ghost is_wide = { reported.HasWideCounts };
 
     fn write(&self, alloc: Global, writer: &mut Writer) -> Result<(), AllocError> {
         writer.begin_object()?;
@@ -151,7 +151,7 @@ fn write_list<T: Listed>(
 
 // Writes an answer.
 fn write_plans(alloc: Global, writer: &mut Writer, reply: &PlansReply) -> Result<(), AllocError>
-    ensures { OnOk result (AddsValue writer.old writer.new (told.plans_data reply.now)) }
+    ensures { OnOk result (AddsValue writer.old writer.new (reported.plans_data reply.now)) }
 {
     writer.begin_object()?;
     write_number(writer, "bound", reply.bound)?;
@@ -171,7 +171,7 @@ fn write_plans(alloc: Global, writer: &mut Writer, reply: &PlansReply) -> Result
 #[tactic(auto, using(crate::proofs::Printed::plans_text_printed))]
 /// The text of an answer: compact, with its keys in byte order.
 pub fn plans_text(alloc: Global, reply: &PlansReply) -> Result<Text, AllocError>
-    ensures { IfOk result (λ text. text ≡ told.plans_text reply.now) }
+    ensures { IfOk result (λ text. text ≡ reported.plans_text reply.now) }
 {
     let mut writer = new_writer(alloc);
     write_plans(alloc, &mut writer, reply)?;

@@ -6,7 +6,7 @@ mod laws;
 mod limits;
 mod questions;
 
-pub use answers::{DemandPrice, MissingPieces, PlansReply, ToldPlan, plans_text};
+pub use answers::{DemandPrice, MissingPieces, PlansReply, ReportedPlan, plans_text};
 pub use laws::question_limits;
 pub use limits::UNIT_COST;
 pub use questions::{BuyList, BuySize, NameList, PlansQuery, read_plans};

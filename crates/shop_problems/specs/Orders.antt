@@ -51,7 +51,7 @@ pub record IsPlanned (m : StockMaterial) (sizes : List Extent) (stages : Option 
   pub few : length sizes ≤ MAX_BOUGHT_SIZES
   pub answers : IsAnswerOf m.kind m.limits.kerf None stages (stock_of sizes) wants plan
 
--- ---- what is told of it
+-- ---- what is reported about it
 
 -- how many units there are
 abbrev pub count_of : List PlannedUnit → ℕ
@@ -66,13 +66,13 @@ ArePlanLines kind sizes plan text =
     ((length sizes ≡ 1) × AreOrderLines (summary_of plan) plan.units.items text)
     ⊎ (((length sizes ≡ 1) → ⊥) × AreSizesLines (summary_of plan) plan.cost (map (size_text kind) sizes) plan.units.items text)
 
--- the lines that tell a plan of a material's lines from units of these sizes
+-- the lines that report a plan of a material's lines from units of these sizes
 pub record IsTextFrom (lines : List OrderLine) (code : List ℕ) (material : StockMaterial) (sizes : List Extent) (stages : Option ℕ) (text : List ℕ) : Type 0 where
   pub plan : OrderPlan
   pub planned : IsPlanned material sizes stages (wants_in code lines) plan
-  pub told : ArePlanLines material.kind sizes plan text
+  pub reported : ArePlanLines material.kind sizes plan text
 
--- of lines, a shop file's entries, a material's code and texts of sizes: the lines that tell a plan
+-- of lines, a shop file's entries, a material's code and texts of sizes: the lines that report a plan
 pub record IsLinesText (lines : List OrderLine) (entries : List MaterialEntry) (code : List ℕ) (texts : List (List ℕ)) (stages : Option ℕ) (text : List ℕ) : Type 0 where
   pub material : StockMaterial
   pub known : material_in entries code ≡ Some material

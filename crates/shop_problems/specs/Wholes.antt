@@ -58,11 +58,11 @@ missing_of plan = sum plan.missing.items
 abbrev pub summary_of : OrderPlan → OrderSummary
 summary_of plan = record { units = plan.cost; bound = plan.bound; proved = plan.proved; missing = missing_of plan }
 
--- an answer to the order of all pieces, and the lines that tell it
+-- an answer to the order of all pieces, and the lines that report it
 pub record IsWholeText (size : Extent) (pieces : List Piece) (kerf : ℕ) (step stages : Option ℕ) (text : List ℕ) : Type 0 where
   pub plan : OrderPlan
   pub answers : IsWholePlan (kind_of size pieces) size kerf step stages (wants_of pieces) plan
-  pub told : AreOrderLines (summary_of plan) plan.units.items text
+  pub reported : AreOrderLines (summary_of plan) plan.units.items text
 
 -- memory ran out, or the order has this fault
 abbrev pub IsWholeFault : Extent → List Piece → (kerf : ℕ) → Option ℕ → PlanFault → Type 0

@@ -17,7 +17,7 @@ use std::alloc::{AllocError, Global};
 pub enum StockFault {
     /// A text is no size of its kind.
     BadSize,
-    /// Want of memory.
+    /// Lack of memory.
     NoMemory,
 }
 
@@ -160,7 +160,7 @@ pub fn size_in(kind: Kind, text: &str) -> Option<Size>
     }
 }
 
-/// The sizes that texts say, one each. The first fault: a text that is none, or want of memory.
+/// The sizes that texts say, one each. The first fault: a text that is none, or lack of memory.
 pub fn sizes_in(alloc: Global, kind: Kind, texts: &[&str]) -> Result<Vec<Size>, StockFault>
     ensures ok { IfOk result (λ sizes.
         spec.AreSizes kind (map (λ text. text.now) texts.now) sizes.items) }

@@ -138,7 +138,7 @@ fn lines_of(alloc: Global, plan: &OrderPlan) -> Result<String, AllocError>
 /// 1 is a bar. The demand of the first piece is 1; none is turned.
 /// Each plan has at most so many stages, 2 to 255, if there is a limit.
 ///
-/// Faults in the order of `PlanFault`, with 100 wants at most; a step that is given is judged as for one rectangle. Want of memory may come at any point. The kerf is at most 200.
+/// Faults in the order of `PlanFault`, with 100 wants at most; a step that is given is judged as for one rectangle. Lack of memory may come at any point. The kerf is at most 200.
 pub fn plan_whole(alloc: Global, problem: &Problem, how: WholePlan) -> Result<String, PlanFault>
     requires pieces { ArePieces problem.now.pieces }
     requires kerf { how.kerf ≤ MAX_KERF }

@@ -15,12 +15,12 @@ pub reply_text_printed : (answer : Reply) → print (json_tokens (outline (reply
 unfolding json_texts
 reply_text_printed answer = print-outline (reply_data answer)
 
-pub entry_text_printed : (told : EntryTold) → print (json_tokens (outline (entry_data told))) ≡ compact_text (entry_data told)
-entry_text_printed told = print-outline (entry_data told)
+pub entry_text_printed : (reported : EntryTold) → print (json_tokens (outline (entry_data reported))) ≡ compact_text (entry_data reported)
+entry_text_printed reported = print-outline (entry_data reported)
 
 pub kept_back : (answer : Reply) → IsMade answer → kept_reply_of (json_texts.of_reply answer) ≡ Some answer
 unfolding json_texts
 kept_back answer h = ap (option_and_then reply_of) (reply_text_read answer h) ∙ reply_back answer h
 
 pub not_memory : {M : Type 0} (b : Bool) → (M → b ≡ true) → b ≡ false → ¬ M
-not_memory b told is m = cc (told m)
+not_memory b reported is m = cc (reported m)

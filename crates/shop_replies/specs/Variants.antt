@@ -9,49 +9,49 @@ use Rattle.shop_records.specs.declared.records.StateWord.{StateWord}
 use Rattle.shop_records.specs.declared.pieces.StepRow.{StepRow}
 
 -- about an order that was added, one that got further lines, and one that was imported
-abbrev pub TellsOrder : Reply → Type 0
-TellsOrder reply = (count first : ℕ) × (order : List ℕ) × (reply ≡ answer.AddOrder count first order)
+abbrev pub ReportsOrder : Reply → Type 0
+ReportsOrder reply = (count first : ℕ) × (order : List ℕ) × (reply ≡ answer.AddOrder count first order)
 
-abbrev pub TellsExtend : Reply → Type 0
-TellsExtend reply = (count first : ℕ) × (order : List ℕ) × (reply ≡ answer.Extend count first order)
+abbrev pub ReportsExtend : Reply → Type 0
+ReportsExtend reply = (count first : ℕ) × (order : List ℕ) × (reply ≡ answer.Extend count first order)
 
-abbrev pub TellsImport : Reply → Type 0
-TellsImport reply = (act count first : ℕ) × (order : List ℕ) × (reply ≡ answer.Import act count first order)
+abbrev pub ReportsImport : Reply → Type 0
+ReportsImport reply = (act count first : ℕ) × (order : List ℕ) × (reply ≡ answer.Import act count first order)
 
 -- about a material's cells
-abbrev pub TellsTotals : Reply → Type 0
-TellsTotals reply =
+abbrev pub ReportsTotals : Reply → Type 0
+ReportsTotals reply =
     (material : List ℕ) × (received stock rack pieces kerf scrap returned : ℕ)
     × (reply ≡ answer.Totals material received stock rack pieces kerf scrap returned)
 
 -- about a part
-abbrev pub TellsTrace : Reply → Type 0
-TellsTrace reply =
+abbrev pub ReportsTrace : Reply → Type 0
+ReportsTrace reply =
     (batch : List ℕ) × (h of : ℕ) × (part root : Name) × (state : StateWord) × (w x y : ℕ)
     × (reply ≡ answer.Trace batch h of part root state w x y)
 
 -- about a demand
-abbrev pub TellsDemand : Reply → Type 0
-TellsDemand reply =
+abbrev pub ReportsDemand : Reply → Type 0
+ReportsDemand reply =
     (demand line made : ℕ) × (material order : List ℕ) × (reserved wanted : ℕ)
     × (reply ≡ answer.Demand demand line made material order reserved wanted)
 
 -- a plan
-abbrev pub TellsPlan : Reply → Type 0
-TellsPlan reply = (ceiling dropped : ℕ) × (tree : List ℕ) × (worth : ℕ) × (reply ≡ answer.Plan ceiling dropped tree worth)
+abbrev pub ReportsPlan : Reply → Type 0
+ReportsPlan reply = (ceiling dropped : ℕ) × (tree : List ℕ) × (worth : ℕ) × (reply ≡ answer.Plan ceiling dropped tree worth)
 
 -- parts after a name
-abbrev pub TellsParts : Reply → Type 0
-TellsParts reply = (material : List ℕ) × (more : Bool) × (parts : List Part) × (reply ≡ answer.Parts material more parts)
+abbrev pub ReportsParts : Reply → Type 0
+ReportsParts reply = (material : List ℕ) × (more : Bool) × (parts : List Part) × (reply ≡ answer.Parts material more parts)
 
 -- about a job
-abbrev pub TellsJob : Reply → Type 0
-TellsJob reply =
+abbrev pub ReportsJob : Reply → Type 0
+ReportsJob reply =
     (begun cuts h job kerf : ℕ) × (material : List ℕ) × (part : Name) × (state : JobState) × (tree : List ℕ) × (w : ℕ)
     × (reply ≡ answer.Job begun cuts h job kerf material part state tree w)
 
 -- about the nodes of a job's plan
-abbrev pub TellsSteps : Reply → Type 0
-TellsSteps reply =
+abbrev pub ReportsSteps : Reply → Type 0
+ReportsSteps reply =
     (job kerf : ℕ) × (material : List ℕ) × (part : Name) × (state : JobState) × (steps : List StepRow)
     × (reply ≡ answer.Steps job kerf material part state steps)

@@ -4,7 +4,7 @@ ghost use Rattle.std.specs.Prelude.{OnOk};
 ghost use Rattle.shop_records.specs.declared.messages.Reply.TheVariants as answer;
 ghost use Rattle.shop_forms.specs.Forms.{reply_data, HasWideNumbers};
 ghost use Rattle.shop_forms.specs.Tokens.{AddsValue};
-ghost use Rattle.shop_replies.specs.Variants.{TellsTotals, TellsTrace, TellsDemand, TellsPlan};
+ghost use Rattle.shop_replies.specs.Variants.{ReportsTotals, ReportsTrace, ReportsDemand, ReportsPlan};
 
 use cut_measure::Code;
 use json::Writer;
@@ -13,8 +13,8 @@ use shop_records::{RackRow, Reply};
 use std::alloc::{AllocError, Global};
 
 // Writes the reply about a material's cells.
-pub(crate) fn tell_totals(writer: &mut Writer, reply: &Reply) -> Result<(), AllocError>
-    requires { TellsTotals reply.now }
+pub(crate) fn report_totals(writer: &mut Writer, reply: &Reply) -> Result<(), AllocError>
+    requires { ReportsTotals reply.now }
     ensures value { OnOk result (AddsValue writer.old writer.new (reply_data reply.now)) }
     ensures wide { OnOk result (HasWideNumbers reply.now) }
 {
@@ -48,7 +48,7 @@ pub(crate) fn tell_totals(writer: &mut Writer, reply: &Reply) -> Result<(), Allo
 }
 
 // Writes the reply about a material's parts on the rack.
-pub(crate) fn tell_rack(
+pub(crate) fn report_rack(
     alloc: Global,
     writer: &mut Writer,
     material: &Code,
@@ -68,12 +68,12 @@ pub(crate) fn tell_rack(
 }
 
 // Writes the reply about a part.
-pub(crate) fn tell_trace(
+pub(crate) fn report_trace(
     alloc: Global,
     writer: &mut Writer,
     reply: &Reply,
 ) -> Result<(), AllocError>
-    requires { TellsTrace reply.now }
+    requires { ReportsTrace reply.now }
     ensures value { OnOk result (AddsValue writer.old writer.new (reply_data reply.now)) }
     ensures wide { OnOk result (HasWideNumbers reply.now) }
 {
@@ -109,8 +109,8 @@ pub(crate) fn tell_trace(
 }
 
 // Writes the reply about a demand.
-pub(crate) fn tell_demand(writer: &mut Writer, reply: &Reply) -> Result<(), AllocError>
-    requires { TellsDemand reply.now }
+pub(crate) fn report_demand(writer: &mut Writer, reply: &Reply) -> Result<(), AllocError>
+    requires { ReportsDemand reply.now }
     ensures value { OnOk result (AddsValue writer.old writer.new (reply_data reply.now)) }
     ensures wide { OnOk result (HasWideNumbers reply.now) }
 {
@@ -142,8 +142,8 @@ pub(crate) fn tell_demand(writer: &mut Writer, reply: &Reply) -> Result<(), Allo
 }
 
 // Writes the reply that is a plan.
-pub(crate) fn tell_plan(writer: &mut Writer, reply: &Reply) -> Result<(), AllocError>
-    requires { TellsPlan reply.now }
+pub(crate) fn report_plan(writer: &mut Writer, reply: &Reply) -> Result<(), AllocError>
+    requires { ReportsPlan reply.now }
     ensures value { OnOk result (AddsValue writer.old writer.new (reply_data reply.now)) }
     ensures wide { OnOk result (HasWideNumbers reply.now) }
 {
@@ -169,7 +169,7 @@ pub(crate) fn tell_plan(writer: &mut Writer, reply: &Reply) -> Result<(), AllocE
 }
 
 // Writes the reply that is a bound.
-pub(crate) fn tell_bound(writer: &mut Writer, best: u64, units: u64) -> Result<(), AllocError>
+pub(crate) fn report_bound(writer: &mut Writer, best: u64, units: u64) -> Result<(), AllocError>
     ensures value { OnOk result
         (AddsValue writer.old writer.new (reply_data (answer.Bound best units))) }
     ensures wide { OnOk result (HasWideNumbers (answer.Bound best units)) }

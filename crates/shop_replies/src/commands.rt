@@ -8,13 +8,15 @@ ghost use Rattle.shop_forms.specs.Forms as form;
 ghost use Rattle.shop_forms.specs.Forms.{made_data, reply_data, HasWideMade, HasWideNumbers};
 ghost use Rattle.shop_forms.specs.Tokens.{AddsValue};
 ghost use Rattle.shop_forms.specs.Fields.{row};
-ghost use Rattle.shop_replies.specs.Variants.{TellsOrder, TellsExtend, TellsImport};
+ghost use Rattle.shop_replies.specs.Variants.{ReportsOrder, ReportsExtend, ReportsImport};
 
-use crate::asking::{tell_bound, tell_demand, tell_plan, tell_rack, tell_totals, tell_trace};
-use crate::history::{tell_entries, tell_shop, write_null};
+use crate::asking::{
+    report_bound, report_demand, report_plan, report_rack, report_totals, report_trace,
+};
+use crate::history::{report_entries, report_shop, write_null};
 use crate::listing::{
-    tell_after, tell_job, tell_lines, tell_materials, tell_orders, tell_parts, tell_pieces,
-    tell_steps, tell_terminal,
+    report_after, report_job, report_lines, report_materials, report_orders, report_parts,
+    report_pieces, report_steps, report_terminal,
 };
 use cut_measure::{Code, PartName};
 use json::Writer;
@@ -90,36 +92,36 @@ pub(crate) fn write_reply(
         | Reply::Note { .. }
         | Reply::Extend { .. }
         | Reply::Begin { .. } => write_made(alloc, writer, reply),
-        Reply::Totals { .. } => tell_totals(writer, reply),
-        Reply::Rack { material, parts } => tell_rack(alloc, writer, material, parts.as_slice()),
-        Reply::Trace { .. } => tell_trace(alloc, writer, reply),
-        Reply::Demand { .. } => tell_demand(writer, reply),
-        Reply::Plan { .. } => tell_plan(writer, reply),
-        Reply::Bound { best, units } => tell_bound(writer, *best, *units),
-        Reply::Materials { materials } => tell_materials(alloc, writer, materials.as_slice()),
-        Reply::Parts { .. } => tell_parts(alloc, writer, reply),
+        Reply::Totals { .. } => report_totals(writer, reply),
+        Reply::Rack { material, parts } => report_rack(alloc, writer, material, parts.as_slice()),
+        Reply::Trace { .. } => report_trace(alloc, writer, reply),
+        Reply::Demand { .. } => report_demand(writer, reply),
+        Reply::Plan { .. } => report_plan(writer, reply),
+        Reply::Bound { best, units } => report_bound(writer, *best, *units),
+        Reply::Materials { materials } => report_materials(alloc, writer, materials.as_slice()),
+        Reply::Parts { .. } => report_parts(alloc, writer, reply),
         Reply::Demands { demands, more } => {
-            tell_after(alloc, writer, "demands", demands.as_slice(), *more)
+            report_after(alloc, writer, "demands", demands.as_slice(), *more)
         }
-        Reply::Jobs { jobs, more } => tell_after(alloc, writer, "jobs", jobs.as_slice(), *more),
-        Reply::Job { .. } => tell_job(alloc, writer, reply),
-        Reply::Terminal { last, terminal } => tell_terminal(writer, *last, *terminal),
-        Reply::Orders { more, orders } => tell_orders(alloc, writer, *more, orders.as_slice()),
-        Reply::Lines { lines, order } => tell_lines(alloc, writer, lines.as_slice(), order),
+        Reply::Jobs { jobs, more } => report_after(alloc, writer, "jobs", jobs.as_slice(), *more),
+        Reply::Job { .. } => report_job(alloc, writer, reply),
+        Reply::Terminal { last, terminal } => report_terminal(writer, *last, *terminal),
+        Reply::Orders { more, orders } => report_orders(alloc, writer, *more, orders.as_slice()),
+        Reply::Lines { lines, order } => report_lines(alloc, writer, lines.as_slice(), order),
         Reply::Shop {
             began,
             entries,
             last,
-        } => tell_shop(writer, *began, *entries, *last),
+        } => report_shop(writer, *began, *entries, *last),
         Reply::History { entries, more } => {
-            tell_entries(alloc, writer, "history", entries.as_slice(), *more)
+            report_entries(alloc, writer, "history", entries.as_slice(), *more)
         }
         Reply::Story { entries, more } => {
-            tell_entries(alloc, writer, "story", entries.as_slice(), *more)
+            report_entries(alloc, writer, "story", entries.as_slice(), *more)
         }
-        Reply::Pieces { more, pieces } => tell_pieces(alloc, writer, *more, pieces.as_slice()),
-        Reply::Steps { .. } => tell_steps(alloc, writer, reply),
-        Reply::Refused(refusal) => tell_refusal(writer, *refusal),
+        Reply::Pieces { more, pieces } => report_pieces(alloc, writer, *more, pieces.as_slice()),
+        Reply::Steps { .. } => report_steps(alloc, writer, reply),
+        Reply::Refused(refusal) => report_refusal(writer, *refusal),
     }
 }
 
@@ -133,39 +135,39 @@ pub(crate) fn write_made(
     ensures wide { OnOk result (HasWideMade reply.now) }
 {
     match reply {
-        Reply::AddMaterial { material } => tell_material(writer, material),
-        Reply::Receive { act, count } => tell_receive(writer, *act, *count),
-        Reply::AddOrder { .. } => tell_order(writer, reply),
-        Reply::Reserve { cuts, job } => tell_reserve(writer, *cuts, *job),
+        Reply::AddMaterial { material } => report_material(writer, material),
+        Reply::Receive { act, count } => report_receive(writer, *act, *count),
+        Reply::AddOrder { .. } => report_order(writer, reply),
+        Reply::Reserve { cuts, job } => report_reserve(writer, *cuts, *job),
         Reply::Done {
             job,
             kerf,
             pieces,
             rack,
             scrap,
-        } => tell_ended(writer, "done", *job, *kerf, *pieces, *rack, *scrap),
+        } => report_ended(writer, "done", *job, *kerf, *pieces, *rack, *scrap),
         Reply::Break {
             job,
             kerf,
             pieces,
             rack,
             scrap,
-        } => tell_ended(writer, "break", *job, *kerf, *pieces, *rack, *scrap),
-        Reply::Release { job } => tell_release(writer, *job),
-        Reply::Scrap { part } => tell_turned(alloc, writer, "scrap", part),
-        Reply::GiveBack { part } => tell_turned(alloc, writer, "return", part),
-        Reply::Import { .. } => tell_import(writer, reply),
-        Reply::Amend { demand, wanted } => tell_amend(writer, *demand, *wanted),
-        Reply::Undo { job, part } => tell_undo(alloc, writer, *job, part),
-        Reply::Note { order } => tell_note(writer, order),
-        Reply::Extend { .. } => tell_extend(writer, reply),
-        Reply::Begin { before, job } => tell_begin(writer, *before, *job),
+        } => report_ended(writer, "break", *job, *kerf, *pieces, *rack, *scrap),
+        Reply::Release { job } => report_release(writer, *job),
+        Reply::Scrap { part } => report_turned(alloc, writer, "scrap", part),
+        Reply::GiveBack { part } => report_turned(alloc, writer, "return", part),
+        Reply::Import { .. } => report_import(writer, reply),
+        Reply::Amend { demand, wanted } => report_amend(writer, *demand, *wanted),
+        Reply::Undo { job, part } => report_undo(alloc, writer, *job, part),
+        Reply::Note { order } => report_note(writer, order),
+        Reply::Extend { .. } => report_extend(writer, reply),
+        Reply::Begin { before, job } => report_begin(writer, *before, *job),
         _ => write_null(writer),
     }
 }
 
 // Writes the reply of a refused message or query.
-fn tell_refusal(writer: &mut Writer, refusal: Refusal) -> Result<(), AllocError>
+fn report_refusal(writer: &mut Writer, refusal: Refusal) -> Result<(), AllocError>
     ensures value { OnOk result
         (AddsValue writer.old writer.new (reply_data (answer.Refused refusal))) }
     ensures wide { OnOk result (HasWideNumbers (answer.Refused refusal)) }
@@ -191,7 +193,7 @@ fn material_made(value: &Value) -> Option<Reply>
 }
 
 // Writes the reply about a material that was added.
-fn tell_material(writer: &mut Writer, material: &Code) -> Result<(), AllocError>
+fn report_material(writer: &mut Writer, material: &Code) -> Result<(), AllocError>
     ensures { OnOk result (AddsValue writer.old writer.new
         (reply_data (answer.AddMaterial material.now))) }
 {
@@ -217,7 +219,7 @@ fn receive_made(value: &Value) -> Option<Reply>
 }
 
 // Writes the reply about units that were received.
-fn tell_receive(writer: &mut Writer, act: u32, count: u32) -> Result<(), AllocError>
+fn report_receive(writer: &mut Writer, act: u32, count: u32) -> Result<(), AllocError>
     ensures value { OnOk result
         (AddsValue writer.old writer.new (reply_data (answer.Receive act count))) }
     ensures wide { OnOk result (HasWideNumbers (answer.Receive act count)) }
@@ -250,8 +252,8 @@ fn order_made(value: &Value) -> Option<Reply>
 }
 
 // Writes the reply about an order that was added.
-fn tell_order(writer: &mut Writer, reply: &Reply) -> Result<(), AllocError>
-    requires { TellsOrder reply.now }
+fn report_order(writer: &mut Writer, reply: &Reply) -> Result<(), AllocError>
+    requires { ReportsOrder reply.now }
     ensures value { OnOk result (AddsValue writer.old writer.new (reply_data reply.now)) }
     ensures wide { OnOk result (HasWideNumbers reply.now) }
 {
@@ -287,7 +289,7 @@ fn reserve_made(value: &Value) -> Option<Reply>
 }
 
 // Writes the reply about a part that was reserved.
-fn tell_reserve(writer: &mut Writer, cuts: u32, job: u32) -> Result<(), AllocError>
+fn report_reserve(writer: &mut Writer, cuts: u32, job: u32) -> Result<(), AllocError>
     ensures value { OnOk result
         (AddsValue writer.old writer.new (reply_data (answer.Reserve cuts job))) }
     ensures wide { OnOk result (HasWideNumbers (answer.Reserve cuts job)) }
@@ -302,7 +304,7 @@ fn tell_reserve(writer: &mut Writer, cuts: u32, job: u32) -> Result<(), AllocErr
     )
 }
 
-// What is told of a job that ended: its number, and the cells of kerf, pieces, rack and scrap.
+// What is reported about a job that ended: its number, and the cells of kerf, pieces, rack and scrap.
 fn ended_cells(value: &Value) -> Option<(u32, u64, u64, u64, u64)>
     ensures { result ≡ form.ended_cells (view value.now) }
 {
@@ -332,7 +334,7 @@ fn done_made(value: &Value) -> Option<Reply>
 }
 
 // Writes the reply about a job that ended, by its word.
-fn tell_ended(
+fn report_ended(
     writer: &mut Writer,
     word: &str,
     job: u32,
@@ -342,7 +344,7 @@ fn tell_ended(
     scrap: u64,
 ) -> Result<(), AllocError>
     ensures value { OnOk result
-        (AddsValue writer.old writer.new (form.ended_told word.now job kerf pieces rack scrap)) }
+        (AddsValue writer.old writer.new (form.ended_reported word.now job kerf pieces rack scrap)) }
     ensures wide { OnOk result
         (IsWide job × IsWide kerf × IsWide pieces × IsWide rack × IsWide scrap) }
 {
@@ -371,7 +373,7 @@ fn release_made(value: &Value) -> Option<Reply>
 }
 
 // Writes the reply about a part that was released.
-fn tell_release(writer: &mut Writer, job: u32) -> Result<(), AllocError>
+fn report_release(writer: &mut Writer, job: u32) -> Result<(), AllocError>
     ensures value { OnOk result (AddsValue writer.old writer.new (reply_data (answer.Release job))) }
     ensures wide { OnOk result (HasWideNumbers (answer.Release job)) }
 {
@@ -418,14 +420,14 @@ fn return_made(value: &Value) -> Option<Reply>
 }
 
 // Writes the reply about a part that was turned, by its word.
-fn tell_turned<'a>(
+fn report_turned<'a>(
     alloc: Global,
     writer: &mut Writer,
     word: &'a str,
     part: &'a PartName,
 ) -> Result<(), AllocError>
     ensures { OnOk result
-        (AddsValue writer.old writer.new (form.turned_told word.now part.now)) }
+        (AddsValue writer.old writer.new (form.turned_reported word.now part.now)) }
 {
     write_object(
         writer,
@@ -453,8 +455,8 @@ fn import_made(value: &Value) -> Option<Reply>
 }
 
 // Writes the reply about an order that was imported.
-fn tell_import(writer: &mut Writer, reply: &Reply) -> Result<(), AllocError>
-    requires { TellsImport reply.now }
+fn report_import(writer: &mut Writer, reply: &Reply) -> Result<(), AllocError>
+    requires { ReportsImport reply.now }
     ensures value { OnOk result (AddsValue writer.old writer.new (reply_data reply.now)) }
     ensures wide { OnOk result (HasWideNumbers reply.now) }
 {
@@ -492,7 +494,7 @@ fn amend_made(value: &Value) -> Option<Reply>
 }
 
 // Writes the reply about a demand that was amended.
-fn tell_amend(writer: &mut Writer, demand: u32, wanted: u32) -> Result<(), AllocError>
+fn report_amend(writer: &mut Writer, demand: u32, wanted: u32) -> Result<(), AllocError>
     ensures value { OnOk result
         (AddsValue writer.old writer.new (reply_data (answer.Amend demand wanted))) }
     ensures wide { OnOk result (HasWideNumbers (answer.Amend demand wanted)) }
@@ -520,7 +522,7 @@ fn undo_made(value: &Value) -> Option<Reply>
 }
 
 // Writes the reply about a job that was undone.
-fn tell_undo(
+fn report_undo(
     alloc: Global,
     writer: &mut Writer,
     job: u32,
@@ -552,7 +554,7 @@ fn note_made(value: &Value) -> Option<Reply>
 }
 
 // Writes the reply about an order of which something was said.
-fn tell_note(writer: &mut Writer, order: &Code) -> Result<(), AllocError>
+fn report_note(writer: &mut Writer, order: &Code) -> Result<(), AllocError>
     ensures { OnOk result (AddsValue writer.old writer.new
         (reply_data (answer.Note order.now))) }
 {
@@ -583,8 +585,8 @@ fn extend_made(value: &Value) -> Option<Reply>
 }
 
 // Writes the reply about lines that were added to an order.
-fn tell_extend(writer: &mut Writer, reply: &Reply) -> Result<(), AllocError>
-    requires { TellsExtend reply.now }
+fn report_extend(writer: &mut Writer, reply: &Reply) -> Result<(), AllocError>
+    requires { ReportsExtend reply.now }
     ensures value { OnOk result (AddsValue writer.old writer.new (reply_data reply.now)) }
     ensures wide { OnOk result (HasWideNumbers reply.now) }
 {
@@ -620,7 +622,7 @@ fn begin_made(value: &Value) -> Option<Reply>
 }
 
 // Writes the reply about a job that was begun.
-fn tell_begin(writer: &mut Writer, before: u32, job: u32) -> Result<(), AllocError>
+fn report_begin(writer: &mut Writer, before: u32, job: u32) -> Result<(), AllocError>
     ensures value { OnOk result
         (AddsValue writer.old writer.new (reply_data (answer.Begin before job))) }
     ensures wide { OnOk result (HasWideNumbers (answer.Begin before job)) }

@@ -25,7 +25,7 @@ pub(crate) fn write_null(writer: &mut Writer) -> Result<(), AllocError>
 }
 
 // Writes the reply about the history as a whole.
-pub(crate) fn tell_shop(
+pub(crate) fn report_shop(
     writer: &mut Writer,
     began: u64,
     entries: u64,
@@ -49,7 +49,7 @@ pub(crate) fn tell_shop(
 // Writes the object that a kept message is, and null where the text is none.
 fn write_kept_message(alloc: Global, writer: &mut Writer, text: &Text) -> Result<(), AllocError>
     ensures value { OnOk result
-        (AddsValue writer.old writer.new (form.message_told (form.kept_message_of text.now))) }
+        (AddsValue writer.old writer.new (form.message_reported (form.kept_message_of text.now))) }
     ensures message { OnOk result (IfSome (form.kept_message_of text.now) IsMessage) }
 {
     match kept_message(alloc, text.as_str())? {
@@ -61,7 +61,7 @@ fn write_kept_message(alloc: Global, writer: &mut Writer, text: &Text) -> Result
 // Writes the object that a kept reply is, and null where the text is none.
 fn write_kept_reply(alloc: Global, writer: &mut Writer, text: &Text) -> Result<(), AllocError>
     ensures value { OnOk result
-        (AddsValue writer.old writer.new (form.reply_told (form.kept_reply_of text.now))) }
+        (AddsValue writer.old writer.new (form.reply_reported (form.kept_reply_of text.now))) }
     ensures wide { OnOk result (IfSome (form.kept_reply_of text.now) HasWideMade) }
 {
     match kept_reply(alloc, text.as_str())? {
@@ -74,17 +74,17 @@ fn write_kept_reply(alloc: Global, writer: &mut Writer, text: &Text) -> Result<(
 pub(crate) fn write_entry(
     alloc: Global,
     writer: &mut Writer,
-    told: &EntryTold,
+    reported: &EntryTold,
 ) -> Result<(), AllocError>
-    ensures value { OnOk result (AddsValue writer.old writer.new (entry_data told.now)) }
-    ensures wide { OnOk result (HasWideEntry told.now) }
+    ensures value { OnOk result (AddsValue writer.old writer.new (entry_data reported.now)) }
+    ensures wide { OnOk result (HasWideEntry reported.now) }
 {
     let EntryTold {
         at,
         entry,
         message,
         reply,
-    } = told;
+    } = reported;
     writer.begin_object()?;
     write_number(writer, "at", *at)?;
     write_number(writer, "entry", *entry)?;
@@ -115,7 +115,7 @@ fn write_entries(
 }
 
 // Writes the reply about entries, by its word.
-pub(crate) fn tell_entries(
+pub(crate) fn report_entries(
     alloc: Global,
     writer: &mut Writer,
     word: &str,
@@ -123,7 +123,7 @@ pub(crate) fn tell_entries(
     more: bool,
 ) -> Result<(), AllocError>
     ensures value { OnOk result
-        (AddsValue writer.old writer.new (form.entries_told word.now entries.now more)) }
+        (AddsValue writer.old writer.new (form.entries_reported word.now entries.now more)) }
     ensures wide { OnOk result (All HasWideEntry entries.now) }
 {
     writer.begin_object()?;

@@ -5,7 +5,7 @@ ghost use Rattle.shop_records.specs.declared.messages.Reply.TheVariants as answe
 ghost use Rattle.shop_forms.specs.Forms as form;
 ghost use Rattle.shop_forms.specs.Forms.{reply_data, HasWideNumbers};
 ghost use Rattle.shop_forms.specs.Tokens.{AddsValue};
-ghost use Rattle.shop_replies.specs.Variants.{TellsParts, TellsJob, TellsSteps};
+ghost use Rattle.shop_replies.specs.Variants.{ReportsParts, ReportsJob, ReportsSteps};
 
 use cut_measure::Code;
 use json::Writer;
@@ -17,7 +17,7 @@ use shop_records::{DemandRow, Material, OrderRow, PieceRow, Reply};
 use std::alloc::{AllocError, Global};
 
 // Writes the reply about all materials.
-pub(crate) fn tell_materials(
+pub(crate) fn report_materials(
     alloc: Global,
     writer: &mut Writer,
     materials: &[Material],
@@ -35,12 +35,12 @@ pub(crate) fn tell_materials(
 }
 
 // Writes the reply about parts after a name.
-pub(crate) fn tell_parts(
+pub(crate) fn report_parts(
     alloc: Global,
     writer: &mut Writer,
     reply: &Reply,
 ) -> Result<(), AllocError>
-    requires { TellsParts reply.now }
+    requires { ReportsParts reply.now }
     ensures value { OnOk result (AddsValue writer.old writer.new (reply_data reply.now)) }
     ensures wide { OnOk result (HasWideNumbers reply.now) }
 {
@@ -63,7 +63,7 @@ pub(crate) fn tell_parts(
 }
 
 // Writes the reply about rows after a number: the list at its word.
-pub(crate) fn tell_after<T: Listed>(
+pub(crate) fn report_after<T: Listed>(
     alloc: Global,
     writer: &mut Writer,
     word: &str,
@@ -71,7 +71,7 @@ pub(crate) fn tell_after<T: Listed>(
     more: bool,
 ) -> Result<(), AllocError>
     ensures value { OnOk result
-        (AddsValue writer.old writer.new (form.after_told word.now T.said rows.now more)) }
+        (AddsValue writer.old writer.new (form.after_reported word.now T.said rows.now more)) }
     ensures wide { OnOk result (All T.is_wide rows.now) }
 {
     writer.begin_object()?;
@@ -84,8 +84,12 @@ pub(crate) fn tell_after<T: Listed>(
 }
 
 // Writes the reply about a job.
-pub(crate) fn tell_job(alloc: Global, writer: &mut Writer, reply: &Reply) -> Result<(), AllocError>
-    requires { TellsJob reply.now }
+pub(crate) fn report_job(
+    alloc: Global,
+    writer: &mut Writer,
+    reply: &Reply,
+) -> Result<(), AllocError>
+    requires { ReportsJob reply.now }
     ensures value { OnOk result (AddsValue writer.old writer.new (reply_data reply.now)) }
     ensures wide { OnOk result (HasWideNumbers reply.now) }
 {
@@ -123,7 +127,11 @@ pub(crate) fn tell_job(alloc: Global, writer: &mut Writer, reply: &Reply) -> Res
 }
 
 // Writes the reply about a terminal's last number.
-pub(crate) fn tell_terminal(writer: &mut Writer, last: u32, terminal: u32) -> Result<(), AllocError>
+pub(crate) fn report_terminal(
+    writer: &mut Writer,
+    last: u32,
+    terminal: u32,
+) -> Result<(), AllocError>
     ensures value { OnOk result
         (AddsValue writer.old writer.new (reply_data (answer.Terminal last terminal))) }
     ensures wide { OnOk result (HasWideNumbers (answer.Terminal last terminal)) }
@@ -139,7 +147,7 @@ pub(crate) fn tell_terminal(writer: &mut Writer, last: u32, terminal: u32) -> Re
 }
 
 // Writes the reply about orders after a code.
-pub(crate) fn tell_orders(
+pub(crate) fn report_orders(
     alloc: Global,
     writer: &mut Writer,
     more: bool,
@@ -159,7 +167,7 @@ pub(crate) fn tell_orders(
 }
 
 // Writes the reply about an order's lines.
-pub(crate) fn tell_lines(
+pub(crate) fn report_lines(
     alloc: Global,
     writer: &mut Writer,
     lines: &[DemandRow],
@@ -179,7 +187,7 @@ pub(crate) fn tell_lines(
 }
 
 // Writes the reply about pieces after a name.
-pub(crate) fn tell_pieces(
+pub(crate) fn report_pieces(
     alloc: Global,
     writer: &mut Writer,
     more: bool,
@@ -199,12 +207,12 @@ pub(crate) fn tell_pieces(
 }
 
 // Writes the reply about the nodes of a job's plan.
-pub(crate) fn tell_steps(
+pub(crate) fn report_steps(
     alloc: Global,
     writer: &mut Writer,
     reply: &Reply,
 ) -> Result<(), AllocError>
-    requires { TellsSteps reply.now }
+    requires { ReportsSteps reply.now }
     ensures value { OnOk result (AddsValue writer.old writer.new (reply_data reply.now)) }
     ensures wide { OnOk result (HasWideNumbers reply.now) }
 {

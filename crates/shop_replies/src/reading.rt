@@ -126,8 +126,8 @@ fn story_of(read: Option<(EntryList, bool)>) -> Option<Reply>
 }
 
 // The reply about entries that a value stands for.
-pub(crate) fn told(alloc: Global, value: &Value) -> Result<Option<Reply>, AllocError>
-    ensures { IfOk result (λ reply. reply ≡ form.told_of (view value.now)) }
+pub(crate) fn reported(alloc: Global, value: &Value) -> Result<Option<Reply>, AllocError>
+    ensures { IfOk result (λ reply. reply ≡ form.reported_of (view value.now)) }
 {
     let Some(word) = text_at(value, "ok") else {
         return Ok(None);

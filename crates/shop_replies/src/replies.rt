@@ -11,7 +11,7 @@ ghost use Rattle.shop_forms.specs.Forms.{entry_data, reply_data, json_texts};
 
 use crate::commands::{made, write_reply};
 use crate::history::write_entry;
-use crate::reading::told;
+use crate::reading::reported;
 use serde_json::Value;
 use shop_forms::{new_writer, value_of, written_text};
 use shop_records::{EntryTold, Refusal, Reply, Text};
@@ -28,8 +28,8 @@ pub fn read_reply(alloc: Global, value: &Value) -> Result<Reply, Refusal>
     if let Some(reply) = made(value) {
         return Ok(reply);
     }
-    let told = told(alloc, value)?;
-    told.ok_or(Refusal::BadMessage)
+    let reported = reported(alloc, value)?;
+    reported.ok_or(Refusal::BadMessage)
 }
 
 /// The reply that a kept text is, where it is one. A reply that an accepted message can get is read back from its text.
@@ -60,12 +60,12 @@ pub fn reply_text(alloc: Global, reply: &Reply) -> Result<Text, AllocError>
 }
 
 #[tactic(auto, using(crate::proofs::Printed::entry_text_printed))]
-/// The text of an entry as it is told: compact, with its keys in byte order.
-pub fn entry_text(alloc: Global, told: &EntryTold) -> Result<Text, AllocError>
-    ensures { IfOk result (λ text. text ≡ compact_text (entry_data told.now)) }
+/// The text of an entry as it is reported: compact, with its keys in byte order.
+pub fn entry_text(alloc: Global, reported: &EntryTold) -> Result<Text, AllocError>
+    ensures { IfOk result (λ text. text ≡ compact_text (entry_data reported.now)) }
 {
     let mut out = new_writer(alloc);
-    write_entry(alloc, &mut out, told)?;
+    write_entry(alloc, &mut out, reported)?;
     Ok(written_text(out))
 }
 

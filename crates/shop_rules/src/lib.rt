@@ -26,7 +26,7 @@ pub use shop_answers::are_more;
 pub use shop_answers::bytes_with;
 pub use shop_answers::can_be_planned;
 pub use shop_answers::demand_row;
-pub use shop_answers::first_told;
+pub use shop_answers::first_reported;
 pub use shop_answers::is_full;
 pub use shop_answers::job_row;
 pub use shop_answers::order_row;

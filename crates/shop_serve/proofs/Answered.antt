@@ -1,4 +1,4 @@
--- A connection that tells all, and brings a whole request, is answered.
+-- A connection that reports all, and brings a whole request, is answered.
 use Rattle.std.proofs.Common.{◌≡◌, ◌≢◌, ◌∙◌, ℕ, ◌<◌, ◌≤◌, List, [], ◌++◌, length, take, inl, inr, refl, sym, ap, subst, arith}
 use Rattle.std.proofs.lemmas.List.{append-nil, length-append}
 use Rattle.std.specs.Io.KnownBytes.{Appends, IsAtEnd}
@@ -14,7 +14,7 @@ use Rattle.shop_serve.specs.declared.clients.ConnectionStatus.{ConnectionStatus}
 use Rattle.shop_serve.specs.declared.clients.ConnectionStatus.TheVariants.{NoMemory}
 use Rattle.shop_serve.specs.declared.clients.Client.{Client}
 use Rattle.shop_serve.specs.declared.sites.Site.{Site}
-use Rattle.shop_serve.specs.Known.{TellsAll, BringsRequest, HasOwnAnswer, HasOwnQuestion}
+use Rattle.shop_serve.specs.Known.{ReportsAll, BringsRequest, HasOwnAnswer, HasOwnQuestion}
 use Rattle.shop_serve.specs.Times.{Times}
 use Rattle.shop_serve.specs.Clients.{AwaitsMore, IsAnsweredWhole, IsAttended, IsAttendedAt, IsBegunWhole, IsClosedBy, IsFresh, IsHeard, IsMute, IsSpent, IsSpoiled}
 use Rattle.shop_planning.specs.PlanTasks.{instance_in}
@@ -22,7 +22,7 @@ use Rattle.shop_serve.proofs.Turns.{answered-then}
 
 module _ {C : Type 0} (connection : ConnectionGhosts C) (site : Site) {B : Type 0} (book : Ghosts B)
     (now : Instant) (stream : C) (input : List ℕ) (client : Client C) (before after : B) (seen seeing : Times)
-    (tells : TellsAll connection) (brings : BringsRequest connection stream input) (fresh : IsFresh now stream client) where
+    (reports : ReportsAll connection) (brings : BringsRequest connection stream input) (fresh : IsFresh now stream client) where
   comes : connection.remaining client.stream ≡ Some input
   comes = ap connection.remaining fresh.own ∙ brings.comes
 
@@ -41,12 +41,12 @@ module _ {C : Type 0} (connection : ConnectionGhosts C) (site : Site) {B : Type 
       → AwaitsMore received needed → ⊥
   not_waiting received needed left read drained more =
       let part = first_part (connection.remaining left) received (read_of (connection.remaining left) received read) in
-      let none : Some part.0 ≡ Some [] = sym part.1 ∙ tells.drained left drained in
+      let none : Some part.0 ≡ Some [] = sym part.1 ∙ reports.drained left drained in
       let empty : part.0 ≡ [] = cc none in
       brings.whole (subst IsUnfinished (sym (part.2 ∙ ap (λ l. received ++ l) empty ∙ append-nil received)) more.here)
 
   not_mute : (left : Client C) → IsMute connection client.stream client.received.items left.stream left.received.items → ⊥
-  not_mute left (inl lost) = tells.kept left.stream lost
+  not_mute left (inl lost) = reports.kept left.stream lost
   not_mute left (inr (read, inl ended)) =
       let part = first_part (connection.remaining left.stream) left.received.items (read_of (connection.remaining left.stream) left.received.items read) in
       let none : part.0 ≡ [] = subst IsAtEnd part.1 ended.1 in

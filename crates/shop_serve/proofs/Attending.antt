@@ -21,7 +21,7 @@ use Rattle.shop_serve.specs.declared.answers.Made.TheVariants.{Answer, PlanTask}
 use Rattle.shop_serve.specs.Making.{IsAsked, IsMadeMeanwhile, put_made}
 use Rattle.shop_serve.specs.Clients.{is_unanswered, unanswered, StopsAt, TakesAnswer, IsHandedOn, IsAnsweredWhole, IsBegunWhole, IsHeard, IsAttended, IsAttendedAt, IsClosedBy, IsSpent, IsSpoiled}
 use Rattle.shop_serve.specs.Serving.{Advances, HasServed, IsAnsweredThen}
-use Rattle.shop_serve.specs.Times.{Times, Stands, StandsUntil, Tells}
+use Rattle.shop_serve.specs.Times.{Times, Stands, StandsUntil, Reports}
 use Rattle.shop_serve.proofs.Slots.{answered-of, has-answer, has-neither, has-question, one_of, unanswered-of, unanswered-updates}
 use Rattle.shop_serve.proofs.Turns.{stays, one_advances}
 
@@ -41,7 +41,7 @@ module _ {C : Type 0} (connection : ConnectionGhosts C) (site : Site) {B : Type 
   stops-ended answer mid new there more same whole keeps (inl ended) = inl (same ∙ whole, keeps ended.1)
   stops-ended answer mid new there more same whole keeps (inr waits) = absurd (omega (arith, whole, waits.0))
 
-  -- it took its whole answer and was told the end of it, and what still came was dropped
+  -- it took its whole answer and was given the end of it, and what still came was dropped
   pub attended-ended : (old mid new : Client C) (before after : B) (seen seeing : Times)
       → (new.received ≡ mid.received) × (new.answer ≡ mid.answer) × (new.sent ≡ mid.sent) → new.since ≡ mid.since → new.task ≡ mid.task
       → connection.contents new.stream ≡ connection.contents mid.stream → (connection.has_ended mid.stream → connection.has_ended new.stream) → IsSomeAnd mid.answer (λ answer. mid.sent ≡ length answer.items)
@@ -139,20 +139,20 @@ module _ {C : Type 0} (connection : ConnectionGhosts C) (site : Site) {B : Type 
 
   -- what was made was put into its connection
   module _ (before after : B) (seen still between seeing : Times) (client : Client C) where
-    pub made-own : (made : Made) (now : Instant) → Stands seen still → IsMadeMeanwhile site book before after still between client.received.items made → Tells between seeing now
+    pub made-own : (made : Made) (now : Instant) → Stands seen still → IsMadeMeanwhile site book before after still between client.received.items made → Reports between seeing now
         → IfSome (put_made client made now).answer (λ answer. IsAnsweredThen site book before after seen seeing (put_made client made now).since (put_made client made now).received.items answer.items)
-    made-own (Answer answer) now stands is tells = (still, stands, between, is, tells)
-    made-own (PlanTask task) now stands is tells = tt
+    made-own (Answer answer) now stands is reports = (still, stands, between, is, reports)
+    made-own (PlanTask task) now stands is reports = tt
 
     pub made-asked : (made : Made) (now : Instant) → IsMadeMeanwhile site book before after still between client.received.items made
         → IfSome (put_made client made now).task (λ t. (t.last ≡ None) × IsAsked site book before after (put_made client made now).received.items (instance_in t.task))
     made-asked (Answer answer) now is = tt
     made-asked (PlanTask task) now is = (refl, is.0)
 
-    pub made-timed : (made : Made) (now : Instant) → Stands seen still → IsMadeMeanwhile site book before after still between client.received.items made → Tells between seeing now
+    pub made-timed : (made : Made) (now : Instant) → Stands seen still → IsMadeMeanwhile site book before after still between client.received.items made → Reports between seeing now
         → IsSome (put_made client made now).task → StandsUntil seen seeing (put_made client made now).since
-    made-timed (Answer answer) now stands is tells some = absurd (cc some)
-    made-timed (PlanTask task) now stands is tells some = (still, stands, subst (λ t. Tells t seeing now) is.1 tells)
+    made-timed (Answer answer) now stands is reports some = absurd (cc some)
+    made-timed (PlanTask task) now stands is reports some = (still, stands, subst (λ t. Reports t seeing now) is.1 reports)
 
   pub made-whole : (client : Client C) (made : Made) (now : Instant) → IsDetermined client.received.items ⊎ IsAtEnd (connection.remaining client.stream)
       → IsDetermined (put_made client made now).received.items ⊎ IsAtEnd (connection.remaining (put_made client made now).stream)
@@ -178,7 +178,7 @@ module _ {C : Type 0} (connection : ConnectionGhosts C) (site : Site) {B : Type 
       by_answer (Some answer) e whole =
           subst (λ o. IsSomeAnd o (λ answer. length answer.items ≤ new.sent)) (sym e) (omega (arith, whole, kept.2))
 
-  -- it is lost, or told to have taken more than its answer, which it isn't when that begins
+  -- it is lost, or reported to have taken more than its answer, which it isn't when that begins
   pub spoiled-on : (old new : Client C) → IsSome old.answer → connection.is_lost new.stream ⊎ IsSomeAnd old.answer (λ answer. length answer.items < old.sent)
       → IsSpoiled connection site book old new
   spoiled-on old new some why = inr (inl (by_answer old.answer some why))

@@ -40,8 +40,8 @@ module _ {C : Type 0} where
 
   received-few : {P : Type 0} (port : PortGhosts P C) (stream : C) (old new : Slab (Client C)) (seen seeing : Times) → slab_len old ≤ MAX_CLIENTS
       → IsReceived port stream old new seen seeing → slab_len new ≤ MAX_CLIENTS
-  received-few port stream old new seen seeing few (now, told, inl away) = turned-few port old new few away
-  received-few port stream old new seen seeing few (now, told, inr here) = opened-few port now stream here.0 old new few here.1
+  received-few port stream old new seen seeing few (now, reported, inl away) = turned-few port old new few away
+  received-few port stream old new seen seeing few (now, reported, inr here) = opened-few port now stream here.0 old new few here.1
 
   arrived-few : {P : Type 0} (port : PortGhosts P C) (arrived : List C) (old new : Slab (Client C)) (seen seeing : Times) → slab_len old ≤ MAX_CLIENTS
       → AreReceived port arrived old new seen seeing → slab_len new ≤ MAX_CLIENTS

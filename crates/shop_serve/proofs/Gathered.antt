@@ -1,4 +1,4 @@
--- What was told and given, gathered from turn to turn.
+-- What was reported and given, gathered from turn to turn.
 use Rattle.std.proofs.Common.{◌≡◌, ◌∙◌, ℕ, ◌+◌, true, List, [], ◌∷◌, ◌++◌, length, refl, sym, ap, subst, arith, length-append}
 use Rattle.std.proofs.lemmas.List.{append_assoc, append-nil}
 use Rattle.std.proofs.lemmas.List.Concat.{flat_map-append}
@@ -60,30 +60,30 @@ module _ {C : Type 0} {P : Type 0} (port : PortGhosts P C) where
 module _ {C : Type 0} (connection : ConnectionGhosts C) (site : Site) {B : Type 0} (book : Ghosts B) {P : Type 0} (port : PortGhosts P C) where
   -- the turns so far, and whatever comes later
   abbrev pub RoundsSoFar : Option (List ℕ) → Option (List ℕ) → Option (List C) → Option (List C) → ℕ → Slab (Client C) → Slab (Client C) → B → B → (seen now : Times) → Type 0
-  RoundsSoFar told telling given giving count first mid before here seen now =
-      (rounds : List (Round C)) × (count ≡ length (all_arrived rounds)) × Adds told telling (all_keys rounds) × Adds given giving (all_arrived rounds)
+  RoundsSoFar reported response given giving count first mid before here seen now =
+      (rounds : List (Round C)) × (count ≡ length (all_arrived rounds)) × Adds reported response (all_keys rounds) × Adds given giving (all_arrived rounds)
       × ((later : List (Round C)) (clients : Slab (Client C)) (after : B) (seeing : Times) → AreRounds connection site book port later mid clients here after now seeing
       → AreRounds connection site book port (rounds ++ later) first clients before after seen seeing)
 
-  pub rounds-none : (told : Option (List ℕ)) (given : Option (List C)) (first : Slab (Client C)) (before : B) (seen : Times) → RoundsSoFar told told given given 0 first first before before seen seen
-  rounds-none told given first before seen = ([], refl, adds-none told, adds-none given, λ later clients after seeing run. run)
+  pub rounds-none : (reported : Option (List ℕ)) (given : Option (List C)) (first : Slab (Client C)) (before : B) (seen : Times) → RoundsSoFar reported reported given given 0 first first before before seen seen
+  rounds-none reported given first before seen = ([], refl, adds-none reported, adds-none given, λ later clients after seeing run. run)
 
-  pub rounds-all : (told telling : Option (List ℕ)) (given giving : Option (List C)) (count : ℕ) (first last : Slab (Client C)) (before after : B) (seen seeing : Times)
-      → (s : RoundsSoFar told telling given giving count first last before after seen seeing) → AreRounds connection site book port s.0 first last before after seen seeing
-  rounds-all told telling given giving count first last before after seen seeing s =
+  pub rounds-all : (reported response : Option (List ℕ)) (given giving : Option (List C)) (count : ℕ) (first last : Slab (Client C)) (before after : B) (seen seeing : Times)
+      → (s : RoundsSoFar reported response given giving count first last before after seen seeing) → AreRounds connection site book port s.0 first last before after seen seeing
+  rounds-all reported response given giving count first last before after seen seeing s =
       subst (λ rounds. AreRounds connection site book port rounds first last before after seen seeing) (append-nil s.0) (s.4 [] last after seeing (refl, refl, refl))
 
-  pub rounds-one : (told telling ends : Option (List ℕ)) (given giving last : Option (List C)) (count more : ℕ) (first mid new : Slab (Client C)) (before here after : B)
-      (seen seeing looked ending : Times) (now : Instant) (keys : List ℕ) (arrived : List C) → Adds telling ends keys → Adds giving last arrived → more ≡ count + length arrived
+  pub rounds-one : (reported response ends : Option (List ℕ)) (given giving last : Option (List C)) (count more : ℕ) (first mid new : Slab (Client C)) (before here after : B)
+      (seen seeing looked ending : Times) (now : Instant) (keys : List ℕ) (arrived : List C) → Adds response ends keys → Adds giving last arrived → more ≡ count + length arrived
       → Looks seeing looked true → IsRound connection site book port (record { now = now; keys = keys; arrived = arrived }) mid new here after looked ending
-      → RoundsSoFar told telling given giving count first mid before here seen seeing → RoundsSoFar told ends given last more first new before after seen ending
-  rounds-one told telling ends given giving last count more first mid new before here after seen seeing looked ending now keys arrived told_more given_more counted looks round s =
+      → RoundsSoFar reported response given giving count first mid before here seen seeing → RoundsSoFar reported ends given last more first new before after seen ending
+  rounds-one reported response ends given giving last count more first mid new before here after seen seeing looked ending now keys arrived reported_more given_more counted looks round s =
       let r : Round C = record { now = now; keys = keys; arrived = arrived } in
       let all_keys_more = flat_map-append (λ (r : Round C). r.keys) s.0 (r ∷ []) ∙ ap (λ l. all_keys s.0 ++ l) (append-nil keys) in
       let all_arrived_more = flat_map-append (λ (r : Round C). r.arrived) s.0 (r ∷ []) ∙ ap (λ l. all_arrived s.0 ++ l) (append-nil arrived) in (
         s.0 ++ r ∷ [],
         omega (arith, s.1, counted, ap length all_arrived_more, length-append (all_arrived s.0) arrived),
-        subst (Adds told ends) (sym all_keys_more) (adds-more told telling ends (all_keys s.0) keys s.2 told_more),
+        subst (Adds reported ends) (sym all_keys_more) (adds-more reported response ends (all_keys s.0) keys s.2 reported_more),
         subst (Adds given last) (sym all_arrived_more) (adds-more given giving last (all_arrived s.0) arrived s.3 given_more),
         λ later clients end last_seen run. subst (λ rounds. AreRounds connection site book port rounds first clients before end seen last_seen) (sym (append_assoc s.0 (r ∷ []) later))
             (s.4 (r ∷ later) clients end last_seen (new, after, ending, (looked, looks, round), run)),

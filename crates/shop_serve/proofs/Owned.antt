@@ -159,7 +159,7 @@ module _ {C : Type 0} (connection : ConnectionGhosts C) (site : Site) {B : Type 
       by_progress client is Answered e =
           let (left, at, out) = t.answered e in
           let same : left ≡ client = cc (at, is) in
-          subst (HasItsOwn site book a b) (sym out.kept ∙ same) (tt, inr (instance_in out.searching.task, asked out.searching out.asks, out.told))
+          subst (HasItsOwn site book a b) (sym out.kept ∙ same) (tt, inr (instance_in out.searching.task, asked out.searching out.asks, out.reported))
       by_progress client is NoMemory e = absurd (cc (is, (t.closed e).0))
 
   steps_search-own : (now : Instant) (old new : Slab (Client C)) (a b c : B) (seen seeing : Times) → StepsSearch connection site book now old new b c seen seeing → Open a b old → Open a c new
@@ -199,8 +199,8 @@ module _ {C : Type 0} (connection : ConnectionGhosts C) (site : Site) {B : Type 
       (λ key client is. room-own site book old t.room t.made key client (ap (λ slots. get (record t.room { slots = slots }) key) (sym t.same) ∙ is)) own
 
   received-own : (stream : C) (old new : Slab (Client C)) (a b : B) (seen seeing : Times) → IsReceived port stream old new seen seeing → Open a b old → Open a b new
-  received-own stream old new a b seen seeing (now, told, inl away) (so_far, own) = (so_far, turned-own old new a b away own)
-  received-own stream old new a b seen seeing (now, told, inr here) (so_far, own) = (so_far, opened-own now stream here.0 old new a b here.1 own)
+  received-own stream old new a b seen seeing (now, reported, inl away) (so_far, own) = (so_far, turned-own old new a b away own)
+  received-own stream old new a b seen seeing (now, reported, inr here) (so_far, own) = (so_far, opened-own now stream here.0 old new a b here.1 own)
 
   arrived-own : (arrived : List C) (old new : Slab (Client C)) (a b : B) (seen seeing : Times) → AreReceived port arrived old new seen seeing → Open a b old → Open a b new
   arrived-own [] old new a b seen seeing run here = subst (λ (n : Slab (Client C)). Open a b n) (sym run.0) here

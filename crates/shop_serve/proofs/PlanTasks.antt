@@ -9,7 +9,7 @@ use Rattle.shop_serve.specs.declared.connections.Connection.{Ghosts as Connectio
 use Rattle.shop_serve.specs.declared.searching.Progress.TheVariants.{GoesOn, Answered, NoMemory}
 use Rattle.shop_serve.specs.Clients.{AsksAt, NoneAsks, unanswered}
 use Rattle.shop_serve.specs.RunningTask.{IsSteppedAt, IsSteppedOnce, IsFinished}
-use Rattle.shop_serve.specs.Times.{Times, TellsNone}
+use Rattle.shop_serve.specs.Times.{Times, ReportsNone}
 use Rattle.shop_serve.proofs.Slots.{answered-of, has-answer, has-question, one_of, unanswered-updates}
 
 module _ {C P : Type 0} (clients : Slab (Client C)) where
@@ -78,7 +78,7 @@ module _ {C : Type 0} (connection : ConnectionGhosts C) (crowded : Bool) (now : 
   no_one = ap one_of is ∙ answered-of client (has-question client asks)
 
   -- it goes on
-  pub goes-on : IsSteppedOnce connection crowded now client left → TellsNone seen seeing → IsSteppedAt connection crowded GoesOn now key clients (with_value clients key left) seen seeing
+  pub goes-on : IsSteppedOnce connection crowded now client left → ReportsNone seen seeing → IsSteppedAt connection crowded GoesOn now key clients (with_value clients key left) seen seeing
   goes-on once unread = record {
     client = client;
     there = is;
@@ -120,7 +120,7 @@ module _ {C : Type 0} (connection : ConnectionGhosts C) (crowded : Bool) (now : 
       )
 
   -- it is closed
-  pub given-up : (new : Slab (Client C)) → Updates (with_value clients key left) new key None → TellsNone seen seeing → IsSteppedAt connection crowded NoMemory now key clients new seen seeing
+  pub given-up : (new : Slab (Client C)) → Updates (with_value clients key left) new key None → ReportsNone seen seeing → IsSteppedAt connection crowded NoMemory now key clients new seen seeing
   given-up new removed unread = record {
     client = client;
     there = is;

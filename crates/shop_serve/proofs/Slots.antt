@@ -13,9 +13,9 @@ use Rattle.shop_serve.proofs.Counts.{count-but, count-fewer, one, one-most, one-
 use Rattle.shop_serve.specs.Clients.{ClosesLate, IsFresh, IsOpened, IsTurnedAway, MakesRoom, in_time, is_late, is_unanswered, unanswered}
 
 -- it is watched under the key that it was put under
-pub watched-at : {E : Type 0} (r : Result ℕ E) (told free : ℕ) (Watched : ℕ → Type 0) → told ≡ free → Watched told → IfOk r (λ k. k ≡ free) → IfOk r Watched
-watched-at (Ok k) told free Watched e watched is = subst Watched (e ∙ sym is) watched
-watched-at (Err f) told free Watched e watched is = tt
+pub watched-at : {E : Type 0} (r : Result ℕ E) (reported free : ℕ) (Watched : ℕ → Type 0) → reported ≡ free → Watched reported → IfOk r (λ k. k ≡ free) → IfOk r Watched
+watched-at (Ok k) reported free Watched e watched is = subst Watched (e ∙ sym is) watched
+watched-at (Err f) reported free Watched e watched is = tt
 
 pub watched-some : {E : Type 0} (r : Result ℕ E) (key : Option ℕ) (Watched : ℕ → Type 0) → key ≡ result_ok r → IfOk r Watched → IfSome key Watched
 watched-some (Ok k) key Watched e watched = subst (λ key. IfSome key Watched) (sym e) watched

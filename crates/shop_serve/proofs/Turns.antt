@@ -28,7 +28,7 @@ use Rattle.shop_serve.specs.declared.answers.Made.TheVariants.{Answer, PlanTask}
 use Rattle.shop_serve.specs.Making.{IsMadeOf, IsMadeMeanwhile}
 use Rattle.shop_serve.specs.declared.sites.Site.{Site}
 use Rattle.shop_serve.specs.Sites.{is_routed, own_bytes}
-use Rattle.shop_serve.specs.Serving.{Turn, Handling, HandlingStep, IsCounted, IsServedOnce, routed, ruled, begun, copied, InTurn, asks_backup, is_backup, IsAnswered, IsAnsweredThen, IsBackupAnswer, exchange_of, exchanges, TellsFailure, TellOfFailures, HasServed, Advances}
+use Rattle.shop_serve.specs.Serving.{Turn, Handling, HandlingStep, IsCounted, IsServedOnce, routed, ruled, begun, copied, InTurn, asks_backup, is_backup, IsAnswered, IsAnsweredThen, IsBackupAnswer, exchange_of, exchanges, ReportsFailure, ReportOfFailures, HasServed, Advances}
 
 -- what goes to its route, and what doesn't
 pub is_route : (r : Ruling) → is_routed r ≡ true → r ≡ Routed
@@ -93,7 +93,7 @@ turns-append site book before mid after old m new (s ∷ ss) ts run more =
     (run.0, run.1, run.2, run.3, turns-append site book run.0 mid after run.1 m new ss ts run.4 more)
 
 -- turns, and then more of them
-blame-append : (a b c : ℕ) (ss ts : List Turn) → CountsUp a b → CountsUp b c → TellOfFailures ss a b → TellOfFailures ts b c → TellOfFailures (ss ++ ts) a c
+blame-append : (a b c : ℕ) (ss ts : List Turn) → CountsUp a b → CountsUp b c → ReportOfFailures ss a b → ReportOfFailures ts b c → ReportOfFailures (ss ++ ts) a c
 blame-append a b c [] ts up next first second t i e = failed_last a b c up (second t i e) next
 blame-append a b c (s ∷ ss) ts up next first second t (inl is) e = failed_first a b c (first t (inl is) e) next
 blame-append a b c (s ∷ ss) ts up next first second t (inr i) e = blame-append a b c ss ts up next (λ t i. first t (inr i)) second t i e
@@ -108,17 +108,17 @@ module _ (site : Site) {B : Type 0} (book : Ghosts B) where
   pub none_done : (before after : B) (count : ℕ) → after ≡ before → HasServed site book before after count
   none_done before after count same = subst (λ b. HasServed site book before b count) (sym same) (none_served before count)
 
-  -- one that does nothing and tells of no failure
-  once_same : (here : B) (m : Content) (handling : Handling) → HandlingStep m handling m → book.has_clean_disk here → book.holds here m → exchange_of handling ≡ [] → (TellsFailure handling → ⊥)
+  -- one that does nothing and reports no failure
+  once_same : (here : B) (m : Content) (handling : Handling) → HandlingStep m handling m → book.has_clean_disk here → book.holds here m → exchange_of handling ≡ [] → (ReportsFailure handling → ⊥)
       → IsServedOnce book here here m handling m
-  once_same here m handling step clean_disk held none untold =
+  once_same here m handling step clean_disk held none unreported =
       record {
         step = step;
         clean_disk = clean_disk;
         held = held;
         crash = subst (λ es. ExchangesLead book here here m es m) (sym none) (refl, λ left it. it);
         failures = inl refl;
-        blame = λ tells. absurd (untold tells);
+        blame = λ reports. absurd (unreported reports);
       }
 
   -- by its head an input goes to its route
@@ -129,22 +129,22 @@ module _ (site : Site) {B : Type 0} (book : Ghosts B) where
   served_once : (before after : B) (input : List ℕ) (old new : Option (List ℕ)) (unwritten : List ℕ) → 0 < length input → GoesToRoute input
       → CountsUp (book.failed before) (book.failed after) → IsServed book before after (Some input) old new unwritten → HasServed site book before after 1
   served_once before after input old new unwritten some goes up s clean_disk m held sound =
-      let telling = s.2.telling in
+      let response = s.2.response in
       let done = s.2.run.run clean_disk m held sound in
-      let turn : Turn = record { input = input; handling = routed s.0 telling; answer = s.2.bytes } in
-      let once : IsServedOnce book before after m (routed s.0 telling) done.next =
+      let turn : Turn = record { input = input; handling = routed s.0 response; answer = s.2.bytes } in
+      let once : IsServedOnce book before after m (routed s.0 response) done.next =
       record { step = done.step; clean_disk = clean_disk; held = done.held; crash = done.crash; failures = up; blame = done.blame } in
       record {
         served = turn ∷ [];
         few = omega arith;
         next = done.next;
-        run = (after, done.next, (some, (goes, s.1, (unwritten, s.2.told))), once, (refl, refl));
+        run = (after, done.next, (some, (goes, s.1, (unwritten, s.2.reported))), once, (refl, refl));
         held = done.held;
         sound = done.sound;
-        crash = subst (λ es. ExchangesLead book before after m es done.next) (sym (append-nil (exchanged s.0 telling))) done.crash;
+        crash = subst (λ es. ExchangesLead book before after m es done.next) (sym (append-nil (exchanged s.0 response))) done.crash;
         failures = up;
-        blame = λ t i e. elim i [ inl is ↦ done.blame (subst (λ (t : Turn). TellsFailure t.handling) is e) | inr none ↦ absurd none ];
-        account = subst (λ es. HasAccount json_texts m (map (λ e. e.0) es) (map (λ e. e.1) es) done.next) (sym (append-nil (exchanged s.0 telling))) done.account;
+        blame = λ t i e. elim i [ inl is ↦ done.blame (subst (λ (t : Turn). ReportsFailure t.handling) is e) | inr none ↦ absurd none ];
+        account = subst (λ es. HasAccount json_texts m (map (λ e. e.0) es) (map (λ e. e.1) es) done.next) (sym (append-nil (exchanged s.0 response))) done.account;
       }
 
   pub one_served : (before after : B) (input : List ℕ) (left old new : Option (List ℕ)) (unwritten : List ℕ) → left ≡ Some input → 0 < length input → GoesToRoute input
@@ -175,7 +175,7 @@ module _ (site : Site) {B : Type 0} (book : Ghosts B) where
         sound = sound;
         crash = (refl, b.keeps.crash clean_disk m held);
         failures = up;
-        blame = λ t i e. elim i [ inl is ↦ absurd (subst (λ (t : Turn). TellsFailure t.handling) is e) | inr none ↦ absurd none ];
+        blame = λ t i e. elim i [ inl is ↦ absurd (subst (λ (t : Turn). ReportsFailure t.handling) is e) | inr none ↦ absurd none ];
         account = account_same json_texts m m refl;
       }
 
@@ -196,7 +196,7 @@ module _ (site : Site) {B : Type 0} (book : Ghosts B) where
         sound = sound;
         crash = (refl, λ left it. it);
         failures = inl refl;
-        blame = λ t i e. elim i [ inl is ↦ absurd (subst (λ (t : Turn). TellsFailure t.handling) is e) | inr none ↦ absurd none ];
+        blame = λ t i e. elim i [ inl is ↦ absurd (subst (λ (t : Turn). ReportsFailure t.handling) is e) | inr none ↦ absurd none ];
         account = account_same json_texts m m refl;
       }
 
@@ -212,8 +212,8 @@ module _ (site : Site) {B : Type 0} (book : Ghosts B) where
   -- what was answered meanwhile was answered
   pub answered-then : (before after : B) (seen seeing : Times) (now : Instant) (received answer : List ℕ) → IsAnsweredThen site book before after seen seeing now received answer
       → IsAnswered site book before after received answer
-  answered-then before after seen seeing now received answer (still, stands, between, inl alone, tells) = inl alone.0
-  answered-then before after seen seeing now received answer (still, stands, between, inr (outcome, is, same, copies), tells) = inr (outcome, is, same)
+  answered-then before after seen seeing now received answer (still, stands, between, inl alone, reports) = inl alone.0
+  answered-then before after seen seeing now received answer (still, stands, between, inr (outcome, is, same, copies), reports) = inr (outcome, is, same)
 
   -- the site answered one by itself
   pub one_ruled : (before after : B) (input : List ℕ) (r : Ruling) (entries : Option ℕ) → 0 < length input → HasRuling site.guard input r → r ≢ Routed
@@ -239,7 +239,7 @@ module _ (site : Site) {B : Type 0} (book : Ghosts B) where
         sound = sound;
         crash = (refl, counted.0.crash clean_disk m held);
         failures = counted.0.failures;
-        blame = λ t i e. elim i [ inl is ↦ absurd (subst (λ (t : Turn). TellsFailure t.handling) is e) | inr none ↦ absurd none ];
+        blame = λ t i e. elim i [ inl is ↦ absurd (subst (λ (t : Turn). ReportsFailure t.handling) is e) | inr none ↦ absurd none ];
         account = account_same json_texts m m refl;
       }
 

@@ -19,7 +19,7 @@ use Rattle.shop_planning.specs.PlanTasks.{instance_in}
 use Rattle.shop_serve.specs.Making.{IsAsked}
 use Rattle.shop_serve.specs.declared.sites.Site.{Site}
 use Rattle.shop_serve.specs.Serving.{HasServed, IsAnsweredThen}
-use Rattle.shop_serve.specs.Times.{Times, StandsUntil, TellsNone}
+use Rattle.shop_serve.specs.Times.{Times, StandsUntil, ReportsNone}
 use Rattle.shop_serve.specs.Watches.{is_done}
 
 -- what came is an unfinished request, and so is all that goes on from it with fewer bytes than are needed
@@ -125,7 +125,7 @@ abbrev pub TakesAnswer : {C : Type 0} → ConnectionGhosts C → List ℕ → C 
 TakesAnswer connection answer old sent new more =
     (before : Option (List ℕ)) → Appends before (connection.contents old) (take sent answer) → Appends before (connection.contents new) (take more answer)
 
--- where a connection stops that takes its answer: after the last byte, and it was told that this is the end; or before, as it
+-- where a connection stops that takes its answer: after the last byte, and it was reported that this is the end; or before, as it
 -- takes no more
 abbrev pub StopsAt : {C : Type 0} → ConnectionGhosts C → List ℕ → C → ℕ → Type 0
 StopsAt connection answer new sent = ((sent ≡ length answer) × connection.has_ended new) ⊎ ((sent < length answer) × connection.is_full new)
@@ -144,11 +144,11 @@ IsOver connection client =
     ⊎ (connection.is_lost client.stream ⊎ IsSomeAnd client.answer (λ answer. is_done answer.items ≡ true))
 
 module _ {C : Type 0} (connection : ConnectionGhosts C) (site : Site) {B : Type 0} (book : Ghosts B) where
-  -- A connection with an answer: it keeps it, takes more of it, to its end, which it is told, or until it takes no more, and
+  -- A connection with an answer: it keeps it, takes more of it, to its end, which it is given, or until it takes no more, and
   -- nothing else is done. Its seconds go on.
   pub record IsHandedOn (old new : Client C) (before after : B) (seen seeing : Times) (answer : List ℕ) : Type 0 where
     pub same : after ≡ before
-    pub unread : TellsNone seen seeing
+    pub unread : ReportsNone seen seeing
     pub since : new.since ≡ old.since
     pub received : new.received ≡ old.received
     pub asks : new.task ≡ old.task
@@ -156,8 +156,8 @@ module _ {C : Type 0} (connection : ConnectionGhosts C) (site : Site) {B : Type 
     pub takes : TakesAnswer connection answer old.stream old.sent new.stream new.sent
     pub stops : StopsAt connection answer new.stream new.sent
 
-  -- The answer to all that came of a connection, once that was whole or at its end. It took all of it, and was told its end; or its
-  -- first bytes, until it took no more. The time stood still meanwhile; its seconds begin anew, at the time that is told then.
+  -- The answer to all that came of a connection, once that was whole or at its end. It took all of it, and was given its end; or its
+  -- first bytes, until it took no more. The time stood still meanwhile; its seconds begin anew, at the time that is reported then.
   pub record IsAnsweredWhole (old new : Client C) (rest : Option (List ℕ)) (before after : B) (seen seeing : Times) (answer : List ℕ) : Type 0 where
     pub whole : IsDetermined new.received.items ⊎ IsAtEnd rest
     pub answered : IsAnsweredThen site book before after seen seeing new.since new.received.items answer
@@ -165,7 +165,7 @@ module _ {C : Type 0} (connection : ConnectionGhosts C) (site : Site) {B : Type 
     pub stops : StopsAt connection answer new.stream new.sent
 
   -- The question that is all that came of a connection, once that was whole or at its end: this is what it asks of the content.
-  -- It waits for its search, since the time that is told then, which stood still meanwhile. Nothing is done, and the connection took
+  -- It waits for its search, since the time that is reported then, which stood still meanwhile. Nothing is done, and the connection took
   -- nothing.
   pub record IsBegunWhole (old new : Client C) (rest : Option (List ℕ)) (before after : B) (seen seeing : Times) (searching : RunningTask) : Type 0 where
     pub since : StandsUntil seen seeing new.since
@@ -178,7 +178,7 @@ module _ {C : Type 0} (connection : ConnectionGhosts C) (site : Site) {B : Type 
   -- A connection whose question is searched: it keeps that and waits, and what still came of it was dropped. Nothing is done.
   pub record IsHeeded (old new : Client C) (before after : B) (seen seeing : Times) : Type 0 where
     pub same : after ≡ before
-    pub unread : TellsNone seen seeing
+    pub unread : ReportsNone seen seeing
     pub kept : new ≡ record old { stream = new.stream }
     pub took : connection.contents new.stream ≡ connection.contents old.stream
 
@@ -186,7 +186,7 @@ module _ {C : Type 0} (connection : ConnectionGhosts C) (site : Site) {B : Type 
   -- request, where it was one before. Its seconds go on, whatever came.
   pub record IsLeftWaiting (old new : Client C) (before after : B) (seen seeing : Times) : Type 0 where
     pub same : after ≡ before
-    pub unread : TellsNone seen seeing
+    pub unread : ReportsNone seen seeing
     pub since : new.since ≡ old.since
     pub took : connection.contents new.stream ≡ connection.contents old.stream
     pub drained : connection.is_drained new.stream
@@ -209,7 +209,7 @@ module _ {C : Type 0} (connection : ConnectionGhosts C) (site : Site) {B : Type 
       × (old.answer ≡ None → IsSome old.task → IsHeeded old new before after seen seeing)
       × (old.answer ≡ None → old.task ≡ None → IsHeard old new before after seen seeing)
 
-  -- No request can come of it, or it can't take its answer: it is lost, or told to have taken more than that.
+  -- No request can come of it, or it can't take its answer: it is lost, or reported to have taken more than that.
   abbrev pub IsSpoiled : Client C → Client C → Type 0
   IsSpoiled old new =
       ((old.answer ≡ None) × (old.task ≡ None) × IsMute connection old.stream old.received.items new.stream new.received.items)
@@ -235,7 +235,7 @@ module _ {C : Type 0} (connection : ConnectionGhosts C) (site : Site) {B : Type 
 
   -- the connections of these keys were attended to, one after another
   abbrev pub AreAttended : List ℕ → Slab (Client C) → Slab (Client C) → B → B → (seen seeing : Times) → Type 0
-  AreAttended [] old new before after seen seeing = (new ≡ old) × (after ≡ before) × TellsNone seen seeing
+  AreAttended [] old new before after seen seeing = (new ≡ old) × (after ≡ before) × ReportsNone seen seeing
   AreAttended (key ∷ keys) old new before after seen seeing =
       (status : ConnectionStatus) × (clients : Slab (Client C)) × (mid : B) × (between : Times) × IsAttendedAt status key old clients before mid seen between
       × AreAttended keys clients new mid after between seeing

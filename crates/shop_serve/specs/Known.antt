@@ -1,4 +1,4 @@
--- What is done with a connection that tells all: its one request is answered, and it takes its own answer; or it is a question, and
+-- What is done with a connection that reports all: its one request is answered, and it takes its own answer; or it is a question, and
 -- that is its own.
 use Rattle.std.specs.Prelude.{◌≡◌, ◌≢◌, ◌⊎◌, ◌<◌, ◌≤◌, ℕ, List, [], ◌++◌, length, take, Option, Some, None, IfSome, IsSomeAnd}
 use Rattle.slab.specs.Slab.{Slab, get}
@@ -19,7 +19,7 @@ use Rattle.shop_serve.specs.Times.{Times}
 
 module _ {C : Type 0} (connection : ConnectionGhosts C) where
   -- nothing more came of a connection only where nothing is left of what comes, and none is lost
-  pub record TellsAll : Type 0 where
+  pub record ReportsAll : Type 0 where
     pub drained : (c : C) → connection.is_drained c → connection.remaining c ≡ Some []
     pub kept : (c : C) → connection.is_lost c → ⊥
 
@@ -31,7 +31,7 @@ module _ {C : Type 0} (connection : ConnectionGhosts C) where
     pub few : length input < most_request_reads
 
   module _ (site : Site) {B : Type 0} (book : Ghosts B) where
-    -- The first of its bytes whose parse is determined, or all of them, were answered. It took the whole answer, and was told
+    -- The first of its bytes whose parse is determined, or all of them, were answered. It took the whole answer, and was reported
     -- its end; or first bytes of it, until it took no more. It is what is open in its place now, with this answer; or nothing
     -- is, and it took the whole one.
     pub record HasOwnAnswer (input : List ℕ) (place : Option (Client C)) (before after : B) : Type 0 where
@@ -61,5 +61,5 @@ module _ {C : Type 0} (connection : ConnectionGhosts C) where
     abbrev pub WholeIsAnswered : Type 0
     WholeIsAnswered =
         (now : Instant) (stream : C) (input : List ℕ) (client : Client C) (status : ConnectionStatus) (key : ℕ) (old new : Slab (Client C)) (before after : B) (seen seeing : Times)
-        → TellsAll → BringsRequest stream input → IsFresh now stream client → get old key ≡ Some client → status ≢ NoMemory
+        → ReportsAll → BringsRequest stream input → IsFresh now stream client → get old key ≡ Some client → status ≢ NoMemory
         → IsAttendedAt connection site book status key old new before after seen seeing → HasOwnAnswer input (get new key) before after ⊎ HasOwnQuestion input before after

@@ -20,8 +20,8 @@ use Rattle.shop_serve.specs.declared.clients.Client.{Client}
 use Rattle.shop_serve.specs.declared.sites.Site.{Site}
 use Rattle.shop_serve.specs.declared.searching.TheConstants.{FAIR_CALLS}
 use Rattle.shop_serve.specs.Serving.{AsksBackup, IsAnsweredAlone, IsAnsweredMeanwhile}
-use Rattle.shop_serve.specs.Times.{Times, TellsNone}
-use Rattle.shop_wire.specs.AnswerBytes.{answer_bytes, printed, replied, telling_answer}
+use Rattle.shop_serve.specs.Times.{Times, ReportsNone}
+use Rattle.shop_wire.specs.AnswerBytes.{answer_bytes, printed, replied, response_answer}
 use Rattle.shop_wire.specs.Serves.{IsBegun}
 
 -- By their head some bytes went to their route, and are a question; this is what it asks of the content. Nothing is done.
@@ -42,16 +42,16 @@ IsNext site book before after received next.Backup = AsksBackup site received ×
 -- what was made of some bytes, be it by a backup meanwhile
 abbrev pub IsMadeMeanwhile : Site → {B : Type 0} → Ghosts B → B → B → (seen between : Times) → (received : List ℕ) → Made → Type 0
 IsMadeMeanwhile site book before after seen between received (Answer answer) = IsAnsweredMeanwhile site book before after seen between received answer.items
-IsMadeMeanwhile site book before after seen between received (PlanTask task) = IsAsked site book before after received (instance_in task) × TellsNone seen between
+IsMadeMeanwhile site book before after seen between received (PlanTask task) = IsAsked site book before after received (instance_in task) × ReportsNone seen between
 
 -- the answer that memory was wanting for a question
 abbrev pub plans_refused : List ℕ
-plans_refused = answer_bytes (telling_answer Plans (replied (Refused NoMemory)))
+plans_refused = answer_bytes (response_answer Plans (replied (Refused NoMemory)))
 
--- the answer to a question: it tells plans for just what was asked, or that memory was wanting
+-- the answer to a question: it reports plans for just what was asked, or that memory was wanting
 abbrev pub IsPlansAnswer : PlanInstance → List ℕ → Type 0
 IsPlansAnswer instance answer =
-    ((text : List ℕ) × IsPlansText instance text × (answer ≡ answer_bytes (telling_answer Plans (printed text))))
+    ((text : List ℕ) × IsPlansText instance text × (answer ≡ answer_bytes (response_answer Plans (printed text))))
     ⊎ (answer ≡ plans_refused)
 
 -- it has this answer from now on, and took nothing of it

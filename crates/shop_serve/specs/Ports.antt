@@ -1,4 +1,4 @@
--- What a port tells: which connection an event is about, and which one a call gave.
+-- What a port reports: which connection an event is about, and which one a call gave.
 use Rattle.std.specs.Prelude.{ℕ, List, [], ◌∷◌, Option, Some, Result, Ok}
 use Rattle.mio.specs.Event.{event_token}
 use Rattle.mio.specs.declared.event.event.Event.{Event}

@@ -9,7 +9,7 @@ use Rattle.shop_serve.specs.declared.ports.Port.{Ghosts as PortGhosts}
 use Rattle.shop_serve.specs.declared.clients.Client.{Client}
 use Rattle.shop_serve.specs.declared.clients.TheConstants.{MAX_CLIENTS}
 use Rattle.shop_serve.specs.declared.sites.Site.{Site}
-use Rattle.shop_serve.specs.Times.{Adds, Looks, Times, Tells, TellsNone}
+use Rattle.shop_serve.specs.Times.{Adds, Looks, Times, Reports, ReportsNone}
 use Rattle.shop_serve.specs.Clients.{AreAttended, ClosesLate, IsOpened, IsTurnedAway}
 use Rattle.shop_serve.specs.RunningTask.{StepsSearch}
 
@@ -29,11 +29,11 @@ module _ {C : Type 0} {P : Type 0} (port : PortGhosts P C) where
   -- a connection that came is opened, or it is turned away; the time is read
   abbrev pub IsReceived : C → Slab (Client C) → Slab (Client C) → (seen seeing : Times) → Type 0
   IsReceived stream old new seen seeing =
-      (now : Instant) × Tells seen seeing now × (IsTurnedAway port old new ⊎ ((key : ℕ) × IsOpened port now stream key old new))
+      (now : Instant) × Reports seen seeing now × (IsTurnedAway port old new ⊎ ((key : ℕ) × IsOpened port now stream key old new))
 
   -- these came, one after another
   abbrev pub AreReceived : List C → Slab (Client C) → Slab (Client C) → (seen seeing : Times) → Type 0
-  AreReceived [] old new seen seeing = (new ≡ old) × TellsNone seen seeing
+  AreReceived [] old new seen seeing = (new ≡ old) × ReportsNone seen seeing
   AreReceived (stream ∷ streams) old new seen seeing =
       (clients : Slab (Client C)) × (between : Times) × IsReceived stream old clients seen between × AreReceived streams clients new between seeing
 
@@ -47,7 +47,7 @@ module _ {C : Type 0} (connection : ConnectionGhosts C) (site : Site) {B : Type 
     pub each : AreAttended connection site book round.keys old attended before mid seen first
     pub kept : Slab (Client C)
     pub second : Times
-    pub read : Tells first second round.now
+    pub read : Reports first second round.now
     pub late : ClosesLate round.now attended kept
     pub task : Slab (Client C)
     pub third : Times
@@ -56,7 +56,7 @@ module _ {C : Type 0} (connection : ConnectionGhosts C) (site : Site) {B : Type 
 
   -- turn after turn; before each it was looked, and the store's names led to the files that are open
   abbrev pub AreRounds : List (Round C) → Slab (Client C) → Slab (Client C) → B → B → (seen seeing : Times) → Type 0
-  AreRounds [] old new before after seen seeing = (new ≡ old) × (after ≡ before) × TellsNone seen seeing
+  AreRounds [] old new before after seen seeing = (new ≡ old) × (after ≡ before) × ReportsNone seen seeing
   AreRounds (round ∷ rounds) old new before after seen seeing =
       (clients : Slab (Client C)) × (mid : B) × (between : Times) × ((looked : Times) × Looks seen looked true × IsRound round old clients before mid looked between)
       × AreRounds rounds clients new mid after between seeing
@@ -69,7 +69,7 @@ module _ {C : Type 0} (connection : ConnectionGhosts C) (site : Site) {B : Type 
 
   -- As many connections came as the limit says, and each is closed: each key that was reported was attended to, turn after turn,
   -- and each connection that was given was received. The time was read where that says so, and nowhere else.
-  pub record HasServedAll (limit : ℕ) (told telling : Option (List ℕ)) (given giving : Option (List C)) (before after : B) (seen seeing : Times) : Type 0 where
+  pub record HasServedAll (limit : ℕ) (reported response : Option (List ℕ)) (given giving : Option (List C)) (before after : B) (seen seeing : Times) : Type 0 where
     pub rounds : List (Round C)
     pub first : Slab (Client C)
     pub last : Slab (Client C)
@@ -77,5 +77,5 @@ module _ {C : Type 0} (connection : ConnectionGhosts C) (site : Site) {B : Type 
     pub none : (key : ℕ) → get first key ≡ None
     pub closed : (key : ℕ) → get last key ≡ None
     pub count : length (all_arrived rounds) ≡ limit
-    pub reported : Adds told telling (all_keys rounds)
+    pub reported : Adds reported response (all_keys rounds)
     pub arrived : Adds given giving (all_arrived rounds)

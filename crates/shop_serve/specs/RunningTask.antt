@@ -14,15 +14,15 @@ use Rattle.shop_serve.specs.declared.searching.Progress.{Progress}
 use Rattle.shop_serve.specs.declared.searching.Progress.TheVariants.{GoesOn, Answered, NoMemory}
 use Rattle.shop_serve.specs.Clients.{IsAttendedAt, NoneAsks}
 use Rattle.shop_serve.specs.Making.{IsPlansAnswer, plans_refused, put_answer}
-use Rattle.shop_serve.specs.Times.{Times, Tells, TellsNone}
+use Rattle.shop_serve.specs.Times.{Times, Reports, ReportsNone}
 
 module _ {C : Type 0} where
-  -- It is told that memory was wanting for its question, and took nothing of that.
+  -- It is reported that memory was wanting for its question, and took nothing of that.
   pub record IsRefused (old new : Client C) (seen seeing : Times) : Type 0 where
     pub answer : Vec ℕ Global
     pub now : Instant
-    pub read : Tells seen seeing now
-    pub told : answer.items ≡ plans_refused
+    pub read : Reports seen seeing now
+    pub reported : answer.items ≡ plans_refused
     pub kept : new ≡ put_answer old answer now
 
 module _ {C : Type 0} (connection : ConnectionGhosts C) where
@@ -46,8 +46,8 @@ module _ {C : Type 0} (connection : ConnectionGhosts C) where
     pub asks : old.task ≡ Some searching
     pub answer : Vec ℕ Global
     pub now : Instant
-    pub read : Tells seen seeing now
-    pub told : IsPlansAnswer (instance_in searching.task) answer.items
+    pub read : Reports seen seeing now
+    pub reported : IsPlansAnswer (instance_in searching.task) answer.items
     pub took : connection.contents new.stream ≡ connection.contents old.stream
     pub kept : new ≡ put_answer (record old { stream = new.stream }) answer now
 
@@ -58,9 +58,9 @@ module _ {C : Type 0} (connection : ConnectionGhosts C) where
     pub there : get old key ≡ Some client
     pub asks : IsSome client.task
     pub others : (other : ℕ) → other ≢ key → get new other ≡ get old other
-    pub goes_on : progress ≡ GoesOn → (left : Client C) × (get new key ≡ Some left) × IsSteppedOnce crowded now client left × TellsNone seen seeing
+    pub goes_on : progress ≡ GoesOn → (left : Client C) × (get new key ≡ Some left) × IsSteppedOnce crowded now client left × ReportsNone seen seeing
     pub answered : progress ≡ Answered → (left : Client C) × (get new key ≡ Some left) × IsFinished client left seen seeing
-    pub closed : progress ≡ NoMemory → (get new key ≡ None) × TellsNone seen seeing
+    pub closed : progress ≡ NoMemory → (get new key ≡ None) × ReportsNone seen seeing
 
 module _ {C : Type 0} (connection : ConnectionGhosts C) (site : Site) {B : Type 0} (book : Ghosts B) where
   -- One question has had a search step. Where its answer was made its connection is attended to at once.
@@ -71,10 +71,10 @@ module _ {C : Type 0} (connection : ConnectionGhosts C) (site : Site) {B : Type 
     pub clients : Slab (Client C)
     pub between : Times
     pub task : IsSteppedAt connection crowded progress now key old clients seen between
-    pub goes_on : progress ≢ Answered → (new ≡ clients) × (after ≡ before) × TellsNone between seeing
+    pub goes_on : progress ≢ Answered → (new ≡ clients) × (after ≡ before) × ReportsNone between seeing
     pub answered : progress ≡ Answered → (status : ConnectionStatus) × IsAttendedAt connection site book status key clients new before after between seeing
 
   -- one was, or none has a question and nothing is done
   abbrev pub StepsSearch : Instant → Slab (Client C) → Slab (Client C) → B → B → (seen seeing : Times) → Type 0
   StepsSearch now old new before after seen seeing =
-      (NoneAsks old × (new ≡ old) × (after ≡ before) × TellsNone seen seeing) ⊎ IsStepped now old new before after seen seeing
+      (NoneAsks old × (new ≡ old) × (after ≡ before) × ReportsNone seen seeing) ⊎ IsStepped now old new before after seen seeing

@@ -26,19 +26,19 @@ use Rattle.shop_serve.specs.declared.faults.ServeFault.TheVariants.{NoMemory, Po
 use Rattle.shop_book.specs.declared.books.Book.{Ghosts}
 use Rattle.shop_book.specs.Kept.{OnContent, Unchanged}
 use Rattle.shop_wire.specs.Replays.{ExchangesLead}
-use Rattle.shop_wire.specs.AnswerBytes.{Telling, answer_bytes, backup_answer, replied, bytes_of}
+use Rattle.shop_wire.specs.AnswerBytes.{Response, answer_bytes, backup_answer, replied, bytes_of}
 use Rattle.shop_wire.specs.Serves.{HandlesInputAt, ParsedStep, exchanged, body_plans, IsServed}
 use Rattle.shop_serve.specs.declared.serving.TheConstants.{MAX_SERVED}
 use Rattle.shop_serve.specs.Sites.{is_health, own_bytes}
 use Rattle.shop_serve.specs.declared.sites.Site.{Site}
-use Rattle.shop_serve.specs.Times.{Times, Copies, Stands, Tells, TellsNone}
+use Rattle.shop_serve.specs.Times.{Times, Copies, Stands, Reports, ReportsNone}
 use Rattle.std.specs.declared.time.Instant.{Instant}
 
--- What is done with a request: it goes to its route, with this parse, and this is told; or the site answers by itself, and may
--- tell how many entries there are; or its body is a question, and this is what it asks of the content, which is searched; or it asks for a backup, by this body, and
+-- What is done with a request: it goes to its route, with this parse, and this is reported; or the site answers by itself, and may
+-- report how many entries there are; or its body is a question, and this is what it asks of the content, which is searched; or it asks for a backup, by this body, and
 -- this came of it.
 pub data Handling : Type 0 where
-  routed : ParseResult → Telling → Handling
+  routed : ParseResult → Response → Handling
   ruled : Ruling → Option ℕ → Handling
   begun : List ℕ → PlansQuery → PlanInstance → Handling
   copied : List ℕ → Result ℕ Refusal → Handling
@@ -71,11 +71,11 @@ pub record Turn : Type 0 where
 
 -- By its head the request goes to its route, and the answer is that of its parse but for some last bytes; or it doesn't, and
 -- the answer is the site's own. A question is asked at its route, and has no answer yet. A backup is asked for at its route,
--- and what came of it is told.
+-- and what came of it is reported.
 abbrev pub IsHandling : Site → (input answer : List ℕ) → Handling → Type 0
-IsHandling site input answer (routed parsed telling) =
+IsHandling site input answer (routed parsed response) =
     HasRuling site.guard input Routed × ParsesTo input parsed
-    × ((unwritten : List ℕ) × (answer ++ unwritten ≡ bytes_of parsed telling))
+    × ((unwritten : List ℕ) × (answer ++ unwritten ≡ bytes_of parsed response))
 IsHandling site input answer (ruled r entries) = HasRuling site.guard input r × (r ≢ Routed) × (answer ≡ own_bytes site entries r)
 IsHandling site input answer (begun body query instance) =
     HasRuling site.guard input Routed × ParsesTo input (asking Plans body) × (body_plans body ≡ Some query) × (answer ≡ [])
@@ -86,21 +86,21 @@ IsHandling site input answer (copied body outcome) =
 abbrev pub IsTurn : Site → Turn → Type 0
 IsTurn site t = (0 < length t.input) × IsHandling site t.input t.answer t.handling
 
--- so many entries are in a content, where a number is told
+-- so many entries are in a content, where a number is reported
 abbrev pub IsCount : Content → Option ℕ → Type 0
 IsCount content entries = IfSome entries (λ count. count ≡ entry_count content)
 
 -- What the site answers by itself does nothing, and a question and a backup neither. What a question asks is asked of the content as
--- it is then, and the entries that are told of are those of it.
+-- it is then, and the entries that are reported are those of it.
 abbrev pub HandlingStep : Content → Handling → Content → Type 0
-HandlingStep old (routed parsed telling) new = ParsedStep old parsed telling new
+HandlingStep old (routed parsed response) new = ParsedStep old parsed response new
 HandlingStep old (ruled r entries) new = (new ≡ old) × IsCount old entries
 HandlingStep old (begun body query instance) new = (new ≡ old) × IsInstance old query instance
 HandlingStep old (copied body outcome) new = new ≡ old
 
 -- the message that was read, with its reply
 abbrev pub exchange_of : Handling → List (ShopMessage × Reply)
-exchange_of (routed parsed telling) = exchanged parsed telling
+exchange_of (routed parsed response) = exchanged parsed response
 exchange_of (ruled r entries) = []
 exchange_of (begun body query instance) = []
 exchange_of (copied body outcome) = []
@@ -109,22 +109,22 @@ exchange_of (copied body outcome) = []
 abbrev pub exchanges : List Turn → List (ShopMessage × Reply)
 exchanges = flat_map (λ t. exchange_of t.handling)
 
--- a failed store is told; a backup that wasn't made tells nothing of the store
-abbrev pub TellsFailure : Handling → Type 0
-TellsFailure (routed parsed telling) = telling ≡ replied (Refused StoreFault)
-TellsFailure (ruled r entries) = ⊥
-TellsFailure (begun body query instance) = ⊥
-TellsFailure (copied body outcome) = ⊥
+-- a failed store is reported; a backup that wasn't made reports nothing of the store
+abbrev pub ReportsFailure : Handling → Type 0
+ReportsFailure (routed parsed response) = response ≡ replied (Refused StoreFault)
+ReportsFailure (ruled r entries) = ⊥
+ReportsFailure (begun body query instance) = ⊥
+ReportsFailure (copied body outcome) = ⊥
 
 -- One that was served leads from one book, which held old, to the next, which holds new. A crash leaves what it may leave after the
--- message, if there was one. A failed store is told of only where it failed at this very one.
+-- message, if there was one. A failed store is reported only where it failed at this very one.
 pub record IsServedOnce {B : Type 0} (book : Ghosts B) (before after : B) (old : Content) (handling : Handling) (new : Content) : Type 0 where
   pub step : HandlingStep old handling new
   pub clean_disk : book.has_clean_disk after
   pub held : book.holds after new
   pub crash : ExchangesLead book before after old (exchange_of handling) new
   pub failures : CountsUp (book.failed before) (book.failed after)
-  pub blame : TellsFailure handling → StoreFailed (book.failed before) (book.failed after)
+  pub blame : ReportsFailure handling → StoreFailed (book.failed before) (book.failed after)
 
 -- one after another, each of which came as some bytes, over the book that the one before it left
 abbrev pub InTurn : Site → {B : Type 0} → Ghosts B → B → Content → List Turn → B → Content → Type 0
@@ -132,12 +132,12 @@ InTurn site book before old [] after new = (after ≡ before) × (new ≡ old)
 InTurn site {B} book before old (t ∷ ts) after new =
     (mid : B) × (m : Content) × IsTurn site t × IsServedOnce book before mid old t.handling m × InTurn site book mid m ts after new
 
--- a failed store is told of only where it failed meanwhile
-abbrev pub TellOfFailures : List Turn → ℕ → ℕ → Type 0
-TellOfFailures served before after = (t : Turn) → IsIn t served → TellsFailure t.handling → StoreFailed before after
+-- a failed store is reported only where it failed meanwhile
+abbrev pub ReportOfFailures : List Turn → ℕ → ℕ → Type 0
+ReportOfFailures served before after = (t : Turn) → IsIn t served → ReportsFailure t.handling → StoreFailed before after
 
 -- The book held old and holds next, and at most so many requests led from one to the other, over a chain of books. A crash leaves
--- what it may leave after the messages among them. A failed store was told of only where it failed. Where a history gives old, one
+-- what it may leave after the messages among them. A failed store was reported about only where it failed. Where a history gives old, one
 -- with each message that was accepted, once, gives next, and this is its account.
 pub record HasServedTurns (site : Site) {B : Type 0} (book : Ghosts B) (before after : B) (old : Content) (count : ℕ) : Type 0 where
   pub served : List Turn
@@ -148,7 +148,7 @@ pub record HasServedTurns (site : Site) {B : Type 0} (book : Ghosts B) (before a
   pub sound : IsSound json_texts next
   pub crash : ExchangesLead book before after old (exchanges served) next
   pub failures : CountsUp (book.failed before) (book.failed after)
-  pub blame : TellOfFailures served (book.failed before) (book.failed after)
+  pub blame : ReportOfFailures served (book.failed before) (book.failed after)
   pub account : HasAccount json_texts old (map (λ e. e.0) (exchanges served)) (map (λ e. e.1) (exchanges served)) next
 
 -- at most so many requests were served by a book: each sound content that one with a clean disk held led to one that it holds
@@ -180,7 +180,7 @@ AsksBackup site received = HasRuling site.guard received Routed × ((body : List
 abbrev pub AsksElse : List ℕ → Type 0
 AsksElse received = (parsed : ParseResult) × ParsesTo received parsed × (asks_backup parsed ≡ false)
 
--- A book was asked how many entries it has, and is left as it was, but that it counts its failures. Where a number is told, the
+-- A book was asked how many entries it has, and is left as it was, but that it counts its failures. Where a number is reported, the
 -- content that it held has so many.
 abbrev pub IsCounted : {B : Type 0} → Ghosts B → B → B → Option ℕ → Type 0
 IsCounted book before after entries = Unchanged book CountsUp before after × OnContent book before after (λ m. IsCount m entries)
@@ -206,16 +206,16 @@ abbrev pub IsAnswered : Site → {B : Type 0} → Ghosts B → B → B → (rece
 IsAnswered site book before after received answer =
     IsAnsweredAlone site book before after received answer ⊎ ((outcome : Result ℕ Refusal) × IsBackupAnswer site received answer outcome × (after ≡ before))
 
--- the same, and what came of a backup that it tells came of one that was made meanwhile
+-- the same, and what came of a backup that it reports came of one that was made meanwhile
 abbrev pub IsAnsweredMeanwhile : Site → {B : Type 0} → Ghosts B → B → B → (seen between : Times) → (received answer : List ℕ) → Type 0
 IsAnsweredMeanwhile site book before after seen between received answer =
-    (IsAnsweredAlone site book before after received answer × TellsNone seen between)
+    (IsAnsweredAlone site book before after received answer × ReportsNone seen between)
     ⊎ ((outcome : Result ℕ Refusal) × IsBackupAnswer site received answer outcome × (after ≡ before) × Copies seen between outcome)
 
--- The same while the time stood still; and then it was told, from which it goes on.
+-- The same while the time stood still; and then it was reported, from which it goes on.
 abbrev pub IsAnsweredThen : Site → {B : Type 0} → Ghosts B → B → B → (seen seeing : Times) → Instant → (received answer : List ℕ) → Type 0
 IsAnsweredThen site book before after seen seeing now received answer =
-    (still : Times) × Stands seen still × (between : Times) × IsAnsweredMeanwhile site book before after still between received answer × Tells between seeing now
+    (still : Times) × Stands seen still × (between : Times) × IsAnsweredMeanwhile site book before after still between received answer × Reports between seeing now
 
 -- Where by its head an input goes to its route, the message that it is, if it is one, was handled as one that was given this time.
 abbrev pub HandlesRequestAt : Site → {B : Type 0} → Ghosts B → B → B → (at : ℕ) → (input : List ℕ) → Type 0

@@ -41,7 +41,7 @@ abbrev pub json_bytes : List ℕ → List ℕ
 json_bytes text =
     codes "HTTP/1.1 200 OK\r\nContent-Type: application/json\r\nContent-Length: " ++ decimal (length text) ++ codes "\r\nConnection: close\r\n\r\n" ++ text
 
--- the answer that tells the state of a server: how many entries its store has, or that it failed
+-- the answer that reports the state of a server: how many entries its store has, or that it failed
 abbrev pub health_bytes : Site → (entries : Option ℕ) → List ℕ
 health_bytes site (Some entries) = json_bytes (health_text entries (string_bytes site.run) (string_bytes site.version))
 health_bytes site None = answer_bytes (backup_answer (Err StoreFault))

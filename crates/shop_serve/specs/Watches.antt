@@ -1,4 +1,4 @@
--- What a server's time is where it stood still, and whether the store failed, as the answers to messages tell.
+-- What a server's time is where it stood still, and whether the store failed, as the answers to messages report.
 use Rattle.std.specs.Prelude.{◌≡◌, ℕ, ◌==◌, ◌+◌, ◌-◌, ◌<◌, ◌≤◌, ◌&&◌, ◌||◌, not, min, unwrap_or, option_map, Bool, List, Option, codes}
 use Rattle.std.specs.Duration.{as_nanos, max_nanos}
 use Rattle.std.specs.Time.{instant_nanos}
@@ -21,14 +21,14 @@ IsTimeAt reading old new =
     (as_nanos new.still ≤ instant_nanos reading → instant_nanos new.last + as_nanos new.still ≡ instant_nanos reading)
     × (instant_nanos reading < as_nanos new.still → new.last ≡ old.last)
 
--- an answer tells that what was asked for was done
+-- an answer reports that what was asked for was done
 abbrev pub is_done : (answer : List ℕ) → Bool
 is_done answer = starts_with (λ a b. a == b) answer (codes "HTTP/1.1 200 ")
 
--- an answer tells that the store failed
+-- an answer reports that the store failed
 abbrev pub is_store_fault : (answer : List ℕ) → Bool
 is_store_fault answer = starts_with (λ a b. a == b) answer (codes "HTTP/1.1 503 ") && ends_with (λ a b. a == b) answer (codes ":99}")
 
--- whether the store failed after an answer to a message: as it tells, and where it tells nothing of that, as before
+-- whether the store failed after an answer to a message: as it reports, and where it reports nothing of that, as before
 abbrev pub failed_after : (failed : Bool) (answer : List ℕ) → Bool
 failed_after failed answer = is_store_fault answer || failed && not (is_done answer)

@@ -11,7 +11,7 @@ ghost use Rattle.shop_request.specs.Reading.{IsHeadIn};
 ghost use Rattle.shop_request.specs.Requests.{parse_of};
 ghost use Rattle.shop_serve.specs.Making.{IsMadeMeanwhile, IsNext};
 ghost use Rattle.shop_serve.specs.Serving.{HandlesRequestAt, HasServed, IsAskedFor, IsCounted, asks_backup, asks_message};
-ghost use Rattle.shop_serve.specs.Times.{Copies, TellsNone};
+ghost use Rattle.shop_serve.specs.Times.{Copies, ReportsNone};
 ghost use Rattle.shop_serve.specs.Sites.{health_bytes, health_text, is_health, is_routed, json_bytes, own_bytes, page_bytes, page_fields, page_start};
 
 use crate::sites::Site;
@@ -177,7 +177,7 @@ fn health_text(alloc: Global, entries: u64, run: &str, version: &str) -> Result<
     )
 }
 
-// The answer that tells the state of a server: how many entries its store has, or that it failed.
+// The answer that reports the state of a server: how many entries its store has, or that it failed.
 fn health_answer(alloc: Global, site: &Site, entries: Option<u64>) -> Result<String, AllocError>
     ensures { IfOk result (λ answer. string_bytes answer ≡ health_bytes site.now entries) }
 {
@@ -310,7 +310,7 @@ fn answer_of<B: Book>(
 
 // Notes an answer, to a message or to something else.
 fn note_made<K: Watch>(watch: &mut K, is_message: bool, made: &Made)
-    ensures { TellsNone (K.times watch.old) (K.times watch.new) }
+    ensures { ReportsNone (K.times watch.old) (K.times watch.new) }
 {
     if let Made::Answer(answer) = made {
         watch.note(is_message, answer);
@@ -319,14 +319,14 @@ fn note_made<K: Watch>(watch: &mut K, is_message: bool, made: &Made)
 
 // Notes that memory was wanting for a backup.
 fn note_want<K: Watch>(watch: &mut K, outcome: Result<u32, Refusal>, answer: &str)
-    ensures { TellsNone (K.times watch.old) (K.times watch.new) }
+    ensures { ReportsNone (K.times watch.old) (K.times watch.new) }
 {
     if outcome == Err(Refusal::NoMemory) {
         watch.note(false, answer.as_bytes());
     }
 }
 
-// Makes a backup, and the answer that tells what came of it.
+// Makes a backup, and the answer that reports what came of it.
 fn copied_answer<K: Watch>(alloc: Global, watch: &mut K) -> Option<Vec<u8>>
     ensures { IfSome result (λ answer. (outcome : Result ℕ RefusalOf)
         × Copies (K.times watch.old) (K.times watch.new) outcome

@@ -11,7 +11,7 @@ ghost use Rattle.shop_serve.specs.Making.{IsAsked, put_answer, put_made, put_tas
 ghost use Rattle.shop_planning.specs.PlanTasks.{instance_in};
 ghost use Rattle.shop_serve.specs.declared.clients.ConnectionStatus.TheVariants as status;
 ghost use Rattle.shop_serve.specs.Serving.{Advances, HasServed, IsAnsweredThen};
-ghost use Rattle.shop_serve.specs.Times.{StandsUntil, TellsNone};
+ghost use Rattle.shop_serve.specs.Times.{StandsUntil, ReportsNone};
 ghost use Rattle.shop_serve.specs.declared.transfers.Given.TheVariants as given;
 ghost use Rattle.shop_serve.specs.declared.transfers.Taken.TheVariants as taken;
 
@@ -138,7 +138,7 @@ fn ask<C: Connection, K: Watch, B: Book>(
     ensures waits { result ≡ taken.Waits → (client.new.answer ≡ None)
         × (client.new.task ≡ None) × (book.new ≡ book.old) × C.is_drained client.new.stream }
     ensures goes_on { result ≡ taken.Waits → (client.new.since ≡ client.old.since)
-        × TellsNone (K.times watch.old) (K.times watch.new) }
+        × ReportsNone (K.times watch.old) (K.times watch.new) }
     ensures since { result ≡ taken.Whole → IsSome client.new.task
         → StandsUntil (K.times watch.old) (K.times watch.new) client.new.since }
     ensures awaits { result ≡ taken.Waits → AwaitsMore client.old.received.items client.old.needed
@@ -180,7 +180,7 @@ fn ask<C: Connection, K: Watch, B: Book>(
     Taken::Whole
 }
 
-// Drops what still comes of a connection whose question is searched. Where its input ends it waits: its question is told as
+// Drops what still comes of a connection whose question is searched. Where its input ends it waits: its question is reported as
 // far as it was searched.
 fn heed<C: Connection>(client: &mut Client<C>) -> Given
     ensures kept { client.new ≡ record client.old { stream = client.new.stream } }
@@ -388,7 +388,7 @@ pub(crate) fn open_client<C: Drop, P: Port<C>>(
     ensures watched { IfSome result (λ key. P.is_watched port.new stream key) }
     ensures closed { result ≡ None → IsTurnedAway P.Port clients.old clients.new }
     ensures fewer { unanswered clients.new ≤ unanswered clients.old + 1 }
-    ensures told { P.told port.new ≡ P.told port.old }
+    ensures reported { P.all_reported port.new ≡ P.all_reported port.old }
     ensures given { P.given port.new ≡ P.given port.old }
 {
     make_room(clients);

@@ -26,7 +26,7 @@ pub(crate) trait Connection {
     /// What it took, where that is known.
     ghost contents: { Self → Option (List ℕ) };
 
-    /// It was told the end of what it takes.
+    /// It was given the end of what it takes.
     ghost has_ended: { Self → Type 0 };
 
     /// Nothing more came of it so far.

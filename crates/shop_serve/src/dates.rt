@@ -7,10 +7,10 @@ use crate::lines::Lines;
 use std::io::Eprint;
 use std::time::{Clock, SystemTime};
 
-// By how many seconds the clock may be behind the last entry before that is told.
+// By how many seconds the clock may be behind the last entry before that is reported.
 const HOUR: u64 = 3600;
 
-// What is told of a clock that is behind.
+// What is reported about a clock that is behind.
 const BEHIND: &str = "cutshop: the clock is behind the last entry by over an hour\n";
 
 /// The second that the machine's clock reads, counted from 1970-01-01 00:00 UTC. 0 where it can't be read, or is before that.
@@ -31,7 +31,7 @@ fn is_behind(second: u64, last: u64) -> bool
     last.saturating_sub(second) > HOUR
 }
 
-/// Tells that the machine's clock is behind the last entry by over an hour, where it is.
+/// Reports that the machine's clock is behind the last entry by over an hour, where it is.
 pub fn note_clock<R: Eprint + Clock>(rt: &R, lines: &mut Lines, last: u64) {
     if is_behind(second_now(rt), last) {
         lines.write(rt, BEHIND);

@@ -1,4 +1,4 @@
-//! What holds of connections that tell all, and of all that are open.
+//! What holds of connections that report all, and of all that are open.
 
 ghost use Rattle.shop_serve.specs.Known.{WholeIsAnswered};
 ghost use Rattle.shop_serve.specs.Own.{EachHasItsOwn};
@@ -10,7 +10,7 @@ use crate::ports::Port;
 use shop_book::Book;
 
 /// A connection that brings a whole request, and is attended to when it comes, has its answer: it took the whole answer to its
-/// own bytes, and was told its end; or first bytes of it, until it took no more. Or its own bytes are a question, which is
+/// own bytes, and was given its end; or first bytes of it, until it took no more. Or its own bytes are a question, which is
 /// searched.
 pub(crate) fn whole_is_answered<C: Connection, B: Book>()
     ensures { (site : SiteGhost) → WholeIsAnswered C.Connection site B.Book }

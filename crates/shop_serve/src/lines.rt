@@ -120,7 +120,7 @@ fn takes(length: usize) -> bool {
     length <= MAX_BYTES && poll(&mut asked, 0) == 1 && asked[0].revents == POLLOUT
 }
 
-// Writes a text, where it can be written at once, and tells whether it was.
+// Writes a text, where it can be written at once, and reports whether it was.
 fn is_written<R: Eprint>(rt: &R, text: &str) -> bool {
     takes(text.len()) && rt.eprint(text).is_ok()
 }
@@ -165,8 +165,8 @@ impl Lines {
     }
 
     // Whether one could be made and written at once, behind as many equal ones as were left out. It takes no memory where nothing
-    // more is to be told.
-    fn is_told<R: Eprint>(&self, rt: &R, line: &str, left_out: u32) -> bool {
+    // more is to be reported.
+    fn is_reported<R: Eprint>(&self, rt: &R, line: &str, left_out: u32) -> bool {
         if self.lost == 0 && left_out == 0 {
             return is_written(rt, line);
         }
@@ -179,7 +179,7 @@ impl Lines {
 
     // Writes one, behind as many equal ones as were left out. One that can't be made or written at once is counted.
     fn write_now<R: Eprint>(&mut self, rt: &R, line: &str, left_out: u32, now: Instant) {
-        if !self.is_told(rt, line, left_out) {
+        if !self.is_reported(rt, line, left_out) {
             self.lose();
             return;
         }
@@ -189,7 +189,7 @@ impl Lines {
 
     // Writes one where the clock can't be read. One that can't be made or written at once is counted.
     fn write_undated<R: Eprint>(&mut self, rt: &R, line: &str) {
-        if self.is_told(rt, line, 0) {
+        if self.is_reported(rt, line, 0) {
             self.lost = 0;
         } else {
             self.lose();

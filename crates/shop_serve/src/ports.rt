@@ -67,7 +67,7 @@ pub fn listen<R: Net>(rt: &R, port: u32) -> Result<Listener, PortCause> {
 /// What connections come by: it reports which of them have something, and gives those that come.
 pub(crate) trait Port<C> {
     /// The keys that it reported so far, where they are known.
-    ghost told: { Self → Option (List ℕ) };
+    ghost all_reported: { Self → Option (List ℕ) };
 
     /// The connections that it gave so far, where they are known.
     ghost given: { Self → Option (List C) };
@@ -83,7 +83,7 @@ pub(crate) trait Port<C> {
 
     /// Waits until something is reported, or for so long.
     fn wait(&mut self, wait: Duration) -> Result<(), ServeFault>
-        ensures told { OnOk result (Adds (told self.old) (told self.new) (reported self.new)) }
+        ensures reported { OnOk result (Adds (reported self.old) (reported self.new) (reported self.new)) }
         ensures given { given self.new ≡ given self.old };
 
     /// The keys that the last wait reported.
@@ -93,14 +93,14 @@ pub(crate) trait Port<C> {
     /// The next connection, where one waits and can be accepted now.
     fn accept(&mut self) -> Result<Option<C>, ServeFault>
         ensures given { Adds (given self.old) (given self.new) (given_by result) }
-        ensures told { told self.new ≡ told self.old };
+        ensures reported { reported self.new ≡ reported self.old };
 
     /// Has a connection reported under a key from now on.
     fn watch(&mut self, stream: &mut C, key: usize) -> bool
         ensures same { stream.new ≡ stream.old }
         ensures watched { result ≡ true → is_watched self.new stream.new key }
         ensures deaf { result ≡ false → is_deaf self.new }
-        ensures told { told self.new ≡ told self.old }
+        ensures reported { reported self.new ≡ reported self.old }
         ensures given { given self.new ≡ given self.old };
 }
 
@@ -185,7 +185,7 @@ fn next_stream(listener: &Listener) -> Result<Option<Stream>, ServeFault> {
 }
 
 impl<'a> Port<Stream> for WatchedListener<'a> {
-    ghost told = { λ _. None };
+    ghost all_reported = { λ _. None };
 
     ghost given = { λ _. None };
 

@@ -7,7 +7,7 @@ ghost use Rattle.shop_serve.specs.Clients.{AsksAt, NoneAsks, unanswered};
 ghost use Rattle.shop_serve.specs.Making.{IsPlansAnswer};
 ghost use Rattle.shop_serve.specs.Serving.{Advances};
 ghost use Rattle.shop_serve.specs.RunningTask.{IsRefused, IsSteppedAt, IsSteppedOnce, IsFinished, StepsSearch};
-ghost use Rattle.shop_serve.specs.Times.{TellsNone};
+ghost use Rattle.shop_serve.specs.Times.{ReportsNone};
 ghost use Rattle.shop_serve.specs.declared.searching.Progress.TheVariants as progress;
 
 use crate::clients::{Client, attend_at, is_begun, put_answer};
@@ -133,13 +133,13 @@ fn next_task<C>(clients: &Slab<Client<C>>) -> Option<usize>
 fn advance(alloc: Global, task: &mut PlanTask, ends: bool) -> Result<Option<String>, AllocError>
     ensures asks { instance_in task.new ≡ instance_in task.old }
     ensures goes_on { IfOk result (λ done. done ≡ None → ends ≡ false) }
-    ensures told { IfOk result
+    ensures reported { IfOk result
         (λ done. IfSome done (λ answer. IsPlansAnswer (instance_in task.old) (string_bytes answer))) }
 {
     if !ends && task.advance(alloc)? {
         return Ok(None);
     }
-    let text = task.tell(alloc)?;
+    let text = task.report(alloc)?;
     let answer = plans_answer(alloc, &text)?;
     Ok(Some(answer))
 }
@@ -152,13 +152,13 @@ pub(crate) enum Progress {
     NoMemory,
 }
 
-// Tells that memory was wanting for a connection's question, where there is memory for that.
+// Reports that memory was wanting for a connection's question, where there is memory for that.
 fn refuse<C, K: Watch>(alloc: Global, client: &mut Client<C>, watch: &mut K) -> Progress
     ensures goes_on { result ≢ progress.GoesOn }
     ensures answered { result ≡ progress.Answered
         → IsRefused client.old client.new (K.times watch.old) (K.times watch.new) }
     ensures closed { result ≡ progress.NoMemory
-        → TellsNone (K.times watch.old) (K.times watch.new) }
+        → ReportsNone (K.times watch.old) (K.times watch.new) }
 {
     match plans_refused(alloc) {
         Ok(answer) => {
@@ -170,7 +170,7 @@ fn refuse<C, K: Watch>(alloc: Global, client: &mut Client<C>, watch: &mut K) -> 
     }
 }
 
-// Drops what still comes of a connection, and tells whether it waits for more than what was found so far: its input goes on.
+// Drops what still comes of a connection, and reports whether it waits for more than what was found so far: its input goes on.
 fn is_there<C: Connection>(stream: &mut C) -> bool
     ensures drained { result ≡ true → C.is_drained stream.new }
     ensures kept { C.contents stream.new ≡ C.contents stream.old }
@@ -181,7 +181,7 @@ fn is_there<C: Connection>(stream: &mut C) -> bool
     }
 }
 
-// Takes one search step of the question of a connection that is there, and notes when. It is told as far as its search came where its
+// Takes one search step of the question of a connection that is there, and notes when. It is reported as far as its search came where its
 // input ended, or where it had its calls and others wait. Where memory is wanting what was found is let go first.
 fn step_search_once<C: Connection, K: Watch>(
     alloc: Global,
@@ -193,11 +193,11 @@ fn step_search_once<C: Connection, K: Watch>(
     requires { IsSome client.old.task }
     ensures goes_on { result ≡ progress.GoesOn
         → IsSteppedOnce C.Connection is_crowded now client.old client.new
-        × TellsNone (K.times watch.old) (K.times watch.new) }
+        × ReportsNone (K.times watch.old) (K.times watch.new) }
     ensures answered { result ≡ progress.Answered
         → IsFinished C.Connection client.old client.new (K.times watch.old) (K.times watch.new) }
     ensures closed { result ≡ progress.NoMemory
-        → TellsNone (K.times watch.old) (K.times watch.new) }
+        → ReportsNone (K.times watch.old) (K.times watch.new) }
 {
     let Some(mut searching) = client.task.take() else {
         unreachable!()
@@ -223,7 +223,7 @@ fn step_search_once<C: Connection, K: Watch>(
     }
 }
 
-// Takes one search step of the question of a key's connection, and closes it where memory is wanting. Tells what came of it.
+// Takes one search step of the question of a key's connection, and closes it where memory is wanting. Reports what came of it.
 fn step_search_at<C: Connection + Drop, K: Watch>(
     alloc: Global,
     clients: &mut Slab<Client<C>>,

@@ -47,7 +47,7 @@ fn receive<C: Drop, P: Port<C>, K: Watch>(
     requires room { CanOpenOne clients.old }
     ensures received { IsReceived P.Port stream clients.old clients.new (K.times watch.old)
         (K.times watch.new) }
-    ensures told { P.told port.new ≡ P.told port.old }
+    ensures reported { P.all_reported port.new ≡ P.all_reported port.old }
     ensures given { P.given port.new ≡ P.given port.old }
     ensures fewer { unanswered clients.new ≤ unanswered clients.old + 1 }
 {
@@ -69,7 +69,7 @@ fn accept_waiting<C: Drop, P: Port<C>, K: Watch>(
     ensures each { (arrived : List C) × (accepted.new ≡ accepted.old + length arrived)
         × Adds (P.given port.old) (P.given port.new) arrived
         × AreReceived P.Port arrived clients.old clients.new (K.times watch.old) (K.times watch.new) }
-    ensures told { P.told port.new ≡ P.told port.old }
+    ensures reported { P.all_reported port.new ≡ P.all_reported port.old }
     ensures fewer { unanswered clients.new + accepted.old ≤ unanswered clients.old + accepted.new }
     ensures bound { accepted.new ≤ limit }
 {
@@ -131,7 +131,7 @@ fn turn<C: Connection + Drop, P: Port<C>, K: Watch, B: Book>(
         book.new (K.times watch.old) (K.times watch.new)) }
     ensures waits { IfSome result
         (λ wait. (key : ℕ) → AsksAt clients.new key → as_nanos wait ≡ 0) }
-    ensures told { P.told port.new ≡ P.told port.old }
+    ensures reported { P.all_reported port.new ≡ P.all_reported port.old }
     ensures run { Advances site.now B.Book book.old book.new (unanswered clients.old + accepted.new)
         (unanswered clients.new + accepted.old) }
     ensures bound { accepted.new ≤ limit }
@@ -156,8 +156,8 @@ fn serve_port<C: Connection + Drop, P: Port<C>, K: Watch, B: Book>(
     book: &mut B,
 ) -> Result<(), ServeFault>
     ensures all { OnOk result
-        (HasServedAll C.Connection site.now B.Book P.Port limit (P.told port.old)
-        (P.told port.new) (P.given port.old) (P.given port.new) book.old book.new
+        (HasServedAll C.Connection site.now B.Book P.Port limit (P.all_reported port.old)
+        (P.all_reported port.new) (P.given port.old) (P.given port.new) book.old book.new
         (K.times watch.old) (K.times watch.new)) }
     ensures served { HasServed site.now B.Book book.old book.new limit }
     ensures fault { IfErr result (λ fault. (fault ≡ faults.Port) ⊎ (fault ≡ faults.Moved)) }

@@ -27,7 +27,7 @@ impl Site {
     ghost use Rattle.shop_serve.specs.Sites.{HasPage};
 
     /// The site of what is reached at an address, with a page of these bytes, or without one, and with backups or without any; of
-    /// a run and a version of the server, of letters and digits. The only error is want of memory.
+    /// a run and a version of the server, of letters and digits. The only error is lack of memory.
     pub fn new(
         alloc: Global,
         address: &Address,

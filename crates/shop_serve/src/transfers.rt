@@ -176,7 +176,7 @@ pub(crate) fn drop_rest<C: Connection>(stream: &mut C) -> Rest
     ensures ended { result ≡ rest.Ended → IsAtEnd (C.remaining stream.new) }
     ensures lost { result ≡ rest.Lost → C.is_lost stream.new }
     ensures kept { C.contents stream.new ≡ C.contents stream.old }
-    ensures told { C.has_ended stream.old → C.has_ended stream.new }
+    ensures reported { C.has_ended stream.old → C.has_ended stream.new }
 {
     let mut buffer = [0; BUFFER_SIZE];
     for _ in 0..MAX_DROPS {

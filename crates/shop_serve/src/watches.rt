@@ -1,4 +1,4 @@
-//! What a server is told beside its connections: its time, which stands still while a request is answered, backups, and whether
+//! What a server learns beside its connections: its time, which stands still while a request is answered, backups, and whether
 //! the store's names still lead to its files.
 
 ghost use Rattle.std.specs.Prelude.{◌≡◌, ◌+◌, ◌-◌, ◌<◌, ◌≤◌, IfSome, None, min, unwrap_or, option_map};
@@ -9,7 +9,7 @@ ghost use Rattle.shop_serve.specs.Watches.{IsTimeAt, failed_after, is_done, is_s
 use crate::dates::second_now;
 use crate::faults::ServeFault;
 use crate::lines::Lines;
-use shop_advice::{FailureCause, answer_note, backup_note, no_backup_note, tells_failure};
+use shop_advice::{FailureCause, answer_note, backup_note, no_backup_note, reports_failure};
 use shop_backup::{BackupFault, Backups, Names, stayed_note};
 use shop_rules::Refusal;
 use std::alloc::{AllocError, Global};
@@ -17,23 +17,23 @@ use std::fs::Files;
 use std::io::Eprint;
 use std::time::{Clock, Duration, Instant};
 
-/// What tells a server's time, and makes its backups.
+/// What reports a server's time, and makes its backups.
 pub(crate) trait Watch {
     ghost use Rattle.std.specs.Prelude.{◌≡◌, ℕ, IfSome, Option};
-    ghost use Rattle.shop_serve.specs.Times.{Copies, Looks, Stands, Times, Tells, TellsNone};
+    ghost use Rattle.shop_serve.specs.Times.{Copies, Looks, Stands, Times, Reports, ReportsNone};
 
-    /// The times that it told so far, where it stood still, what came of backups meanwhile, and where the store's names led, where they
+    /// The times that it reported so far, where it stood still, what came of backups meanwhile, and where the store's names led, where they
     /// are known.
     ghost times: { Self → Times };
 
     /// The second that its clock reads, where it is known.
     ghost date: { Self → Option ℕ };
 
-    /// Tells the time, and goes on where it stood still.
+    /// Reports the time, and goes on where it stood still.
     fn now(&mut self) -> Instant
-        ensures { Tells (times self.old) (times self.new) result };
+        ensures { Reports (times self.old) (times self.new) result };
 
-    /// Stands still until the time is told next.
+    /// Stands still until the time is reported next.
     fn stop(&mut self)
         ensures { Stands (times self.old) (times self.new) };
 
@@ -45,18 +45,18 @@ pub(crate) trait Watch {
     fn is_in_place(&mut self) -> bool
         ensures { Looks (times self.old) (times self.new) result };
 
-    /// Makes a backup of the store, and tells its number: 99 where it can't be made, and 98 for want of memory. Who runs the
-    /// server is told of all but the last.
+    /// Makes a backup of the store, and reports its number: 99 where it can't be made, and 98 because memory ran out. Who runs the
+    /// server is reported about all but the last.
     fn back_up(&mut self, alloc: Global) -> Result<u32, Refusal>
         ensures { Copies (times self.old) (times self.new) result };
 
     /// Whether the store failed at a message, and none was done since.
     fn has_failed(&self) -> bool;
 
-    /// Notes an answer, to a message or to something else: whether the store failed; and tells who runs the server of one of 98
+    /// Notes an answer, to a message or to something else: whether the store failed; and reports who runs the server of one of 98
     /// or 99.
     fn note(&mut self, is_message: bool, answer: &[u8])
-        ensures { TellsNone (times self.old) (times self.new) };
+        ensures { ReportsNone (times self.old) (times self.new) };
 }
 
 // A time without that for which it stood still: the last one, since when it stands still, if it does, and for how long it did before.
@@ -117,7 +117,7 @@ fn still_until(still: Duration, stopped: Option<Instant>, reading: Instant) -> D
     }
 }
 
-// The time that a clock which reads this tells, less that for which it stood still; where that is more, the last one again.
+// The time that a clock which reads this reports, less that for which it stood still; where that is more, the last one again.
 fn time_at(reading: Instant, still: Duration, last: Instant) -> Instant
     ensures less { as_nanos still ≤ instant_nanos reading
         → instant_nanos result + as_nanos still ≡ instant_nanos reading }
@@ -162,44 +162,44 @@ fn stand_still(timer: Timer, reading: Option<Instant>) -> Timer
     }
 }
 
-/// Whether an answer tells that what was asked for was done: its request was read to the last byte.
+/// Whether an answer reports that what was asked for was done: its request was read to the last byte.
 pub(crate) fn is_done(answer: &[u8]) -> bool
     ensures { result ≡ is_done answer.now }
 {
     answer.starts_with(b"HTTP/1.1 200 ")
 }
 
-// Whether an answer tells that the store failed.
+// Whether an answer reports that the store failed.
 fn is_store_fault(answer: &[u8]) -> bool
     ensures { result ≡ is_store_fault answer.now }
 {
     answer.starts_with(b"HTTP/1.1 503 ") && answer.ends_with(b":99}")
 }
 
-// Whether the store failed, after an answer to a message: as it tells, and where it tells nothing of that, as before.
+// Whether the store failed, after an answer to a message: as it reports, and where it reports nothing of that, as before.
 fn failed_after(failed: bool, answer: &[u8]) -> bool
     ensures { result ≡ failed_after failed answer.now }
 {
     is_store_fault(answer) || failed && !is_done(answer)
 }
 
-// Why the store failed, where an answer tells that it did: its disk has no room, or else it is shut from then on.
+// Why the store failed, where an answer reports that it did: its disk has no room, or else it is shut from then on.
 fn failure_of<R: Files>(rt: &R, alloc: Global, names: &Names, answer: &[u8]) -> FailureCause {
-    if tells_failure(answer) && names.is_disk_full(rt, alloc) {
+    if reports_failure(answer) && names.is_disk_full(rt, alloc) {
         FailureCause::Full
     } else {
         FailureCause::Shut
     }
 }
 
-// Tells a line. One that can't be made is left out.
+// Reports a line. One that can't be made is left out.
 fn note<R: Eprint + Clock>(rt: &R, lines: &mut Lines, line: Result<String, AllocError>) {
     if let Ok(line) = line {
         lines.write(rt, line.as_str());
     }
 }
 
-// Tells who runs the server of the backups that couldn't be taken away.
+// Reports who runs the server of the backups that couldn't be taken away.
 fn note_stayed<R: Eprint + Clock>(
     rt: &R,
     alloc: Global,
@@ -212,7 +212,7 @@ fn note_stayed<R: Eprint + Clock>(
     }
 }
 
-// Makes a backup, and tells who runs the server of it.
+// Makes a backup, and reports who runs the server of it.
 fn back_up<R: Files + Eprint + Clock>(
     rt: &R,
     alloc: Global,

@@ -167,16 +167,16 @@ module _ (b : Books) (sums : List Sums) (counted : (column : Column) (code : Lis
           let parts = two (below_all code_cmp e.0 es) (is_sorted code_cmp es) up in
           (h e.0 e.1 (at_head e es), every es parts.1 (λ code t is. h code t (in_prefix e es parts.0 code t is)))
 
--- ---- what the pass tells
+-- ---- what the pass reports
 
-abbrev Told : Books → Bool → Type 0
-Told b good = Decides good (HasSums b)
+abbrev Reported : Books → Bool → Type 0
+Reported b good = Decides good (HasSums b)
 
 -- all parts were added to sums of nothing
 pub added_all : (b : Books) (list : List MaterialTotals) (old new : PartAdder) (visited : Result Bool TableFault) (good : Bool) → IsListOf b list → ((column : Column) (code : List ℕ) → sum_at column code old.sums.items ≡ 0)
     → ((code : List ℕ) → has_sums code old.sums.items ≡ are_totals_for code list) → visited ≡ Ok true
-    → (visit : IsVisit AddsPart (λ what. what (values b.content.parts)) old visited new) → Decides good (AreSumsIn new.sums.items list) → Told b good
-added_all b list old new visited good all none there went visit told =
+    → (visit : IsVisit AddsPart (λ what. what (values b.content.parts)) old visited new) → Decides good (AreSumsIn new.sums.items list) → Reported b good
+added_all b list old new visited good all none there went visit reported =
     let on : visit.on ≡ true = sym (subst (λ r. IfOk r (λ t. t ≡ visit.on)) went visit.answer) in
     let goes : GoesOn AddsPart visit.parts old new = subst (λ o. HasSeen AddsPart visit.parts o old new) on visit.visitor in
     let begins = subst (λ r. (rest : List Part) × (values b.content.parts ≡ visit.parts ++ rest) × IfOk r (λ t. IsTrue t → rest ≡ [])) went visit.begins in
@@ -185,8 +185,8 @@ added_all b list old new visited good all none there went visit told =
     let counted : (column : Column) (code : List ℕ) → sum_at column code new.sums.items ≡ cells_in column code (values b.content.parts) = λ column code.
     (let more = sums.0 column code in let nothing_yet = none column code in let same = ap (cells_in column code) whole in omega (arith, more, nothing_yet, same)) in
     let names : (code : List ℕ) → has_sums code new.sums.items ≡ are_totals_for code (map named (entries b.totals)) = λ code. sums.1 code ∙ there code ∙ ap (are_totals_for code) all.1 in (
-      λ yes. have b new.sums.items counted names all.0 (subst (AreSumsIn new.sums.items) all.1 (told.0 yes)),
-      λ has. told.1 (subst (AreSumsIn new.sums.items) (sym all.1) (conversely b new.sums.items counted has)),
+      λ yes. have b new.sums.items counted names all.0 (subst (AreSumsIn new.sums.items) all.1 (reported.0 yes)),
+      λ has. reported.1 (subst (AreSumsIn new.sums.items) (sym all.1) (conversely b new.sums.items counted has)),
     )
 
 held_in : (m : Rattle.shop_records.specs.Content.Content) (code : List ℕ) (t : Totals) → t ≡ totals_of m code → (column : Column) → total_in column t ≡ cells_in column code (values m.parts)
@@ -217,7 +217,7 @@ narrow_found (e ∷ es) all code column =
 -- the pass stopped at a part
 pub stopped_at : (b : Books) (list : List MaterialTotals) (old new : PartAdder) (visited : Result Bool TableFault) → IsListOf b list → AreNarrow list → ((column : Column) (code : List ℕ) → sum_at column code old.sums.items ≡ 0)
     → ((code : List ℕ) → has_sums code old.sums.items ≡ are_totals_for code list) → visited ≡ Ok false
-    → (visit : IsVisit AddsPart (λ what. what (values b.content.parts)) old visited new) → Told b false
+    → (visit : IsVisit AddsPart (λ what. what (values b.content.parts)) old visited new) → Reported b false
 stopped_at b list old new visited all narrow none there went visit =
     let off : visit.on ≡ false = sym (subst (λ r. IfOk r (λ t. t ≡ visit.on)) went visit.answer) in
     let stops : HasSeen AddsPart visit.parts false old new = subst (λ o. HasSeen AddsPart visit.parts o old new) off visit.visitor in

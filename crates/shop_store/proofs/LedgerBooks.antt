@@ -17,23 +17,23 @@ lift P (Ok x) h = h
 lift P (Err e) h = tt
 
 -- what is said of the storage's answer is said of the book's
-pub as_told : {T : Type 0} (P : T → Type 0) (r : Result T StorageFault) (answer : Result T BookFault) → answer ≡ told_by r → IfOk r P → IfOk answer P
-as_told P r answer same h = subst (λ a. IfOk a P) (sym same) (lift P r h)
+pub as_reported : {T : Type 0} (P : T → Type 0) (r : Result T StorageFault) (answer : Result T BookFault) → answer ≡ told_by r → IfOk r P → IfOk answer P
+as_reported P r answer same h = subst (λ a. IfOk a P) (sym same) (lift P r h)
 
--- so of one that only memory keeps from being told
+-- so of one that only memory keeps from being reported
 only_memory : {T : Type 0} (r : Result T StorageFault) → IfErr r (λ fault. fault ≡ storage.NoMemory) → IfErr (told_by r) (λ fault. fault ≡ book.NoMemory)
 only_memory (Ok x) h = tt
 only_memory (Err fault) h = ap fault_by h
 
-pub memory_told : {T : Type 0} (r : Result T StorageFault) (answer : Result T BookFault) → answer ≡ told_by r → IfErr r (λ fault. fault ≡ storage.NoMemory) → IfErr answer (λ fault. fault ≡ book.NoMemory)
-memory_told r answer same h = subst (λ a. IfErr a (λ fault. fault ≡ book.NoMemory)) (sym same) (only_memory r h)
+pub memory_reported : {T : Type 0} (r : Result T StorageFault) (answer : Result T BookFault) → answer ≡ told_by r → IfErr r (λ fault. fault ≡ storage.NoMemory) → IfErr answer (λ fault. fault ≡ book.NoMemory)
+memory_reported r answer same h = subst (λ a. IfErr a (λ fault. fault ≡ book.NoMemory)) (sym same) (only_memory r h)
 
 sure : {T : Type 0} (r : Result T StorageFault) → IsOk r → IsOk (told_by r)
 sure (Ok x) h = h
 sure (Err fault) h = absurd (true≢false (sym h))
 
-pub sure_told : {T : Type 0} (r : Result T StorageFault) (answer : Result T BookFault) → answer ≡ told_by r → IsOk r → IsOk answer
-sure_told r answer same h = subst (λ a. IsOk a) (sym same) (sure r h)
+pub sure_reported : {T : Type 0} (r : Result T StorageFault) (answer : Result T BookFault) → answer ≡ told_by r → IsOk r → IsOk answer
+sure_reported r answer same h = subst (λ a. IsOk a) (sym same) (sure r h)
 
 module _ {S : Type 0} (g : Ghosts S) where
   -- what a book holds, it holds with another ledger of the same content and another storage that holds it

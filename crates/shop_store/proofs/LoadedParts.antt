@@ -68,14 +68,14 @@ all_put list old new r went visit =
 
 module _ (b : Books) (list : List MaterialTotals) (old new : PartAdder) (visited : Result Bool TableFault) (all : IsListOf b list) (none : (column : Column) (code : List ℕ) → sum_at column code old.sums.items ≡ 0)
     (there : (code : List ℕ) → has_sums code old.sums.items ≡ are_totals_for code list) (went : visited ≡ Ok true) (visit : IsVisit AddsPart {Fault = TableFault} (λ what. what (values b.content.parts)) old visited new) where
-  told : (good : Bool) → Decides good (AreSumsIn new.sums.items list) → Decides good (HasSums b)
-  told good = added_all b list old new visited good all none there went visit
+  reported : (good : Bool) → Decides good (AreSumsIn new.sums.items list) → Decides good (HasSums b)
+  reported good = added_all b list old new visited good all none there went visit
 
   pub sums_are : AreSumsIn new.sums.items list → HasSums b
-  sums_are are = (told true (λ _. are, λ _. refl)).0 refl
+  sums_are are = (reported true (λ _. are, λ _. refl)).0 refl
 
   pub sums_are_not : ¬ AreSumsIn new.sums.items list → ¬ HasSums b
-  sums_are_not not has = absurd (true≢false (sym ((told false (λ h. absurd (true≢false (sym h)), λ are. absurd (not are))).1 has)))
+  sums_are_not not has = absurd (true≢false (sym ((reported false (λ h. absurd (true≢false (sym h)), λ are. absurd (not are))).1 has)))
 
 pub loaded_as : (P Q : Type 0) (m n : Content) → (P → Q) → (¬ P → ¬ Q) → m ≡ n → (l : Loaded) → IsLoaded P m l → IsLoaded Q n l
 loaded_as P Q m n holds fails same (loaded.Ledger ledger) h = (holds h.0, h.1 ∙ same)

@@ -48,7 +48,7 @@ pub next_entries : (s : State) (m : Content) (after most : ℕ) (r : Result (Lis
 next_entries s m after most (Err e) clean was up are = tt
 next_entries s m after most (Ok rows) clean was up are = next_in s (books m was.totals was.uses) after most rows clean was.holds up are
 
--- ---- the ends of which entries tell, some at a time
+-- ---- the ends of which entries report, some at a time
 
 module _ (m : Content) (old : JobEnds) (at count : ℕ) (chunk : List Entry) (are : chunk ≡ take count (entries_behind m at)) where
   -- there are no others
@@ -128,7 +128,7 @@ behind_after m entry numbered next =
     ∙ ap (filter p) (map-append (λ (e : ℕ × Entry). e.1) (entries m.entries) ((entry.number, entry) ∷ [])) ∙ filter-append p (values m.entries) (entry ∷ [])
     ∙ ap (λ b. entries_behind m 0 ++ cond b (entry ∷ []) []) first
 
--- of the ends that were kept before and that of which the new entry tells
+-- of the ends that were kept before and that of which the new entry reports
 ends_after : (m : Content) (entry : Option Entry) → AreNumbered m → IfSome entry (λ e. e.number ≡ entry_count m + 1) → (old mid new : JobEnds) → AreEnds (entries_behind m 0) old
     → ((job : ℕ) → kept_time job mid ≡ kept_time job old) → AddEnds (option_to_list entry) mid new → AreEnds (filter (λ (e : Entry). nat_lt 0 e.number) (values (with_entry entry m.entries))) new
 ends_after m None numbered next old mid new are same added = λ job. added job ∙ or_none (kept_time job mid) ∙ same job ∙ are job

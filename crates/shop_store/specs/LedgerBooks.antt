@@ -1,4 +1,4 @@
--- What a ledger beside a storage holds, and how the storage's answers are told.
+-- What a ledger beside a storage holds, and how the storage's answers are reported.
 use Rattle.std.specs.Prelude.{◌≡◌, ℕ, Result, Ok, Err, if◌then◌else◌}
 use Rattle.shop_records.specs.Content.{Content}
 use Rattle.shop_book.specs.Books.{Keeps}

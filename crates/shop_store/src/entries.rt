@@ -34,7 +34,7 @@ pub(crate) fn no_entries(alloc: Global) -> Remembered
     }
 }
 
-// Puts the ends of which the next entries behind a number tell, files them, and tells behind which number to go on, if there are others.
+// Puts the ends of which the next entries behind a number report, files them, and reports behind which number to go on, if there are others.
 fn step<S: Alter>(
     alloc: Global,
     conn: &mut Connection<S>,

@@ -127,7 +127,7 @@ fn loader_for(
     })
 }
 
-// After a stop, which is for want of memory, or else at a part that the totals haven't.
+// After a stop, which is because memory ran out, or else at a part that the totals haven't.
 fn stopped(wanting: bool) -> Result<Loaded, TableFault>
     ensures { IfOk result (λ loaded. (loaded ≡ OtherSums) × (wanting ≡ false)) }
 {

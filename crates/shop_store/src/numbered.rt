@@ -124,7 +124,7 @@ impl Numbered for Demand {
     }
 }
 
-// Puts the values of these rows, and tells where the next ones begin.
+// Puts the values of these rows, and reports where the next ones begin.
 fn load_chunk<T: Numbered>(
     alloc: Global,
     ledger: &mut Ledger,

@@ -32,7 +32,7 @@ impl<S: Alter> SqlStorage<S> {
     ghost use Rattle.shop_records.specs.declared.journal.Entry.{Entry as EntryOf};
     ghost use Rattle.shop_book.specs.Ends.{AddEnds, HasRoom};
 
-    // Remembers a new entry, if there is one, as the last one, and the end of which it tells.
+    // Remembers a new entry, if there is one, as the last one, and the end of which it reports.
     fn remember(&mut self, entry: &Option<Entry>)
         requires { HasRoom self.old.remembered.ends }
         ensures conn { self.new.conn ≡ self.old.conn }

@@ -44,7 +44,7 @@ fn push_about(
     Ok(())
 }
 
-// Looks for more at the next entry that the index names behind a number, and tells behind which number to go on, if there are
+// Looks for more at the next entry that the index names behind a number, and reports behind which number to go on, if there are
 // others.
 fn step<S: Storage>(
     alloc: Global,

@@ -70,7 +70,7 @@ fn push_all(uses: &mut UseList, rows: &[Row]) -> Result<(), AllocError> {
     Ok(())
 }
 
-// Appends those of the next rows of whose jobs no more follow, and tells from which job the others begin, if there are any. Of a
+// Appends those of the next rows of whose jobs no more follow, and reports from which job the others begin, if there are any. Of a
 // job with more rows than any plan has orders some are left out.
 fn push_rows(uses: &mut UseList, rows: &[Row], from: i64) -> Result<Option<i64>, AllocError> {
     let last = match rows.last() {

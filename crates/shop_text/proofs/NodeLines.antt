@@ -13,7 +13,7 @@ use Rattle.cut_tree.specs.Stepping.{AreSteps, step_at}
 use Rattle.shop_text.specs.declared.tickets.FoundNode.{FoundNode}
 use Rattle.shop_records.specs.declared.records.Demand.{Demand}
 use Rattle.shop_records.specs.declared.refusals.Refusal.{Refusal}
-use Rattle.shop_text.specs.Tickets.{AreNodesFound, IsUntold, both, demand_for, line_of, lines_below, node_line, step_of, steps_in}
+use Rattle.shop_text.specs.Tickets.{AreNodesFound, IsUnreported, both, demand_for, line_of, lines_below, node_line, step_of, steps_in}
 
 both_none : (a : Option (List ℕ)) → both a None ≡ None
 both_none None = refl
@@ -69,6 +69,6 @@ pub within : (plan : Pattern) (nodes : List FoundNode) → AreSteps plan.tree pl
 within plan nodes steps = sym (length-map nodes (λ (n : FoundNode). n.step)) ∙ steps.count
 
 -- where one line isn't there, the lines aren't
-pub stopped : (refusal : Refusal) (line said : Option (List ℕ)) → (line ≡ None → said ≡ None) → IsUntold refusal line → IsUntold refusal said
+pub stopped : (refusal : Refusal) (line said : Option (List ℕ)) → (line ≡ None → said ≡ None) → IsUnreported refusal line → IsUnreported refusal said
 stopped refusal line said none (inl memory) = inl memory
 stopped refusal line said none (inr wrong) = inr (wrong.0, none wrong.1)

@@ -18,9 +18,9 @@ taken (part ∷ parts) old new goes =
     ∙ ap (λ b. b ++ flat_map (part_line old.kind) parts) goes.1.1 ∙ append_assoc (string_bytes old.text) (part_line old.kind part) (flat_map (part_line old.kind) parts)
 
 -- a visit that came to the end of a list took it all
-pub lines_taken : (list : List Part) (says : (List Part → Type 0) → Type 0) (told : Bool) (old new : PartLines) → told ≡ true → ((what : List Part → Type 0) → says what → what list)
-    → IsVisit TakesLine {Fault = BookFault} says old (Ok told) new → string_bytes new.text ≡ string_bytes old.text ++ flat_map (part_line old.kind) list
-lines_taken list says told old new went reads visit =
+pub lines_taken : (list : List Part) (says : (List Part → Type 0) → Type 0) (reported : Bool) (old new : PartLines) → reported ≡ true → ((what : List Part → Type 0) → says what → what list)
+    → IsVisit TakesLine {Fault = BookFault} says old (Ok reported) new → string_bytes new.text ≡ string_bytes old.text ++ flat_map (part_line old.kind) list
+lines_taken list says reported old new went reads visit =
     let goes : GoesOn TakesLine visit.parts old new = subst (λ b. HasSeen TakesLine visit.parts b old new) (sym visit.answer ∙ went) visit.visitor in
     let begins = reads _ visit.begins in
     let whole : list ≡ visit.parts = begins.1 ∙ ap (λ rest. visit.parts ++ rest) (begins.2 went) ∙ append-nil visit.parts in

@@ -41,7 +41,7 @@ abbrev pub IsTextMade : {Z : Type 0} → ℕ → ℕ → Result (String Z) Refus
 IsTextMade before after (Ok text) said = said ≡ Ok (string_bytes text)
 IsTextMade before after (Err refusal) said = (said ≡ Err refusal) ⊎ IsFailure refusal before after
 
--- failures are counted where a refusal tells of them, and else not
+-- failures are counted where a refusal reports them, and else not
 abbrev pub CountsRefusal : {T : Type 0} → Result T Refusal → ℕ → ℕ → Type 0
 CountsRefusal (Ok x) before after = after ≡ before
 CountsRefusal (Err refusal) before after = (after ≡ before) ⊎ ((refusal ≡ StoreFault) × (after ≡ one_more_failure before))

@@ -118,7 +118,7 @@ where_ended Undone n = Some n
 abbrev pub made_of : Content → Job → Option ℕ
 made_of m job = where_ended job.state (piece_count (parts_named m job.act))
 
--- the line that tells it
+-- the line that reports it
 abbrev pub made_line : Option ℕ → List ℕ
 made_line None = []
 made_line (Some n) = codes "made " ++ decimal n ++ codes " pieces\n"
@@ -160,16 +160,16 @@ steps_in nodes = map (λ (n : FoundNode). n.step) nodes
 abbrev pub AreNodesFound : (ℕ → Option Demand) → List FoundNode → Type 0
 AreNodesFound at nodes = All (λ (n : FoundNode). n.demand ≡ demand_for at n.step.what) nodes
 
--- memory was wanting, or there is nothing to tell
-abbrev pub IsUntold : Refusal → Option (List ℕ) → Type 0
-IsUntold refusal said = (refusal ≡ NoMemory) ⊎ ((refusal ≡ StoreFault) × (said ≡ None))
+-- memory was wanting, or there is nothing to report
+abbrev pub IsUnreported : Refusal → Option (List ℕ) → Type 0
+IsUnreported refusal said = (refusal ≡ NoMemory) ⊎ ((refusal ≡ StoreFault) × (said ≡ None))
 
--- what has to be told was appended
+-- what has to be reported was appended
 abbrev pub AddsLine : List ℕ → List ℕ → Result (Unit {0}) Refusal → Option (List ℕ) → Type 0
 AddsLine old new (Ok x) said = MatchOption said ⊥ (λ line. new ≡ old ++ line)
-AddsLine old new (Err refusal) said = IsUntold refusal said
+AddsLine old new (Err refusal) said = IsUnreported refusal said
 
--- what has to be told is the text
+-- what has to be reported is the text
 abbrev pub IsTicketMade : {Z : Type 0} → Result (String Z) Refusal → Option (List ℕ) → Type 0
 IsTicketMade (Ok text) said = said ≡ Some (string_bytes text)
-IsTicketMade (Err refusal) said = IsUntold refusal said
+IsTicketMade (Err refusal) said = IsUnreported refusal said

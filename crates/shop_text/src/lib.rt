@@ -6,7 +6,7 @@ mod printing;
 mod tickets;
 mod yields;
 
-pub use laws::texts_are_told;
+pub use laws::texts_are_reported;
 pub use printing::PrintFault;
 pub use shop_streams::{Counted, Failed, Sink, Source, write_all};
 pub use tickets::{ticket, ticket_text};

@@ -295,10 +295,10 @@ fn ticket_lines(
     Ok(text)
 }
 
-/// The ticket of a job as text. An unknown job is refused 70; 98 is want of memory, and 99 comes where the store failed, or
+/// The ticket of a job as text. An unknown job is refused 70; 98 is lack of memory, and 99 comes where the store failed, or
 /// where rows that no history gives contradict each other.
 pub fn ticket_text<B: Book>(alloc: Global, book: &mut B, number: u32) -> Result<String, Refusal>
-    ensures told { OnContent B.Book book.old book.new
+    ensures reported { OnContent B.Book book.old book.new
         (λ m. IsTextMade (B.failed book.old) (B.failed book.new) result (ticket_of m number)) }
     ensures keeps { Unchanged B.Book (CountsRefusal result) book.old book.new }
 {

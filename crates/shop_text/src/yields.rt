@@ -129,10 +129,10 @@ impl PartVisitor for PartLines {
     }
 }
 
-/// The yield report of a material as text. An unknown material is refused 20; 98 is want of memory, and 99 comes where the
+/// The yield report of a material as text. An unknown material is refused 20; 98 is lack of memory, and 99 comes where the
 /// store failed.
 pub fn report_text<B: Book>(alloc: Global, book: &mut B, code: Code) -> Result<String, Refusal>
-    ensures told { OnContent B.Book book.old book.new
+    ensures reported { OnContent B.Book book.old book.new
         (λ m. IsTextMade (B.failed book.old) (B.failed book.new) result (yield_of m code)) }
     ensures keeps { Unchanged B.Book (CountsRefusal result) book.old book.new }
 {

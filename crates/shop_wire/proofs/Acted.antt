@@ -1,4 +1,4 @@
--- What a request was told, and what it did.
+-- The response to a request, and what the request did.
 use Rattle.std.proofs.Common.{◌≡◌, ◌≢◌, ℕ, ◌+◌, ◌⊎◌, arith, nat_lt, inl, inr, List, map, Bool, true, false, Option, Some, None, Result, Ok, Err, refl, sym, ap, subst, ◌∙◌}
 use Rattle.std.specs.Prelude.{IfSome, MatchOption, option_map, ⊤, if◌then◌else◌}
 use Rattle.std.specs.declared.string.String.{String}
@@ -24,20 +24,20 @@ use Rattle.shop_desk.proofs.Accounts.{account_same, account_step}
 use Rattle.shop_text.specs.Printing.{CountsRefusal, IsFailure, IsTextMade}
 use Rattle.shop_text.specs.Tickets.{ticket_of}
 use Rattle.shop_text.specs.Yields.{yield_of}
-use Rattle.shop_text.proofs.ToldTickets.{ticket_told, report_told}
+use Rattle.shop_text.proofs.ReportedTickets.{ticket_reported, report_response}
 use Rattle.shop_request.specs.declared.routes.Route.{Route}
 use Rattle.shop_request.specs.declared.routes.Route.TheVariants.{Message, Plan, Plans, Bound, Backup, Totals, Rack, Trace, Demand, Ticket, Yield, Materials, Parts, PartsAfter, Demands, DemandsOf, Orders, OrdersAfter, OrderLines, Jobs, Job, Terminal, Shop, History, OrderStory, JobStory, PartStory, OrderPieces, OrderPiecesAfter, BatchPieces, BatchPiecesAfter, UnitPieces, UnitPiecesAfter, Steps}
 use Rattle.shop_request.specs.Requests.{asking}
-use Rattle.shop_wire.specs.AnswerBytes.{Telling, replied, printed}
+use Rattle.shop_wire.specs.AnswerBytes.{Response, replied, printed}
 use Rattle.shop_wire.specs.Replays.{ExchangesLead, IsNoMessage, PlansStep, line_message, with_reply}
-use Rattle.shop_wire.specs.Serves.{AskStep, HasServedInput, IsInputHandledAt, KeepsElse, MessageStep, PrintStep, TellsText, asked_at, body_plans, code_at, numbered, parse_message, text_at}
-use Rattle.shop_wire.specs.Tellings.{IsToldOf, IsUnread, PrintsCounted, TellsCounted}
-use Rattle.shop_wire.proofs.Answered.{told_reply, unread_not_store}
+use Rattle.shop_wire.specs.Serves.{AskStep, HasServedInput, IsInputHandledAt, KeepsElse, MessageStep, PrintStep, ReportsText, asked_at, body_plans, code_at, numbered, parse_message, text_at}
+use Rattle.shop_wire.specs.Responses.{IsReportedOf, IsUnread, PrintsCounted, ReportsCounted}
+use Rattle.shop_wire.proofs.Answered.{reported_reply, unread_not_store}
 use Rattle.shop_wire.proofs.Crashes.{leads_one, leads_unread, no_memory_step}
 
 -- ---- messages
 
--- want of memory may be answered to any body
+-- lack of memory may be answered to any body
 message_no_memory : (m : Content) (o : Option MessageOf) → MatchOption o (IsNoMessage m (Refused NoMemory) m) (λ message. Step json_texts m message (Refused NoMemory) m)
 message_no_memory m None = ((λ some. absurd (some refl)), refl)
 message_no_memory m (Some message) = no_memory_step json_texts m message (kept_at m (pair_of message))
@@ -52,18 +52,18 @@ refused_same refusal e = cc
 
 -- ---- texts
 
-tells_text : (said : Result (List ℕ) Refusal) (telling : Telling) (a b : ℕ) → TellsCounted said telling a b → TellsText said telling
-tells_text said (printed text) a b h = h
-tells_text said (replied reply) a b h = (h.0, h.1, why h.2)
+reports_text : (said : Result (List ℕ) Refusal) (response : Response) (a b : ℕ) → ReportsCounted said response a b → ReportsText said response
+reports_text said (printed text) a b h = h
+reports_text said (replied reply) a b h = (h.0, h.1, why h.2)
   where
     why : (said ≡ Err h.0) ⊎ IsFailure h.0 a b → (said ≡ Err h.0) ⊎ ((h.0 ≡ NoMemory) ⊎ (h.0 ≡ StoreFault))
     why (inl is) = inl is
     why (inr (inl p)) = inr (inl p.0)
     why (inr (inr p)) = inr (inr p.0)
 
-printed_step : (m : Content) (o : Option (Result (List ℕ) Refusal)) (telling : Telling) (a b : ℕ) → PrintsCounted o telling a b → PrintStep m o telling m
-printed_step m None telling a b is = subst (λ t. PrintStep m None t m) (sym is) ((λ _. refl), refl)
-printed_step m (Some said) telling a b h = (tells_text said telling a b h, refl)
+printed_step : (m : Content) (o : Option (Result (List ℕ) Refusal)) (response : Response) (a b : ℕ) → PrintsCounted o response a b → PrintStep m o response m
+printed_step m None response a b is = subst (λ t. PrintStep m None t m) (sym is) ((λ _. refl), refl)
+printed_step m (Some said) response a b h = (reports_text said response a b h, refl)
 
 -- one more failure
 failed_by : (a b : ℕ) (t : Bool) → nat_lt a MAX_FAILURES ≡ t → b ≡ (if t then a + 1 else MAX_FAILURES) → StoreFailed a b
@@ -82,31 +82,31 @@ text_blame said refusal a b agrees (inr (inr p)) e = store_failed a b p.1
 abbrev Agrees : Option (Result (List ℕ) Refusal) → Type 0
 Agrees o = MatchOption o ⊤ (λ said. said ≢ Err StoreFault)
 
-printed_blame : (o : Option (Result (List ℕ) Refusal)) (telling : Telling) (a b : ℕ) → Agrees o → PrintsCounted o telling a b → telling ≡ replied (Refused StoreFault) → StoreFailed a b
-printed_blame None telling a b agrees is e = absurd (cc (sym is ∙ e))
+printed_blame : (o : Option (Result (List ℕ) Refusal)) (response : Response) (a b : ℕ) → Agrees o → PrintsCounted o response a b → response ≡ replied (Refused StoreFault) → StoreFailed a b
+printed_blame None response a b agrees is e = absurd (cc (sym is ∙ e))
 printed_blame (Some said) (printed text) a b agrees h e = absurd (cc e)
-printed_blame (Some said) (replied reply) a b agrees h e = text_blame said h.0 a b agrees h.2 (refused_same h.0 (sym h.1 ∙ told_reply reply (Refused StoreFault) e))
+printed_blame (Some said) (replied reply) a b agrees h e = text_blame said h.0 a b agrees h.2 (refused_same h.0 (sym h.1 ∙ reported_reply reply (Refused StoreFault) e))
 
 asked_agrees : {X : Type 0} (says : X → Result (List ℕ) Refusal) → ((x : X) → says x ≢ Err StoreFault) → (o : Option X) → Agrees (option_map says o)
 asked_agrees says agrees None = tt
 asked_agrees says agrees (Some x) = agrees x
 
 -- a text that was made, or the refusal that stands for it
-pub told_counted : {Z : Type 0} (r : Result (String Z) Refusal) (telling : Telling) (a b : ℕ) (said : Result (List ℕ) Refusal) → IsToldOf r telling → IsTextMade a b r said → TellsCounted said telling a b
-told_counted (Ok text) telling a b said is told = subst (λ t. TellsCounted said t a b) (sym is) told
-told_counted (Err refusal) telling a b said is told = subst (λ t. TellsCounted said t a b) (sym is) (refusal, refl, told)
+pub reported_counted : {Z : Type 0} (r : Result (String Z) Refusal) (response : Response) (a b : ℕ) (said : Result (List ℕ) Refusal) → IsReportedOf r response → IsTextMade a b r said → ReportsCounted said response a b
+reported_counted (Ok text) response a b said is reported = subst (λ t. ReportsCounted said t a b) (sym is) reported
+reported_counted (Err refusal) response a b said is reported = subst (λ t. ReportsCounted said t a b) (sym is) (refusal, refl, reported)
 
-pub text_asked : (o : Option (Result (List ℕ) Refusal)) (said : Result (List ℕ) Refusal) (telling : Telling) (a b : ℕ) → o ≡ Some said → TellsCounted said telling a b → PrintsCounted o telling a b
-text_asked o said telling a b is h = subst (λ o. PrintsCounted o telling a b) (sym is) h
+pub text_asked : (o : Option (Result (List ℕ) Refusal)) (said : Result (List ℕ) Refusal) (response : Response) (a b : ℕ) → o ≡ Some said → ReportsCounted said response a b → PrintsCounted o response a b
+text_asked o said response a b is h = subst (λ o. PrintsCounted o response a b) (sym is) h
 
-pub none_asked : (o : Option (Result (List ℕ) Refusal)) (telling : Telling) (a b : ℕ) → o ≡ None → telling ≡ replied (Refused BadMessage) → PrintsCounted o telling a b
-none_asked o telling a b is told = subst (λ o. PrintsCounted o telling a b) (sym is) told
+pub none_asked : (o : Option (Result (List ℕ) Refusal)) (response : Response) (a b : ℕ) → o ≡ None → response ≡ replied (Refused BadMessage) → PrintsCounted o response a b
+none_asked o response a b is reported = subst (λ o. PrintsCounted o response a b) (sym is) reported
 
 -- the failures that go with a text
-pub up_told : {T : Type 0} (r : Result T Refusal) (a b : ℕ) → CountsRefusal r a b → CountsUp a b
-up_told (Ok x) a b is = inl is
-up_told (Err refusal) a b (inl is) = inl is
-up_told (Err refusal) a b (inr p) = up_reply a b (Refused StoreFault) p.1
+pub up_reported : {T : Type 0} (r : Result T Refusal) (a b : ℕ) → CountsRefusal r a b → CountsUp a b
+up_reported (Ok x) a b is = inl is
+up_reported (Err refusal) a b (inl is) = inl is
+up_reported (Err refusal) a b (inr p) = up_reply a b (Refused StoreFault) p.1
 
 -- ---- queries
 
@@ -125,8 +125,8 @@ pub unread_blame : (o : Option Query) (refusal : Refusal) (A : Type 0) → IsUnr
 unread_blame o refusal A why e = absurd (unread_not_store refusal o why (refused_same refusal e))
 
 -- the account of a message, as far as there is one
-abbrev AccountOf : Content → Option MessageOf → Telling → Content → Type 0
-AccountOf old o telling next = HasAccount json_texts old (map (λ e. e.0) (with_reply o telling)) (map (λ e. e.1) (with_reply o telling)) next
+abbrev AccountOf : Content → Option MessageOf → Response → Content → Type 0
+AccountOf old o response next = HasAccount json_texts old (map (λ e. e.0) (with_reply o response)) (map (λ e. e.1) (with_reply o response)) next
 
 refused_account : (m : Content) (refusal : Refusal) (o : Option MessageOf) → AccountOf m o (replied (Refused refusal)) m
 refused_account m refusal None = account_same json_texts m m refl
@@ -136,8 +136,8 @@ refused_account m refusal (Some message) = account_same json_texts m m refl
 pub message_kept : {B : Type 0} (book : Ghosts B) (before after : B) (body : List ℕ) (message : MessageOf) (reply : Reply) → line_message body ≡ Some message → RefusalKeeps book before after reply
     → KeepsElse book before after (asking Message body) (replied reply)
 message_kept book before after body message reply is keeps clean_disk m held (inl none) = absurd (cc (is, none))
-message_kept book before after body message reply is keeps clean_disk m held (inr (refusal, told)) =
-    subst (λ r. IfSome (refusal_in r) (λ _. book.holds after m)) (told_reply reply (Refused refusal) told) (keeps clean_disk m held)
+message_kept book before after body message reply is keeps clean_disk m held (inr (refusal, reported)) =
+    subst (λ r. IfSome (refusal_in r) (λ _. book.holds after m)) (reported_reply reply (Refused refusal) reported) (keeps clean_disk m held)
 
 module _ {B : Type 0} (book : Ghosts B) (before after : B) (m : Content) where
   pub message_served : (body : List ℕ) (message : MessageOf) (reply : Reply) (next : Content) → line_message body ≡ Some message → IsMessage message → Step json_texts m message reply next
@@ -152,7 +152,7 @@ module _ {B : Type 0} (book : Ghosts B) (before after : B) (m : Content) where
         sound = sound;
         crash = subst (λ o. ExchangesLead book before after m (with_reply o (replied reply)) next) (sym is)
             (leads_one json_texts book.stands (book.may_leave before) (book.may_leave after) m next message reply step crash);
-        blame = λ e. blame (told_reply reply (Refused StoreFault) e);
+        blame = λ e. blame (reported_reply reply (Refused StoreFault) e);
         account = subst (λ o. AccountOf m o (replied reply) next) (sym is) (account_step json_texts m next message reply is_message step);
       }
 
@@ -165,7 +165,7 @@ module _ {B : Type 0} (book : Ghosts B) (before after : B) (m : Content) where
         held = held;
         sound = sound;
         crash = leads_unread json_texts book.stands (book.may_leave before) (book.may_leave after) m refusal (line_message body) why sound keeps;
-        blame = λ e. absurd (unread_not_store refusal (line_message body) why (refused_same refusal (told_reply (Refused refusal) (Refused StoreFault) e)));
+        blame = λ e. absurd (unread_not_store refusal (line_message body) why (refused_same refusal (reported_reply (Refused refusal) (Refused StoreFault) e)));
         account = refused_account m refusal (line_message body);
       }
 
@@ -229,45 +229,45 @@ module _ {B : Type 0} (book : Ghosts B) (before after : B) (m : Content) where
     asked_served Plans text reply a b c d step blame = absurd (b refl)
     asked_served Ticket text reply a b c d step blame = absurd (c refl)
     asked_served Yield text reply a b c d step blame = absurd (d refl)
-    asked_served Plan text reply a b c d step blame = record { next = m; step = step; held = held; sound = sound; crash = (refl, keeps); blame = λ e. blame (told_reply reply (Refused StoreFault) e); account = account_same json_texts m m refl }
-    asked_served Bound text reply a b c d step blame = record { next = m; step = step; held = held; sound = sound; crash = (refl, keeps); blame = λ e. blame (told_reply reply (Refused StoreFault) e); account = account_same json_texts m m refl }
-    asked_served Backup text reply a b c d step blame = record { next = m; step = step; held = held; sound = sound; crash = (refl, keeps); blame = λ e. blame (told_reply reply (Refused StoreFault) e); account = account_same json_texts m m refl }
-    asked_served Totals text reply a b c d step blame = record { next = m; step = step; held = held; sound = sound; crash = (refl, keeps); blame = λ e. blame (told_reply reply (Refused StoreFault) e); account = account_same json_texts m m refl }
-    asked_served Rack text reply a b c d step blame = record { next = m; step = step; held = held; sound = sound; crash = (refl, keeps); blame = λ e. blame (told_reply reply (Refused StoreFault) e); account = account_same json_texts m m refl }
-    asked_served Trace text reply a b c d step blame = record { next = m; step = step; held = held; sound = sound; crash = (refl, keeps); blame = λ e. blame (told_reply reply (Refused StoreFault) e); account = account_same json_texts m m refl }
-    asked_served Demand text reply a b c d step blame = record { next = m; step = step; held = held; sound = sound; crash = (refl, keeps); blame = λ e. blame (told_reply reply (Refused StoreFault) e); account = account_same json_texts m m refl }
-    asked_served Materials text reply a b c d step blame = record { next = m; step = step; held = held; sound = sound; crash = (refl, keeps); blame = λ e. blame (told_reply reply (Refused StoreFault) e); account = account_same json_texts m m refl }
-    asked_served Parts text reply a b c d step blame = record { next = m; step = step; held = held; sound = sound; crash = (refl, keeps); blame = λ e. blame (told_reply reply (Refused StoreFault) e); account = account_same json_texts m m refl }
-    asked_served PartsAfter text reply a b c d step blame = record { next = m; step = step; held = held; sound = sound; crash = (refl, keeps); blame = λ e. blame (told_reply reply (Refused StoreFault) e); account = account_same json_texts m m refl }
-    asked_served Demands text reply a b c d step blame = record { next = m; step = step; held = held; sound = sound; crash = (refl, keeps); blame = λ e. blame (told_reply reply (Refused StoreFault) e); account = account_same json_texts m m refl }
-    asked_served DemandsOf text reply a b c d step blame = record { next = m; step = step; held = held; sound = sound; crash = (refl, keeps); blame = λ e. blame (told_reply reply (Refused StoreFault) e); account = account_same json_texts m m refl }
-    asked_served Orders text reply a b c d step blame = record { next = m; step = step; held = held; sound = sound; crash = (refl, keeps); blame = λ e. blame (told_reply reply (Refused StoreFault) e); account = account_same json_texts m m refl }
-    asked_served OrdersAfter text reply a b c d step blame = record { next = m; step = step; held = held; sound = sound; crash = (refl, keeps); blame = λ e. blame (told_reply reply (Refused StoreFault) e); account = account_same json_texts m m refl }
-    asked_served OrderLines text reply a b c d step blame = record { next = m; step = step; held = held; sound = sound; crash = (refl, keeps); blame = λ e. blame (told_reply reply (Refused StoreFault) e); account = account_same json_texts m m refl }
-    asked_served Jobs text reply a b c d step blame = record { next = m; step = step; held = held; sound = sound; crash = (refl, keeps); blame = λ e. blame (told_reply reply (Refused StoreFault) e); account = account_same json_texts m m refl }
-    asked_served Job text reply a b c d step blame = record { next = m; step = step; held = held; sound = sound; crash = (refl, keeps); blame = λ e. blame (told_reply reply (Refused StoreFault) e); account = account_same json_texts m m refl }
-    asked_served Terminal text reply a b c d step blame = record { next = m; step = step; held = held; sound = sound; crash = (refl, keeps); blame = λ e. blame (told_reply reply (Refused StoreFault) e); account = account_same json_texts m m refl }
-    asked_served Shop text reply a b c d step blame = record { next = m; step = step; held = held; sound = sound; crash = (refl, keeps); blame = λ e. blame (told_reply reply (Refused StoreFault) e); account = account_same json_texts m m refl }
-    asked_served History text reply a b c d step blame = record { next = m; step = step; held = held; sound = sound; crash = (refl, keeps); blame = λ e. blame (told_reply reply (Refused StoreFault) e); account = account_same json_texts m m refl }
-    asked_served OrderStory text reply a b c d step blame = record { next = m; step = step; held = held; sound = sound; crash = (refl, keeps); blame = λ e. blame (told_reply reply (Refused StoreFault) e); account = account_same json_texts m m refl }
-    asked_served JobStory text reply a b c d step blame = record { next = m; step = step; held = held; sound = sound; crash = (refl, keeps); blame = λ e. blame (told_reply reply (Refused StoreFault) e); account = account_same json_texts m m refl }
-    asked_served PartStory text reply a b c d step blame = record { next = m; step = step; held = held; sound = sound; crash = (refl, keeps); blame = λ e. blame (told_reply reply (Refused StoreFault) e); account = account_same json_texts m m refl }
-    asked_served OrderPieces text reply a b c d step blame = record { next = m; step = step; held = held; sound = sound; crash = (refl, keeps); blame = λ e. blame (told_reply reply (Refused StoreFault) e); account = account_same json_texts m m refl }
-    asked_served OrderPiecesAfter text reply a b c d step blame = record { next = m; step = step; held = held; sound = sound; crash = (refl, keeps); blame = λ e. blame (told_reply reply (Refused StoreFault) e); account = account_same json_texts m m refl }
-    asked_served BatchPieces text reply a b c d step blame = record { next = m; step = step; held = held; sound = sound; crash = (refl, keeps); blame = λ e. blame (told_reply reply (Refused StoreFault) e); account = account_same json_texts m m refl }
-    asked_served BatchPiecesAfter text reply a b c d step blame = record { next = m; step = step; held = held; sound = sound; crash = (refl, keeps); blame = λ e. blame (told_reply reply (Refused StoreFault) e); account = account_same json_texts m m refl }
-    asked_served UnitPieces text reply a b c d step blame = record { next = m; step = step; held = held; sound = sound; crash = (refl, keeps); blame = λ e. blame (told_reply reply (Refused StoreFault) e); account = account_same json_texts m m refl }
-    asked_served UnitPiecesAfter text reply a b c d step blame = record { next = m; step = step; held = held; sound = sound; crash = (refl, keeps); blame = λ e. blame (told_reply reply (Refused StoreFault) e); account = account_same json_texts m m refl }
-    asked_served Steps text reply a b c d step blame = record { next = m; step = step; held = held; sound = sound; crash = (refl, keeps); blame = λ e. blame (told_reply reply (Refused StoreFault) e); account = account_same json_texts m m refl }
+    asked_served Plan text reply a b c d step blame = record { next = m; step = step; held = held; sound = sound; crash = (refl, keeps); blame = λ e. blame (reported_reply reply (Refused StoreFault) e); account = account_same json_texts m m refl }
+    asked_served Bound text reply a b c d step blame = record { next = m; step = step; held = held; sound = sound; crash = (refl, keeps); blame = λ e. blame (reported_reply reply (Refused StoreFault) e); account = account_same json_texts m m refl }
+    asked_served Backup text reply a b c d step blame = record { next = m; step = step; held = held; sound = sound; crash = (refl, keeps); blame = λ e. blame (reported_reply reply (Refused StoreFault) e); account = account_same json_texts m m refl }
+    asked_served Totals text reply a b c d step blame = record { next = m; step = step; held = held; sound = sound; crash = (refl, keeps); blame = λ e. blame (reported_reply reply (Refused StoreFault) e); account = account_same json_texts m m refl }
+    asked_served Rack text reply a b c d step blame = record { next = m; step = step; held = held; sound = sound; crash = (refl, keeps); blame = λ e. blame (reported_reply reply (Refused StoreFault) e); account = account_same json_texts m m refl }
+    asked_served Trace text reply a b c d step blame = record { next = m; step = step; held = held; sound = sound; crash = (refl, keeps); blame = λ e. blame (reported_reply reply (Refused StoreFault) e); account = account_same json_texts m m refl }
+    asked_served Demand text reply a b c d step blame = record { next = m; step = step; held = held; sound = sound; crash = (refl, keeps); blame = λ e. blame (reported_reply reply (Refused StoreFault) e); account = account_same json_texts m m refl }
+    asked_served Materials text reply a b c d step blame = record { next = m; step = step; held = held; sound = sound; crash = (refl, keeps); blame = λ e. blame (reported_reply reply (Refused StoreFault) e); account = account_same json_texts m m refl }
+    asked_served Parts text reply a b c d step blame = record { next = m; step = step; held = held; sound = sound; crash = (refl, keeps); blame = λ e. blame (reported_reply reply (Refused StoreFault) e); account = account_same json_texts m m refl }
+    asked_served PartsAfter text reply a b c d step blame = record { next = m; step = step; held = held; sound = sound; crash = (refl, keeps); blame = λ e. blame (reported_reply reply (Refused StoreFault) e); account = account_same json_texts m m refl }
+    asked_served Demands text reply a b c d step blame = record { next = m; step = step; held = held; sound = sound; crash = (refl, keeps); blame = λ e. blame (reported_reply reply (Refused StoreFault) e); account = account_same json_texts m m refl }
+    asked_served DemandsOf text reply a b c d step blame = record { next = m; step = step; held = held; sound = sound; crash = (refl, keeps); blame = λ e. blame (reported_reply reply (Refused StoreFault) e); account = account_same json_texts m m refl }
+    asked_served Orders text reply a b c d step blame = record { next = m; step = step; held = held; sound = sound; crash = (refl, keeps); blame = λ e. blame (reported_reply reply (Refused StoreFault) e); account = account_same json_texts m m refl }
+    asked_served OrdersAfter text reply a b c d step blame = record { next = m; step = step; held = held; sound = sound; crash = (refl, keeps); blame = λ e. blame (reported_reply reply (Refused StoreFault) e); account = account_same json_texts m m refl }
+    asked_served OrderLines text reply a b c d step blame = record { next = m; step = step; held = held; sound = sound; crash = (refl, keeps); blame = λ e. blame (reported_reply reply (Refused StoreFault) e); account = account_same json_texts m m refl }
+    asked_served Jobs text reply a b c d step blame = record { next = m; step = step; held = held; sound = sound; crash = (refl, keeps); blame = λ e. blame (reported_reply reply (Refused StoreFault) e); account = account_same json_texts m m refl }
+    asked_served Job text reply a b c d step blame = record { next = m; step = step; held = held; sound = sound; crash = (refl, keeps); blame = λ e. blame (reported_reply reply (Refused StoreFault) e); account = account_same json_texts m m refl }
+    asked_served Terminal text reply a b c d step blame = record { next = m; step = step; held = held; sound = sound; crash = (refl, keeps); blame = λ e. blame (reported_reply reply (Refused StoreFault) e); account = account_same json_texts m m refl }
+    asked_served Shop text reply a b c d step blame = record { next = m; step = step; held = held; sound = sound; crash = (refl, keeps); blame = λ e. blame (reported_reply reply (Refused StoreFault) e); account = account_same json_texts m m refl }
+    asked_served History text reply a b c d step blame = record { next = m; step = step; held = held; sound = sound; crash = (refl, keeps); blame = λ e. blame (reported_reply reply (Refused StoreFault) e); account = account_same json_texts m m refl }
+    asked_served OrderStory text reply a b c d step blame = record { next = m; step = step; held = held; sound = sound; crash = (refl, keeps); blame = λ e. blame (reported_reply reply (Refused StoreFault) e); account = account_same json_texts m m refl }
+    asked_served JobStory text reply a b c d step blame = record { next = m; step = step; held = held; sound = sound; crash = (refl, keeps); blame = λ e. blame (reported_reply reply (Refused StoreFault) e); account = account_same json_texts m m refl }
+    asked_served PartStory text reply a b c d step blame = record { next = m; step = step; held = held; sound = sound; crash = (refl, keeps); blame = λ e. blame (reported_reply reply (Refused StoreFault) e); account = account_same json_texts m m refl }
+    asked_served OrderPieces text reply a b c d step blame = record { next = m; step = step; held = held; sound = sound; crash = (refl, keeps); blame = λ e. blame (reported_reply reply (Refused StoreFault) e); account = account_same json_texts m m refl }
+    asked_served OrderPiecesAfter text reply a b c d step blame = record { next = m; step = step; held = held; sound = sound; crash = (refl, keeps); blame = λ e. blame (reported_reply reply (Refused StoreFault) e); account = account_same json_texts m m refl }
+    asked_served BatchPieces text reply a b c d step blame = record { next = m; step = step; held = held; sound = sound; crash = (refl, keeps); blame = λ e. blame (reported_reply reply (Refused StoreFault) e); account = account_same json_texts m m refl }
+    asked_served BatchPiecesAfter text reply a b c d step blame = record { next = m; step = step; held = held; sound = sound; crash = (refl, keeps); blame = λ e. blame (reported_reply reply (Refused StoreFault) e); account = account_same json_texts m m refl }
+    asked_served UnitPieces text reply a b c d step blame = record { next = m; step = step; held = held; sound = sound; crash = (refl, keeps); blame = λ e. blame (reported_reply reply (Refused StoreFault) e); account = account_same json_texts m m refl }
+    asked_served UnitPiecesAfter text reply a b c d step blame = record { next = m; step = step; held = held; sound = sound; crash = (refl, keeps); blame = λ e. blame (reported_reply reply (Refused StoreFault) e); account = account_same json_texts m m refl }
+    asked_served Steps text reply a b c d step blame = record { next = m; step = step; held = held; sound = sound; crash = (refl, keeps); blame = λ e. blame (reported_reply reply (Refused StoreFault) e); account = account_same json_texts m m refl }
 
-    pub plans_served : (body : List ℕ) (telling : Telling) → PlansStep m (body_plans body) telling m → (telling ≡ replied (Refused StoreFault) → StoreFailed (book.failed before) (book.failed after))
-        → HasServedInput book before after m (asking Plans body) telling
-    plans_served body telling step blame = record { next = m; step = step; held = held; sound = sound; crash = (refl, keeps); blame = blame; account = account_same json_texts m m refl }
+    pub plans_served : (body : List ℕ) (response : Response) → PlansStep m (body_plans body) response m → (response ≡ replied (Refused StoreFault) → StoreFailed (book.failed before) (book.failed after))
+        → HasServedInput book before after m (asking Plans body) response
+    plans_served body response step blame = record { next = m; step = step; held = held; sound = sound; crash = (refl, keeps); blame = blame; account = account_same json_texts m m refl }
 
-    pub ticket_served : (part : List ℕ) (telling : Telling) → PrintsCounted (text_at m Ticket part) telling (book.failed before) (book.failed after) → HasServedInput book before after m (asking Ticket part) telling
-    ticket_served part telling h =
-        record { next = m; step = printed_step m (text_at m Ticket part) telling _ _ h; held = held; sound = sound; crash = (refl, keeps); blame = printed_blame (text_at m Ticket part) telling _ _ (asked_agrees (ticket_of m) (λ number. ticket_told json_texts m number sound) (numbered part)) h; account = account_same json_texts m m refl }
+    pub ticket_served : (part : List ℕ) (response : Response) → PrintsCounted (text_at m Ticket part) response (book.failed before) (book.failed after) → HasServedInput book before after m (asking Ticket part) response
+    ticket_served part response h =
+        record { next = m; step = printed_step m (text_at m Ticket part) response _ _ h; held = held; sound = sound; crash = (refl, keeps); blame = printed_blame (text_at m Ticket part) response _ _ (asked_agrees (ticket_of m) (λ number. ticket_reported json_texts m number sound) (numbered part)) h; account = account_same json_texts m m refl }
 
-    pub yield_served : (part : List ℕ) (telling : Telling) → PrintsCounted (text_at m Yield part) telling (book.failed before) (book.failed after) → HasServedInput book before after m (asking Yield part) telling
-    yield_served part telling h =
-        record { next = m; step = printed_step m (text_at m Yield part) telling _ _ h; held = held; sound = sound; crash = (refl, keeps); blame = printed_blame (text_at m Yield part) telling _ _ (asked_agrees (yield_of m) (report_told m) (code_at part)) h; account = account_same json_texts m m refl }
+    pub yield_served : (part : List ℕ) (response : Response) → PrintsCounted (text_at m Yield part) response (book.failed before) (book.failed after) → HasServedInput book before after m (asking Yield part) response
+    yield_served part response h =
+        record { next = m; step = printed_step m (text_at m Yield part) response _ _ h; held = held; sound = sound; crash = (refl, keeps); blame = printed_blame (text_at m Yield part) response _ _ (asked_agrees (yield_of m) (report_response m) (code_at part)) h; account = account_same json_texts m m refl }

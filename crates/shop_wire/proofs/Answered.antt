@@ -25,20 +25,20 @@ use Rattle.shop_forms.specs.Forms.{message_of, query_of, json_texts}
 use Rattle.shop_plans.specs.declared.questions.PlansQuery.{PlansQuery}
 use Rattle.shop_plans.specs.Questions.{plans_query_of}
 use Rattle.shop_planning.specs.Questions.{AnswersPlans}
-use Rattle.shop_desk.specs.Faults.{StoreFailed, TellOfFailures}
+use Rattle.shop_desk.specs.Faults.{StoreFailed, ReportOfFailures}
 use Rattle.shop_desk.specs.Handled.{HasAccount, LeftBy}
-use Rattle.shop_desk.proofs.Blame.{tell_one}
+use Rattle.shop_desk.proofs.Blame.{report_one}
 use Rattle.shop_desk.proofs.Accounts.{account_same, account_step}
 use Rattle.shop_wire.specs.Lines.{kept_of, longest_line}
-use Rattle.shop_wire.specs.Tellings.{IsRead, IsUnread}
-use Rattle.shop_wire.specs.AnswerBytes.{Telling, replied, printed}
-use Rattle.shop_wire.specs.Replays.{data_of, IsNoMessage, IsReplied, PlansStep, TellsPlans, ValueStep, LineStep, line_message, replies_in, with_reply, ExchangesLead, HasAnswered}
+use Rattle.shop_wire.specs.Responses.{IsRead, IsUnread}
+use Rattle.shop_wire.specs.AnswerBytes.{Response, replied, printed}
+use Rattle.shop_wire.specs.Replays.{data_of, IsNoMessage, IsReplied, PlansStep, ReportsPlans, ValueStep, LineStep, line_message, replies_in, with_reply, ExchangesLead, HasAnswered}
 use Rattle.shop_wire.proofs.Crashes.{leads_one, leads_unread, no_memory_step}
 
 pub not_store : (refusal : Refusal) → refusal ≡ BadMessage → refusal ≢ StoreFault
 not_store refusal is e = cc
 
--- want of memory or nothing that can be read: the store isn't blamed
+-- lack of memory or nothing that can be read: the store isn't blamed
 pub unread_not_store : {B : Type 0} (refusal : Refusal) (o : Option B) → IsUnread refusal o → refusal ≢ StoreFault
 unread_not_store refusal o (inl is) e = cc
 unread_not_store refusal o (inr why) e = not_store refusal why.0 e
@@ -48,20 +48,20 @@ pub unread_line : (refusal : Refusal) (o : Option Data) → IsUnread refusal o �
 unread_line refusal o (inl is) = inl is
 unread_line refusal o (inr why) = inr (why.0, ap (option_and_then message_of) why.1)
 
-pub told_reply : (reply other : Reply) → replied reply ≡ replied other → reply ≡ other
-told_reply reply other e = cc
+pub reported_reply : (reply other : Reply) → replied reply ≡ replied other → reply ≡ other
+reported_reply reply other e = cc
 
-module _ (old new : Content) (d : Data) (telling : Telling) where
+module _ (old new : Content) (d : Data) (response : Response) where
   abbrev Otherwise : Option Query → Type 0
-  Otherwise o = MatchOption o (PlansStep old (plans_query_of d) telling new) (λ query. IsReplied telling (λ reply. Answers old query reply × (new ≡ old)))
+  Otherwise o = MatchOption o (PlansStep old (plans_query_of d) response new) (λ query. IsReplied response (λ reply. Answers old query reply × (new ≡ old)))
 
   abbrev Whole : Option Message → Type 0
-  Whole o = MatchOption o (Otherwise (query_of d)) (λ message. IsReplied telling (λ reply. Step json_texts old message reply new))
+  Whole o = MatchOption o (Otherwise (query_of d)) (λ message. IsReplied response (λ reply. Step json_texts old message reply new))
 
-  of_no_message : message_of d ≡ None → Otherwise (query_of d) → ValueStep old d telling new
+  of_no_message : message_of d ≡ None → Otherwise (query_of d) → ValueStep old d response new
   of_no_message none other = subst Whole (sym none) other
 
-  pub of_plans : message_of d ≡ None → query_of d ≡ None → PlansStep old (plans_query_of d) telling new → ValueStep old d telling new
+  pub of_plans : message_of d ≡ None → query_of d ≡ None → PlansStep old (plans_query_of d) response new → ValueStep old d response new
   of_plans none nothing step = of_no_message none (subst Otherwise (sym nothing) step)
 
 module _ (old new : Content) (d : Data) (reply : Reply) where
@@ -73,7 +73,7 @@ module _ (old new : Content) (d : Data) (reply : Reply) where
 
 -- ---- questions for plans
 
--- want of memory may be answered to any of them
+-- lack of memory may be answered to any of them
 plans_no_memory : (m : Content) (o : Option PlansQuery) → PlansStep m o (replied (Refused NoMemory)) m
 plans_no_memory m None = ((λ no. absurd (no refl)), refl)
 plans_no_memory m (Some question) = ((NoMemory, refl, (λ no _. absurd (no refl))), refl)
@@ -83,21 +83,21 @@ pub plans_read : (r : Result PlansQuery Refusal) (meant : Option PlansQuery) →
 plans_read (Ok question) meant is unread = is
 plans_read (Err refusal) meant is unread = unread
 
-pub plans_unread : (m : Content) (o : Option PlansQuery) (refusal : Refusal) (telling : Telling) → IsUnread refusal o → telling ≡ replied (Refused refusal) → PlansStep m o telling m
-plans_unread m o refusal telling (inl is) told = subst (λ t. PlansStep m o t m) (sym (told ∙ ap (λ r. replied (Refused r)) is)) (plans_no_memory m o)
-plans_unread m o refusal telling (inr why) told =
-    subst (λ t. PlansStep m o t m) (sym told) (subst (λ o. PlansStep m o (replied (Refused refusal)) m) (sym why.1) ((λ _. ap Refused why.0), refl))
+pub plans_unread : (m : Content) (o : Option PlansQuery) (refusal : Refusal) (response : Response) → IsUnread refusal o → response ≡ replied (Refused refusal) → PlansStep m o response m
+plans_unread m o refusal response (inl is) reported = subst (λ t. PlansStep m o t m) (sym (reported ∙ ap (λ r. replied (Refused r)) is)) (plans_no_memory m o)
+plans_unread m o refusal response (inr why) reported =
+    subst (λ t. PlansStep m o t m) (sym reported) (subst (λ o. PlansStep m o (replied (Refused refusal)) m) (sym why.1) ((λ _. ap Refused why.0), refl))
 
-pub plans_answered_to : (m : Content) (o : Option PlansQuery) (question : PlansQuery) (telling : Telling) → o ≡ Some question → TellsPlans m question telling → PlansStep m o telling m
-plans_answered_to m o question telling is tells = subst (λ o. PlansStep m o telling m) (sym is) (tells, refl)
+pub plans_answered_to : (m : Content) (o : Option PlansQuery) (question : PlansQuery) (response : Response) → o ≡ Some question → ReportsPlans m question response → PlansStep m o response m
+plans_answered_to m o question response is reports = subst (λ o. PlansStep m o response m) (sym is) (reports, refl)
 
-pub tells_refusal : (m : Content) (question : PlansQuery) (refusal : Refusal) (telling : Telling) → telling ≡ replied (Refused refusal) → AnswersPlans m question (Err refusal)
-    → TellsPlans m question telling
-tells_refusal m question refusal telling told answers = subst (TellsPlans m question) (sym told) (refusal, refl, answers)
+pub reports_refusal : (m : Content) (question : PlansQuery) (refusal : Refusal) (response : Response) → response ≡ replied (Refused refusal) → AnswersPlans m question (Err refusal)
+    → ReportsPlans m question response
+reports_refusal m question refusal response reported answers = subst (ReportsPlans m question) (sym reported) (refusal, refl, answers)
 
 -- ---- any value
 
--- want of memory may be answered to any value
+-- lack of memory may be answered to any value
 pub of_no_memory : (old : Content) (d : Data) → ValueStep old d (replied (Refused NoMemory)) old
 of_no_memory old d = by_message (message_of d)
   where
@@ -126,11 +126,11 @@ data_none line none = unread line (is_utf8 line) refl (nat_le (length line) 1310
 pub data_long : (line : List ℕ) → 131072 < length line → data_of line ≡ None
 data_long line long = ap (λ (short : Bool). if short && is_utf8 line then read line else None) (lt-leb (length line) 131072 long)
 
-abbrev ByValue : Content → Telling → Content → Option Data → Type 0
-ByValue old telling new o = MatchOption o (IsReplied telling (λ reply. IsNoMessage old reply new)) (λ d. ValueStep old d telling new)
+abbrev ByValue : Content → Response → Content → Option Data → Type 0
+ByValue old response new o = MatchOption o (IsReplied response (λ reply. IsNoMessage old reply new)) (λ d. ValueStep old d response new)
 
-pub line_answered : (old new : Content) (line : List ℕ) (d : Data) (telling : Telling) → data_of line ≡ Some d → ValueStep old d telling new → LineStep old line telling new
-line_answered old new line d telling is step = subst (ByValue old telling new) (sym is) step
+pub line_answered : (old new : Content) (line : List ℕ) (d : Data) (response : Response) → data_of line ≡ Some d → ValueStep old d response new → LineStep old line response new
+line_answered old new line d response is step = subst (ByValue old response new) (sym is) step
 
 line_refused : (old : Content) (line : List ℕ) → data_of line ≡ None → LineStep old line (replied (Refused BadMessage)) old
 line_refused old line is = subst (ByValue old (replied (Refused BadMessage)) old) (sym is) ((λ _. refl), refl)
@@ -145,30 +145,30 @@ line_unread old line refusal (inl is) = subst (λ (r : Refusal). LineStep old li
 line_unread old line refusal (inr why) = subst (λ (r : Refusal). LineStep old line (replied (Refused r)) old) (sym why.0) (line_refused old line why.1)
 
 pub not_memory : {M : Type 0} (b : Bool) → (M → b ≡ true) → b ≡ false → ¬ M
-not_memory b told is m = cc (told m)
+not_memory b reported is m = cc (reported m)
 
 -- ---- what is asked alone
 
 -- what is asked alone, with its reply, where it is a message
-abbrev pub exchange : Option Message → Telling → List (Message × Reply)
-exchange o telling = flat_map (λ (e : Option Message × Telling). with_reply e.0 e.1) ((o, telling) ∷ [])
+abbrev pub exchange : Option Message → Response → List (Message × Reply)
+exchange o response = flat_map (λ (e : Option Message × Response). with_reply e.0 e.1) ((o, response) ∷ [])
 
 -- its account
-abbrev pub AccountOne : Content → Telling → Content → Option Message → Type 0
-AccountOne old telling next o = HasAccount json_texts old (map (λ e. e.0) (exchange o telling)) (map (λ e. e.1) (exchange o telling)) next
+abbrev pub AccountOne : Content → Response → Content → Option Message → Type 0
+AccountOne old response next o = HasAccount json_texts old (map (λ e. e.0) (exchange o response)) (map (λ e. e.1) (exchange o response)) next
 
 -- a refusal leaves content and history
 refused_account : (m : Content) (refusal : Refusal) (o : Option Message) → AccountOne m (replied (Refused refusal)) m o
 refused_account m refusal None = account_same json_texts m m refl
 refused_account m refusal (Some message) = account_same json_texts m m refl
 
-tell_told : (a b : ℕ) (telling : Telling) → (telling ≡ replied (Refused StoreFault) → StoreFailed a b) → TellOfFailures (replies_in (telling ∷ [])) a b
-tell_told a b (replied reply) blame = tell_one a b reply (λ is. blame (ap replied is))
-tell_told a b (printed text) blame = λ none. absurd none
+report_reported : (a b : ℕ) (response : Response) → (response ≡ replied (Refused StoreFault) → StoreFailed a b) → ReportOfFailures (replies_in (response ∷ [])) a b
+report_reported a b (replied reply) blame = report_one a b reply (λ is. blame (ap replied is))
+report_reported a b (printed text) blame = λ none. absurd none
 
 -- what a crash may leave after it
-abbrev pub LeadsOne : {B : Type 0} → Ghosts B → B → B → Content → Telling → Content → Option Message → Type 0
-LeadsOne book before after old telling next o = ExchangesLead book before after old (exchange o telling) next
+abbrev pub LeadsOne : {B : Type 0} → Ghosts B → B → B → Content → Response → Content → Option Message → Type 0
+LeadsOne book before after old response next o = ExchangesLead book before after old (exchange o response) next
 
 module _ {B : Type 0} (book : Ghosts B) (before after : B) (m : Content) where
   refused_crash : (refusal : Refusal) (o : Option Message) → IsUnread refusal o → IsSound json_texts m → ((left : book.Left) → book.may_leave after left → book.may_leave before left)
@@ -177,18 +177,18 @@ module _ {B : Type 0} (book : Ghosts B) (before after : B) (m : Content) where
   refused_crash refusal (Some message) why sound keeps = leads_unread json_texts book.stands (book.may_leave before) (book.may_leave after) m refusal (Some message) why sound keeps
 
   -- by an element of any kind
-  module _ {X : Type 0} (step : Content → X → Telling → Content → Type 0) (message_in : X → Option Message) (x : X) where
-    pub one_answered : (telling : Telling) (next : Content) → step m x telling next → book.holds after next → IsSound json_texts next
-        → LeadsOne book before after m telling next (message_in x) → (telling ≡ replied (Refused StoreFault) → StoreFailed (book.failed before) (book.failed after)) → AccountOne m telling next (message_in x)
-        → HasAnswered step message_in book before after m (x ∷ []) (telling ∷ [])
-    one_answered telling next is held sound crash blame account =
-        record { next = next; run = (next, is, refl); held = held; sound = sound; crash = crash; blame = tell_told (book.failed before) (book.failed after) telling blame; account = account }
+  module _ {X : Type 0} (step : Content → X → Response → Content → Type 0) (message_in : X → Option Message) (x : X) where
+    pub one_answered : (response : Response) (next : Content) → step m x response next → book.holds after next → IsSound json_texts next
+        → LeadsOne book before after m response next (message_in x) → (response ≡ replied (Refused StoreFault) → StoreFailed (book.failed before) (book.failed after)) → AccountOne m response next (message_in x)
+        → HasAnswered step message_in book before after m (x ∷ []) (response ∷ [])
+    one_answered response next is held sound crash blame account =
+        record { next = next; run = (next, is, refl); held = held; sound = sound; crash = crash; blame = report_reported (book.failed before) (book.failed after) response blame; account = account }
 
     -- refused unread
-    pub one_refused : (refusal : Refusal) (telling : Telling) → telling ≡ replied (Refused refusal) → IsUnread refusal (message_in x) → step m x (replied (Refused refusal)) m → book.holds after m
-        → IsSound json_texts m → ((left : book.Left) → book.may_leave after left → book.may_leave before left) → HasAnswered step message_in book before after m (x ∷ []) (telling ∷ [])
-    one_refused refusal telling told why is held sound keeps =
-        subst (λ t. HasAnswered step message_in book before after m (x ∷ []) (t ∷ [])) (sym told)
+    pub one_refused : (refusal : Refusal) (response : Response) → response ≡ replied (Refused refusal) → IsUnread refusal (message_in x) → step m x (replied (Refused refusal)) m → book.holds after m
+        → IsSound json_texts m → ((left : book.Left) → book.may_leave after left → book.may_leave before left) → HasAnswered step message_in book before after m (x ∷ []) (response ∷ [])
+    one_refused refusal response reported why is held sound keeps =
+        subst (λ t. HasAnswered step message_in book before after m (x ∷ []) (t ∷ [])) (sym reported)
         (one_answered (replied (Refused refusal)) m is held sound (refused_crash refusal (message_in x) why sound keeps) (λ e. absurd (unread_not_store refusal (message_in x) why (same refusal e))) (refused_account m refusal (message_in x)))
       where
         same : (refusal : Refusal) → replied (Refused refusal) ≡ replied (Refused StoreFault) → refusal ≡ StoreFault
@@ -200,38 +200,38 @@ module _ {B : Type 0} (book : Ghosts B) (before after : B) (m : Content) where
   message_answered d message reply next is is_message step held sound crash blame =
       one_answered ValueStep message_of d (replied reply) next (of_message m next d reply message is step) held sound
       (subst (LeadsOne book before after m (replied reply) next) (sym is) (leads_one json_texts book.stands (book.may_leave before) (book.may_leave after) m next message reply step crash))
-      (λ e. blame (told_reply reply (Refused StoreFault) e))
+      (λ e. blame (reported_reply reply (Refused StoreFault) e))
       (subst (AccountOne m (replied reply) next) (sym is) (account_step json_texts m next message reply is_message step))
 
   -- what is no message, and leaves the content
-  unsent_answered : (d : Data) (telling : Telling) → message_of d ≡ None → ValueStep m d telling m → book.holds after m → IsSound json_texts m
-      → ((left : book.Left) → book.may_leave after left → book.may_leave before left) → (telling ≡ replied (Refused StoreFault) → StoreFailed (book.failed before) (book.failed after)) → HasAnswered ValueStep message_of book before after m (d ∷ []) (telling ∷ [])
-  unsent_answered d telling none step held sound keeps blame =
-      one_answered ValueStep message_of d telling m step held sound (subst (LeadsOne book before after m telling m) (sym none) (refl, keeps)) blame (subst (AccountOne m telling m) (sym none) (account_same json_texts m m refl))
+  unsent_answered : (d : Data) (response : Response) → message_of d ≡ None → ValueStep m d response m → book.holds after m → IsSound json_texts m
+      → ((left : book.Left) → book.may_leave after left → book.may_leave before left) → (response ≡ replied (Refused StoreFault) → StoreFailed (book.failed before) (book.failed after)) → HasAnswered ValueStep message_of book before after m (d ∷ []) (response ∷ [])
+  unsent_answered d response none step held sound keeps blame =
+      one_answered ValueStep message_of d response m step held sound (subst (LeadsOne book before after m response m) (sym none) (refl, keeps)) blame (subst (AccountOne m response m) (sym none) (account_same json_texts m m refl))
 
   pub query_answered : (d : Data) (query : Query) (reply : Reply) → message_of d ≡ None → query_of d ≡ Some query → Answers m query reply
       → book.holds after m → IsSound json_texts m → ((left : book.Left) → book.may_leave after left → book.may_leave before left) → (reply ≡ Refused StoreFault → StoreFailed (book.failed before) (book.failed after))
       → HasAnswered ValueStep message_of book before after m (d ∷ []) (replied reply ∷ [])
   query_answered d query reply none is answers held sound keeps blame =
-      unsent_answered d (replied reply) none (of_query m m d reply query none is answers refl) held sound keeps (λ e. blame (told_reply reply (Refused StoreFault) e))
+      unsent_answered d (replied reply) none (of_query m m d reply query none is answers refl) held sound keeps (λ e. blame (reported_reply reply (Refused StoreFault) e))
 
-  pub plans_answered : (d : Data) (telling : Telling) → message_of d ≡ None → query_of d ≡ None → PlansStep m (plans_query_of d) telling m
-      → book.holds after m → IsSound json_texts m → ((left : book.Left) → book.may_leave after left → book.may_leave before left) → (telling ≡ replied (Refused StoreFault) → StoreFailed (book.failed before) (book.failed after))
-      → HasAnswered ValueStep message_of book before after m (d ∷ []) (telling ∷ [])
-  plans_answered d telling none nothing step held sound keeps blame = unsent_answered d telling none (of_plans m m d telling none nothing step) held sound keeps blame
+  pub plans_answered : (d : Data) (response : Response) → message_of d ≡ None → query_of d ≡ None → PlansStep m (plans_query_of d) response m
+      → book.holds after m → IsSound json_texts m → ((left : book.Left) → book.may_leave after left → book.may_leave before left) → (response ≡ replied (Refused StoreFault) → StoreFailed (book.failed before) (book.failed after))
+      → HasAnswered ValueStep message_of book before after m (d ∷ []) (response ∷ [])
+  plans_answered d response none nothing step held sound keeps blame = unsent_answered d response none (of_plans m m d response none nothing step) held sound keeps blame
 
   -- a line that is a value is answered as the value
-  pub value_answered : (line : List ℕ) (d : Data) (telling : Telling) → data_of line ≡ Some d → HasAnswered ValueStep message_of book before after m (d ∷ []) (telling ∷ [])
-      → HasAnswered LineStep line_message book before after m (line ∷ []) (telling ∷ [])
-  value_answered line d telling is one =
+  pub value_answered : (line : List ℕ) (d : Data) (response : Response) → data_of line ≡ Some d → HasAnswered ValueStep message_of book before after m (d ∷ []) (response ∷ [])
+      → HasAnswered LineStep line_message book before after m (line ∷ []) (response ∷ [])
+  value_answered line d response is one =
       record {
         next = one.next;
-        run = (one.run.0, line_answered m one.run.0 line d telling is one.run.1, one.run.2);
+        run = (one.run.0, line_answered m one.run.0 line d response is one.run.1, one.run.2);
         held = one.held;
         sound = one.sound;
-        crash = subst (LeadsOne book before after m telling one.next) (sym (ap (option_and_then message_of) is)) one.crash;
+        crash = subst (LeadsOne book before after m response one.next) (sym (ap (option_and_then message_of) is)) one.crash;
         blame = one.blame;
-        account = subst (AccountOne m telling one.next) (sym (ap (option_and_then message_of) is)) one.account;
+        account = subst (AccountOne m response one.next) (sym (ap (option_and_then message_of) is)) one.account;
       }
 
 -- ---- what is kept of a line stands for what the line does
@@ -245,5 +245,5 @@ by_length whole false e =
 pub data_of-kept_of : (whole : List ℕ) → data_of (kept_of whole) ≡ data_of whole
 data_of-kept_of whole = by_length whole (nat_le (length whole) 131072) refl
 
-pub whole_line : (old new : Content) (whole : List ℕ) (telling : Telling) → LineStep old (kept_of whole) telling new → LineStep old whole telling new
-whole_line old new whole telling step = subst (ByValue old telling new) (data_of-kept_of whole) step
+pub whole_line : (old new : Content) (whole : List ℕ) (response : Response) → LineStep old (kept_of whole) response new → LineStep old whole response new
+whole_line old new whole response step = subst (ByValue old response new) (data_of-kept_of whole) step

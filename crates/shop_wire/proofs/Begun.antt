@@ -18,10 +18,10 @@ use Rattle.shop_planning.specs.Questions.{AnswersPlans, IsInstance}
 use Rattle.shop_planning.specs.PlanTasks.{instance_in}
 use Rattle.shop_request.specs.declared.routes.Route.TheVariants.{Plans}
 use Rattle.shop_request.specs.Requests.{ParsesTo, asking}
-use Rattle.shop_wire.specs.AnswerBytes.{Telling, replied}
+use Rattle.shop_wire.specs.AnswerBytes.{Response, replied}
 use Rattle.shop_wire.specs.Serves.{HasServedInput, IsBegun, body_plans}
-use Rattle.shop_wire.specs.Tellings.{IsRead, IsUnread}
-use Rattle.shop_wire.proofs.Answered.{plans_answered_to, plans_unread, tells_refusal, unread_not_store}
+use Rattle.shop_wire.specs.Responses.{IsRead, IsUnread}
+use Rattle.shop_wire.proofs.Answered.{plans_answered_to, plans_unread, reports_refusal, unread_not_store}
 use Rattle.shop_wire.proofs.Acted.{plans_served, store_failed}
 
 -- ---- what was read
@@ -32,8 +32,8 @@ asked_some r meant question is read = subst (λ r. IsRead (λ (q : PlansQuery). 
 pub asked_none : (r : Result PlansQuery Refusal) (meant : Option PlansQuery) (refusal : Refusal) → r ≡ Err refusal → IsRead (λ (q : PlansQuery). q) r meant → IsUnread refusal meant
 asked_none r meant refusal is read = subst (λ r. IsRead (λ (q : PlansQuery). q) r meant) is read
 
-pub told_refusal : (refusal other : Refusal) (telling : Telling) → telling ≡ replied (Refused refusal) → telling ≡ replied (Refused other) → refusal ≡ other
-told_refusal refusal other telling told e = cc
+pub reported_refusal : (refusal other : Refusal) (response : Response) → response ≡ replied (Refused refusal) → response ≡ replied (Refused other) → refusal ≡ other
+reported_refusal refusal other response reported e = cc
 
 -- ---- failures
 
@@ -70,8 +70,8 @@ module _ {B : Type 0} (book : Ghosts B) (before after : B) (body : List ℕ) whe
       → ((left : book.Left) → book.may_leave after left → book.may_leave before left) → (refusal ≡ StoreFault → StoreFailed (book.failed before) (book.failed after)) → HasServedInput book before after m (asking Plans body) (replied (Refused refusal))
   refused_served question refusal m asks answers held sound keeps blame =
       plans_served book before after m held sound keeps body (replied (Refused refusal))
-      (plans_answered_to m (body_plans body) question (replied (Refused refusal)) asks (tells_refusal m question refusal (replied (Refused refusal)) refl answers))
-      (λ e. blame (told_refusal refusal StoreFault (replied (Refused refusal)) refl e))
+      (plans_answered_to m (body_plans body) question (replied (Refused refusal)) asks (reports_refusal m question refusal (replied (Refused refusal)) refl answers))
+      (λ e. blame (reported_refusal refusal StoreFault (replied (Refused refusal)) refl e))
 
   pub posed_refused : (question : PlansQuery) (r : Result PlanTask Refusal) → body_plans body ≡ Some question
       → OnContent book before after (λ m. IfErr r (λ refusal. AnswersPlans m question (Err refusal))) → Unchanged book (CountsRefusal r) before after
@@ -84,9 +84,9 @@ module _ {B : Type 0} (book : Ghosts B) (before after : B) (body : List ℕ) whe
       → ((left : book.Left) → book.may_leave after left → book.may_leave before left) → HasServedInput book before after m (asking Plans body) (replied (Refused refusal))
   unread_served refusal m unread held sound keeps =
       plans_served book before after m held sound keeps body (replied (Refused refusal)) (plans_unread m (body_plans body) refusal (replied (Refused refusal)) unread refl)
-      (λ e. absurd (unread_not_store refusal (body_plans body) unread (told_refusal refusal StoreFault (replied (Refused refusal)) refl e)))
+      (λ e. absurd (unread_not_store refusal (body_plans body) unread (reported_refusal refusal StoreFault (replied (Refused refusal)) refl e)))
 
-  pub refused_told : (refusal : Refusal) (telling : Telling) → telling ≡ replied (Refused refusal)
+  pub refused_reported : (refusal : Refusal) (response : Response) → response ≡ replied (Refused refusal)
       → OnContent book before after (λ m. IsSound json_texts m → HasServedInput book before after m (asking Plans body) (replied (Refused refusal)))
-      → OnContent book before after (λ m. IsSound json_texts m → HasServedInput book before after m (asking Plans body) telling)
-  refused_told refusal telling told served = subst (λ t. OnContent book before after (λ m. IsSound json_texts m → HasServedInput book before after m (asking Plans body) t)) (sym told) served
+      → OnContent book before after (λ m. IsSound json_texts m → HasServedInput book before after m (asking Plans body) response)
+  refused_reported refusal response reported served = subst (λ t. OnContent book before after (λ m. IsSound json_texts m → HasServedInput book before after m (asking Plans body) t)) (sym reported) served

@@ -15,9 +15,9 @@ use Rattle.shop_desk.specs.Handled.{LeftBy, LeftByNew, Leads}
 use Rattle.shop_desk.proofs.Steps.{left_more}
 use Rattle.shop_wire.specs.AnswerBytes.{replied}
 use Rattle.shop_wire.specs.Replays.{with_reply}
-use Rattle.shop_wire.specs.Tellings.{IsUnread}
+use Rattle.shop_wire.specs.Responses.{IsUnread}
 
--- want of memory refuses any message
+-- lack of memory refuses any message
 pub no_memory_step : (texts : Texts) (m : Content) (message : Message) (found : Option Kept)
     → MatchOption found (StepNew texts m message (Refused NoMemory) m) (λ row. StepAgain texts row message (Refused NoMemory) × (m ≡ m))
 no_memory_step texts m message None = ((λ n s. absurd (n refl)), refl)
@@ -29,7 +29,7 @@ module _ (texts : Texts) {Left : Type 0} (stands : Left → Content → Type 0) 
       → ((left : Left) → after left → LeftBy texts stands before old message answer next left) → Leads texts stands before old (message ∷ []) (answer ∷ []) next after
   leads_one before after old next message answer step crash = (next, step, (refl, crash))
 
-  -- after want of memory what could be left before
+  -- after lack of memory what could be left before
   left_refused : (before : Left → Type 0) (m : Content) (message : Message) (left : Left) (found : Option Kept) → before left
       → MatchOption found (LeftByNew texts stands before m message (Refused NoMemory) m left) (λ (row : Kept). before left)
   left_refused before m message left None it = inl it

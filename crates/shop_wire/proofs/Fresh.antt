@@ -18,12 +18,12 @@ module _ {B : Type 0} (book : Ghosts B) (before after : B) (clean_disk : book.ha
       let one = r.run.in_turn clean_disk fresh held (gives_sound json_texts [] fresh refl) in
       let later = one.account [] refl in
       record {
-        tellings = r.tellings;
+        responses = r.responses;
         each = r.each;
         bytes = r.bytes;
-        told = r.told;
+        reported = r.reported;
         written = r.written;
-        run = record { next = one.next; run = one.run; blame = λ told. sure (one.blame told); history = later.0; messages = later.1; account = later.2 };
+        run = record { next = one.next; run = one.run; blame = λ reported. sure (one.blame reported); history = later.0; messages = later.1; account = later.2 };
       }
 
   module _ (left held_old held_new : Option (List ℕ)) (result : Result ℕ ReplayFault) where

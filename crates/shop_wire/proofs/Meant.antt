@@ -12,7 +12,7 @@ use Rattle.cut_measure.proofs.Digits.{own}
 use Rattle.shop_records.specs.declared.refusals.Refusal.{Refusal}
 use Rattle.shop_records.specs.declared.refusals.Refusal.TheVariants.{NoMemory}
 use Rattle.shop_wire.specs.Serves.{ranged}
-use Rattle.shop_wire.specs.Tellings.{IsUnread}
+use Rattle.shop_wire.specs.Responses.{IsUnread}
 
 -- ---- what isn't there
 

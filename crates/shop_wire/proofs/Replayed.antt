@@ -17,50 +17,50 @@ use Rattle.shop_records.specs.Soundness.{IsSound}
 use Rattle.shop_forms.specs.Forms.{message_of, json_texts}
 use Rattle.shop_wire.specs.Lines.{lines_of, AreLines, GivesLine, kept_of}
 use Rattle.shop_book.specs.declared.books.Book.{Ghosts}
-use Rattle.shop_desk.specs.Faults.{CountsUp, TellOfFailures}
+use Rattle.shop_desk.specs.Faults.{CountsUp, ReportOfFailures}
 use Rattle.shop_desk.specs.Handled.{HasAccount, OneByOne}
-use Rattle.shop_desk.proofs.Blame.{tell_more}
+use Rattle.shop_desk.proofs.Blame.{report_more}
 use Rattle.shop_desk.proofs.Accounts.{account_same, account_more}
 use Rattle.shop_desk.proofs.Handling.{one_by_one as chained}
-use Rattle.shop_wire.specs.AnswerBytes.{Telling}
-use Rattle.shop_wire.specs.Replays.{ExchangesLead, InTurn, exchanges, HasAnswered, AnswersOne, LineStep, line_message, IsReplayed, replies_in, reply_in, telling_line, telling_lines, with_reply}
+use Rattle.shop_wire.specs.AnswerBytes.{Response}
+use Rattle.shop_wire.specs.Replays.{ExchangesLead, InTurn, exchanges, HasAnswered, AnswersOne, LineStep, line_message, IsReplayed, replies_in, reply_in, response_line, response_lines, with_reply}
 use Rattle.shop_wire.proofs.Answered.{AccountOne, LeadsOne, whole_line, data_of-kept_of}
 use Rattle.shop_wire.proofs.Crashes.{leads_join}
 
 -- ---- what was answered
 
-module _ {X B : Type 0} (step : Content → X → Telling → Content → Type 0) (message_in : X → Option Message) (book : Ghosts B) where
-  zip-append : (old mid : Content) (xs more : List X) (tellings later : List Telling) → InTurn step message_in old xs tellings mid
-      → zip (xs ++ more) (tellings ++ later) ≡ zip xs tellings ++ zip more later
+module _ {X B : Type 0} (step : Content → X → Response → Content → Type 0) (message_in : X → Option Message) (book : Ghosts B) where
+  zip-append : (old mid : Content) (xs more : List X) (responses later : List Response) → InTurn step message_in old xs responses mid
+      → zip (xs ++ more) (responses ++ later) ≡ zip xs responses ++ zip more later
   zip-append old mid [] more [] later run = refl
   zip-append old mid [] more (t ∷ ts) later run = absurd run
   zip-append old mid (x ∷ xs) more [] later run = absurd run
   zip-append old mid (x ∷ xs) more (t ∷ ts) later run = ap (λ es. (x, t) ∷ es) (zip-append run.0 mid xs more ts later run.2)
 
-  exchanges-append : (old mid : Content) (xs more : List X) (tellings later : List Telling) → InTurn step message_in old xs tellings mid
-      → exchanges step message_in (xs ++ more) (tellings ++ later) ≡ exchanges step message_in xs tellings ++ exchanges step message_in more later
-  exchanges-append old mid xs more tellings later run =
-      ap (flat_map (λ e. with_reply (message_in e.0) e.1)) (zip-append old mid xs more tellings later run)
-      ∙ flat_map-append (λ e. with_reply (message_in e.0) e.1) (zip xs tellings) (zip more later)
+  exchanges-append : (old mid : Content) (xs more : List X) (responses later : List Response) → InTurn step message_in old xs responses mid
+      → exchanges step message_in (xs ++ more) (responses ++ later) ≡ exchanges step message_in xs responses ++ exchanges step message_in more later
+  exchanges-append old mid xs more responses later run =
+      ap (flat_map (λ e. with_reply (message_in e.0) e.1)) (zip-append old mid xs more responses later run)
+      ∙ flat_map-append (λ e. with_reply (message_in e.0) e.1) (zip xs responses) (zip more later)
 
   pub none_answered : (at : B) (m : Content) → book.holds at m → IsSound json_texts m → HasAnswered step message_in book at at m [] []
   none_answered at m held sound =
       record { next = m; run = refl; held = held; sound = sound; crash = (refl, λ left it. it); blame = λ none. absurd none; account = account_same json_texts m m refl }
 
-  pub more_answered : (a b c : B) (m : Content) (xs more : List X) (tellings later : List Telling) → CountsUp (book.failed a) (book.failed b) → CountsUp (book.failed b) (book.failed c)
-      → (one : HasAnswered step message_in book a b m xs tellings) → HasAnswered step message_in book b c one.next more later → HasAnswered step message_in book a c m (xs ++ more) (tellings ++ later)
-  more_answered a b c m xs more tellings later up next one two =
+  pub more_answered : (a b c : B) (m : Content) (xs more : List X) (responses later : List Response) → CountsUp (book.failed a) (book.failed b) → CountsUp (book.failed b) (book.failed c)
+      → (one : HasAnswered step message_in book a b m xs responses) → HasAnswered step message_in book b c one.next more later → HasAnswered step message_in book a c m (xs ++ more) (responses ++ later)
+  more_answered a b c m xs more responses later up next one two =
       record {
         next = two.next;
-        run = chained (λ from to x telling. step from x telling to) m one.next two.next xs more tellings later one.run two.run;
+        run = chained (λ from to x response. step from x response to) m one.next two.next xs more responses later one.run two.run;
         held = two.held;
         sound = two.sound;
-        crash = subst (λ es. ExchangesLead book a c m es two.next) (sym (exchanges-append m one.next xs more tellings later one.run))
-            (leads_join json_texts book.stands (book.may_leave a) (book.may_leave b) (book.may_leave c) m one.next two.next (exchanges step message_in xs tellings) (exchanges step message_in more later) one.crash two.crash);
-        blame = subst (λ rs. TellOfFailures rs (book.failed a) (book.failed c)) (sym (filter_map-append reply_in tellings later))
-            (tell_more (book.failed a) (book.failed b) (book.failed c) (replies_in tellings) (replies_in later) up next one.blame two.blame);
-        account = subst (λ es. HasAccount json_texts m (map (λ (e : Message × Reply). e.0) es) (map (λ (e : Message × Reply). e.1) es) two.next) (sym (exchanges-append m one.next xs more tellings later one.run))
-            (account_more json_texts m one.next two.next (exchanges step message_in xs tellings) (exchanges step message_in more later) one.account two.account);
+        crash = subst (λ es. ExchangesLead book a c m es two.next) (sym (exchanges-append m one.next xs more responses later one.run))
+            (leads_join json_texts book.stands (book.may_leave a) (book.may_leave b) (book.may_leave c) m one.next two.next (exchanges step message_in xs responses) (exchanges step message_in more later) one.crash two.crash);
+        blame = subst (λ rs. ReportOfFailures rs (book.failed a) (book.failed c)) (sym (filter_map-append reply_in responses later))
+            (report_more (book.failed a) (book.failed b) (book.failed c) (replies_in responses) (replies_in later) up next one.blame two.blame);
+        account = subst (λ es. HasAccount json_texts m (map (λ (e : Message × Reply). e.0) es) (map (λ (e : Message × Reply). e.1) es) two.next) (sym (exchanges-append m one.next xs more responses later one.run))
+            (account_more json_texts m one.next two.next (exchanges step message_in xs responses) (exchanges step message_in more later) one.account two.account);
       }
 
 -- ---- lines
@@ -70,34 +70,34 @@ module _ {B : Type 0} (book : Ghosts B) where
   pub none_replayed : (at : B) (held : Option (List ℕ)) → IsReplayed book at at held held [] []
   none_replayed at held =
       record {
-        tellings = [];
+        responses = [];
         each = refl;
         bytes = [];
-        told = refl;
+        reported = refl;
         written = Appends-nil held;
         run = record { one_by_one = refl; in_turn = λ h m held sound. none_answered LineStep line_message book at m held sound };
       }
 
-  -- a line that was answered, and of which what it is told was written but for some last bytes
-  pub one_replayed : (before after : B) (held_old held_new : Option (List ℕ)) (line : List ℕ) (telling : Telling) (bytes unwritten : List ℕ)
-      → bytes ++ unwritten ≡ telling_line telling → Appends held_old held_new bytes
-      → AnswersOne LineStep line_message book before after line telling
+  -- a line that was answered, and of which what it is reported was written but for some last bytes
+  pub one_replayed : (before after : B) (held_old held_new : Option (List ℕ)) (line : List ℕ) (response : Response) (bytes unwritten : List ℕ)
+      → bytes ++ unwritten ≡ response_line response → Appends held_old held_new bytes
+      → AnswersOne LineStep line_message book before after line response
       → IsReplayed book before after held_old held_new (line ∷ []) unwritten
-  one_replayed before after held_old held_new line telling bytes unwritten told written one =
+  one_replayed before after held_old held_new line response bytes unwritten reported written one =
       record {
-        tellings = telling ∷ [];
+        responses = response ∷ [];
         each = refl;
         bytes = bytes;
-        told = told ∙ sym (append-nil (telling_line telling));
+        reported = reported ∙ sym (append-nil (response_line response));
         written = written;
         run = record { one_by_one = (after, one, refl); in_turn = one.answered };
       }
 
-  joined : (bytes held more lost next : List ℕ) (tellings later : List Telling) → bytes ++ held ≡ telling_lines tellings → more ++ lost ≡ telling_lines later → next ≡ held ++ more
-      → bytes ++ (next ++ lost) ≡ telling_lines (tellings ++ later)
-  joined bytes held more lost next tellings later p q is =
+  joined : (bytes held more lost next : List ℕ) (responses later : List Response) → bytes ++ held ≡ response_lines responses → more ++ lost ≡ response_lines later → next ≡ held ++ more
+      → bytes ++ (next ++ lost) ≡ response_lines (responses ++ later)
+  joined bytes held more lost next responses later p q is =
       ap (λ l. bytes ++ (l ++ lost)) is ∙ ap (λ l. bytes ++ l) (append_assoc held more lost) ∙ sym (append_assoc bytes held (more ++ lost))
-      ∙ ap (λ l. (bytes ++ held) ++ l) q ∙ ap (λ l. l ++ telling_lines later) p ∙ sym (flat_map-append telling_line tellings later)
+      ∙ ap (λ l. (bytes ++ held) ++ l) q ∙ ap (λ l. l ++ response_lines later) p ∙ sym (flat_map-append response_line responses later)
 
   -- lines that were answered, of which some is held, and then more that is held but for some last bytes
   pub more_held : (before mid after : B) (a b : Option (List ℕ)) (lines more : List (List ℕ)) (held next lost : List ℕ)
@@ -105,16 +105,16 @@ module _ {B : Type 0} (book : Ghosts B) where
       → IsReplayed book before mid a b lines held → IsReplayed book mid after (Some held) (Some next) more lost → IsReplayed book before after a b (lines ++ more) (next ++ lost)
   more_held before mid after a b lines more held next lost back up later first second =
       record {
-        tellings = first.tellings ++ second.tellings;
-        each = length-append first.tellings second.tellings ∙ ap (λ n. n + length second.tellings) first.each ∙ ap (λ n. length lines + n) second.each ∙ sym (length-append lines more);
+        responses = first.responses ++ second.responses;
+        each = length-append first.responses second.responses ∙ ap (λ n. n + length second.responses) first.each ∙ ap (λ n. length lines + n) second.each ∙ sym (length-append lines more);
         bytes = first.bytes;
-        told = joined first.bytes held second.bytes lost next first.tellings second.tellings first.told second.told second.written;
+        reported = joined first.bytes held second.bytes lost next first.responses second.responses first.reported second.reported second.written;
         written = first.written;
         run = record {
-          one_by_one = chained (AnswersOne LineStep line_message book) before mid after lines more first.tellings second.tellings first.run.one_by_one second.run.one_by_one;
+          one_by_one = chained (AnswersOne LineStep line_message book) before mid after lines more first.responses second.responses first.run.one_by_one second.run.one_by_one;
           in_turn = λ h m held sound.
               let one = first.run.in_turn (back h) m held sound in
-              more_answered LineStep line_message book before mid after m lines more first.tellings second.tellings up later one (second.run.in_turn h one.next one.held one.sound);
+              more_answered LineStep line_message book before mid after m lines more first.responses second.responses up later one (second.run.in_turn h one.next one.held one.sound);
         };
       }
 
@@ -123,16 +123,16 @@ module _ {B : Type 0} (book : Ghosts B) where
       → done ++ rest ≡ held → Appends b c done → IsReplayed book before after a b lines held → IsReplayed book before after a c lines rest
   passed_on before after a b c lines held done rest is written r =
       record {
-        tellings = r.tellings;
+        responses = r.responses;
         each = r.each;
         bytes = r.bytes ++ done;
-        told = append_assoc r.bytes done rest ∙ ap (λ l. r.bytes ++ l) is ∙ r.told;
+        reported = append_assoc r.bytes done rest ∙ ap (λ l. r.bytes ++ l) is ∙ r.reported;
         written = Appends-trans a b c r.bytes done r.written written;
         run = r.run;
       }
 
-  answered_whole : (before after : B) (m : Content) (whole : List ℕ) (tellings : List Telling)
-      → HasAnswered LineStep line_message book before after m (kept_of whole ∷ []) tellings → HasAnswered LineStep line_message book before after m (whole ∷ []) tellings
+  answered_whole : (before after : B) (m : Content) (whole : List ℕ) (responses : List Response)
+      → HasAnswered LineStep line_message book before after m (kept_of whole ∷ []) responses → HasAnswered LineStep line_message book before after m (whole ∷ []) responses
   answered_whole before after m whole [] one = absurd one.run
   answered_whole before after m whole (t ∷ []) one =
       record {
@@ -146,13 +146,13 @@ module _ {B : Type 0} (book : Ghosts B) where
       }
   answered_whole before after m whole (t ∷ s ∷ ts) one = absurd one.run.2
 
-  one_whole : (before after : B) (whole : List ℕ) (telling : Telling) → AnswersOne LineStep line_message book before after (kept_of whole) telling
-      → AnswersOne LineStep line_message book before after whole telling
-  one_whole before after whole telling one =
-      record { answered = λ h m held sound. answered_whole before after m whole (telling ∷ []) (one.answered h m held sound); clean_disk = one.clean_disk; failures = one.failures }
+  one_whole : (before after : B) (whole : List ℕ) (response : Response) → AnswersOne LineStep line_message book before after (kept_of whole) response
+      → AnswersOne LineStep line_message book before after whole response
+  one_whole before after whole response one =
+      record { answered = λ h m held sound. answered_whole before after m whole (response ∷ []) (one.answered h m held sound); clean_disk = one.clean_disk; failures = one.failures }
 
-  each_whole : (before after : B) (whole : List ℕ) (tellings : List Telling) → OneByOne (AnswersOne LineStep line_message book) before (kept_of whole ∷ []) tellings after
-      → OneByOne (AnswersOne LineStep line_message book) before (whole ∷ []) tellings after
+  each_whole : (before after : B) (whole : List ℕ) (responses : List Response) → OneByOne (AnswersOne LineStep line_message book) before (kept_of whole ∷ []) responses after
+      → OneByOne (AnswersOne LineStep line_message book) before (whole ∷ []) responses after
   each_whole before after whole [] one = one
   each_whole before after whole (t ∷ []) one = (one.0, one_whole before one.0 whole t one.1, one.2)
   each_whole before after whole (t ∷ s ∷ ts) one = absurd one.2
@@ -162,14 +162,14 @@ module _ {B : Type 0} (book : Ghosts B) where
       → IsReplayed book before after a b (kept_of whole ∷ []) unwritten → IsReplayed book before after a b (whole ∷ []) unwritten
   whole_replayed before after a b whole unwritten r =
       record {
-        tellings = r.tellings;
+        responses = r.responses;
         each = r.each;
         bytes = r.bytes;
-        told = r.told;
+        reported = r.reported;
         written = r.written;
         run = record {
-          one_by_one = each_whole before after whole r.tellings r.run.one_by_one;
-          in_turn = λ h m held sound. answered_whole before after m whole r.tellings (r.run.in_turn h m held sound);
+          one_by_one = each_whole before after whole r.responses r.run.one_by_one;
+          in_turn = λ h m held sound. answered_whole before after m whole r.responses (r.run.in_turn h m held sound);
         };
       }
 

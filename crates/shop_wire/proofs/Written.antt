@@ -25,24 +25,24 @@ module _ {B : Type 0} (book : Ghosts B) (at : B) (a b : Option (List ℕ)) where
   silent_served : (m : Content) → book.holds at m → IsSound json_texts m → HasServedInput book at at m silent (replied (Refused BadMessage))
   silent_served m held sound = record { next = m; step = refl; held = held; sound = sound; crash = (refl, λ left it. it); blame = λ e. absurd (cc e); account = account_same json_texts m m refl }
 
-  pub silent_told : (parsed : ParseResult) → parsed ≡ silent → IsServedAs book at at a a parsed []
-  silent_told parsed is =
+  pub silent_reported : (parsed : ParseResult) → parsed ≡ silent → IsServedAs book at at a a parsed []
+  silent_reported parsed is =
       subst (λ s. IsServedAs book at at a a s []) (sym is)
-      (record { telling = replied (Refused BadMessage); bytes = []; told = refl; written = Appends-nil a; run = record { run = λ h m held sound. silent_served m held sound; keeps = λ h m held nothing. held } })
+      (record { response = replied (Refused BadMessage); bytes = []; reported = refl; written = Appends-nil a; run = record { run = λ h m held sound. silent_served m held sound; keeps = λ h m held nothing. held } })
 
   fault_served : (f : RequestFault) (m : Content) → book.holds at m → IsSound json_texts m → HasServedInput book at at m (faulty f) (replied (Refused BadMessage))
   fault_served f m held sound = record { next = m; step = refl; held = held; sound = sound; crash = (refl, λ left it. it); blame = λ e. absurd (cc e); account = account_same json_texts m m refl }
 
-  fault_told : (f : RequestFault) (parsed : ParseResult) → parsed ≡ faulty f → (done rest : List ℕ) → done ++ rest ≡ answer_bytes (fault_answer f) → Appends a b done → IsServedAs book at at a b parsed rest
-  fault_told f parsed is done rest told written =
+  fault_reported : (f : RequestFault) (parsed : ParseResult) → parsed ≡ faulty f → (done rest : List ℕ) → done ++ rest ≡ answer_bytes (fault_answer f) → Appends a b done → IsServedAs book at at a b parsed rest
+  fault_reported f parsed is done rest reported written =
       subst (λ s. IsServedAs book at at a b s rest) (sym is)
-      (record { telling = replied (Refused BadMessage); bytes = done; told = told; written = written; run = record { run = λ h m held sound. fault_served f m held sound; keeps = λ h m held nothing. held } })
+      (record { response = replied (Refused BadMessage); bytes = done; reported = reported; written = written; run = record { run = λ h m held sound. fault_served f m held sound; keeps = λ h m held nothing. held } })
 
   pub fault_ok : (f : RequestFault) (parsed : ParseResult) → parsed ≡ faulty f → (r : Result (Unit {0}) WireFault) → OnOk r (Appends a b (answer_bytes (fault_answer f))) → OnOk r (IsServedAs book at at a b parsed [])
-  fault_ok f parsed is (Ok u) h = fault_told f parsed is (answer_bytes (fault_answer f)) [] (append-nil (answer_bytes (fault_answer f))) h
+  fault_ok f parsed is (Ok u) h = fault_reported f parsed is (answer_bytes (fault_answer f)) [] (append-nil (answer_bytes (fault_answer f))) h
   fault_ok f parsed is (Err e) h = tt
 
   pub fault_err : (f : RequestFault) (parsed : ParseResult) → parsed ≡ faulty f → (r : Result (Unit {0}) WireFault) → OnErr r ((done : List ℕ) × (rest : List ℕ) × (done ++ rest ≡ answer_bytes (fault_answer f)) × Appends a b done)
       → OnErr r ((unwritten : List ℕ) × IsServedAs book at at a b parsed unwritten)
   fault_err f parsed is (Ok u) h = tt
-  fault_err f parsed is (Err e) h = (h.1, fault_told f parsed is h.0 h.1 h.2 h.3)
+  fault_err f parsed is (Err e) h = (h.1, fault_reported f parsed is h.0 h.1 h.2 h.3)

@@ -52,7 +52,7 @@ fault_status faults.NoLength = 411
 fault_status faults.LargeBody = 413
 fault_status faults.LargeHead = 431
 
--- another method is told which one there is
+-- another method is reported which one there is
 abbrev pub fault_fields : RequestFault → List ℕ
 fault_fields faults.OnlyGet = codes "Allow: GET" ++ head_line_end
 fault_fields faults.OnlyPost = codes "Allow: POST" ++ head_line_end
@@ -107,22 +107,22 @@ text_answer route text = record { status = 200; fields = text_fields route; body
 abbrev pub backup_text : ℕ → List ℕ
 backup_text number = codes "{\"backup\":" ++ decimal number ++ codes ",\"ok\":\"backup\"}"
 
--- it is told, or why none was made
+-- it is reported, or why none was made
 abbrev pub backup_answer : Result ℕ Refusal → Answer
 backup_answer (Ok number) = text_answer Backup (backup_text number)
 backup_answer (Err refusal) = reply_answer Backup (Refused refusal)
 
--- What a line or a request is told: a reply, or a text.
-pub data Telling : Type 0 where
-  replied : Reply → Telling
-  printed : List ℕ → Telling
+-- The response to a line or a request: a reply, or a text.
+pub data Response : Type 0 where
+  replied : Reply → Response
+  printed : List ℕ → Response
 
-abbrev pub telling_answer : Route → Telling → Answer
-telling_answer route (replied reply) = reply_answer route reply
-telling_answer route (printed text) = text_answer route text
+abbrev pub response_answer : Route → Response → Answer
+response_answer route (replied reply) = reply_answer route reply
+response_answer route (printed text) = text_answer route text
 
--- what is written where an input has this parse: nothing, the answer to a fault, or to a request that is told this
-abbrev pub bytes_of : ParseResult → Telling → List ℕ
-bytes_of silent telling = []
-bytes_of (faulty f) telling = answer_bytes (fault_answer f)
-bytes_of (asking route text) telling = answer_bytes (telling_answer route telling)
+-- what is written where an input has this parse: nothing, the answer to a fault, or to a request that is reported this
+abbrev pub bytes_of : ParseResult → Response → List ℕ
+bytes_of silent response = []
+bytes_of (faulty f) response = answer_bytes (fault_answer f)
+bytes_of (asking route text) response = answer_bytes (response_answer route response)

@@ -4,7 +4,7 @@ pub mod Replays
 pub mod FaultTexts
 pub mod AnswerBytes
 pub mod Serves
-pub mod Tellings
+pub mod Responses
 pub use Rattle.shop_desk.specs.Faults
 pub use Rattle.shop_desk.specs.Handled
 pub use Rattle.shop_book.specs.Kept

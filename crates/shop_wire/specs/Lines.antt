@@ -17,7 +17,7 @@ abbrev pub HasNoFeed : List ℕ → Type 0
 HasNoFeed [] = ⊤
 HasNoFeed (b ∷ bs) = ((b == 10) ≡ false) × HasNoFeed bs
 
--- these are the lines of the input, where it is told
+-- these are the lines of the input, where it is reported
 abbrev pub AreLines : Option (List ℕ) → List (List ℕ) → Type 0
 AreLines None lines = ⊤
 AreLines (Some input) lines = lines ≡ lines_of input
@@ -34,7 +34,7 @@ kept_of line = take (longest_line + 1) line
 abbrev pub pending : List ℕ → ℕ → ℕ → List ℕ
 pending buffer start end = take (end - start) (drop start buffer)
 
--- a line is the first of what was left, where that is told, and the rest of it is left now
+-- a line is the first of what was left, where that is reported, and the rest of it is left now
 abbrev pub GivesLine : Option (List ℕ) → Option (List ℕ) → List ℕ → Type 0
 GivesLine None new line = ⊤
 GivesLine (Some xs) None line = ⊥

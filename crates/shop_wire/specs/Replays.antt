@@ -22,10 +22,10 @@ use Rattle.shop_plans.specs.Questions.{plans_query_of}
 use Rattle.shop_planning.specs.Questions.{AnswersPlans}
 use Rattle.shop_book.specs.declared.books.Book.{Ghosts}
 use Rattle.shop_book.specs.Kept.{OnContent}
-use Rattle.shop_desk.specs.Faults.{CountsUp, TellOfFailures}
+use Rattle.shop_desk.specs.Faults.{CountsUp, ReportOfFailures}
 use Rattle.shop_desk.specs.Handled.{HasAccount, Leads, OneByOne}
 use Rattle.shop_wire.specs.Lines.{longest_line}
-use Rattle.shop_wire.specs.AnswerBytes.{Telling, replied, printed}
+use Rattle.shop_wire.specs.AnswerBytes.{Response, replied, printed}
 
 -- the value that a line of at most 131072 bytes is
 abbrev pub data_of : List ℕ → Option Data
@@ -36,121 +36,121 @@ abbrev pub IsNoMessage : Content → Reply → Content → Type 0
 IsNoMessage old reply new = (reply ≢ Refused NoMemory → reply ≡ Refused BadMessage) × (new ≡ old)
 
 -- a reply of which that holds
-abbrev pub IsReplied : Telling → (Reply → Type 0) → Type 0
+abbrev pub IsReplied : Response → (Reply → Type 0) → Type 0
 IsReplied (replied reply) of = of reply
 IsReplied (printed text) of = ⊥
 
--- the answer to a question for plans is told: its text, or its refusal
-abbrev pub TellsPlans : Content → PlansQuery → Telling → Type 0
-TellsPlans old question (printed text) = AnswersPlans old question (Ok text)
-TellsPlans old question (replied reply) = (refusal : Refusal) × (reply ≡ Refused refusal) × AnswersPlans old question (Err refusal)
+-- the answer to a question for plans is reported: its text, or its refusal
+abbrev pub ReportsPlans : Content → PlansQuery → Response → Type 0
+ReportsPlans old question (printed text) = AnswersPlans old question (Ok text)
+ReportsPlans old question (replied reply) = (refusal : Refusal) × (reply ≡ Refused refusal) × AnswersPlans old question (Err refusal)
 
 -- a question for plans is answered, and anything else is refused
-abbrev pub PlansStep : Content → Option PlansQuery → Telling → Content → Type 0
-PlansStep old asked telling new =
-    MatchOption asked (IsReplied telling (λ reply. IsNoMessage old reply new)) (λ question. TellsPlans old question telling × (new ≡ old))
+abbrev pub PlansStep : Content → Option PlansQuery → Response → Content → Type 0
+PlansStep old asked response new =
+    MatchOption asked (IsReplied response (λ reply. IsNoMessage old reply new)) (λ question. ReportsPlans old question response × (new ≡ old))
 
 -- a value that is a message is a step of the machine, a query is answered, and so is a question for plans; anything else is
 -- refused
-abbrev pub ValueStep : Content → Data → Telling → Content → Type 0
-ValueStep old d telling new =
+abbrev pub ValueStep : Content → Data → Response → Content → Type 0
+ValueStep old d response new =
     MatchOption (message_of d)
-    (MatchOption (query_of d) (PlansStep old (plans_query_of d) telling new) (λ query. IsReplied telling (λ reply. Answers old query reply × (new ≡ old))))
-    (λ message. IsReplied telling (λ reply. Step json_texts old message reply new))
+    (MatchOption (query_of d) (PlansStep old (plans_query_of d) response new) (λ query. IsReplied response (λ reply. Answers old query reply × (new ≡ old))))
+    (λ message. IsReplied response (λ reply. Step json_texts old message reply new))
 
-abbrev pub LineStep : Content → List ℕ → Telling → Content → Type 0
-LineStep old line telling new = MatchOption (data_of line) (IsReplied telling (λ reply. IsNoMessage old reply new)) (λ d. ValueStep old d telling new)
+abbrev pub LineStep : Content → List ℕ → Response → Content → Type 0
+LineStep old line response new = MatchOption (data_of line) (IsReplied response (λ reply. IsNoMessage old reply new)) (λ d. ValueStep old d response new)
 
 -- the message that a line is
 abbrev pub line_message : List ℕ → Option Message
 line_message line = option_and_then message_of (data_of line)
 
--- ---- what is told
+-- ---- what is reported
 
--- the replies among what was told
-abbrev pub reply_in : Telling → Option Reply
+-- the replies among what was reported
+abbrev pub reply_in : Response → Option Reply
 reply_in (replied reply) = Some reply
 reply_in (printed text) = None
 
-abbrev pub replies_in : List Telling → List Reply
-replies_in tellings = filter_map reply_in tellings
+abbrev pub replies_in : List Response → List Reply
+replies_in responses = filter_map reply_in responses
 
 -- a message, where there is one, with its reply
-abbrev pub with_reply : Option Message → Telling → List (Message × Reply)
+abbrev pub with_reply : Option Message → Response → List (Message × Reply)
 with_reply (Some message) (replied reply) = (message, reply) ∷ []
-with_reply _ telling = []
+with_reply _ response = []
 
 -- what a crash may leave of the book now is what it may leave after each of these messages in turn, by its reply
 abbrev pub ExchangesLead : {B : Type 0} → Ghosts B → B → B → Content → List (Message × Reply) → Content → Type 0
 ExchangesLead book before after old es next = Leads json_texts book.stands (book.may_leave before) old (map (λ e. e.0) es) (map (λ e. e.1) es) next (book.may_leave after)
 
--- ---- what is asked in turn, whether by lines or otherwise: what an element may be told, and the message that it is
+-- ---- what is asked in turn, whether by lines or otherwise: which response an element may get, and the message that it is
 
-module _ {X : Type 0} (step : Content → X → Telling → Content → Type 0) (message_in : X → Option Message) where
+module _ {X : Type 0} (step : Content → X → Response → Content → Type 0) (message_in : X → Option Message) where
   -- one after another
-  abbrev pub InTurn : Content → List X → List Telling → Content → Type 0
-  InTurn old asked tellings new = OneByOne (λ from to x telling. step from x telling to) old asked tellings new
+  abbrev pub InTurn : Content → List X → List Response → Content → Type 0
+  InTurn old asked responses new = OneByOne (λ from to x response. step from x response to) old asked responses new
 
   -- the messages among what was asked, each with its reply
-  abbrev pub exchanges : List X → List Telling → List (Message × Reply)
-  exchanges asked tellings = flat_map (λ e. with_reply (message_in e.0) e.1) (zip asked tellings)
+  abbrev pub exchanges : List X → List Response → List (Message × Reply)
+  exchanges asked responses = flat_map (λ e. with_reply (message_in e.0) e.1) (zip asked responses)
 
   -- The book held old and holds next: all was answered in turn. A crash leaves what it may leave after the messages among
-  -- these. Replies tell of a failed store only where it failed. Where a history gives old, one whose messages are those of that
+  -- these. Replies report a failed store only where it failed. Where a history gives old, one whose messages are those of that
   -- history with each message among these that was accepted, once, gives next, and this is its account.
-  pub record HasAnswered {B : Type 0} (book : Ghosts B) (before after : B) (old : Content) (asked : List X) (tellings : List Telling) : Type 0 where
+  pub record HasAnswered {B : Type 0} (book : Ghosts B) (before after : B) (old : Content) (asked : List X) (responses : List Response) : Type 0 where
     pub next : Content
-    pub run : InTurn old asked tellings next
+    pub run : InTurn old asked responses next
     pub held : book.holds after next
     pub sound : IsSound json_texts next
-    pub crash : ExchangesLead book before after old (exchanges asked tellings) next
-    pub blame : TellOfFailures (replies_in tellings) (book.failed before) (book.failed after)
-    pub account : HasAccount json_texts old (map (λ e. e.0) (exchanges asked tellings)) (map (λ e. e.1) (exchanges asked tellings)) next
+    pub crash : ExchangesLead book before after old (exchanges asked responses) next
+    pub blame : ReportOfFailures (replies_in responses) (book.failed before) (book.failed after)
+    pub account : HasAccount json_texts old (map (λ e. e.0) (exchanges asked responses)) (map (λ e. e.1) (exchanges asked responses)) next
 
-  -- All that is said of one that was asked and of what it was told, from the book before it to the book after it: so a failed
-  -- store is told of only where it failed at this very one.
-  pub record AnswersOne {B : Type 0} (book : Ghosts B) (before after : B) (x : X) (telling : Telling) : Type 0 where
-    pub answered : OnContent book before after (λ m. IsSound json_texts m → HasAnswered book before after m (x ∷ []) (telling ∷ []))
+  -- All that is said of one that was asked and of what it was reported, from the book before it to the book after it: so a failed
+  -- store is reported about only where it failed at this very one.
+  pub record AnswersOne {B : Type 0} (book : Ghosts B) (before after : B) (x : X) (response : Response) : Type 0 where
+    pub answered : OnContent book before after (λ m. IsSound json_texts m → HasAnswered book before after m (x ∷ []) (response ∷ []))
     pub clean_disk : book.has_clean_disk after → book.has_clean_disk before
     pub failures : CountsUp (book.failed before) (book.failed after)
 
   -- All was answered one by one, and so in turn: each sound content that a book with a clean disk held before led to one that
   -- it holds now.
-  pub record AnswersAll {B : Type 0} (book : Ghosts B) (before after : B) (asked : List X) (tellings : List Telling) : Type 0 where
-    pub one_by_one : OneByOne (AnswersOne book) before asked tellings after
-    pub in_turn : OnContent book before after (λ m. IsSound json_texts m → HasAnswered book before after m asked tellings)
+  pub record AnswersAll {B : Type 0} (book : Ghosts B) (before after : B) (asked : List X) (responses : List Response) : Type 0 where
+    pub one_by_one : OneByOne (AnswersOne book) before asked responses after
+    pub in_turn : OnContent book before after (λ m. IsSound json_texts m → HasAnswered book before after m asked responses)
 
-  -- A shop in which nothing was done yet, and under which no store can fail, was asked this, and answered so: no reply tells
+  -- A shop in which nothing was done yet, and under which no store can fail, was asked this, and answered so: no reply reports
   -- of a failed store, and the account is that of the messages that were accepted, each once.
-  pub record IsFromFresh (asked : List X) (tellings : List Telling) : Type 0 where
+  pub record IsFromFresh (asked : List X) (responses : List Response) : Type 0 where
     pub next : Content
-    pub run : InTurn fresh asked tellings next
-    pub blame : IsIn (Refused StoreFault) (replies_in tellings) → ⊥
+    pub run : InTurn fresh asked responses next
+    pub blame : IsIn (Refused StoreFault) (replies_in responses) → ⊥
     pub history : List Entry
-    pub messages : messages_of history ≡ history_after [] (map (λ e. e.0) (exchanges asked tellings)) (map (λ e. e.1) (exchanges asked tellings))
+    pub messages : messages_of history ≡ history_after [] (map (λ e. e.0) (exchanges asked responses)) (map (λ e. e.1) (exchanges asked responses))
     pub account : IsAccountOf json_texts history next
 
 -- ---- what is written
 
-abbrev pub telling_text : Telling → List ℕ
-telling_text (replied reply) = json_texts.of_reply reply
-telling_text (printed text) = text
+abbrev pub response_text : Response → List ℕ
+response_text (replied reply) = json_texts.of_reply reply
+response_text (printed text) = text
 
 -- a reply or a text as a line
-abbrev pub telling_line : Telling → List ℕ
-telling_line telling = telling_text telling ++ 10 ∷ []
+abbrev pub response_line : Response → List ℕ
+response_line response = response_text response ++ 10 ∷ []
 
-abbrev pub telling_lines : List Telling → List ℕ
-telling_lines tellings = flat_map telling_line tellings
+abbrev pub response_lines : List Response → List ℕ
+response_lines responses = flat_map response_line responses
 
 -- Each line has a reply or a text, and these were written but for some last bytes; this is said of them.
-pub record AreAnswered (says : List Telling → Type 0) (held_old held_new : Option (List ℕ)) (lines : List (List ℕ)) (unwritten : List ℕ) : Type 0 where
-  pub tellings : List Telling
-  pub each : length tellings ≡ length lines
+pub record AreAnswered (says : List Response → Type 0) (held_old held_new : Option (List ℕ)) (lines : List (List ℕ)) (unwritten : List ℕ) : Type 0 where
+  pub responses : List Response
+  pub each : length responses ≡ length lines
   pub bytes : List ℕ
-  pub told : bytes ++ unwritten ≡ telling_lines tellings
+  pub reported : bytes ++ unwritten ≡ response_lines responses
   pub written : Appends held_old held_new bytes
-  pub run : says tellings
+  pub run : says responses
 
 -- The lines were answered in turn, each over the book that the one before it left.
 abbrev pub IsReplayed : {B : Type 0} → Ghosts B → B → B → Option (List ℕ) → Option (List ℕ) → List (List ℕ) → List ℕ → Type 0

@@ -1,4 +1,4 @@
--- What a request does to a content, and what is told and written.
+-- What a request does to a content, and what is reported and written.
 use Rattle.std.specs.Prelude.{◌≡◌, ◌⊎◌, ◌&&◌, ◌==◌, ℕ, Bool, true, false, List, ◌++◌, map, nat_le, bytes_eq, ⊤, Option, Some, None, Result, Ok, Err, MatchOption, option_map, option_and_then, IfSome, if◌then◌else◌}
 use Rattle.std.specs.Fmt.{decimal}
 use Rattle.std.specs.List.{after_first, before_first}
@@ -37,7 +37,7 @@ use Rattle.shop_request.specs.declared.routes.Route.TheVariants.{Message, Plan, 
 use Rattle.shop_request.specs.Routes.{takes_body}
 use Rattle.shop_request.specs.Requests.{ParseResult, silent, faulty, asking, ParsesTo}
 use Rattle.shop_wire.specs.Replays.{ExchangesLead, data_of, line_message, IsNoMessage, IsReplied, PlansStep, with_reply}
-use Rattle.shop_wire.specs.AnswerBytes.{Telling, replied, printed, bytes_of}
+use Rattle.shop_wire.specs.AnswerBytes.{Response, replied, printed, bytes_of}
 
 -- ---- what is asked for
 
@@ -182,7 +182,7 @@ text_at m Ticket part = option_map (ticket_of m) (numbered part)
 text_at m Yield part = option_map (yield_of m) (code_at part)
 text_at m _ part = None
 
--- ---- what is told
+-- ---- what is reported
 
 -- a message is a step of the machine, and anything else is refused
 abbrev pub MessageStep : Content → List ℕ → Reply → Content → Type 0
@@ -192,56 +192,56 @@ MessageStep old body reply new = MatchOption (line_message body) (IsNoMessage ol
 abbrev pub AskStep : Content → Option Query → Reply → Content → Type 0
 AskStep old asked reply new = MatchOption asked (IsNoMessage old reply new) (λ q. Answers old q reply × (new ≡ old))
 
--- what has to be said is printed, or its refusal is told, or a failure
-abbrev pub TellsText : Result (List ℕ) Refusal → Telling → Type 0
-TellsText said (printed text) = said ≡ Ok text
-TellsText said (replied reply) = (refusal : Refusal) × (reply ≡ Refused refusal) × ((said ≡ Err refusal) ⊎ ((refusal ≡ NoMemory) ⊎ (refusal ≡ StoreFault)))
+-- what has to be said is printed, or its refusal is reported, or a failure
+abbrev pub ReportsText : Result (List ℕ) Refusal → Response → Type 0
+ReportsText said (printed text) = said ≡ Ok text
+ReportsText said (replied reply) = (refusal : Refusal) × (reply ≡ Refused refusal) × ((said ≡ Err refusal) ⊎ ((refusal ≡ NoMemory) ⊎ (refusal ≡ StoreFault)))
 
 -- a text is printed, and where none is asked for that is refused
-abbrev pub PrintStep : Content → Option (Result (List ℕ) Refusal) → Telling → Content → Type 0
-PrintStep old asked telling new = MatchOption asked (IsReplied telling (λ reply. IsNoMessage old reply new)) (λ said. TellsText said telling × (new ≡ old))
+abbrev pub PrintStep : Content → Option (Result (List ℕ) Refusal) → Response → Content → Type 0
+PrintStep old asked response new = MatchOption asked (IsReplied response (λ reply. IsNoMessage old reply new)) (λ said. ReportsText said response × (new ≡ old))
 
-abbrev pub RequestStep : Content → Route → List ℕ → Telling → Content → Type 0
-RequestStep old Message text telling new = IsReplied telling (λ reply. MessageStep old text reply new)
-RequestStep old Plan text telling new = IsReplied telling (λ reply. AskStep old (asked_at Plan text) reply new)
-RequestStep old Plans text telling new = PlansStep old (body_plans text) telling new
-RequestStep old Bound text telling new = IsReplied telling (λ reply. AskStep old (asked_at Bound text) reply new)
-RequestStep old Backup text telling new = IsReplied telling (λ reply. AskStep old (asked_at Backup text) reply new)
-RequestStep old Totals text telling new = IsReplied telling (λ reply. AskStep old (asked_at Totals text) reply new)
-RequestStep old Rack text telling new = IsReplied telling (λ reply. AskStep old (asked_at Rack text) reply new)
-RequestStep old Trace text telling new = IsReplied telling (λ reply. AskStep old (asked_at Trace text) reply new)
-RequestStep old Demand text telling new = IsReplied telling (λ reply. AskStep old (asked_at Demand text) reply new)
-RequestStep old Materials text telling new = IsReplied telling (λ reply. AskStep old (asked_at Materials text) reply new)
-RequestStep old Parts text telling new = IsReplied telling (λ reply. AskStep old (asked_at Parts text) reply new)
-RequestStep old PartsAfter text telling new = IsReplied telling (λ reply. AskStep old (asked_at PartsAfter text) reply new)
-RequestStep old Demands text telling new = IsReplied telling (λ reply. AskStep old (asked_at Demands text) reply new)
-RequestStep old DemandsOf text telling new = IsReplied telling (λ reply. AskStep old (asked_at DemandsOf text) reply new)
-RequestStep old Orders text telling new = IsReplied telling (λ reply. AskStep old (asked_at Orders text) reply new)
-RequestStep old OrdersAfter text telling new = IsReplied telling (λ reply. AskStep old (asked_at OrdersAfter text) reply new)
-RequestStep old OrderLines text telling new = IsReplied telling (λ reply. AskStep old (asked_at OrderLines text) reply new)
-RequestStep old Jobs text telling new = IsReplied telling (λ reply. AskStep old (asked_at Jobs text) reply new)
-RequestStep old Job text telling new = IsReplied telling (λ reply. AskStep old (asked_at Job text) reply new)
-RequestStep old Terminal text telling new = IsReplied telling (λ reply. AskStep old (asked_at Terminal text) reply new)
-RequestStep old Shop text telling new = IsReplied telling (λ reply. AskStep old (asked_at Shop text) reply new)
-RequestStep old History text telling new = IsReplied telling (λ reply. AskStep old (asked_at History text) reply new)
-RequestStep old OrderStory text telling new = IsReplied telling (λ reply. AskStep old (asked_at OrderStory text) reply new)
-RequestStep old JobStory text telling new = IsReplied telling (λ reply. AskStep old (asked_at JobStory text) reply new)
-RequestStep old PartStory text telling new = IsReplied telling (λ reply. AskStep old (asked_at PartStory text) reply new)
-RequestStep old OrderPieces text telling new = IsReplied telling (λ reply. AskStep old (asked_at OrderPieces text) reply new)
-RequestStep old OrderPiecesAfter text telling new = IsReplied telling (λ reply. AskStep old (asked_at OrderPiecesAfter text) reply new)
-RequestStep old BatchPieces text telling new = IsReplied telling (λ reply. AskStep old (asked_at BatchPieces text) reply new)
-RequestStep old BatchPiecesAfter text telling new = IsReplied telling (λ reply. AskStep old (asked_at BatchPiecesAfter text) reply new)
-RequestStep old UnitPieces text telling new = IsReplied telling (λ reply. AskStep old (asked_at UnitPieces text) reply new)
-RequestStep old UnitPiecesAfter text telling new = IsReplied telling (λ reply. AskStep old (asked_at UnitPiecesAfter text) reply new)
-RequestStep old Steps text telling new = IsReplied telling (λ reply. AskStep old (asked_at Steps text) reply new)
-RequestStep old Ticket text telling new = PrintStep old (text_at old Ticket text) telling new
-RequestStep old Yield text telling new = PrintStep old (text_at old Yield text) telling new
+abbrev pub RequestStep : Content → Route → List ℕ → Response → Content → Type 0
+RequestStep old Message text response new = IsReplied response (λ reply. MessageStep old text reply new)
+RequestStep old Plan text response new = IsReplied response (λ reply. AskStep old (asked_at Plan text) reply new)
+RequestStep old Plans text response new = PlansStep old (body_plans text) response new
+RequestStep old Bound text response new = IsReplied response (λ reply. AskStep old (asked_at Bound text) reply new)
+RequestStep old Backup text response new = IsReplied response (λ reply. AskStep old (asked_at Backup text) reply new)
+RequestStep old Totals text response new = IsReplied response (λ reply. AskStep old (asked_at Totals text) reply new)
+RequestStep old Rack text response new = IsReplied response (λ reply. AskStep old (asked_at Rack text) reply new)
+RequestStep old Trace text response new = IsReplied response (λ reply. AskStep old (asked_at Trace text) reply new)
+RequestStep old Demand text response new = IsReplied response (λ reply. AskStep old (asked_at Demand text) reply new)
+RequestStep old Materials text response new = IsReplied response (λ reply. AskStep old (asked_at Materials text) reply new)
+RequestStep old Parts text response new = IsReplied response (λ reply. AskStep old (asked_at Parts text) reply new)
+RequestStep old PartsAfter text response new = IsReplied response (λ reply. AskStep old (asked_at PartsAfter text) reply new)
+RequestStep old Demands text response new = IsReplied response (λ reply. AskStep old (asked_at Demands text) reply new)
+RequestStep old DemandsOf text response new = IsReplied response (λ reply. AskStep old (asked_at DemandsOf text) reply new)
+RequestStep old Orders text response new = IsReplied response (λ reply. AskStep old (asked_at Orders text) reply new)
+RequestStep old OrdersAfter text response new = IsReplied response (λ reply. AskStep old (asked_at OrdersAfter text) reply new)
+RequestStep old OrderLines text response new = IsReplied response (λ reply. AskStep old (asked_at OrderLines text) reply new)
+RequestStep old Jobs text response new = IsReplied response (λ reply. AskStep old (asked_at Jobs text) reply new)
+RequestStep old Job text response new = IsReplied response (λ reply. AskStep old (asked_at Job text) reply new)
+RequestStep old Terminal text response new = IsReplied response (λ reply. AskStep old (asked_at Terminal text) reply new)
+RequestStep old Shop text response new = IsReplied response (λ reply. AskStep old (asked_at Shop text) reply new)
+RequestStep old History text response new = IsReplied response (λ reply. AskStep old (asked_at History text) reply new)
+RequestStep old OrderStory text response new = IsReplied response (λ reply. AskStep old (asked_at OrderStory text) reply new)
+RequestStep old JobStory text response new = IsReplied response (λ reply. AskStep old (asked_at JobStory text) reply new)
+RequestStep old PartStory text response new = IsReplied response (λ reply. AskStep old (asked_at PartStory text) reply new)
+RequestStep old OrderPieces text response new = IsReplied response (λ reply. AskStep old (asked_at OrderPieces text) reply new)
+RequestStep old OrderPiecesAfter text response new = IsReplied response (λ reply. AskStep old (asked_at OrderPiecesAfter text) reply new)
+RequestStep old BatchPieces text response new = IsReplied response (λ reply. AskStep old (asked_at BatchPieces text) reply new)
+RequestStep old BatchPiecesAfter text response new = IsReplied response (λ reply. AskStep old (asked_at BatchPiecesAfter text) reply new)
+RequestStep old UnitPieces text response new = IsReplied response (λ reply. AskStep old (asked_at UnitPieces text) reply new)
+RequestStep old UnitPiecesAfter text response new = IsReplied response (λ reply. AskStep old (asked_at UnitPiecesAfter text) reply new)
+RequestStep old Steps text response new = IsReplied response (λ reply. AskStep old (asked_at Steps text) reply new)
+RequestStep old Ticket text response new = PrintStep old (text_at old Ticket text) response new
+RequestStep old Yield text response new = PrintStep old (text_at old Yield text) response new
 
 -- only a request does anything
-abbrev pub ParsedStep : Content → ParseResult → Telling → Content → Type 0
-ParsedStep old silent telling new = new ≡ old
-ParsedStep old (faulty f) telling new = new ≡ old
-ParsedStep old (asking route text) telling new = RequestStep old route text telling new
+abbrev pub ParsedStep : Content → ParseResult → Response → Content → Type 0
+ParsedStep old silent response new = new ≡ old
+ParsedStep old (faulty f) response new = new ≡ old
+ParsedStep old (asking route text) response new = RequestStep old route text response new
 
 -- ---- what was served
 
@@ -251,20 +251,20 @@ parse_message (asking Message body) = line_message body
 parse_message _ = None
 
 -- a message, with its reply
-abbrev pub exchanged : ParseResult → Telling → List (MessageOf × Reply)
-exchanged parsed telling = with_reply (parse_message parsed) telling
+abbrev pub exchanged : ParseResult → Response → List (MessageOf × Reply)
+exchanged parsed response = with_reply (parse_message parsed) response
 
 -- The book held old and holds next, a step later. A crash leaves what it may leave after the message, if there was one. A
--- failed store is told of only where it failed. Where a history gives old, one with the message, if it was accepted and isn't a
+-- failed store is reported only where it failed. Where a history gives old, one with the message, if it was accepted and isn't a
 -- repeat, gives next, and this is its account.
-pub record HasServedInput {B : Type 0} (book : Ghosts B) (before after : B) (old : Content) (parsed : ParseResult) (telling : Telling) : Type 0 where
+pub record HasServedInput {B : Type 0} (book : Ghosts B) (before after : B) (old : Content) (parsed : ParseResult) (response : Response) : Type 0 where
   pub next : Content
-  pub step : ParsedStep old parsed telling next
+  pub step : ParsedStep old parsed response next
   pub held : book.holds after next
   pub sound : IsSound json_texts next
-  pub crash : ExchangesLead book before after old (exchanged parsed telling) next
-  pub blame : telling ≡ replied (Refused StoreFault) → StoreFailed (book.failed before) (book.failed after)
-  pub account : HasAccount json_texts old (map (λ e. e.0) (exchanged parsed telling)) (map (λ e. e.1) (exchanged parsed telling)) next
+  pub crash : ExchangesLead book before after old (exchanged parsed response) next
+  pub blame : response ≡ replied (Refused StoreFault) → StoreFailed (book.failed before) (book.failed after)
+  pub account : HasAccount json_texts old (map (λ e. e.0) (exchanged parsed response)) (map (λ e. e.1) (exchanged parsed response)) next
 
 -- A message, where one came, was handled as one that was given this time: the book holds what such a step leaves of old.
 abbrev pub IsInputHandledAt : {B : Type 0} → Ghosts B → B → (at : ℕ) → Content → Option MessageOf → Type 0
@@ -276,27 +276,27 @@ abbrev pub HandlesInputAt : {B : Type 0} → Ghosts B → B → B → (at : ℕ)
 HandlesInputAt book before after at parsed =
     OnContent book before after (λ m. IsSound json_texts m → IsInputHandledAt book after at m (parse_message parsed))
 
--- An input of this parse was served, and the answer written but for some last bytes; this is said of what was told.
-pub record IsAnswerWritten (says : Telling → Type 0) (held_old held_new : Option (List ℕ)) (parsed : ParseResult) (unwritten : List ℕ) : Type 0 where
-  pub telling : Telling
+-- An input of this parse was served, and the answer written but for some last bytes; this is said of what was reported.
+pub record IsAnswerWritten (says : Response → Type 0) (held_old held_new : Option (List ℕ)) (parsed : ParseResult) (unwritten : List ℕ) : Type 0 where
+  pub response : Response
   pub bytes : List ℕ
-  pub told : bytes ++ unwritten ≡ bytes_of parsed telling
+  pub reported : bytes ++ unwritten ≡ bytes_of parsed response
   pub written : Appends held_old held_new bytes
-  pub run : says telling
+  pub run : says response
 
 -- no message came, or it was refused
-abbrev pub DoesNothing : ParseResult → Telling → Type 0
-DoesNothing parsed telling = (parse_message parsed ≡ None) ⊎ ((refusal : Refusal) × (telling ≡ replied (Refused refusal)))
+abbrev pub DoesNothing : ParseResult → Response → Type 0
+DoesNothing parsed response = (parse_message parsed ≡ None) ⊎ ((refusal : Refusal) × (response ≡ replied (Refused refusal)))
 
 -- Where no message came or it was refused, a book with a clean disk holds each content that it held, whether a history gives it or not.
-abbrev pub KeepsElse : {B : Type 0} → Ghosts B → B → B → ParseResult → Telling → Type 0
-KeepsElse book before after parsed telling = OnContent book before after (λ m. DoesNothing parsed telling → book.holds after m)
+abbrev pub KeepsElse : {B : Type 0} → Ghosts B → B → B → ParseResult → Response → Type 0
+KeepsElse book before after parsed response = OnContent book before after (λ m. DoesNothing parsed response → book.holds after m)
 
 -- The parse was served by a book: each sound content that a book with a clean disk held before led to one that it holds now; and where
 -- no message was accepted each content, sound or not, is held still.
-pub record IsServedFor {B : Type 0} (book : Ghosts B) (before after : B) (parsed : ParseResult) (telling : Telling) : Type 0 where
-  pub run : OnContent book before after (λ m. IsSound json_texts m → HasServedInput book before after m parsed telling)
-  pub keeps : KeepsElse book before after parsed telling
+pub record IsServedFor {B : Type 0} (book : Ghosts B) (before after : B) (parsed : ParseResult) (response : Response) : Type 0 where
+  pub run : OnContent book before after (λ m. IsSound json_texts m → HasServedInput book before after m parsed response)
+  pub keeps : KeepsElse book before after parsed response
 
 abbrev pub IsServedAs : {B : Type 0} → Ghosts B → B → B → Option (List ℕ) → Option (List ℕ) → ParseResult → List ℕ → Type 0
 IsServedAs book before after held_old held_new parsed unwritten =

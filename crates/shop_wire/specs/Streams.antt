@@ -16,13 +16,13 @@ abbrev pub CountTogether : ℕ → ℕ → ℕ → ℕ → Type 0
 CountTogether before counted after counts =
     (before ≤ after) × (counts + before ≤ counted + after) × ((counted + after ≤ counts + before) ⊎ (most_counted ≤ counts))
 
--- each read took a byte at least: what is left and the number of reads together didn't grow, where what is left is told
+-- each read took a byte at least: what is left and the number of reads together didn't grow, where what is left is reported
 abbrev pub TookBytes : ℕ → Option (List ℕ) → ℕ → Option (List ℕ) → Type 0
 TookBytes before None after new = ⊤
 TookBytes before (Some xs) after None = ⊥
 TookBytes before (Some xs) after (Some ys) = after + length ys ≤ before + length xs
 
--- after so many reads there are too many bytes left for the rest of them, where they are told
+-- after so many reads there are too many bytes left for the rest of them, where they are reported
 abbrev pub IsLong : ℕ → Option (List ℕ) → Type 0
 IsLong reads left = IfSome left (λ input. most_reads ≤ reads + length input)
 

@@ -1,4 +1,4 @@
-//! What a request is told: its route's message, query, plans, ticket or report, done over a book.
+//! The response to a request: its route's message, query, plans, ticket or report, done over a book.
 
 ghost use Rattle.std.specs.Prelude.{◌≡◌, ◌⊎◌, ◌∷◌, [], Some, None, IfSome};
 ghost use Rattle.shop_records.specs.declared.messages.Reply.TheVariants.{Refused};
@@ -12,15 +12,15 @@ ghost use Rattle.shop_request.specs.declared.routes.Route.TheVariants.{Message a
 ghost use Rattle.shop_wire.specs.AnswerBytes.{replied};
 ghost use Rattle.shop_wire.specs.Replays.{line_message};
 ghost use Rattle.shop_wire.specs.Serves.{AskStep, HandlesInputAt, HasServedInput, KeepsElse, asked_at, body_query, code_at, is_of, name_at, path_query, text_at};
-ghost use Rattle.shop_wire.specs.Tellings.{HasPrintedText, IsRead, PrintsCounted, telling_of};
+ghost use Rattle.shop_wire.specs.Responses.{HasPrintedText, IsRead, PrintsCounted, response_of};
 
 use crate::answers::value_in;
 use crate::paths::{
     batch_pieces_at, demands_at, job_story_at, number_before, number_in, order_pieces_at,
     order_story_at, part_story_at, parts_at, terminal_in, unit_pieces_at,
 };
-use crate::plans::body_told;
-use crate::told::{Told, refused, told_of};
+use crate::plans::body_reported;
+use crate::reported::{Reported, refused, reported_of};
 use shop_book::Book;
 use shop_desk::{ask, handle_with_text_at};
 use shop_request::Route;
@@ -57,7 +57,7 @@ fn message_reply<B: Book>(
         → HasServedInput B.Book book.old book.new m (asking AtMessage body.now) (replied result.0)) }
     ensures stays { KeepsElse B.Book book.old book.new (asking AtMessage body.now) (replied result.0) }
     ensures timed { HandlesInputAt B.Book book.old book.new at (asking AtMessage body.now) }
-    ensures told { IfSome result.1 (λ text. text ≡ json_texts.of_reply result.0) }
+    ensures reported { IfSome result.1 (λ text. text ≡ json_texts.of_reply result.0) }
     ensures clean_disk { B.has_clean_disk book.new → B.has_clean_disk book.old }
     ensures failures { CountsUp (B.failed book.old) (B.failed book.new) }
 {
@@ -67,19 +67,19 @@ fn message_reply<B: Book>(
     }
 }
 
-// What a body is told as a message that is given this time.
-fn message_told<B: Book>(alloc: Global, book: &mut B, body: &[u8], at: u64) -> Told
+// The response to a body as a message that is given this time.
+fn message_reported<B: Book>(alloc: Global, book: &mut B, body: &[u8], at: u64) -> Reported
     ensures served { OnContent B.Book book.old book.new
         (λ m. IsSound json_texts m
-        → HasServedInput B.Book book.old book.new m (asking AtMessage body.now) (telling_of result)) }
-    ensures stays { KeepsElse B.Book book.old book.new (asking AtMessage body.now) (telling_of result) }
+        → HasServedInput B.Book book.old book.new m (asking AtMessage body.now) (response_of result)) }
+    ensures stays { KeepsElse B.Book book.old book.new (asking AtMessage body.now) (response_of result) }
     ensures timed { HandlesInputAt B.Book book.old book.new at (asking AtMessage body.now) }
     ensures printed { HasPrintedText result }
     ensures clean_disk { B.has_clean_disk book.new → B.has_clean_disk book.old }
     ensures failures { CountsUp (B.failed book.old) (B.failed book.new) }
 {
     let (reply, text) = message_reply(alloc, book, body, at);
-    Told::Reply(reply, text)
+    Reported::Reply(reply, text)
 }
 
 // Whether a query is the one of a route.
@@ -204,55 +204,55 @@ fn ask_reply<B: Book>(alloc: Global, book: &mut B, route: Route, text: &[u8]) ->
 }
 
 // The ticket that a path asks for.
-fn ticket_told<B: Book>(alloc: Global, book: &mut B, part: &[u8]) -> Told
+fn ticket_reported<B: Book>(alloc: Global, book: &mut B, part: &[u8]) -> Reported
     ensures answer { OnContent B.Book book.old book.new
-        (λ m. PrintsCounted (text_at m AtTicket part.now) (telling_of result) (B.failed book.old)
+        (λ m. PrintsCounted (text_at m AtTicket part.now) (response_of result) (B.failed book.old)
         (B.failed book.new)) }
     ensures printed { HasPrintedText result }
     ensures keeps { Unchanged B.Book CountsUp book.old book.new }
 {
     match number_in(part) {
-        Some(job) => told_of(ticket_text(alloc, book, job)),
+        Some(job) => reported_of(ticket_text(alloc, book, job)),
         None => refused(Refusal::BadMessage),
     }
 }
 
 // The yield report that a path asks for.
-fn yield_told<B: Book>(alloc: Global, book: &mut B, part: &[u8]) -> Told
+fn yield_reported<B: Book>(alloc: Global, book: &mut B, part: &[u8]) -> Reported
     ensures answer { OnContent B.Book book.old book.new
-        (λ m. PrintsCounted (text_at m AtYield part.now) (telling_of result) (B.failed book.old)
+        (λ m. PrintsCounted (text_at m AtYield part.now) (response_of result) (B.failed book.old)
         (B.failed book.new)) }
     ensures printed { HasPrintedText result }
     ensures keeps { Unchanged B.Book CountsUp book.old book.new }
 {
     match code_in(part) {
-        Some(material) => told_of(report_text(alloc, book, material)),
+        Some(material) => reported_of(report_text(alloc, book, material)),
         None => refused(Refusal::BadMessage),
     }
 }
 
-/// What a request is told. A message is given this time.
+/// The response to a request. A message is given this time.
 pub(crate) fn respond<B: Book>(
     alloc: Global,
     book: &mut B,
     route: Route,
     text: &[u8],
     at: u64,
-) -> Told
+) -> Reported
     ensures served { OnContent B.Book book.old book.new
         (λ m. IsSound json_texts m
-        → HasServedInput B.Book book.old book.new m (asking route text.now) (telling_of result)) }
-    ensures stays { KeepsElse B.Book book.old book.new (asking route text.now) (telling_of result) }
+        → HasServedInput B.Book book.old book.new m (asking route text.now) (response_of result)) }
+    ensures stays { KeepsElse B.Book book.old book.new (asking route text.now) (response_of result) }
     ensures timed { HandlesInputAt B.Book book.old book.new at (asking route text.now) }
     ensures printed { HasPrintedText result }
     ensures clean_disk { B.has_clean_disk book.new → B.has_clean_disk book.old }
     ensures failures { CountsUp (B.failed book.old) (B.failed book.new) }
 {
     match route {
-        Route::Message => message_told(alloc, book, text, at),
-        Route::Plans => body_told(alloc, book, text),
-        Route::Ticket => ticket_told(alloc, book, text),
-        Route::Yield => yield_told(alloc, book, text),
-        _ => Told::Reply(ask_reply(alloc, book, route, text), None),
+        Route::Message => message_reported(alloc, book, text, at),
+        Route::Plans => body_reported(alloc, book, text),
+        Route::Ticket => ticket_reported(alloc, book, text),
+        Route::Yield => yield_reported(alloc, book, text),
+        _ => Reported::Reply(ask_reply(alloc, book, route, text), None),
     }
 }

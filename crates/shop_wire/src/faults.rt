@@ -10,7 +10,7 @@ pub enum ReplayFault {
     Read,
     /// The sink failed.
     Write,
-    /// Want of memory.
+    /// Lack of memory.
     NoMemory,
 }
 
@@ -38,7 +38,7 @@ pub enum WireFault {
     Read,
     /// The sink failed.
     Write,
-    /// Want of memory.
+    /// Lack of memory.
     NoMemory,
 }
 

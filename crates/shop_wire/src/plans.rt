@@ -13,12 +13,12 @@ ghost use Rattle.shop_planning.specs.PlanTasks.{instance_in};
 ghost use Rattle.shop_request.specs.Requests.{ParsesTo, asking};
 ghost use Rattle.shop_request.specs.declared.routes.Route.TheVariants.{Plans as AtPlans};
 ghost use Rattle.shop_wire.specs.AnswerBytes.{replied};
-ghost use Rattle.shop_wire.specs.Replays.{PlansStep, TellsPlans};
+ghost use Rattle.shop_wire.specs.Replays.{PlansStep, ReportsPlans};
 ghost use Rattle.shop_wire.specs.Serves.{HasServedInput, IsBegun, body_plans};
-ghost use Rattle.shop_wire.specs.Tellings.{HasPrintedText, IsRead, telling_of};
+ghost use Rattle.shop_wire.specs.Responses.{HasPrintedText, IsRead, response_of};
 
 use crate::answers::value_in;
-use crate::told::{Told, refused};
+use crate::reported::{Reported, refused};
 use shop_book::Book;
 use shop_planning::{PlanTask, build_instance, plan_all};
 use shop_plans::{PlansQuery, read_plans};
@@ -26,36 +26,36 @@ use shop_rules::Refusal;
 use std::alloc::Global;
 
 // The answer to a question for plans.
-fn question_told<B: Book>(alloc: Global, book: &mut B, question: &PlansQuery) -> Told
+fn question_reported<B: Book>(alloc: Global, book: &mut B, question: &PlansQuery) -> Reported
     ensures answer { OnContent B.Book book.old book.new
-        (λ m. TellsPlans m question.now (telling_of result)) }
+        (λ m. ReportsPlans m question.now (response_of result)) }
     ensures printed { HasPrintedText result }
     ensures keeps { Unchanged B.Book CountsUp book.old book.new }
-    ensures store_fault { telling_of result ≡ replied (Refused StoreFault)
+    ensures store_fault { response_of result ≡ replied (Refused StoreFault)
         → StoreFailed (B.failed book.old) (B.failed book.new) }
 {
     match plan_all(alloc, book, question) {
-        Ok(text) => Told::Text(text),
+        Ok(text) => Reported::Text(text),
         Err(refusal) => refused(refusal),
     }
 }
 
 /// The answer to what was read as a question for plans.
-pub(crate) fn plans_told<B: Book>(
+pub(crate) fn plans_reported<B: Book>(
     alloc: Global,
     book: &mut B,
     asked: Result<PlansQuery, Refusal>,
-) -> Told
+) -> Reported
     ensures answer { (meant : Option PlansQueryOf) → IsRead (λ question. question) asked meant
-        → OnContent B.Book book.old book.new (λ m. PlansStep m meant (telling_of result) m) }
+        → OnContent B.Book book.old book.new (λ m. PlansStep m meant (response_of result) m) }
     ensures printed { HasPrintedText result }
     ensures keeps { Unchanged B.Book CountsUp book.old book.new }
     ensures store_fault { (meant : Option PlansQueryOf) → IsRead (λ question. question) asked meant
-        → telling_of result ≡ replied (Refused StoreFault)
+        → response_of result ≡ replied (Refused StoreFault)
         → StoreFailed (B.failed book.old) (B.failed book.new) }
 {
     match asked {
-        Ok(question) => question_told(alloc, book, &question),
+        Ok(question) => question_reported(alloc, book, &question),
         Err(refusal) => refused(refusal),
     }
 }
@@ -69,17 +69,17 @@ fn plans_in(alloc: Global, body: &[u8]) -> Result<PlansQuery, Refusal>
     Ok(question)
 }
 
-/// What a body is told as a question for plans.
-pub(crate) fn body_told<B: Book>(alloc: Global, book: &mut B, body: &[u8]) -> Told
+/// The response to a body as a question for plans.
+pub(crate) fn body_reported<B: Book>(alloc: Global, book: &mut B, body: &[u8]) -> Reported
     ensures served { OnContent B.Book book.old book.new
         (λ m. IsSound json_texts m
-        → HasServedInput B.Book book.old book.new m (asking AtPlans body.now) (telling_of result)) }
+        → HasServedInput B.Book book.old book.new m (asking AtPlans body.now) (response_of result)) }
     ensures stays { OnContent B.Book book.old book.new (λ m. B.holds book.new m) }
     ensures printed { HasPrintedText result }
     ensures clean_disk { B.has_clean_disk book.new → B.has_clean_disk book.old }
     ensures failures { CountsUp (B.failed book.old) (B.failed book.new) }
 {
-    plans_told(alloc, book, plans_in(alloc, body))
+    plans_reported(alloc, book, plans_in(alloc, body))
 }
 
 /// What a body asks of a book's content as a question for plans, or why it is refused.

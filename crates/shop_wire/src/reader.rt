@@ -68,7 +68,7 @@ impl LineReader {
         }
     }
 
-    // Takes what is pending, up to a line feed, and tells whether there is one.
+    // Takes what is pending, up to a line feed, and reports whether there is one.
     fn take_part(&mut self, line: &mut Vec<u8>) -> Result<bool, AllocError>
         requires { length line.old.items ≤ longest_line + 1 }
         ensures fed { result ≡ Ok true → (part : List ℕ) × HasNoFeed part
@@ -99,7 +99,7 @@ impl LineReader {
         }
     }
 
-    // Fills the buffer by one read, and tells whether there was something left.
+    // Fills the buffer by one read, and reports whether there was something left.
     fn refill<S: Source>(&mut self, source: &mut S) -> Result<bool, ReplayFault>
         requires most { self.old.reads ≤ most_reads }
         requires ended { self.old.ended ≡ true → IsAtEnd (S.left source.old) }
@@ -142,7 +142,7 @@ impl LineReader {
         Ok(true)
     }
 
-    /// Reads the next line, and tells whether there was one. Of a line that is too long, one byte more than the longest
+    /// Reads the next line, and reports whether there was one. Of a line that is too long, one byte more than the longest
     /// is kept.
     pub(crate) fn next_line<S: Source>(
         &mut self,

@@ -10,7 +10,7 @@ ghost use Rattle.shop_wire.specs.Streams.{AreReads, IsLong, most_reads};
 ghost use Rattle.shop_wire.specs.declared.limits.TheConstants.{MAX_HELD};
 ghost use Rattle.shop_wire.specs.declared.faults.ReplayFault.TheVariants.{Read, Write, NoMemory};
 
-use crate::answers::{answer, hold_told};
+use crate::answers::{answer, hold_reported};
 use crate::faults::ReplayFault;
 use crate::limits::{MAX_HELD, MAX_LINE_LEN};
 use crate::reader::LineReader;
@@ -18,7 +18,7 @@ use shop_book::Book;
 use shop_text::{Sink, Source, write_all};
 use std::alloc::Global;
 
-// Answers a line, and holds what it is told.
+// Answers a line, and holds what it is reported.
 fn hold_answer<B: Book>(
     alloc: Global,
     line: &[u8],
@@ -35,8 +35,8 @@ fn hold_answer<B: Book>(
     ensures failures { CountsUp (B.failed book.old) (B.failed book.new) }
     ensures fault { IfErr result (λ fault. fault ≡ NoMemory) }
 {
-    let told = answer(alloc, book, line);
-    match hold_told(alloc, told, held) {
+    let reported = answer(alloc, book, line);
+    match hold_reported(alloc, reported, held) {
         Ok(()) => Ok(()),
         Err(_) => Err(ReplayFault::NoMemory),
     }
@@ -92,7 +92,7 @@ fn flush_if_due<W: Sink>(
     Ok(())
 }
 
-// Answers each line of a source, and tells how many there were. What of the replies wasn't written is held, but for some
+// Answers each line of a source, and reports how many there were. What of the replies wasn't written is held, but for some
 // last bytes after an Err.
 fn answer_lines<S: Source, W: Sink, B: Book>(
     alloc: Global,
@@ -133,7 +133,7 @@ fn answer_lines<S: Source, W: Sink, B: Book>(
     Ok(count)
 }
 
-/// Answers each line of a source by a line of a sink, and tells how many there were. Each line that ends in a line feed
+/// Answers each line of a source by a line of a sink, and reports how many there were. Each line that ends in a line feed
 /// is one, and a last one without it that isn't empty. An empty line and one of over 131072 bytes are no messages.
 /// Replies go out before the source is read for the next line, and where 65536 bytes are held. A line for which memory runs
 /// out while it is read or done is refused 98.

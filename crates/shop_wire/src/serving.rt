@@ -15,8 +15,8 @@ ghost use Rattle.shop_wire.specs.declared.faults.WireFault.TheVariants.{Read, Wr
 use crate::asking::respond;
 use crate::faults::WireFault;
 use crate::plans::build_body;
-use crate::telling::{fault_text, told_text};
-use crate::told::refused;
+use crate::reported::refused;
+use crate::response::{fault_text, reported_text};
 use shop_book::Book;
 use shop_planning::PlanTask;
 use shop_request::{Inbound, RequestFault, Route, Routes, StreamFault, read_request};
@@ -81,8 +81,8 @@ fn answer_request<W: Sink, B: Book>(
         × HasFailed (W.failed sink.old) (W.failed sink.new)) }
     ensures worked { OnOk result (W.failed sink.new ≡ W.failed sink.old) }
 {
-    let told = respond(alloc, book, route, text, at);
-    match write_made(sink, told_text(alloc, route, told)) {
+    let reported = respond(alloc, book, route, text, at);
+    match write_made(sink, reported_text(alloc, route, reported)) {
         Ok(()) => Ok(()),
         Err(fault) => Err(fault),
     }
@@ -141,7 +141,7 @@ fn read_one<'b, S: Source>(
 /// 1970-01-01 00:00 UTC, or 0 where none is known. At most 139264 reads are made.
 ///
 /// `Read` where the source failed: then nothing changed, and nothing was written. `Write` where the sink failed and
-/// `NoMemory` for want of memory: then what was asked for may be done, and a first part of the answer was written; a message
+/// `NoMemory` because memory ran out: then what was asked for may be done, and a first part of the answer was written; a message
 /// that is sent again gets the kept reply.
 pub fn serve_request<S: Source, W: Sink, B: Book>(
     alloc: Global,
@@ -203,7 +203,7 @@ fn begin_plans<W: Sink, B: Book>(
     match build_body(alloc, book, body) {
         Ok(task) => Ok(Some(task)),
         Err(refusal) => {
-            match write_made(sink, told_text(alloc, Route::Plans, refused(refusal))) {
+            match write_made(sink, reported_text(alloc, Route::Plans, refused(refusal))) {
                 Ok(()) => Ok(None),
                 Err(fault) => Err(fault),
             }

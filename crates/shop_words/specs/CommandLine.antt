@@ -182,7 +182,7 @@ audit_app = app_with (codes "audit") (store_rule ∷ read_only_rule ∷ [])
 abbrev pub restore_app : App
 restore_app = app_with (codes "restore") (store_rule ∷ from_rule ∷ [])
 
--- the program without its commands: one is required, and a version is told
+-- the program without its commands: one is required, and a version is reported
 abbrev pub program_app : App
 program_app = on_top (λ s. record s { subcommand_required = true; has_version = true }) (new_app (codes "cutshop"))
 
@@ -347,9 +347,9 @@ IsPlanAsked rows request =
 
 -- the values of the options that make a message of an order file
 abbrev pub IsImportAs : List Row → ImportAs → Type 0
-IsImportAs rows told =
-    IsCode (first_of (codes "order") rows) told.order × HasNumber (codes "terminal") rows 1 MAX_PAIR told.terminal
-    × HasNumber (codes "number") rows 0 MAX_PAIR told.number
+IsImportAs rows reported =
+    IsCode (first_of (codes "order") rows) reported.order × HasNumber (codes "terminal") rows 1 MAX_PAIR reported.terminal
+    × HasNumber (codes "number") rows 0 MAX_PAIR reported.number
 
 -- one of these options is there
 abbrev pub names_message : List Row → Bool
@@ -360,8 +360,8 @@ names_message rows =
 abbrev pub IsOrdersAsked : List Row → Request → Type 0
 IsOrdersAsked rows (Orders file shop None) =
     (first_of (codes "FILE") rows ≡ Some file.now) × (first_of (codes "shop") rows ≡ option_map (λ p. p.now) shop) × (names_message rows ≡ false)
-IsOrdersAsked rows (Orders file shop (Some told)) =
-    (first_of (codes "FILE") rows ≡ Some file.now) × (first_of (codes "shop") rows ≡ option_map (λ p. p.now) shop) × IsImportAs rows told
+IsOrdersAsked rows (Orders file shop (Some reported)) =
+    (first_of (codes "FILE") rows ≡ Some file.now) × (first_of (codes "shop") rows ≡ option_map (λ p. p.now) shop) × IsImportAs rows reported
 IsOrdersAsked rows _ = ⊥
 
 -- as many connections as the option says; without it no number of them ends a page's serving, and else 1000000 are served

@@ -1,4 +1,4 @@
--- What is wrong with words that `clap` takes and that ask for nothing, and how it is told.
+-- What is wrong with words that `clap` takes and that ask for nothing, and how it is reported.
 use Rattle.std.specs.Prelude.{◌≡◌, ◌<◌, ◌⊎◌, ◌++◌, ℕ, List, Option, Some, None, codes, false, true, is_some, ⊤}
 use Rattle.clap.specs.Words.{Row, Text, first_of}
 use Rattle.cut_measure.specs.Codes.{code_of}
@@ -61,7 +61,7 @@ abbrev pub IsRead : Option (Text × List Row) → Reading → Type 0
 IsRead found (reading.Request request) = AsksFor found request
 IsRead found (reading.Mistake mistake) = AsksNothing found × IsMistakeOf found mistake
 
--- what is told of a mistake in the words that plan an order file
+-- what is reported about a mistake in the words that plan an order file
 abbrev pub lines_reason : Mistake → List ℕ
 lines_reason NoWhole = codes "'--whole' is missing: --whole, --shop, --material and --size stand together"
 lines_reason NoShop = codes "'--shop <FILE>' is missing: --whole, --shop, --material and --size stand together"
@@ -72,7 +72,7 @@ lines_reason WithStep = codes "'--step <N>' may not be given with '--shop'"
 lines_reason ManySizes = codes "'--size <WxH>' may be given at most 10 times"
 lines_reason _ = codes "the words ask for nothing"
 
--- what is told of a mistake, but for a value that is no code or no origin
+-- what is reported about a mistake, but for a value that is no code or no origin
 abbrev pub reason : Mistake → List ℕ
 reason NoOrder = codes "'--order <CODE>' is missing: --order, --terminal and --number stand together"
 reason NoTerminal = codes "'--terminal <N>' is missing: --order, --terminal and --number stand together"

@@ -1,4 +1,4 @@
-//! The arguments of the commands, as `clap` is told of them.
+//! The arguments of the commands, as `clap` gets them.
 
 ghost use Rattle.shop_words.specs.CommandLine as line;
 

@@ -40,13 +40,13 @@ pub(crate) fn orders_request<'a>(orders: &ArgMatches<'a>) -> Option<Request<'a>>
         return Some(Request::Orders {
             file,
             shop,
-            told: None,
+            reported: None,
         });
     }
-    let told = import_as(orders)?;
+    let reported = import_as(orders)?;
     Some(Request::Orders {
         file,
         shop,
-        told: Some(told),
+        reported: Some(reported),
     })
 }

@@ -250,7 +250,7 @@ fn lines_reason(mistake: Mistake<'_>) -> &'static str
     }
 }
 
-/// The text that tells a mistake, as `clap` tells its own.
+/// The text that reports a mistake, as `clap` reports its own.
 pub fn mistake_text(alloc: Global, mistake: Mistake<'_>) -> Result<String, AllocError>
     ensures { IfOk result (λ text. string_bytes text ≡ spec.mistake_text mistake.entry) }
 {

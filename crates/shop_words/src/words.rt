@@ -39,7 +39,7 @@ pub const MAX_NAMES: usize = 10;
 /// The most sizes of units from which an order file is planned.
 pub const MAX_SIZES: usize = 10;
 
-/// The program's version. One that was built without proofs tells another, with ` (unproved)` behind it.
+/// The program's version. One that was built without proofs reports another, with ` (unproved)` behind it.
 pub const VERSION: &str = "1.1.0";
 
 /// Which message an order file becomes.
@@ -116,12 +116,12 @@ pub enum Request<'a> {
     },
     /// Plan all lines of a material of an order file from as many units of some sizes as it takes.
     PlanLines(OrderPlan<'a>),
-    /// Read an order file, and tell how many lines it has, or the message that it becomes.
+    /// Read an order file, and report how many lines it has, or the message that it becomes.
     Orders {
         file: &'a str,
         /// The shop file by whose materials its lines are judged, too.
         shop: Option<&'a str>,
-        told: Option<ImportAs>,
+        reported: Option<ImportAs>,
     },
     /// Serve a store on a port.
     Serve(Serving<'a>),
@@ -148,7 +148,7 @@ pub enum Request<'a> {
         /// Whether the store's files are only read.
         read_only: bool,
     },
-    /// Tell whether a store is whole.
+    /// Report whether a store is whole.
     Audit {
         store: &'a str,
         /// Whether the store's files are only read.

@@ -1,6 +1,6 @@
 //! A course of a search over some sizes of the stock, with its own job, hints and chance.
 
-use crate::sheets::flow::{Flow, Told};
+use crate::sheets::flow::{Flow, Reported};
 use crate::sheets::hints::Hints;
 use crate::sheets::job::Job;
 use crate::sheets::units::{Plan, Units};
@@ -118,29 +118,34 @@ impl Course {
         by_room.max(self.worker.hints.bound)
     }
 
-    /// Goes on until it tells something, by about so much work at most.
-    pub fn run(&mut self, alloc: Global, most: u64, goal: u64) -> Result<Told, AllocError> {
+    /// Goes on until it reports something, by about so much work at most.
+    pub fn run(&mut self, alloc: Global, most: u64, goal: u64) -> Result<Reported, AllocError> {
         self.worker.spent = 0;
         for _ in 0..STEPS {
-            let told = self.flow.go_on(alloc, &mut self.worker, goal)?;
-            if told != Told::Nothing || self.worker.spent >= most {
-                return Ok(told);
+            let reported = self.flow.go_on(alloc, &mut self.worker, goal)?;
+            if reported != Reported::Nothing || self.worker.spent >= most {
+                return Ok(reported);
             }
         }
-        Ok(Told::Nothing)
+        Ok(Reported::Nothing)
     }
 
-    /// Goes on with a turn, by about so much work at most. The turn ends when the course tells
+    /// Goes on with a turn, by about so much work at most. The turn ends when the course reports
     /// something or the work of the turn is done.
-    pub fn take_turn(&mut self, alloc: Global, most: u64, goal: u64) -> Result<Told, AllocError> {
+    pub fn take_turn(
+        &mut self,
+        alloc: Global,
+        most: u64,
+        goal: u64,
+    ) -> Result<Reported, AllocError> {
         let rest = TURN.saturating_sub(self.done).max(1);
-        let told = self.run(alloc, rest.min(most), goal)?;
+        let reported = self.run(alloc, rest.min(most), goal)?;
         self.done = self.done.saturating_add(self.worker.spent);
-        if told != Told::Nothing || self.done >= TURN {
+        if reported != Reported::Nothing || self.done >= TURN {
             self.turns = self.turns.saturating_add(1);
             self.done = 0;
         }
-        Ok(told)
+        Ok(reported)
     }
 
     /// Its best units, as units of a job over the whole stock. `free` says how many units of each

@@ -24,9 +24,9 @@ pub const COARSE: usize = 250;
 
 pub const FINE: usize = 600;
 
-/// What a step told.
+/// What a step reported.
 #[derive(Clone, Copy, PartialEq, Eq)]
-pub enum Told {
+pub enum Reported {
     Nothing,
     /// There is a better plan.
     Units,
@@ -201,35 +201,40 @@ impl Flow {
         Ok(())
     }
 
-    /// Keeps units, if they are the best. Whether they are told.
+    /// Keeps units, if they are the best. Whether they are reported.
     pub fn offer(
         &mut self,
         alloc: Global,
         worker: &Worker,
         units: &Units,
-    ) -> Result<Told, AllocError> {
+    ) -> Result<Reported, AllocError> {
         if !self.best.offer(alloc, &worker.job, units)? {
-            return Ok(Told::Nothing);
+            return Ok(Reported::Nothing);
         }
         self.start = Some(units.copy(alloc)?);
         self.is_fresh = true;
-        Ok(Told::Units)
+        Ok(Reported::Units)
     }
 
     /// Goes on with what is being done.
-    fn work(&mut self, alloc: Global, worker: &mut Worker, goal: u64) -> Result<Told, AllocError> {
+    fn work(
+        &mut self,
+        alloc: Global,
+        worker: &mut Worker,
+        goal: u64,
+    ) -> Result<Reported, AllocError> {
         let task = std::mem::replace(&mut self.task, Task::Nothing);
         match task {
             Task::Nothing => {
                 self.begin(alloc, worker)?;
-                Ok(Told::Nothing)
+                Ok(Reported::Nothing)
             }
             Task::Greedy(mut greedy) => {
                 if greedy.go_on(alloc, worker)? {
                     return self.end_greedy(alloc, worker, greedy);
                 }
                 self.task = Task::Greedy(greedy);
-                Ok(Told::Nothing)
+                Ok(Reported::Nothing)
             }
             Task::Settle(mut settle) => {
                 if settle.go_on(alloc, worker)? {
@@ -237,14 +242,14 @@ impl Flow {
                     return self.offer(alloc, worker, &units);
                 }
                 self.task = Task::Settle(settle);
-                Ok(Told::Nothing)
+                Ok(Reported::Nothing)
             }
             Task::Program(mut program) => {
                 if program.go_on(alloc, worker)? {
                     return self.end_program(alloc, program);
                 }
                 self.task = Task::Program(program);
-                Ok(Told::Nothing)
+                Ok(Reported::Nothing)
             }
             other => self.work_on(alloc, worker, other, goal),
         }
@@ -257,21 +262,21 @@ impl Flow {
         worker: &mut Worker,
         task: Task,
         goal: u64,
-    ) -> Result<Told, AllocError> {
+    ) -> Result<Reported, AllocError> {
         match task {
             Task::Ceilings(mut ceilings) => {
                 if ceilings.go_on(alloc, worker, goal)? {
                     return self.end_ceilings(alloc, worker, ceilings);
                 }
                 self.task = Task::Ceilings(ceilings);
-                Ok(Told::Nothing)
+                Ok(Reported::Nothing)
             }
             Task::Dive(mut dive) => {
                 if dive.go_on(alloc, worker)? {
                     return self.end_dive(alloc, worker, dive);
                 }
                 self.task = Task::Dive(dive);
-                Ok(Told::Nothing)
+                Ok(Reported::Nothing)
             }
             Task::GiveUp(mut next) => {
                 let given = next.go_on(alloc, worker)?;
@@ -282,16 +287,16 @@ impl Flow {
                     return self.end_pack(alloc, worker, pack);
                 }
                 self.task = Task::Pack(pack);
-                Ok(Told::Nothing)
+                Ok(Reported::Nothing)
             }
             Task::Last(next, mut pack) => {
                 if pack.go_on(alloc, worker)? {
                     return self.end_last(alloc, worker, next, pack);
                 }
                 self.task = Task::Last(next, pack);
-                Ok(Told::Nothing)
+                Ok(Reported::Nothing)
             }
-            _ => Ok(Told::Nothing),
+            _ => Ok(Reported::Nothing),
         }
     }
 
@@ -301,14 +306,14 @@ impl Flow {
         alloc: Global,
         worker: &mut Worker,
         goal: u64,
-    ) -> Result<Told, AllocError> {
+    ) -> Result<Reported, AllocError> {
         if matches!(self.stage, Stage::Ended) {
-            return Ok(Told::Ended);
+            return Ok(Reported::Ended);
         }
         let before = worker.fillings;
-        let told = self.work(alloc, worker, goal)?;
+        let reported = self.work(alloc, worker, goal)?;
         let made = worker.fillings.saturating_sub(before);
         self.fillings = self.fillings.saturating_add(made);
-        Ok(told)
+        Ok(reported)
     }
 }

@@ -3,7 +3,7 @@
 
 use crate::sheets::best::{Best, found_units};
 use crate::sheets::course::{Course, places_with};
-use crate::sheets::flow::Told;
+use crate::sheets::flow::Reported;
 use crate::sheets::worker::{MAX_WORK, TURN};
 use cut_search_bars::found::{Found, FoundUnit};
 use cut_search_bars::stock::SearchSize;
@@ -27,11 +27,11 @@ pub struct SheetSearch {
     alone: Vec<Course>,
     /// How often the search was called.
     calls: u64,
-    /// What was told: pieces that are left out, cost, rest.
-    told: Best,
-    /// Whether there are units that are still to be told.
+    /// What was reported: pieces that are left out, cost, rest.
+    reported: Best,
+    /// Whether there are units that are still to be reported.
     has_units: bool,
-    /// Whether there are prices that are still to be told.
+    /// Whether there are prices that are still to be reported.
     has_prices: bool,
 }
 
@@ -83,7 +83,7 @@ impl SheetSearch {
             whole,
             alone,
             calls: 0,
-            told: Best::new(),
+            reported: Best::new(),
             has_units: false,
             has_prices: false,
         })
@@ -104,7 +104,7 @@ impl SheetSearch {
     /// If no lower cost can be found, stops the courses over one size, and the course over the whole
     /// stock goes on to the largest rest if it has a plan of that cost.
     fn finish(&mut self, goal: u64) {
-        if self.told.missing > 0 || self.whole.worker.hints.bound < goal {
+        if self.reported.missing > 0 || self.whole.worker.hints.bound < goal {
             return;
         }
         if self.whole.flow.best.missing == 0 && self.whole.flow.best.cost <= goal {
@@ -141,8 +141,8 @@ impl SheetSearch {
         let job = &self.whole.worker.job;
         let free = job.numbers(alloc)?;
         if let Some(units) = course.best_units(alloc, job, &free)? {
-            let told = self.whole.flow.offer(alloc, &self.whole.worker, &units)?;
-            self.has_units = self.has_units || told == Told::Units;
+            let reported = self.whole.flow.offer(alloc, &self.whole.worker, &units)?;
+            self.has_units = self.has_units || reported == Reported::Units;
         }
         Ok(())
     }
@@ -161,9 +161,9 @@ impl SheetSearch {
             }
             if let Some(course) = self.alone.get_mut(place) {
                 let own = course.flow.best.cost;
-                let told = course.take_turn(alloc, rest, own)?;
+                let reported = course.take_turn(alloc, rest, own)?;
                 spent = spent.saturating_add(course.worker.spent).saturating_add(1);
-                if told == Told::Units {
+                if reported == Reported::Units {
                     self.take_units(alloc, place)?;
                 }
             }
@@ -174,27 +174,27 @@ impl SheetSearch {
     /// Goes on with the course over the whole stock, by about so much work at most.
     fn go_on_whole(&mut self, alloc: Global, most: u64, goal: u64) -> Result<(), AllocError> {
         match self.whole.run(alloc, most, goal)? {
-            Told::Units => self.has_units = true,
-            Told::Prices => self.has_prices = true,
-            Told::Nothing | Told::Ended => {}
+            Reported::Units => self.has_units = true,
+            Reported::Prices => self.has_prices = true,
+            Reported::Nothing | Reported::Ended => {}
         }
         Ok(())
     }
 
-    /// The best units, if they are better than those that were told.
+    /// The best units, if they are better than those that were reported.
     fn units(&mut self, alloc: Global) -> Result<Option<Vec<FoundUnit>>, AllocError> {
         let job = &self.whole.worker.job;
         let Some(best) = &self.whole.flow.best.units else {
             return Ok(None);
         };
-        if !self.told.offer_rest(alloc, job, best)? {
+        if !self.reported.offer_rest(alloc, job, best)? {
             return Ok(None);
         }
-        self.told.units = None;
+        self.reported.units = None;
         Ok(Some(found_units(alloc, job, best)?))
     }
 
-    /// What a call tells.
+    /// What a call reports.
     fn found(&mut self, alloc: Global) -> Result<Found, AllocError> {
         if self.has_units {
             self.has_units = false;
@@ -224,8 +224,8 @@ impl SheetSearch {
         least: u64,
         best: Option<u64>,
     ) -> Result<Found, AllocError> {
-        let own = if self.told.missing == 0 {
-            self.told.cost
+        let own = if self.reported.missing == 0 {
+            self.reported.cost
         } else {
             u64::MAX
         };

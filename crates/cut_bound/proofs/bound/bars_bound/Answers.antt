@@ -35,5 +35,5 @@ returns c = λ step. record {
       (subst (λ (rs : List RatedSize). IsGreatestCost rs c.total_left.result c.greatest_cost-cost.result) c.deref.ensures.value c.greatest_cost-cost.ensures);
   divisor = c.divisor_of.result;
   common = c.divisor_of.ensures;
-  told = c.told_cost.ensures;
+  reported = c.reported_cost.ensures;
 }

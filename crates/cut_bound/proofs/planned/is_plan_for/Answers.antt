@@ -6,4 +6,4 @@ pub returns : goal.returns
 returns c =
     let same =
     plan_by_leaves c.args.wants.now c.args.kerf c.args.size c.args.plan.now c.deref.result.now c.see.ensures.kept (c.if-not-is_made_for.ensures.0 refl) (c.deref.ensures.value ∙ c.in_ok-leaves.ensures) in
-    (λ told. same.0 (c.are_pieces.ensures.0 told), λ is. c.are_pieces.ensures.1 (same.1 is))
+    (λ reported. same.0 (c.are_pieces.ensures.0 reported), λ is. c.are_pieces.ensures.1 (same.1 is))

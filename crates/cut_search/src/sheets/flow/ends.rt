@@ -2,7 +2,7 @@
 
 use crate::sheets::ceilings::Ceilings;
 use crate::sheets::dive::Dive;
-use crate::sheets::flow::{COARSE, FINE, Flow, Stage, Task, Told};
+use crate::sheets::flow::{COARSE, FINE, Flow, Reported, Stage, Task};
 use crate::sheets::give_up::{GiveUp, Given};
 use crate::sheets::greedy::{Greedy, MAX_BATCHES};
 use crate::sheets::program::Program;
@@ -47,18 +47,18 @@ impl Flow {
         alloc: Global,
         worker: &mut Worker,
         greedy: Greedy,
-    ) -> Result<Told, AllocError> {
+    ) -> Result<Reported, AllocError> {
         self.round = self.round.saturating_add(1);
         match (self.stage, self.only) {
             (Stage::Quick, _) => self.offer(alloc, worker, &greedy.units),
             (Stage::Gains | Stage::More, _) => {
                 self.give_up_new(alloc, worker, greedy.units)?;
-                Ok(Told::Nothing)
+                Ok(Reported::Nothing)
             }
             (_, Some(_)) => {
                 self.values = greedy.values;
                 if greedy.units.missing_pieces() > 0 {
-                    return Ok(Told::Nothing);
+                    return Ok(Reported::Nothing);
                 }
                 self.remember(&greedy.units)?;
                 self.offer(alloc, worker, &greedy.units)
@@ -66,7 +66,7 @@ impl Flow {
             (_, None) => {
                 self.remember(&greedy.units)?;
                 self.settle(alloc, worker, greedy.units)?;
-                Ok(Told::Nothing)
+                Ok(Reported::Nothing)
             }
         }
     }
@@ -76,14 +76,14 @@ impl Flow {
         &mut self,
         alloc: Global,
         program: Program,
-    ) -> Result<Told, AllocError> {
+    ) -> Result<Reported, AllocError> {
         self.plans = Vec::new(alloc);
         for plan in &program.plans {
             self.plans.push(Rc::clone(plan)?)?;
         }
         self.program = Some(program);
         self.end_plans();
-        Ok(Told::Nothing)
+        Ok(Reported::Nothing)
     }
 
     /// Goes on behind the program of plans: to the bound, or over several sizes, where the bound is
@@ -102,14 +102,14 @@ impl Flow {
         alloc: Global,
         worker: &Worker,
         dive: Dive,
-    ) -> Result<Told, AllocError> {
+    ) -> Result<Reported, AllocError> {
         self.turn(Stage::Gains);
         let units = dive.units;
         if self.only.is_some() {
             return self.offer(alloc, worker, &units);
         }
         self.settle(alloc, worker, units)?;
-        Ok(Told::Nothing)
+        Ok(Reported::Nothing)
     }
 
     /// Keeps the worths of the greatest bound.
@@ -130,7 +130,7 @@ impl Flow {
         alloc: Global,
         worker: &mut Worker,
         ceilings: Ceilings,
-    ) -> Result<Told, AllocError> {
+    ) -> Result<Reported, AllocError> {
         let mut ended = ceilings;
         let is_better = ended.least > worker.hints.bound || self.worths.is_empty();
         if ended.least >= worker.hints.bound || self.worths.is_empty() {
@@ -147,9 +147,9 @@ impl Flow {
             self.end_bound();
         }
         Ok(if is_better {
-            Told::Prices
+            Reported::Prices
         } else {
-            Told::Nothing
+            Reported::Nothing
         })
     }
 
@@ -183,13 +183,13 @@ impl Flow {
         alloc: Global,
         worker: &Worker,
         next: GiveUp,
-    ) -> Result<Told, AllocError> {
+    ) -> Result<Reported, AllocError> {
         let units = next.units;
         if self.only.is_some() {
             return self.offer(alloc, worker, &units);
         }
         self.settle(alloc, worker, units)?;
-        Ok(Told::Nothing)
+        Ok(Reported::Nothing)
     }
 
     /// Goes on behind a try to give units up.
@@ -199,7 +199,7 @@ impl Flow {
         worker: &mut Worker,
         next: GiveUp,
         given: Given,
-    ) -> Result<Told, AllocError> {
+    ) -> Result<Reported, AllocError> {
         if matches!(self.stage, Stage::Rest) {
             return self.after_rest(alloc, worker, next, given);
         }
@@ -208,7 +208,7 @@ impl Flow {
             Given::Reached => self.after_reached(alloc, worker, next),
             Given::Tired => {
                 self.begin_elsewhere(alloc, worker, next)?;
-                Ok(Told::Nothing)
+                Ok(Reported::Nothing)
             }
             Given::More | Given::Less => {
                 let is_over = is_full || self.is_enough(worker);
@@ -217,7 +217,7 @@ impl Flow {
                 } else {
                     Task::GiveUp(next)
                 };
-                Ok(Told::Nothing)
+                Ok(Reported::Nothing)
             }
         }
     }
@@ -230,11 +230,11 @@ impl Flow {
         worker: &mut Worker,
         next: GiveUp,
         given: Given,
-    ) -> Result<Told, AllocError> {
+    ) -> Result<Reported, AllocError> {
         let is_over = self.fillings >= self.begun.saturating_add(REST_FILLINGS);
         if is_over || given == Given::Tired {
             self.turn(Stage::Ended);
-            return Ok(Told::Nothing);
+            return Ok(Reported::Nothing);
         }
         if given == Given::Less {
             let size = self.packed.first().copied().unwrap_or(0);
@@ -242,11 +242,11 @@ impl Flow {
             let used = worker.job.cells_in(&next.units.missing);
             if room.saturating_sub(used) > self.best.rest {
                 self.pack_rest(alloc, worker, next, size)?;
-                return Ok(Told::Nothing);
+                return Ok(Reported::Nothing);
             }
         }
         self.task = Task::GiveUp(next);
-        Ok(Told::Nothing)
+        Ok(Reported::Nothing)
     }
 
     /// Begins to put what is left out into one unit, as narrow or as low as can be.
@@ -271,19 +271,19 @@ impl Flow {
         worker: &Worker,
         next: GiveUp,
         pack: Pack,
-    ) -> Result<Told, AllocError> {
+    ) -> Result<Reported, AllocError> {
         let mut packed = pack;
         let found = packed.best.take();
-        let mut told = Told::Nothing;
+        let mut reported = Reported::Nothing;
         if let Some(plan) = found {
             let mut whole = next.units.copy(alloc)?;
             whole.add(&worker.job, plan, 1)?;
             if self.best.offer_rest(alloc, &worker.job, &whole)? {
-                told = Told::Units;
+                reported = Reported::Units;
             }
         }
         self.task = Task::GiveUp(next);
-        Ok(told)
+        Ok(reported)
     }
 
     /// Ends a pack: the unit's plan is exchanged.
@@ -292,16 +292,16 @@ impl Flow {
         alloc: Global,
         worker: &Worker,
         pack: Pack,
-    ) -> Result<Told, AllocError> {
+    ) -> Result<Reported, AllocError> {
         let (Some(plan), Some(best)) = (pack.best, &self.best.units) else {
-            return Ok(Told::Nothing);
+            return Ok(Reported::Nothing);
         };
         let mut whole = best.copy(alloc)?;
         whole.exchange(&worker.job, self.round as usize, plan, 1)?;
         whole.tidy();
         if self.best.offer_rest(alloc, &worker.job, &whole)? {
-            return Ok(Told::Units);
+            return Ok(Reported::Units);
         }
-        Ok(Told::Nothing)
+        Ok(Reported::Nothing)
     }
 }

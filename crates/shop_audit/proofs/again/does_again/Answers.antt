@@ -16,5 +16,5 @@ returns-clause-given g c clean whole count next entered stored part =
     IfOk-weaker c.written.result _ _
     (λ found there same.
     given_next json_texts g.F.Book whole c.is_new.new.anew done.new.book c.written.new.anew c.args.message.now done.result.0 count c.args.number mid h done.ensures.message (seen.1 c.if-not-new.false)
-    (c.in_ok-told.ensures c.if-not-told.false) next c.args.entry.now c.args.kept.now entered stored (there same).0 (there same).1 (last.keeps.stays clean h.next h.held))
+    (c.in_ok-reported.ensures c.if-not-reported.false) next c.args.entry.now c.args.kept.now entered stored (there same).0 (there same).1 (last.keeps.stays clean h.next h.held))
     (last.same clean h.next h.held)

@@ -6,4 +6,4 @@ use Rattle.shop_commands.proofs.orders.check_orders.Goals as goal
 pub returns-clause-err : goal.returns-clause-err
 returns-clause-err g c =
     let out = change_of g.W.Sink c.args.sink.now c.write_text.new.sink in
-    unwritten _ c.args.told _ _ out c.in_ok-line.ensures.ok (subst (AddsPrefix out) c.as_str.ensures.value c.write_text.ensures.prefix) c.write_text.result c.write_text.ensures.err
+    unwritten _ c.args.reported _ _ out c.in_ok-line.ensures.ok (subst (AddsPrefix out) c.as_str.ensures.value c.write_text.ensures.prefix) c.write_text.result c.write_text.ensures.err

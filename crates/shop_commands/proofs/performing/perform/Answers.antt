@@ -9,7 +9,7 @@ use Rattle.shop_commands.proofs.performing.perform.Goals as goal
 pub returns-in-Ok-Mistake-clause-done : goal.returns-in-Ok-Mistake-clause-done
 returns-in-Ok-Mistake-clause-done g c =
     let asks = subst (IsRead (subcommand_of shop_app (map string_bytes c.args.words.now))) c.in-Ok-Mistake.field-0-is c.in-Ok-Mistake.ensures.ok.1 in
-    inr (inr (c.in-Ok-Mistake.ensures.ok.0, asks.0, (c.in-Ok-Mistake.mistake, asks.1, c.tell_mistake.ensures), refl))
+    inr (inr (c.in-Ok-Mistake.ensures.ok.0, asks.0, (c.in-Ok-Mistake.mistake, asks.1, c.report_mistake.ensures), refl))
 
 pub do_request-outcome-requires : goal.do_request-outcome-requires
 do_request-outcome-requires g c =

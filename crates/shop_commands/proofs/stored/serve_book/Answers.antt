@@ -6,7 +6,7 @@ returns-in-Ok-clause-ok g c =
     record {
       mid = c.add_entries.new.book;
       shop = c.in_ok-add_entries.ensures.ok;
-      told = c.in_ok-listener.ensures.ok;
+      reported = c.in_ok-listener.ensures.ok;
       counted = c.kept_count.new.self;
       count = c.kept_count.result;
       keeps = c.kept_count.ensures.keeps;
@@ -21,7 +21,7 @@ returns-clause-err g c =
     inr (inr (inr (record {
       mid = c.add_entries.new.book;
       shop = c.in_ok-add_entries.ensures.ok;
-      told = c.in_ok-listener.ensures.ok;
+      reported = c.in_ok-listener.ensures.ok;
       counted = c.kept_count.new.self;
       count = c.kept_count.result;
       keeps = c.kept_count.ensures.keeps;

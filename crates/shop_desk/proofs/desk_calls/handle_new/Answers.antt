@@ -32,7 +32,7 @@ returns-in_default-keeping_message-clause-step g c =
     faulted json_texts g.B.Book.stands c.args.at (g.B.Book.may_leave c.args.book.now) (g.B.Book.may_leave c.decide.new.book) (g.B.Book.holds c.decide.new.book)
     m c.args.message.now _ (λ n s. n refl) sound (c.decide.ensures.keeps.stays clean_disk m held) (c.decide.ensures.keeps.crash clean_disk m held)
 
--- the last entry wasn't told, or no number is left
+-- the last entry wasn't reported, or no number is left
 pub returns-in-Err-entered-clause-step : goal.returns-in-Err-entered-clause-step
 returns-in-Err-entered-clause-step g c =
     λ _ is_message clean_disk m held sound none.
@@ -75,11 +75,11 @@ returns-in-Ok-commit-clause-step g c =
     let decision = (c.in-Ok.ensures.decision before m held sound).decision in
     let change = c.in-Ok-entered.change in
     let made = c.in-Ok.change in
-    let is : change ≡ to_commit_at json_texts c.args.at m c.args.message.now made c.args.text c.in-Ok-reply_text.told (Refused BadMessage) =
+    let is : change ≡ to_commit_at json_texts c.args.at m c.args.message.now made c.args.text c.in-Ok-reply_text.reported (Refused BadMessage) =
     c.in-Ok-entered.ensures.entered entered m decided ∙ ap (λ (x : Change). entering (entry_count m) (last_time m) c.args.at c.args.message.now x) c.in-Ok-keeping_message.ensures.change in
     let row : changed m change ≡ changed m (keeping_at json_texts c.args.at m c.args.message.now made) =
-    ap (changed m) is ∙ row_committed json_texts c.args.at m c.args.message.now made c.args.text c.in-Ok-reply_text.told (Refused BadMessage) text c.in-Ok-reply_text.ensures in
-    let fits : Fits m change = subst (Fits m) (sym is) (fits_committed json_texts c.args.at m c.args.message.now decision.0 made c.args.text c.in-Ok-reply_text.told (Refused BadMessage) c.in-Ok-reply_text.ensures none sound decision.1 decision.2 decision.3) in
+    ap (changed m) is ∙ row_committed json_texts c.args.at m c.args.message.now made c.args.text c.in-Ok-reply_text.reported (Refused BadMessage) text c.in-Ok-reply_text.ensures in
+    let fits : Fits m change = subst (Fits m) (sym is) (fits_committed json_texts c.args.at m c.args.message.now decision.0 made c.args.text c.in-Ok-reply_text.reported (Refused BadMessage) c.in-Ok-reply_text.ensures none sound decision.1 decision.2 decision.3) in
     subst (λ answer. IsHandledAt json_texts g.B.Book.stands c.args.at (g.B.Book.may_leave c.args.book.now) (g.B.Book.may_leave c.commit.new.self) (g.B.Book.holds c.commit.new.self) m c.args.message.now answer)
     (sym c.in-Ok-keeping_message.ensures.reply)
     (committed json_texts g.B.Book.stands c.args.at (g.B.Book.may_leave c.args.book.now) (g.B.Book.may_leave c.entered.new.book) (g.B.Book.may_leave c.commit.new.self) (g.B.Book.holds c.commit.new.self)
@@ -88,7 +88,7 @@ returns-in-Ok-commit-clause-step g c =
 pub returns-in-Ok-commit-clause-failures : goal.returns-in-Ok-commit-clause-failures
 returns-in-Ok-commit-clause-failures g c =
     inl (subst (λ answer. CountsReply answer (g.B.Book.failed c.args.book.now) (g.B.Book.failed c.commit.new.self)) (sym c.in-Ok-keeping_message.ensures.reply)
-    (counts_made (g.B.Book.failed c.args.book.now) (g.B.Book.failed c.commit.new.self) c.in-Ok.change.reply c.in-Ok.ensures.told
+    (counts_made (g.B.Book.failed c.args.book.now) (g.B.Book.failed c.commit.new.self) c.in-Ok.change.reply c.in-Ok.ensures.reported
     (c.in-Ok-commit.ensures.failures ∙ c.in-Ok-entered.ensures.keeps.failures ∙ counted_made (g.B.Book.failed c.args.book.now) (g.B.Book.failed c.decide.new.book) c.in-Ok.change c.in-Ok.ensures.keeps.failures)))
 
 pub returns-in-Err-commit-clause-step : goal.returns-in-Err-commit-clause-step
@@ -102,11 +102,11 @@ returns-in-Err-commit-clause-step g c =
     let decision = (c.in-Ok.ensures.decision before m held sound).decision in
     let change = c.in-Ok-entered.change in
     let made = c.in-Ok.change in
-    let is : change ≡ to_commit_at json_texts c.args.at m c.args.message.now made c.args.text c.in-Ok-reply_text.told (Refused BadMessage) =
+    let is : change ≡ to_commit_at json_texts c.args.at m c.args.message.now made c.args.text c.in-Ok-reply_text.reported (Refused BadMessage) =
     c.in-Ok-entered.ensures.entered entered m decided ∙ ap (λ (x : Change). entering (entry_count m) (last_time m) c.args.at c.args.message.now x) c.in-Ok-keeping_message.ensures.change in
     let row : changed m change ≡ changed m (keeping_at json_texts c.args.at m c.args.message.now made) =
-    ap (changed m) is ∙ row_committed json_texts c.args.at m c.args.message.now made c.args.text c.in-Ok-reply_text.told (Refused BadMessage) text c.in-Ok-reply_text.ensures in
-    let fits : Fits m change = subst (Fits m) (sym is) (fits_committed json_texts c.args.at m c.args.message.now decision.0 made c.args.text c.in-Ok-reply_text.told (Refused BadMessage) c.in-Ok-reply_text.ensures none sound decision.1 decision.2 decision.3) in
+    ap (changed m) is ∙ row_committed json_texts c.args.at m c.args.message.now made c.args.text c.in-Ok-reply_text.reported (Refused BadMessage) text c.in-Ok-reply_text.ensures in
+    let fits : Fits m change = subst (Fits m) (sym is) (fits_committed json_texts c.args.at m c.args.message.now decision.0 made c.args.text c.in-Ok-reply_text.reported (Refused BadMessage) c.in-Ok-reply_text.ensures none sound decision.1 decision.2 decision.3) in
     failed json_texts g.B.Book.stands c.args.at (g.B.Book.may_leave c.args.book.now) (g.B.Book.may_leave c.entered.new.book) (g.B.Book.may_leave c.commit.new.self) (g.B.Book.holds c.commit.new.self)
     m c.args.message.now decision.0 change made is_message none sound decision.1 decision.2 decision.3 row c.from.result (is_fault json_texts c.from.result c.in-Err-commit.fault c.from.ensures)
     (c.in-Err-commit.ensures.err clean_disk m kept) (λ left it. c.decide.ensures.keeps.crash before m held left (keeps.crash entered m decided left it)) (c.commit.ensures.crash clean_disk m kept fits)
@@ -129,4 +129,4 @@ pub returns-in-Ok-commit-clause-refused : goal.returns-in-Ok-commit-clause-refus
 returns-in-Ok-commit-clause-refused g c =
     λ clean_disk m held.
     subst (λ answer. IfSome (refusal_in answer) (λ refusal. g.B.Book.holds c.commit.new.self m)) (sym c.in-Ok-keeping_message.ensures.reply)
-    (none_refused c.in-Ok.change.reply _ c.in-Ok.ensures.told)
+    (none_refused c.in-Ok.change.reply _ c.in-Ok.ensures.reported)

@@ -12,6 +12,6 @@ returns-clause-jobs g c = λ clean_disk m held.
     let before = c.in_ok-rows.ensures.keeps.clean_disk clean_disk in
     let is : c.in_ok-numbers.numbers ≡ take (MAX_LISTED + 1) all = c.in_ok-numbers.ensures.rows before m held in (
       c.in_ok-rows.ensures.rows clean_disk m (c.in_ok-numbers.ensures.keeps.stays before m held)
-          ∙ ap (filter_map (job_row_at m)) (c.first_told.ensures ∙ first_listed c.as_slice.result.now all (c.as_slice.ensures ∙ is)),
+          ∙ ap (filter_map (job_row_at m)) (c.first_reported.ensures ∙ first_listed c.as_slice.result.now all (c.as_slice.ensures ∙ is)),
       c.are_more.ensures ∙ more_listed c.as_slice-2.result.now all (c.as_slice-2.ensures ∙ is),
     )

@@ -1,5 +1,5 @@
 use Rattle.std.proofs.Common.{arith}
-use Rattle.shop_planning.proofs.Told.{times_within}
+use Rattle.shop_planning.proofs.Reported.{times_within}
 use Rattle.shop_planning.proofs.shares.share_of.Goals as goal
 
 pub overflow_cast-times : goal.overflow_cast-times

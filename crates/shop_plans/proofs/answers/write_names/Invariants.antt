@@ -1,7 +1,7 @@
 use Rattle.std.proofs.Common.{◌∷◌, drop}
 use Rattle.json.specs.Token.{begin_array}
 use Rattle.shop_forms.specs.Tokens.{elements_tokens, Lacks}
-use Rattle.shop_plans.specs.Told.{name_data}
+use Rattle.shop_plans.specs.Reported.{name_data}
 use Rattle.shop_plans.proofs.answers.write_names.Given as goal
 
 abbrev pub invariant-loop-part : goal.invariant-loop-part

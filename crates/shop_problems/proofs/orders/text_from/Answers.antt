@@ -13,4 +13,4 @@ returns-in-Ok-lines_of-clause-ok c =
     let plan = c.in_ok-plan.plan in
     let wants : c.deref.result.now ≡ wants_in c.args.code.now c.args.lines.now = c.deref.ensures.value ∙ c.in-Ok.ensures in
     let planned = subst (λ ws. IsPlanned c.args.material.now c.args.sizes.now c.args.search.stages ws plan) wants c.in_ok-plan.ensures.ok in
-    record { plan = plan; planned = planned; told = c.in-Ok-lines_of.ensures }
+    record { plan = plan; planned = planned; reported = c.in-Ok-lines_of.ensures }

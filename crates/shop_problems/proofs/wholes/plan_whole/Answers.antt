@@ -21,4 +21,4 @@ returns-in-Ok-lines_of-clause-ok c =
     let wants : c.deref.result.now ≡ wants_of pieces = search rules in
     let kind : c.kind_of-kind.result ≡ kind_of size pieces = search rules in
     let answers = subst (λ ws. IsWholePlan c.kind_of-kind.result size how.kerf how.step how.stages ws plan) wants c.in_ok-plan.ensures.ok in
-    record { plan = plan; answers = subst (λ k. IsWholePlan k size how.kerf how.step how.stages (wants_of pieces) plan) kind answers; told = c.in-Ok-lines_of.ensures }
+    record { plan = plan; answers = subst (λ k. IsWholePlan k size how.kerf how.step how.stages (wants_of pieces) plan) kind answers; reported = c.in-Ok-lines_of.ensures }

@@ -5,14 +5,14 @@ use Rattle.shop_serve.proofs.answers.answer_of.Goals as goal
 
 pub returns-in-Some-clause-made : goal.returns-in-Some-clause-made
 returns-in-Some-clause-made g c =
-    let told = c.in-Some.ensures.made in
+    let reported = c.in-Some.ensures.made in
     inr (
       c.rule-ruling.result,
-      told.0,
+      reported.0,
       c.rule-ruling.ensures,
       no_route c.rule-ruling.result (sym c.is_routed.ensures ∙ c.if-is_routed.false),
-      told.1,
-      told.2,
+      reported.1,
+      reported.2,
     )
 
 pub returns-in-Some-clause-step : goal.returns-in-Some-clause-step

@@ -33,9 +33,9 @@ returns-in-Ok-Some-clause-answered g c done =
       now = c.now.result;
       read = c.now.ensures;
       took = ap g.C.Connection.contents same ∙ c.is_there.ensures.kept;
-      told = subst (IsPlansAnswer (instance_in c.in-Some.searching.task)) (sym (ap (λ (v : Vec ℕ Global). v.items) c.into_bytes.ensures.value))
+      reported = subst (IsPlansAnswer (instance_in c.in-Some.searching.task)) (sym (ap (λ (v : Vec ℕ Global). v.items) c.into_bytes.ensures.value))
           (subst (λ answer. IsPlansAnswer (instance_in c.in-Some.searching.task) (string_bytes answer)) (sym c.in-Ok-Some.answer-is)
-          (subst (λ o. IfSome o (λ answer. IsPlansAnswer (instance_in c.in-Some.searching.task) (string_bytes answer))) c.in-Ok-Some.field-0-is c.in-Ok-Some.ensures.told));
+          (subst (λ o. IfSome o (λ answer. IsPlansAnswer (instance_in c.in-Some.searching.task) (string_bytes answer))) c.in-Ok-Some.field-0-is c.in-Ok-Some.ensures.reported));
       kept = subst (λ stream. c.put_answer.new.client ≡ put_answer (record c.args.client.now { stream = stream }) c.into_bytes.result c.now.result) (sym same) c.put_answer.ensures;
     }
 
@@ -50,6 +50,6 @@ returns-in-Err-clause-answered g c done =
       now = refused.now;
       read = refused.read;
       took = ap g.C.Connection.contents same ∙ c.is_there.ensures.kept;
-      told = inr refused.told;
+      reported = inr refused.reported;
       kept = subst (λ stream. c.refuse.new.client ≡ put_answer (record c.args.client.now { stream = stream }) refused.answer refused.now) (sym same) refused.kept;
     }

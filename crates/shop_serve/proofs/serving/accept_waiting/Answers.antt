@@ -35,7 +35,7 @@ pub loop-init : goal.loop-init
 loop-init g c =
     record {
       each = arrived-none _ (g.P.Port.given c.args.port.now) c.args.accepted.now c.args.clients.now (g.K.Watch.times c.args.watch.now);
-      told = refl;
+      reported = refl;
       fewer = omega arith;
       bound = c.requires.bound;
     }
@@ -49,7 +49,7 @@ loop-preserved g c =
       each = arrived-one _ (g.P.Port.given c.args.port.now) (g.P.Port.given c.loop.port) (g.P.Port.given c.receive.new.port)
           c.args.accepted.now c.loop.accepted c.args.clients.now c.loop.clients c.receive.new.clients (g.K.Watch.times c.args.watch.now) (g.K.Watch.times c.loop.watch) (g.K.Watch.times c.receive.new.watch) c.in-Ok-Some.stream
           (subst (λ o. Adds (g.P.Port.given c.loop.port) o (c.in-Ok-Some.stream ∷ [])) (sym more.given) given) more.received so_far.each;
-      told = more.told ∙ c.accept.ensures.told ∙ so_far.told;
+      reported = more.reported ∙ c.accept.ensures.reported ∙ so_far.reported;
       fewer = omega (arith, so_far.fewer, more.fewer);
       bound = omega (arith, c.if-accepted-limit.false);
     }

@@ -7,7 +7,7 @@ abbrev pub invariant-loop : goal.invariant-loop
 invariant-loop g l =
     record {
       each : ArrivedSoFar g.P.Port (g.P.Port.given l.fn.port) (g.P.Port.given l.port) l.fn.accepted l.accepted l.fn.clients l.clients (g.K.Watch.times l.fn.watch) (g.K.Watch.times l.watch);
-      told : g.P.Port.told l.port ≡ g.P.Port.told l.fn.port;
+      reported : g.P.Port.all_reported l.port ≡ g.P.Port.all_reported l.fn.port;
       fewer : unanswered l.clients + l.fn.accepted ≤ unanswered l.fn.clients + l.accepted;
       bound : l.accepted ≤ l.limit;
     }

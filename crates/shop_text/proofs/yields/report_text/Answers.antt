@@ -3,8 +3,8 @@ use Rattle.shop_records.specs.Content.{parts_of}
 use Rattle.shop_text.proofs.PartsTaken.{lines_taken, reported}
 use Rattle.shop_text.proofs.yields.report_text.Goals as goal
 
-pub returns-clause-told : goal.returns-clause-told
-returns-clause-told g c =
+pub returns-clause-reported : goal.returns-clause-reported
+returns-clause-reported g c =
     λ clean_disk m held.
     let still = c.in_ok-visit_parts.ensures.keeps.clean_disk clean_disk in
     let before = c.in_ok-totals.ensures.keeps.clean_disk still in

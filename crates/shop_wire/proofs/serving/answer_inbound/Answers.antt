@@ -1,12 +1,12 @@
 use Rattle.std.proofs.Common.{ap, sym, subst}
 use Rattle.shop_request.specs.Requests.{parse_of}
 use Rattle.shop_wire.specs.Serves.{HandlesInputAt}
-use Rattle.shop_wire.proofs.Written.{silent_told, fault_ok, fault_err}
+use Rattle.shop_wire.proofs.Written.{silent_reported, fault_ok, fault_err}
 use Rattle.shop_wire.proofs.serving.answer_inbound.Goals as goal
 
 pub returns-in-Silence-clause-ok : goal.returns-in-Silence-clause-ok
 returns-in-Silence-clause-ok g c =
-    silent_told g.B.Book c.args.book.now (g.W.Sink.held c.args.sink.now) (g.W.Sink.held c.args.sink.now) (parse_of c.args.inbound.now) (ap parse_of c.in-Silence.is)
+    silent_reported g.B.Book c.args.book.now (g.W.Sink.held c.args.sink.now) (g.W.Sink.held c.args.sink.now) (parse_of c.args.inbound.now) (ap parse_of c.in-Silence.is)
 
 pub returns-in-Faulty-clause-ok : goal.returns-in-Faulty-clause-ok
 returns-in-Faulty-clause-ok g c =

@@ -16,14 +16,14 @@ returns-then-not-names_message c = (
   sym c.names_message.ensures ∙ c.if-not-names_message.true,
 )
 
-pub returns-in_err-told : goal.returns-in_err-told
-returns-in_err-told c =
+pub returns-in_err-reported : goal.returns-in_err-reported
+returns-in_err-reported c =
     let found = found_of c.args.orders.now in
-    rw c.from_residual-in_err-told.ensures (no_orders_message (rows_of found) (sym c.names_message.ensures ∙ c.if-not-names_message.false) c.in_err-told.ensures)
+    rw c.from_residual-in_err-reported.ensures (no_orders_message (rows_of found) (sym c.names_message.ensures ∙ c.if-not-names_message.false) c.in_err-reported.ensures)
 
 pub returns : goal.returns
 returns c = (
   sym (c.in_ok-file.ensures ∙ first_value-rows (found_of c.args.orders.now) (codes "FILE")),
   sym (c.get_str-shop.ensures ∙ first_value-rows (found_of c.args.orders.now) (codes "shop")),
-  c.in_ok-told.ensures,
+  c.in_ok-reported.ensures,
 )

@@ -14,7 +14,7 @@ returns-clause-visit g c =
       on = v.on;
       visitor = v.visitor;
       answer = v.answer;
-      begins = λ clean m was. subst (λ (x : Content). (rest : List Part) × (parts_of x c.args.material ≡ v.parts ++ rest) × IfOk {E = BookFault} (Ok c.visit_parts.result) (λ told. IsTrue told → rest ≡ [])) (was.1 clean) v.begins;
+      begins = λ clean m was. subst (λ (x : Content). (rest : List Part) × (parts_of x c.args.material ≡ v.parts ++ rest) × IfOk {E = BookFault} (Ok c.visit_parts.result) (λ reported. IsTrue reported → rest ≡ [])) (was.1 clean) v.begins;
     }
 
 pub returns-clause-keeps : goal.returns-clause-keeps

@@ -1,5 +1,0 @@
-use Rattle.shop_replies.proofs.commands.tell_material.Goals as goal
-
-pub returns : goal.returns
-returns c =
-    rw c.as_str.ensures.value at c.write_object.ensures

@@ -1,0 +1,7 @@
+use Rattle.shop_forms.proofs.Pieces.{one, then}
+use Rattle.shop_replies.proofs.listing.report_lines.Goals as goal
+
+pub returns-clause-value : goal.returns-clause-value
+returns-clause-value c =
+    let all = then (one c.in_ok-begin_object.ensures) (then (one c.in_ok-key.ensures) (then c.in_ok-write_rows.ensures.value (then c.in_ok-write_text.ensures (then (rw c.as_str.ensures.value at c.in_ok-write_text-2.ensures) (one c.in_ok-end_object.ensures))))) in
+    record { tokens = all.tokens; before = all.before }
