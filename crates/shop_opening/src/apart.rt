@@ -13,6 +13,7 @@ use crate::made::Made;
 use crate::stores::{OpenAs, OpenFault, Opens, adopt_fault, look_fault};
 use os::RangeLock;
 use shop_advice::{StoreCause, VersionCause};
+use shop_book::{Book, Ledger};
 use shop_store::SqlBook;
 use sqlite::{Connection, Error, ErrorCode, FileStore, Files, Options};
 use sqlite_disk::{Disk, Memory};
@@ -219,18 +220,25 @@ fn is_foreign(alloc: Global, pair: &Pair) -> bool {
     }
 }
 
-// Reads both files of a store, which has a shop's tables where it has to.
-fn read_shop(
-    rt: &HostRuntime,
-    alloc: Global,
-    path: &str,
-    existing: bool,
-) -> Result<Pair, OpenFault> {
-    let pair = read_pair(rt, alloc, path)?;
-    if existing && is_foreign(alloc, &pair) {
+// Whether a book may be one over a database without a shop's tables: it has no row, or there is none.
+fn may_be_foreign(alloc: Global, opened: &Result<ApartBook, OpenFault>) -> bool {
+    match opened {
+        Ok(book) => book.rows().has_rows_of(&Ledger::new(alloc)),
+        Err(_) => true,
+    }
+}
+
+// Opens the book of a pair in memory, which has a shop's tables where it has to. The port checks each row of a database that it
+// opens, so a database is opened a second time only where it may be a foreign one.
+fn open_shop(alloc: Global, pair: &Pair, existing: bool) -> Result<ApartBook, OpenFault>
+    ensures { IfOk result (λ book. IsOpenedOn (pair_image pair.now.log.items pair.now.store.items)
+        book.storage.conn book.storage.remembered book.ledger book.failures) }
+{
+    let opened = open_pair(alloc, pair);
+    if existing && may_be_foreign(alloc, &opened) && is_foreign(alloc, pair) {
         return Err(OpenFault::Version(VersionCause::Foreign));
     }
-    Ok(pair)
+    opened
 }
 
 /// Opens the book of a store in memory, and changes neither of its files: `read_pair`, and `open_pair`. With `existing` a database
@@ -243,8 +251,8 @@ pub fn read_apart(
 ) -> Result<ApartBook, OpenFault>
     ensures { IfOk result (λ book. IsBookApart book.storage.conn book.storage.remembered book.ledger book.failures) }
 {
-    match read_shop(rt, alloc, path, existing) {
-        Ok(pair) => open_pair(alloc, &pair),
+    match read_pair(rt, alloc, path) {
+        Ok(pair) => open_shop(alloc, &pair, existing),
         Err(fault) => Err(fault),
     }
 }
