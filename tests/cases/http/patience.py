@@ -169,6 +169,25 @@ def nobody_reads(trial):
 
 
 @case(
+    "a long answer that is read late",
+    "An answer of 8 MB, more than the system holds for a connection, arrives whole at a terminal that begins to read it two seconds "
+    "late, and rests for two seconds within it.",
+)
+def read_late(trial):
+    shop = long_rack(trial)
+    rows = ",".join(f'{{"h":60000,"part":"2000000000/{it}","state":"standing","w":200000}}' for it in range(MANY))
+    wanted = f'{{"material":"GLASS","ok":"rack","parts":[{rows}]}}'.encode()
+    with crowds.unread(shop, "/rack/GLASS", 1 << 16) as it:
+        trial.holds(select.select([it], [], [], 3 * PATIENCE)[0], "no answer comes")
+        time.sleep(2)
+        came = it.recv(1 << 20)
+        time.sleep(2)
+        head, _, body = (came + read_all(it)).partition(b"\r\n\r\n")
+    trial.holds(f"Content-Length: {len(wanted)}".encode() in head.split(b"\r\n"), head)
+    trial.holds(body == wanted, f"{len(body)} of {len(wanted)} bytes came")
+
+
+@case(
     "an answer whose reader goes away",
     "A terminal that closes within its answer of 8 MB is let go at once.",
 )
