@@ -2,7 +2,7 @@
 use Rattle.std.proofs.Common.{◌≡◌, ℕ, ◌-◌, ◌≤◌, Bool, true, false, cond, eqb, List, refl, ap, sym, subst, ◌∙◌, inl, inr, arith}
 use Rattle.std.specs.Prelude.{◌||◌, Contains, IsTrue, if◌then◌else◌, ◌==◌}
 use Rattle.std.proofs.lemmas.Bool.{and_from, cases_lt, eq-eqb, false≢true, le-leb}
-use Rattle.std.proofs.lemmas.Bool.Decides.{eqb_reports}
+use Rattle.std.proofs.lemmas.Bool.Decides.{eqb_tells}
 use Rattle.std.proofs.Math.Nat.{le_refl}
 use Rattle.cut_measure.specs.declared.sizes.Axis.TheVariants.{X, Y}
 use Rattle.cut_measure.specs.Measures.{Extent}
@@ -38,7 +38,7 @@ wider wants d w h v i wide tall p =
 small : (wants : List Want) (k : ℕ) (t : Tree) (w h d : ℕ) → Legal wants k t w h → 1 ≤ count_of t d → IsSmallPiece wants d w h
 small wants k Rest w h d l some = absurd (omega (arith, some))
 small wants k (Piece e turned) w h d l some =
-    elim (eqb_reports e d) [
+    elim (eqb_tells e d) [
       | inl (test, same) ↦ record {
         turned = turned;
         across = w;

@@ -3,7 +3,7 @@ use Rattle.std.proofs.Common.{◌≡◌, ◌≢◌, ◌⊎◌, ℕ, ◌-◌, ◌
 use Rattle.std.specs.Prelude.{All, Contains, IfSome, slice_get}
 use Rattle.std.specs.Option.{option_map_or}
 use Rattle.std.proofs.lemmas.Bool.{ne_eqb}
-use Rattle.std.proofs.lemmas.Bool.Decides.{eqb_reports}
+use Rattle.std.proofs.lemmas.Bool.Decides.{eqb_tells}
 use Rattle.std.proofs.lemmas.List.Elements.{All-cons, All-head, All-nil, All-tail}
 use Rattle.std.proofs.lemmas.List.Sums.{sum_by-cons}
 use Rattle.std.proofs.Math.Nat.{le_refl}
@@ -40,7 +40,7 @@ record IsFound (xs : List Want) (d : ℕ) : Type 0 where
 find_demand : (xs : List Want) (d : ℕ) → IsFound xs d ⊎ ((x : Want) → Contains xs x → x.demand ≢ d)
 find_demand [] d = inr (λ x has. absurd (omega (arith, has.1)))
 find_demand (y ∷ ys) d =
-    elim (eqb_reports y.demand d) [
+    elim (eqb_tells y.demand d) [
       | inl (test, same) ↦ inl (record { want = y; there = Contains-head y ys; same = same })
       | inr (test, other) ↦ elim (find_demand ys d) [
         | inl f ↦ inl (record { want = f.want; there = Contains-tail y ys f.want f.there; same = f.same })

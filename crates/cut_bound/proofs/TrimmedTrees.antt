@@ -2,7 +2,7 @@
 use Rattle.std.proofs.Common.{◌≡◌, ℕ, ◌-◌, ◌≤◌, cond, eqb, List, [], ◌∷◌, refl, ap, inl, inr, arith}
 use Rattle.std.specs.Prelude.{Contains, min}
 use Rattle.std.proofs.lemmas.Bool.{cases_lt}
-use Rattle.std.proofs.lemmas.Bool.Decides.{eqb_reports}
+use Rattle.std.proofs.lemmas.Bool.Decides.{eqb_tells}
 use Rattle.std.proofs.lemmas.Nat.{mul-le}
 use Rattle.std.proofs.Math.Nat.{le_refl}
 use Rattle.cut_measure.specs.declared.sizes.Axis.TheVariants.{X, Y}
@@ -28,7 +28,7 @@ trimmed_piece wants k w h left t e l one =
       | inl some ↦ record {
         tree = t;
         legal = l;
-        few = λ d. elim (eqb_reports e d) [
+        few = λ d. elim (eqb_tells e d) [
           | inl (test, same) ↦ omega (arith, rw test at (one d), ap left same)
           | inr (test, other) ↦ omega (arith, rw test at (one d))
         ];
@@ -38,7 +38,7 @@ trimmed_piece wants k w h left t e l one =
         tree = Rest;
         legal = tt;
         few = λ d. omega arith;
-        enough = λ d. elim (eqb_reports e d) [
+        enough = λ d. elim (eqb_tells e d) [
           | inl (test, same) ↦ omega (arith, ap left same)
           | inr (test, other) ↦ omega (arith, rw test at (one d))
         ];

@@ -3,7 +3,7 @@ use Rattle.std.proofs.Common.{◌≡◌, ℕ, zero, suc, ◌+◌, ◌*◌, ◌<�
 use Rattle.std.specs.Prelude.{All, IfSome, IfNone, IsSome, slice_get, sum_by, unwrap_or}
 use Rattle.std.specs.Option.{option_map_or}
 use Rattle.std.proofs.lemmas.Bool.{ne_eqb}
-use Rattle.std.proofs.lemmas.Bool.Decides.{eqb_reports}
+use Rattle.std.proofs.lemmas.Bool.Decides.{eqb_tells}
 use Rattle.std.proofs.lemmas.Option.{get_or_from_slice_get, slice_get_within}
 use Rattle.std.proofs.lemmas.List.Elements.{All-get_or, All-head, All-tail, All-weaker}
 use Rattle.std.proofs.lemmas.List.Sums.{sum_by-cons}
@@ -50,14 +50,14 @@ along-add f g h (x ∷ xs) = omega (arith, along-add f (λ i. g (suc i)) (λ i. 
 
 next_place : (p i : ℕ) → cond {A = ℕ} (eqb (suc p) (suc i)) 1 0 ≡ cond (eqb p i) 1 0
 next_place p i =
-    elim (eqb_reports p i) [
+    elim (eqb_tells p i) [
       | inl (test, same) ↦
-          elim (eqb_reports (suc p) (suc i)) [
+          elim (eqb_tells (suc p) (suc i)) [
             | inl (test', same') ↦ rw (test, test') refl
             | inr (test', other') ↦ absurd (other' (ap suc same))
           ]
       | inr (test, other) ↦
-          elim (eqb_reports (suc p) (suc i)) [
+          elim (eqb_tells (suc p) (suc i)) [
             | inl (test', same') ↦ absurd (other (omega arith))
             | inr (test', other') ↦ rw (test, test') refl
           ]

@@ -2,7 +2,7 @@
 use Rattle.std.proofs.Common.{◌≡◌, ◌⊎◌, ℕ, ◌+◌, ◌*◌, ◌<◌, ◌≤◌, cond, eqb, List, [], ◌∷◌, ◌++◌, length, Option, Some, None, refl, ap, sym, subst, ◌∙◌, inl, inr, append_assoc, arith}
 use Rattle.std.specs.Prelude.{Contains, IfSome, IsTrue, nat_le, slice_get, sum_by}
 use Rattle.std.proofs.lemmas.Bool.{and_parts, cases_lt, eq-eqb, leb-true}
-use Rattle.std.proofs.lemmas.Bool.Decides.{eqb_reports}
+use Rattle.std.proofs.lemmas.Bool.Decides.{eqb_tells}
 use Rattle.std.proofs.lemmas.List.{append-nil}
 use Rattle.std.proofs.lemmas.Option.{slice_get_within}
 use Rattle.std.proofs.lemmas.List.Elements.{All-contains, All-push, All-weaker, All-contains_itself}
@@ -192,7 +192,7 @@ module _ (wants : List Want) (k : ℕ) (sizes : List StockSize) (us : List Plann
 
   at_hand_pushed : AreAtHand sizes (cutting_of us) → AreAtHand sizes (cutting_of (us ++ u ∷ []))
   at_hand_pushed before p s there =
-      elim (eqb_reports u.place p) [
+      elim (eqb_tells u.place p) [
         | inl (test, same) ↦
             let here : slice_get sizes u.place ≡ Some s = ap (slice_get sizes) same ∙ there in
             let stock : add.stock ≡ s = same_some add.stock s (sym add.there ∙ here) in
@@ -214,7 +214,7 @@ module _ (wants : List Want) (k : ℕ) (sizes : List StockSize) (us : List Plann
     where
       each : (y : Want) → Contains wants y → pieces_of (cutting_of (us ++ u ∷ [])) y.demand ≤ y.left
       each y has =
-          elim (eqb_reports x.demand y.demand) [
+          elim (eqb_tells x.demand y.demand) [
             | inl (test, same) ↦
                 let left : x.left ≡ y.left = sym (of_demand_found (λ z. z.left) wants x own is.has) ∙ ap (of_demand (λ z. z.left) wants) same ∙ of_demand_found (λ z. z.left) wants y own has in
                 omega (arith, ap (pieces_of (cutting_of (us ++ u ∷ []))) same, pieces_here, add.no_more is.some, left)

@@ -2,7 +2,7 @@
 use Rattle.std.proofs.Common.{◌≡◌, ℕ, ◌+◌, ◌≤◌, Bool, true, false, List, Some, refl, ap, sym, subst, ◌∙◌, inl, inr, arith}
 use Rattle.std.specs.Prelude.{◌&&◌, ◌||◌, Contains, IsTrue, nat_le, if◌then◌else◌}
 use Rattle.std.proofs.lemmas.Bool.{and_parts, leb-true}
-use Rattle.std.proofs.lemmas.Bool.Decides.{eqb_reports, leb_reports}
+use Rattle.std.proofs.lemmas.Bool.Decides.{eqb_tells, leb_tells}
 use Rattle.cut_measure.specs.declared.ranges.TheConstants.{MAX_HEIGHT, MAX_KERF, MAX_WIDTH}
 use Rattle.cut_measure.specs.declared.sizes.Axis.TheVariants.{X, Y}
 use Rattle.cut_measure.specs.Measures.{Extent}
@@ -18,9 +18,9 @@ use Rattle.cut_order.specs.Singles.{cornered, cut_off, is_upright, single}
 module _ (leaf : ℕ → Bool → ℕ → ℕ → Type 0) where
   off_x : (a w h k : ℕ) (t : Tree) → 1 ≤ a → a ≤ w → CutsInto leaf t a h k → CutsInto leaf (cut_off X a w k t) w h k
   off_x a w h k t some inside is =
-      elim (eqb_reports a w) [
+      elim (eqb_tells a w) [
         | inl (test, same) ↦ rw test (subst (λ n. CutsInto leaf t n h k) same is)
-        | inr (test, other) ↦ elim (leb_reports w (a + k)) [
+        | inr (test, other) ↦ elim (leb_tells w (a + k)) [
           | inl (near, le) ↦ rw (test, near) (some, omega (arith, inside, other), le, is)
           | inr (far, lt) ↦ rw (test, far) (some, lt, is, tt)
         ]
@@ -28,9 +28,9 @@ module _ (leaf : ℕ → Bool → ℕ → ℕ → Type 0) where
 
   off_y : (a w h k : ℕ) (t : Tree) → 1 ≤ a → a ≤ h → CutsInto leaf t w a k → CutsInto leaf (cut_off Y a h k t) w h k
   off_y a w h k t some inside is =
-      elim (eqb_reports a h) [
+      elim (eqb_tells a h) [
         | inl (test, same) ↦ rw test (subst (λ n. CutsInto leaf t w n k) same is)
-        | inr (test, other) ↦ elim (leb_reports h (a + k)) [
+        | inr (test, other) ↦ elim (leb_tells h (a + k)) [
           | inl (near, le) ↦ rw (test, near) (some, omega (arith, inside, other), le, is)
           | inr (far, lt) ↦ rw (test, far) (some, lt, is, tt)
         ]
@@ -44,9 +44,9 @@ module _ (leaf : ℕ → Bool → ℕ → ℕ → Type 0) where
 module _ (P : Tree → Type 0) where
   off_x_keeps : (a w k : ℕ) (t : Tree) → P t → P (Trim X a t) → P (Cut X a t Rest) → P (cut_off X a w k t)
   off_x_keeps a w k t is trim cut =
-      elim (eqb_reports a w) [
+      elim (eqb_tells a w) [
         | inl (test, same) ↦ rw test is
-        | inr (test, other) ↦ elim (leb_reports w (a + k)) [
+        | inr (test, other) ↦ elim (leb_tells w (a + k)) [
           | inl (near, le) ↦ rw (test, near) trim
           | inr (far, lt) ↦ rw (test, far) cut
         ]
@@ -54,9 +54,9 @@ module _ (P : Tree → Type 0) where
 
   off_y_keeps : (a h k : ℕ) (t : Tree) → P t → P (Trim Y a t) → P (Cut Y a t Rest) → P (cut_off Y a h k t)
   off_y_keeps a h k t is trim cut =
-      elim (eqb_reports a h) [
+      elim (eqb_tells a h) [
         | inl (test, same) ↦ rw test is
-        | inr (test, other) ↦ elim (leb_reports h (a + k)) [
+        | inr (test, other) ↦ elim (leb_tells h (a + k)) [
           | inl (near, le) ↦ rw (test, near) trim
           | inr (far, lt) ↦ rw (test, far) cut
         ]

@@ -2,7 +2,7 @@
 use Rattle.std.proofs.Common.{◌≡◌, ◌≢◌, ◌⊎◌, ℕ, ◌+◌, ◌<◌, ◌≤◌, List, length, take, get_or, cond, eqb, Option, Some, None, sym, refl, ap, ◌∙◌, subst, inl, inr, arith, take_all}
 use Rattle.std.specs.Prelude.{Contains, IsSome, ◌↔◌}
 use Rattle.std.specs.Ordering.{nat_cmp, is_eq}
-use Rattle.std.proofs.lemmas.Bool.Decides.{nat_tests, eqb_reports}
+use Rattle.std.proofs.lemmas.Bool.Decides.{nat_tests, eqb_tells}
 use Rattle.std.proofs.lemmas.Grind.{common_steps}
 use Rattle.cut_wants.specs.declared.wants.Want.{Want}
 use Rattle.cut_bars.specs.declared.reach.Entry.{Entry}
@@ -33,7 +33,7 @@ map_more entries i d rising inside found found' m updates n v =
     here = get_or entries i d
 
     put : (e : Entry) → (found' e.room ≡ Some e.worth) ↔ ((e ≡ here) ⊎ ((e.room ≢ here.room) × (found e.room ≡ Some e.worth)))
-    put e = elim (eqb_reports here.room e.room) [
+    put e = elim (eqb_tells here.room e.room) [
       | inl (t, same) ↦
           let now : found' e.room ≡ Some here.worth = updates e.room ∙ ap (λ b. cond b (Some here.worth) (found e.room)) (equal_keys here.room e.room ∙ t) in (
             λ q. inl (same_entry e here (sym same) (some_is _ _ (sym q ∙ now))),

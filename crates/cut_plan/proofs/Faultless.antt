@@ -14,7 +14,7 @@ use Rattle.cut_measure.specs.declared.sizes.Kind.{Kind}
 use Rattle.cut_measure.specs.declared.sizes.Kind.TheVariants.{Bar, Sheet}
 use Rattle.cut_measure.specs.Measures.{Extent}
 use Rattle.cut_wants.specs.declared.wants.Want.{Want}
-use Rattle.std.proofs.lemmas.Bool.Decides.{eqb_reports}
+use Rattle.std.proofs.lemmas.Bool.Decides.{eqb_tells}
 use Rattle.cut_tree.specs.Tree.{Tree}
 use Rattle.cut_wants.specs.Legal.{HaveOwnDemands, Legal, IsWithinCounts, worth_of, of_demand}
 use Rattle.cut_bars.specs.Counts.{AreUprightOfHeightOne, HaveBoundedWorthsAndLefts, AreCounts, worth_of_counts}
@@ -170,7 +170,7 @@ some_worth kind size k s wants best e fit each =
     let p = fitted k wants x size.w size.h fit.there fit.wide fit.tall fit.fits in
     let worth = p.sums (of_demand (λ y. y.worth) wants) ∙ of_demand_found (λ y. y.worth) wants x (own MAX_WANTS kind wants e) fit.there in
     let within : IsWithinCounts wants p.tree = λ d.
-    elim (eqb_reports x.demand d) [
+    elim (eqb_tells x.demand d) [
       | inl (t, same) ↦
           let left = ap (of_demand (λ y. y.left) wants) (sym same) ∙ of_demand_found (λ y. y.left) wants x (own MAX_WANTS kind wants e) fit.there in
           let one = p.sums (λ f. if f == d then 1 else 0) in

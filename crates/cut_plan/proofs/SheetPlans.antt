@@ -5,7 +5,7 @@ use Rattle.std.specs.List.{list_all}
 use Rattle.std.proofs.Math.Nat.{mod-one}
 use Rattle.std.proofs.lemmas.Nat.{mul-le}
 use Rattle.std.proofs.lemmas.Bool.{ne_eqb}
-use Rattle.std.proofs.lemmas.Bool.Decides.{eqb_reports}
+use Rattle.std.proofs.lemmas.Bool.Decides.{eqb_tells}
 use Rattle.std.proofs.lemmas.List.Elements.{All-contains}
 use Rattle.std.proofs.lemmas.List.Sums.{sum_by-cons}
 use Rattle.cut_tree.specs.declared.token.TheConstants.{MAX_CUTS}
@@ -127,7 +127,7 @@ absent wants k d (Cut Y a t u) w h l none = omega (arith, absent wants k d t w a
 find_demand : (xs : List Want) (d : ℕ) → ((x : Want) × Contains xs x × (x.demand ≡ d)) ⊎ ((x : Want) → Contains xs x → x.demand ≢ d)
 find_demand [] d = inr (λ x has. absurd (omega (arith, has.1)))
 find_demand (y ∷ ys) d =
-    elim (eqb_reports y.demand d) [
+    elim (eqb_tells y.demand d) [
       | inl (t, e) ↦ inl (y, Contains-head y ys, e)
       | inr (t, n) ↦ elim (find_demand ys d) [
         | inl f ↦ inl (f.0, Contains-tail y ys f.0 f.1, f.2)
