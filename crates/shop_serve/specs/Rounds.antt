@@ -69,7 +69,7 @@ module _ {C : Type 0} (connection : ConnectionGhosts C) (site : Site) {B : Type 
 
   -- As many connections came as the limit says, and each is closed: each key that was reported was attended to, turn after turn,
   -- and each connection that was given was received. The time was read where that says so, and nowhere else.
-  pub record HasServedAll (limit : ℕ) (reported response : Option (List ℕ)) (given giving : Option (List C)) (before after : B) (seen seeing : Times) : Type 0 where
+  pub record HasServedAll (limit : ℕ) (earlier later : Option (List ℕ)) (given giving : Option (List C)) (before after : B) (seen seeing : Times) : Type 0 where
     pub rounds : List (Round C)
     pub first : Slab (Client C)
     pub last : Slab (Client C)
@@ -77,5 +77,5 @@ module _ {C : Type 0} (connection : ConnectionGhosts C) (site : Site) {B : Type 
     pub none : (key : ℕ) → get first key ≡ None
     pub closed : (key : ℕ) → get last key ≡ None
     pub count : length (all_arrived rounds) ≡ limit
-    pub reported : Adds reported response (all_keys rounds)
+    pub reported : Adds earlier later (all_keys rounds)
     pub arrived : Adds given giving (all_arrived rounds)

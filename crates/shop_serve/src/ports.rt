@@ -83,7 +83,7 @@ pub(crate) trait Port<C> {
 
     /// Waits until something is reported, or for so long.
     fn wait(&mut self, wait: Duration) -> Result<(), ServeFault>
-        ensures reported { OnOk result (Adds (reported self.old) (reported self.new) (reported self.new)) }
+        ensures reported { OnOk result (Adds (all_reported self.old) (all_reported self.new) (reported self.new)) }
         ensures given { given self.new ≡ given self.old };
 
     /// The keys that the last wait reported.
@@ -93,14 +93,14 @@ pub(crate) trait Port<C> {
     /// The next connection, where one waits and can be accepted now.
     fn accept(&mut self) -> Result<Option<C>, ServeFault>
         ensures given { Adds (given self.old) (given self.new) (given_by result) }
-        ensures reported { reported self.new ≡ reported self.old };
+        ensures reported { all_reported self.new ≡ all_reported self.old };
 
     /// Has a connection reported under a key from now on.
     fn watch(&mut self, stream: &mut C, key: usize) -> bool
         ensures same { stream.new ≡ stream.old }
         ensures watched { result ≡ true → is_watched self.new stream.new key }
         ensures deaf { result ≡ false → is_deaf self.new }
-        ensures reported { reported self.new ≡ reported self.old }
+        ensures reported { all_reported self.new ≡ all_reported self.old }
         ensures given { given self.new ≡ given self.old };
 }
 
