@@ -31,6 +31,10 @@ end_line store = codes "cutshop " ++ VERSION.now ++ codes ": ended serving " ++ 
 abbrev pub progress_line : (done all : ℕ) → List ℕ
 progress_line done all = codes "cutshop: " ++ decimal done ++ codes " of " ++ decimal all ++ codes " entries\n"
 
+-- what a terminal is shown before a large store is opened: its name and its size in megabytes
+abbrev pub opening_line : (store : List ℕ) → (megabytes : ℕ) → List ℕ
+opening_line store megabytes = codes "cutshop: opening " ++ store ++ codes ", " ++ decimal megabytes ++ codes " MB\n"
+
 -- less than half a second went by since a line was reported
 abbrev pub is_early : (reported now : Instant) → Bool
 is_early reported now = nat_lt (instant_nanos now - instant_nanos reported) (500 * 1000000)

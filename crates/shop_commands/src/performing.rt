@@ -21,6 +21,7 @@ use crate::faults::Fault;
 use crate::files::{read_file, write_text};
 use crate::orders::check_orders;
 use crate::plans::{plan_file, plan_order_file, plan_whole_file};
+use crate::progress::note_opening;
 use crate::replays::replay_fresh;
 use crate::restoring::restore;
 use crate::stored::{StoreText, print_stored, serve};
@@ -236,6 +237,25 @@ fn do_request<
     }
 }
 
+// The store that a request opens under its own name, if it opens one.
+fn opened_store<'a>(request: &Request<'a>) -> Option<&'a str> {
+    match request {
+        Request::Serve(serving) => Some(serving.store),
+        Request::Ticket { store, .. } => Some(store),
+        Request::Yield { store, .. } => Some(store),
+        Request::History { store, .. } => Some(store),
+        Request::Audit { store, .. } => Some(store),
+        _ => None,
+    }
+}
+
+// Shows on a terminal that a request's large store is being opened.
+fn note_store<R: Files + Eprint>(rt: &R, alloc: Global, request: &Request<'_>) {
+    if let Some(store) = opened_store(request) {
+        note_opening(rt, alloc, store);
+    }
+}
+
 // The status of what was done, or of what stopped, which is reported.
 fn conclude<R: Files, E: Sink>(
     rt: &R,
@@ -355,6 +375,7 @@ pub fn perform<
     match request_of(alloc, words) {
         Ok(Reading::Request(request)) => {
             let is_new = makes_store(rt, &request);
+            note_store(rt, alloc, &request);
             let outcome = do_request(rt, stores, apart, alloc, &request, source, sink);
             conclude(rt, alloc, &request, is_new, outcome, errors)
         }

@@ -1,4 +1,4 @@
-//! How far an audit or a history is, shown on a terminal at standard error.
+//! How far an audit or a history is, and that a large store is being opened, shown on a terminal at standard error.
 
 ghost use Rattle.std.specs.Prelude.{◌≡◌, IfOk, string_bytes};
 ghost use Rattle.shop_commands.specs.Log as spec;
@@ -6,11 +6,18 @@ ghost use Rattle.shop_commands.specs.Log as spec;
 use libc::{STDERR_FILENO, isatty};
 use shop_audit::Progress;
 use std::alloc::{AllocError, Global};
+use std::fs::{self, Files};
 use std::io::Eprint;
 use std::time::{Clock, Duration, Instant};
 
 /// How long nothing is reported behind a line, and at first, in milliseconds.
 const PAUSE: u64 = 500;
+
+/// A megabyte, in bytes.
+const MEGABYTE: u64 = 1_048_576;
+
+/// A store of fewer bytes than these opens within a second.
+const LARGE_STORE: u64 = 16_777_216;
 
 /// Shows on a terminal at standard error how far a work is. It shows nothing where there is none, or the clock can't be read.
 #[derive_where(Clone, Copy)]
@@ -72,5 +79,28 @@ impl<'a, R: Eprint + Clock> Progress for Meter<'a, R> {
             self.reported = Some(now);
             self.report(done, all);
         }
+    }
+}
+
+// The line that reports that a large store is being opened.
+fn opening_line(alloc: Global, store: &str, megabytes: u64) -> Result<String, AllocError>
+    ensures { IfOk result (λ line. string_bytes line ≡ spec.opening_line store.now megabytes) }
+{
+    let mut line = String::new(alloc);
+    write!(line, "cutshop: opening {store}, {megabytes} MB\n")?;
+    Ok(line)
+}
+
+/// Shows on a terminal at standard error that a large store is being opened, since nothing is shown while the port checks its
+/// rows. A line that can't be made or written is left out.
+pub(crate) fn note_opening<R: Files + Eprint>(rt: &R, alloc: Global, store: &str) {
+    let Ok(found) = fs::metadata(rt, store) else {
+        return;
+    };
+    if found.len() < LARGE_STORE || isatty(STDERR_FILENO) != 1 {
+        return;
+    }
+    if let Ok(line) = opening_line(alloc, store, found.len() / MEGABYTE) {
+        let _ = rt.eprint(line.as_str());
     }
 }
