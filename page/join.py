@@ -67,7 +67,7 @@ def part(name):
 CALLED = set(
     """adaptLines addOrderLine areaText askCalmly atSaw chosenDemands chosenPlan clickCut codeOfName countOf csvForm cutsOf
     demandsToCut factOf faultWords foldJobs foldNotices forgetRead forgetShop importsOf inOrders isFree isLost isOld isStaleBy keyOf
-    learnLines leftOf lineFaults lookAtShop makeBackup metresText momentText openJob pauseOf piecesOf planAgain planAll
+    leftOf lineFaults lookAtShop makeBackup metresText momentText openJob pauseOf piecesOf planAgain planAll
     planWords plansByMaterial plansQuestion MAX_CALLS problemFault readJobCells readOrderFile readReply readShown readTickets
     refreshNow refreshPass searchOn sendBreak sendCsv sendKept sendMany setBreaking showJob showLink showView stopPlan
     terminalWords textOf toCut undoJob viewName waitForPass whenAccepted""".split()

@@ -19,9 +19,7 @@ async function readCut() {
 }
 
 async function readAllShown() {
-  const before = shop.changes, [rows, more] = await readPages("/demands/0", "demands", MAX_PAGES, row => `/demands/${row.demand}`);
-  if (before !== shop.changes) return;
-  for (const code of shownCodes()) takeDemands(code, rows.filter(row => row.material === code), more);
+  await readPages("/demands/0");
   for (const code of shownCodes()) if (knownOf(code).demands.some(row => leftOf(row) > 0)) await readParts(code);
 }
 

@@ -1,12 +1,18 @@
-// ---- What the shop told: each answer by its path, as of the entry that was the last one known when it was asked for. An entry drops
-// what it may have changed, so that a pass asks for what a view needs and what isn't known, and for nothing else.
+// ---- The one store of what is known of the shop: each answer by its path, as of the entry that was the last one known when it was asked
+// for. An entry drops what it may have changed, so that a pass asks for what a view needs and what isn't known, and for nothing else.
+// What was dropped is shown until it is read anew. Views keep nothing of it.
 
-// last: the last entry that is known, as `lastOf` has it; null where nothing of the shop is known.
-// shops: how often all was dropped, as another shop answered.
+// by: what is known; old: what was known, and is shown where nothing is known in its place; lines: whose each demand is, which never changes;
+// orders: the row that was told last of each order, with what is said of it; last: the last entry that is known, as `lastOf` has it, null
+// where nothing of the shop is known; shops: how often all was dropped, as another shop answered; drops: how often something was dropped.
 const facts = {
   by: new Map(),
+  old: new Map(),
+  lines: new Map(),
+  orders: new Map(),
   last: null,
-  shops: 0
+  shops: 0,
+  drops: 0
 };
 
 // So many answers are kept, the latest ones.
@@ -50,35 +56,89 @@ function isStaleBy({do: done, job}, of, path) {
 
 function whatIsAbout({order, lines, material, demand, tree, job}) {
   if (order || material) return {orders: order ? [order] : [], materials: material ? [material] : lines?.map(line => line.material) || null};
-  const text = tree || factOf(`/job/${job}`)?.tree, demands = demand ? [demand] : text ? [...countPieces(text).keys()] : [];
-  const known = demands.map(it => shop.lines.get(it)), isKnown = known.length > 0 && known.every(Boolean);
+  const text = tree || toldOf(`/job/${job}`).tree, demands = demand ? [demand] : text ? [...countPieces(text).keys()] : [];
+  const known = demands.map(lineOfDemand), isKnown = known.length > 0 && known.every(it => it.order);
   return {orders: isKnown ? known.map(it => it.order) : null, materials: isKnown ? known.map(it => it.material) : null};
 }
 
-// Keeps an answer that was asked for when this was the last entry, unless another one is known by now.
+// Keeps an answer that was asked for when this was the last entry. Where another one is known by now, it is to be read anew.
 function noteFact(path, reply, asOf = facts.last) {
-  if (!asOf || asOf !== facts.last || !KEPT_FACTS.has(path.split("/")[1])) return;
+  const isOld = asOf !== facts.last, fact = {reply, asOf: asOf?.entry || 0};
+  if (!KEPT_FACTS.has(path.split("/")[1])) return;
+  for (const row of reply.orders || []) facts.orders.set(row.order, {...row, isOld});
+  if (isOld) return dropFact(path, fact);
+  facts.old.delete(path);
+  keepFact(facts.by, path, fact);
+}
+
+function keepFact(map, path, fact) {
+  map.delete(path);
+  map.set(path, fact);
+  if (map.size > MAX_FACTS) map.delete(map.keys().next().value);
+}
+
+// What may have changed is shown until it is read anew. (Of entries nothing changes but which are the last.)
+function dropFact(path, fact) {
   facts.by.delete(path);
-  facts.by.set(path, {reply, asOf: asOf.entry});
-  if (facts.by.size > MAX_FACTS) facts.by.delete(facts.by.keys().next().value);
+  if (!OF_ALL.includes(path.split("/")[1])) keepFact(facts.old, path, fact);
 }
 
 function factOf(path) { return facts.by.get(path)?.reply; }
 
-function dropStale(message, entry = Infinity) {
-  if (message.do === "note") learnSaid([message]);
-  const of = whatIsAbout(message);
-  for (const [path, {asOf}] of facts.by)
-    if (asOf < entry && isStaleBy(message, of, path)) facts.by.delete(path);
+// What the shop told last of a path: nothing where that was never asked for.
+function toldOf(path) { return (facts.by.get(path) || facts.old.get(path))?.reply || {}; }
+
+// Learns whose the demands are that an answer tells.
+function learn({ok, demands, lines, steps, entries, ...row}) {
+  const made = OF_ALL.includes(ok) ? entries.flatMap(linesMade) : ok === "demand" ? [row] : [];
+  learnLines(demands || lines || steps?.filter(step => step.demand).map(step => ({...step, material: row.material})) || made);
+}
+
+function learnLines(rows) {
+  for (const {demand, order, line, material} of rows) facts.lines.set(demand, {order, line, material});
+}
+
+// The lines that an entry made, as far as it tells them.
+function linesMade({message: {lines = []}, reply: {first, order}}) {
+  return order ? lines.map(({line, material}, i) => ({demand: first + i, order, line, material})) : [];
+}
+
+// Whose a demand is: its order, line and material, or nothing where that isn't known.
+function lineOfDemand(demand) { return facts.lines.get(demand) || {}; }
+
+// Drops what a message may have changed, unless that was read behind its entry. Where the message was answered here, what is shown meanwhile
+// has what it did.
+function dropStale(message, entry = Infinity, answer = null) {
+  const of = whatIsAbout(message), {order, due, text} = message, row = facts.orders.get(order);
+  if (message.do === "note" && row) facts.orders.set(order, {...row, due, text});
+  facts.drops++;
+  for (const [path, fact] of facts.by)
+    if (fact.asOf < entry && isStaleBy(message, of, path)) dropFact(path, fact);
+  for (const [path, fact] of answer ? facts.old : [])
+    if (isStaleBy(message, of, path)) fact.reply = withAnswer(fact.reply, message, answer);
+}
+
+// What was told, with what a message did that was answered since: its part is reserved or gone, its pieces are reserved, a line is changed.
+function withAnswer(told, {do: done, part, tree = "", demand, wanted}, {job}) {
+  const counts = countPieces(tree), {parts = [], demands = [], lines = []} = told;
+  const partOf = row => row.part !== part ? [row] : done === "reserve" ? [{...row, state: "reserved", of: job}] : [];
+  const lineOf = row => ({
+    ...row,
+    reserved: row.reserved + (counts.get(row.demand) || 0),
+    wanted: row.demand === demand ? wanted : row.wanted
+  });
+  return {...told, parts: parts.flatMap(partOf), demands: demands.map(lineOf), lines: lines.map(lineOf)};
 }
 
 function lastOf({entry, at, message: {terminal: sender, number}}) { return {entry, at, sender, number}; }
 
 function isSameEntry(row, last) { return JSON.stringify(lastOf(row)) === JSON.stringify(last); }
 
+// Anything may have changed: all is to be read anew.
 function forgetFacts() {
-  facts.by = new Map();
-  shop.said.clear();
+  for (const [path, fact] of facts.by) dropFact(path, fact);
+  facts.drops++;
+  for (const [order, row] of facts.orders) facts.orders.set(order, {...row, isOld: true});
 }
 
 // Reads through `get` what happened since the last entry that is known; false where the shop isn't the one that is known: it has fewer

@@ -40,7 +40,7 @@ function planCards(plans) {
 // A plan with how often it is cut, from which parts, and whose its pieces are.
 function planCard(plan, size, isBeside) {
   const {material, root, parts, buy, isRest} = plan, many = unitsOf(plan), holder = el("div", {class: "picture"});
-  drawPlan(holder, root, material, {wordsOf: plannedWords, hasLegend: false, ...size});
+  drawPlan(holder, root, material, {wordsOf: pieceWords, hasLegend: false, ...size});
   const kindTag = buy ? tr`to buy` : isRest ? tr`remnant` : "";
   const head = el("h3", {}, many > 1 ? el("span", {class: "same", text: `${many} × `}) : null,
     sizeText(material.kind, plan.w, plan.h), kindTag ? el("span", {class: "tag", text: kindTag}) : null,
@@ -64,7 +64,7 @@ function pieceItem(pieces, size, demand) {
 
 // Whose a demand is.
 function lineWords(demand) {
-  const {order = "?", line = "?"} = shop.lines.get(demand) || {};
+  const {order = "?", line = "?"} = lineOfDemand(demand);
   return tr`${order}, line ${line} (no. ${demand})`;
 }
 
@@ -107,7 +107,8 @@ function missingRows(found) {
   return [el("h3", {text: plansOf(code).planning ? tr`Not placed yet` : tr`Not planned`}), el("ul", {}, ...rows)];
 }
 
-function plannedWords(box) { return pieceWords(box, shop.lines.get(box.demand)); }
-
 // A piece's demand and order, and whether it is turned.
-function pieceWords(box, line) { return [`${box.demand}${line ? ` · ${line.order}` : ""}${box.turned ? " ↻" : ""}`]; }
+function pieceWords({demand, turned}) {
+  const {order} = lineOfDemand(demand);
+  return [`${demand}${order ? ` · ${order}` : ""}${turned ? " ↻" : ""}`];
+}

@@ -42,16 +42,15 @@ async function entriesTo(path, after, last) {
     more = told.more && entries.length > 0;
     if (more) after = entries[entries.length - 1].entry;
   }
-  learnOrders(rows);
+  markAgain(rows);
   return Object.assign(rows.reverse(), {more: more && after < last});
 }
 
-// Whose the lines of orders are that entries tell; and which file came again, and so made nothing.
-function learnOrders(rows) {
+// Which file came again, and so made nothing.
+function markAgain(rows) {
   const made = new Set();
   for (const row of rows) {
-    const {message: {do: done, lines}, reply: {first, order}} = row;
-    if (lines && order) learnLines(lines.map(({line, material}, i) => ({demand: first + i, order, line, material})));
+    const {message: {do: done}, reply: {order}} = row;
     row.isAgain = done === "import" && made.has(order);
     if (order) made.add(order);
   }
@@ -154,7 +153,7 @@ function entryRow({at, entry, message, reply, isAgain}) {
 
 function entryWords(message, reply) {
   const {do: done, material, batch, count: units, demand, part, tree, job, wanted} = message;
-  const piecesOfOrder = demand && shop.lines.get(demand), kind = message.kind || kindOf(material);
+  const of = lineOfDemand(demand), kind = message.kind || kindOf(material);
   switch (done) {
     case "material": return tr`material ${material}, ${materialWords(message)}`;
     case "receive": return tr`${units} × ${material} ${sizeText(kind, message.w, message.h)} received, batch ${batch}`;
@@ -162,8 +161,8 @@ function entryWords(message, reply) {
     case "extend": return tr`order ${message.order}: ${count(reply.count, "line")} added`;
     case "note": return tr`order ${message.order}: ${noteWords(message)}`;
     case "import": return tr`file of order ${message.order}: ${count(reply.count, "line")}`;
-    case "amend": return piecesOfOrder
-      ? tr`${grouped(wanted)} wanted of order ${piecesOfOrder.order}, line ${piecesOfOrder.line}`
+    case "amend": return of.order
+      ? tr`${grouped(wanted)} wanted of order ${of.order}, line ${of.line}`
       : tr`${grouped(wanted)} wanted of pieces no. ${demand}`;
     case "reserve": return tr`${part} reserved as job ${reply.job}: ${count([...countPieces(tree).values()].reduce((a, b) => a + b, 0), "piece")}`;
     case "begin": return tr`job ${job} begun`;
@@ -191,7 +190,7 @@ function takeBackButton({do: done, job}, entry) {
 
 // Links to what an entry is about.
 function linksOf({order, part, batch, demand, do: done, job}, reply) {
-  const of = order || shop.lines.get(demand)?.order, number = job || reply.job, name = done === "receive" ? `${reply.act}/0` : part;
+  const of = order || lineOfDemand(demand).order, number = job || reply.job, name = done === "receive" ? `${reply.act}/0` : part;
   return [
     of ? linkTo(`order/${of}`, tr`Order ${of}`) : null, number ? linkTo(`saw/${number}`, tr`Job ${number}`) : null,
     name ? linkTo(`part/${name}`, tr`Part ${name}`) : null, batch ? linkTo(`batch/${batch}`, tr`Batch ${batch}`) : null

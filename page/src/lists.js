@@ -17,13 +17,13 @@ const CSV_LISTS = {
     name: "to-cut",
     what: tr`pieces wanted of this material`,
     heads: DEMAND_HEADS,
-    read: () => readDemandCells(`/demands/0/${shop.material}`, row => `/demands/${row.demand}/${shop.material}`)
+    read: () => readDemandCells(`/demands/0/${shop.material}`)
   },
   orders: {
     name: "orders",
     get what() { return isFinishedToo() ? tr`all lines of all orders` : tr`pieces wanted of all materials`; },
     heads: DEMAND_HEADS,
-    read: () => isFinishedToo() ? readOrderCells() : readDemandCells("/demands/0", row => `/demands/${row.demand}`)
+    read: () => isFinishedToo() ? readOrderCells() : readDemandCells("/demands/0")
   },
   saw: {
     name: "waiting",
@@ -51,8 +51,8 @@ function codeCell(text) { return `="${text}"`; }
 
 function mmCell(tenths) { return [plainDecimal(tenths, 1)]; }
 
-async function readDemandCells(start, behind) {
-  const [rows] = await readPages(start, "demands", Infinity, behind);
+async function readDemandCells(start) {
+  const [rows] = await readPages(start, Infinity);
   return rows.map(demandCells);
 }
 
@@ -64,13 +64,13 @@ function demandCells(row) {
 }
 
 async function readOrderCells() {
-  const cells = [], [orders] = await readPages("/orders", "orders", Infinity, row => `/orders/${row.order}`);
+  const cells = [], [orders] = await readPages("/orders", Infinity);
   for (const {order} of orders) cells.push(...(await askCalmly(`/order/${order}`)).lines.map(demandCells));
   return cells;
 }
 
 async function readJobCells() {
-  const [rows] = await readPages("/jobs/0", "jobs", Infinity, row => `/jobs/${row.job}`);
+  const [rows] = await readPages("/jobs/0", Infinity);
   return rows.map(
     row => [row.job, codeCell(row.material), codeCell(row.part), mmCell(row.w), mmCell(row.h), row.cuts]);
 }
@@ -78,7 +78,7 @@ async function readJobCells() {
 async function readPartCells() {
   const cells = [];
   for (const {material} of shop.materials) {
-    const [parts] = await readPages(`/parts/${material}`, "parts", Infinity, row => `/parts/${material}/${row.part}`);
+    const [parts] = await readPages(`/parts/${material}`, Infinity);
     cells.push(...parts.map(row => [
       codeCell(row.part), word(isRemnant(row) ? "remnant" : "unit"), codeCell(material), codeCell(row.batch), mmCell(row.w),
       mmCell(row.h), word(row.state), row.state === "reserved" ? row.of : "", codeCell(row.root)

@@ -72,7 +72,10 @@ function keepCommand({what, command, many, note}, accepted, known = terminal.kep
   if (!same)
     terminal.keep(
       {mark, terminal: sender, number: 0, what, command, end: endOf(command), many, note, run, seen: facts.last});
-  whenAccepted.set(mark, accepted);
+  whenAccepted.set(mark, reply => {
+    dropStale(command, Infinity, reply);
+    accepted(reply);
+  });
   return mark;
 }
 
@@ -214,7 +217,7 @@ async function answered({mark, terminal: sender, number, what, command, end, man
   const why = isRefused ? await refusalWords(reply, command, quicker?.words) : "";
   const old = command.do === "import" && !isRefused ? await orderedBefore(command, sender, number, note) : "", isOld = Boolean(old);
   const words = isRefused ? tr`Refused: ${what}: ${why}` : quicker?.words || `${what}: ${old || outcomeWords(command, reply, end)}`;
-  if (!isRefused) dropStale(command);
+  if (!isRefused && !whenAccepted.has(mark)) dropStale(command, Infinity, reply);
   if (note && !isRefused && !isOld)
     keepCommand({what: tr`Order ${command.order}: ${noteWords(note)}`, command: {do: "note", ...note, order: command.order}}, () => {});
   terminal.keep({mark, terminal: sender, number, words, reply, many, run, isSame: Boolean(quicker?.isSame)});
@@ -344,7 +347,7 @@ function outcomeWords(command, reply, end) {
 function endOf(command) {
   if (!["done", "break"].includes(command.do)) return undefined;
   const told = command.job === atSaw.job && atSaw.told,
-        kind = told ? told.kind : shop.kindOfJob.get(command.job) || "sheet";
+        kind = told ? told.kind : kindOfJob(command.job);
   const halt = command.do === "break" ? haltOf(command) : null;
   const kept = told ? layPlan(told.root, limitsOf(told), halt).filter(box => box.fate === "kept") : [];
   return {kind, labels: kept.map(box => `${command.job}/${box.node} (${sizeText(kind, box.w, box.h)})`)};

@@ -1,13 +1,10 @@
 // ---- One order: what is said of it, the lines that are added to it, its jobs, and where its pieces came from.
 
-// notes: of orders what was typed of their day and text and isn't sent; jobs, pieces, more: of the order that was looked for its jobs,
-// each by the entry that is about it last, its pieces, and whether there are more; also: a job that has the number that was looked
-// for; extending: the order to which lines are added by hand.
+// notes: of orders what was typed of their day and text and isn't sent; jobs: of the order that was looked for its jobs, each by the entry
+// that is about it last; also: a job that has the number that was looked for; extending: the order to which lines are added by hand.
 const oneOrder = {
   notes: new Map(),
   jobs: [],
-  pieces: [],
-  more: false,
   also: 0,
   extending: ""
 };
@@ -25,7 +22,7 @@ function saidFault(text) {
 
 // The day on which an order is due and a text of it, saved by one press.
 function noteForm(order, key) {
-  const said = sentNote(order) || shop.said.get(order) || {due: 0, text: ""}, typed = oneOrder.notes.get(order);
+  const said = sentNote(order) || facts.orders.get(order) || {due: 0, text: ""}, typed = oneOrder.notes.get(order);
   const input = (name, given) => el("input", {
     "data-field": name,
     "data-key": `${key}${name}${order}`,
@@ -77,8 +74,7 @@ async function readFound() {
   await readTexts([found]);
   const entries = await entriesTo(`/story/order/${found}`, 0, Infinity);
   if (inOrders.found === found) oneOrder.jobs = jobsOf(entries);
-  const [pieces, more] = await readPages(`/pieces/order/${found}`, "pieces", MAX_PAGES, row => `/pieces/order/${found}/${row.part}`);
-  if (inOrders.found === found) Object.assign(oneOrder, {pieces, more});
+  await readPages(`/pieces/order/${found}`);
 }
 
 // The jobs that entries are about, the newest first, each by its last entry that says how it stands.
@@ -114,7 +110,10 @@ function pieceRows(head, rows, kind, more) {
   return rows.length ? [el("h3", {text: head}), el("ul", {class: "links"}, ...piecesBy(rows, kind)), andMore(more)] : [];
 }
 
-function whereFrom() { return pieceRows(tr`Where from`, oneOrder.pieces, "batch", oneOrder.more); }
+function whereFrom() {
+  const {pieces = [], more} = toldOf(`/pieces/order/${inOrders.found}`);
+  return pieceRows(tr`Where from`, pieces, "batch", more);
+}
 
 // What can be done with an order: it is planned alone, lines are added.
 function orderActs(order, lines) {

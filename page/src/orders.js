@@ -1,32 +1,21 @@
 // ---- Which orders there are, and how many pieces of their lines are wanted.
 
-// sums: of open orders the sums over all their lines; lines: of orders that are unfolded all lines, as they were told last; isRead:
-// whether the open lines were read; folds: which orders a person opened or closed; typed: of demands the numbers that were typed;
-// found: the order that was looked for; sought: what is looked for; note: what came of that; isListed: whether the list of all was
-// read.
+// folds: which orders a person opened or closed; typed: of demands the numbers that were typed; found: the order that was looked for; sought:
+// what is looked for; note: what came of that.
 const inOrders = {
-  sums: new Map(),
-  lines: new Map(),
-  isRead: false,
   folds: new Map(),
   typed: new Map(),
   found: "",
   sought: "",
-  note: "",
-  isListed: false
+  note: ""
 };
 
 function isFinishedToo() { return $("finishedToo").checked; }
 
 async function readOrders() {
   await readOpenOrders();
-  if (isFinishedToo()) {
-    [shop.allOrders, shop.moreAllOrders] =
-      await readPages("/orders", "orders", shop.allOrderPages, row => `/orders/${row.order}`);
-    inOrders.isListed = true;
-  }
-  const listed = isFinishedToo() ? shop.allOrders.map(row => row.order) : [];
-  const open = new Set(shop.orders.map(row => row.order)), shown = listed.filter(order => inOrders.folds.get(order));
+  const [all] = isFinishedToo() ? await readPages("/orders", shop.allOrderPages) : [[]];
+  const open = new Set(openOrders()), shown = all.map(row => row.order).filter(order => inOrders.folds.get(order));
   for (const order of new Set([inOrders.found, ...shown]))
     if (order && (order === inOrders.found || !open.has(order)) && !await readIfThere(order)) inOrders.found = "";
   await readFound();
@@ -34,28 +23,28 @@ async function readOrders() {
 
 // The open orders with their sums; of unfolded ones all lines.
 async function readOpenOrders() {
-  const [rows, more] = await readPages("/demands/0", "demands", MAX_PAGES, row => `/demands/${row.demand}`);
-  learnLines(rows);
-  const orders = groupsOf(rows, row => row.order).sort(([a], [b]) => byDay(a, b));
-  inOrders.sums = await readSums(orders.map(([{order}]) => order));
-  [shop.orders, shop.moreOrders] = [orders.flat(), more];
+  await readPages("/demands/0");
+  await readSums(openOrders());
   const shown = new Set(ordersToShow().filter(([, isOpen]) => isOpen).map(([row]) => row.order));
-  for (const [{order}] of orders)
+  for (const order of openOrders())
     if (shown.has(order)) await readLines(order);
-  inOrders.isRead = true;
 }
 
-// The sums of orders: the list of all is asked behind the greatest code below one that isn't told yet.
+// The orders of which something is open, the earliest due first.
+function openOrders() {
+  const rows = toldOf("/demands/0").demands || [];
+  return groupsOf(rows, row => row.order).sort(([a], [b]) => byDay(a, b)).map(([{order}]) => order);
+}
+
+// Reads the sums of orders: the list of all is asked behind the greatest code below one that isn't told yet.
 async function readSums(codes) {
-  const sums = new Map();
+  const told = new Set();
   let pages = 0;
   for (const code of [...codes].sort()) {
-    if (sums.has(code) || pages++ >= MAX_PAGES) continue;
+    if (told.has(code) || pages++ >= MAX_PAGES) continue;
     const below = codeBelow(code), {orders} = await askCalmly(below ? `/orders/${below}` : "/orders");
-    for (const row of orders) sums.set(row.order, row);
+    for (const {order} of orders) told.add(order);
   }
-  learnSaid(sums.values());
-  return sums;
 }
 
 const LETTERS = "-0123456789ABCDEFGHIJKLMNOPQRSTUVWXYZ";
@@ -66,12 +55,10 @@ function codeBelow(code) {
   return place > 0 ? `${start}${LETTERS[place - 1]}`.padEnd(16, "Z") : start;
 }
 
-async function readLines(order, read = askCalmly) {
-  const {lines} = await read(`/order/${order}`);
-  learnLines(lines);
-  inOrders.lines.set(order, lines);
-  return lines;
-}
+async function readLines(order, read = askCalmly) { return (await read(`/order/${order}`)).lines; }
+
+// All lines of an order, or nothing where they were never read.
+function linesOf(order) { return toldOf(`/order/${order}`).lines; }
 
 // The lines of an order, or null where there is none of this code.
 function readIfThere(order, read = askCalmly) {
@@ -92,22 +79,20 @@ function stateOf({wanted, made}) { return wanted === 0 ? tr`cancelled` : made ==
 function showOrders() {
   notePromised();
   if (!$("orderLines").children.length && shop.materials.length) addOrderLine();
-  const more = isFinishedToo() ? shop.moreAllOrders : shop.moreOrders;
-  fill($("orderList"), () => orderRows(ordersToShow(), more));
+  fill($("orderList"), () => orderRows(ordersToShow()));
   fill($("foundOrder"), foundRows);
 }
 
 // The orders of the list, and whether each is unfolded: few are at first.
 function ordersToShow() {
-  const open = [...new Set(shop.orders.map(row => row.order))].filter(order => inOrders.sums.has(order));
-  const rows = isFinishedToo() ? shop.allOrders : open.map(order => inOrders.sums.get(order));
+  const rows = isFinishedToo() ? toldOf("/orders").orders || [] : openOrders().map(order => facts.orders.get(order)).filter(Boolean);
   const isFew = !isFinishedToo() && rows.reduce((all, row) => all + row.lines, 0) <= MAX_OPEN;
   return rows.map(row => [row, inOrders.folds.get(row.order) ?? isFew]);
 }
 
-function orderRows(rows, more) {
-  const isRead = isFinishedToo() ? inOrders.isListed : inOrders.isRead;
-  if (!rows.length) return [quiet(!isRead ? "…" : isFinishedToo() ? tr`There is no order.` : tr`No order is open.`)];
+function orderRows(rows) {
+  const {ok, more} = toldOf(isFinishedToo() ? "/orders" : "/demands/0"), isEmpty = ok && (isFinishedToo() || !openOrders().length);
+  if (!rows.length) return [quiet(!isEmpty ? "…" : isFinishedToo() ? tr`There is no order.` : tr`No order is open.`)];
   return [
     quiet(tr`How many pieces of a line are wanted can be changed to more or fewer, down to what is made and reserved.`),
     ...rows.map(([row, isOpen]) => orderCard(row, isOpen, "", orderFold(row.order, isOpen), "")),
@@ -116,11 +101,12 @@ function orderRows(rows, more) {
 }
 
 function foundRows() {
-  const {found, note, lines} = inOrders;
+  const {found, note} = inOrders, lines = linesOf(found);
   if (!found) return note ? [el("p", {class: note === "…" ? "quiet" : "fault", text: note})] : [];
-  const card = orderCard(sumsOf(found, lines.get(found)), true, tr`Order ${found}`, null, "f");
+  if (!lines) return [quiet("…")];
+  const card = orderCard(sumsOf(found, lines), true, tr`Order ${found}`, null, "f");
   const also = oneOrder.also ? linkTo(`saw/${oneOrder.also}`, tr`Job ${oneOrder.also}`) : "";
-  card.append(orderActs(found, lines.get(found)), also, ...orderJobs(), ...whereFrom().filter(Boolean));
+  card.append(orderActs(found, lines), also, ...orderJobs(), ...whereFrom().filter(Boolean));
   return [card];
 }
 
@@ -144,7 +130,7 @@ async function unfold(order, isOpen) {
 
 // An order: its state, what is said of it, its sums, and where it is unfolded its lines.
 function orderCard(row, isOpen, title, fold, key) {
-  const {order} = row, lines = isOpen && inOrders.lines.get(order), sums = lines ? sumsOf(order, lines) : row;
+  const {order} = row, lines = isOpen && linesOf(order), sums = lines ? sumsOf(order, lines) : row;
   const shown = lines ? lines.map(line => lineForm(line, key)) : isOpen ? [quiet("…")] : [], go = () => cancelOrder(order);
   const words = [stateOf(sums), saidOf(order)].filter(Boolean).join(" · ");
   return el("div", {class: "ordered"},
@@ -226,7 +212,7 @@ function changeLine(row, field) {
     drawAllAnew();
     showView();
   });
-  if (wanted === row.wanted || send({demand, do: "amend", wanted}, what, noteAmended, back)) inOrders.typed.delete(demand);
+  if (wanted === row.wanted || send({demand, do: "amend", wanted}, what, showView, back)) inOrders.typed.delete(demand);
   showOrders();
 }
 
@@ -250,16 +236,9 @@ async function cancel(what, rows) {
   const commands = left.map(({demand, line, made: done, reserved: kept}) =>
     [tr`line ${line}`, {demand, do: "amend", wanted: done + kept}]);
   for (const {demand} of left) inOrders.typed.delete(demand);
-  if (commands.length === 1) send(commands[0][1], what, noteAmended);
-  else sendMany(what, commands, (_, reply) => noteAmended(reply));
+  if (commands.length === 1) send(commands[0][1], what, showView);
+  else sendMany(what, commands, showView);
   showOrders();
-}
-
-// Enters what was amended into the lines that are known, which are read anew all the same.
-function noteAmended({demand, wanted}) {
-  for (const [order, lines] of inOrders.lines)
-    inOrders.lines.set(order, lines.map(row => row.demand === demand ? {...row, wanted} : row));
-  showView();
 }
 
 function findOrder(event) {
@@ -271,7 +250,7 @@ function findOrder(event) {
 
 function forgetFound() {
   Object.assign(inOrders, {found: "", sought: "", note: ""});
-  Object.assign(oneOrder, {jobs: [], pieces: [], more: false, also: 0});
+  Object.assign(oneOrder, {jobs: [], also: 0});
   $("findOrder").value = "";
 }
 
@@ -282,7 +261,7 @@ async function showOrder(text) {
   let place = "";
   if ($("findOrder").value.trim().toUpperCase() !== text) $("findOrder").value = text;
   Object.assign(inOrders, {sought: text, found: "", note: "…"});
-  Object.assign(oneOrder, {jobs: [], pieces: [], more: false, also: 0});
+  Object.assign(oneOrder, {jobs: [], also: 0});
   showOrders();
   try {
     told.found = PART_NAME.test(text) ? "" : await orderOf(text);

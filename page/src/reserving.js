@@ -34,13 +34,12 @@ function sendReserves(parts, found) {
 function reserved(part, tree, {job, cuts}, found) {
   found?.jobs.set(part, job);
   noteJob(part, tree, job, cuts);
-  noteReserved(part, tree, job);
   showView();
 }
 
 // The plan of a job that was reserved here is known without a question.
 function noteJob(part, tree, job, cuts) {
-  const row = [...known.values()].flatMap(of => of.parts).find(other => other.part === part);
+  const row = shop.materials.flatMap(({material}) => knownOf(material).parts).find(other => other.part === part);
   if (row) noteWaiting({...row, job, cuts}, tree);
 }
 

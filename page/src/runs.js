@@ -68,18 +68,14 @@ function leaveRun() {
 // All that is known of the shop is dropped, as another may answer by now, with what was asked and typed about it. What is typed
 // into the forms stays, and so does what waits.
 function forgetShop() {
-  const {lines, said, totals, open, left, kindOfJob} = shop;
-  for (const it of [known, lines, said, totals, open, left, kindOfJob, halts, breaks, inStock.wanted]) it.clear();
-  Object.assign(facts, {by: new Map(), last: null, shops: facts.shops + 1});
-  for (const it of ["sums", "lines", "typed"]) inOrders[it].clear();
-  Object.assign(shop, {isKnown: false, orders: [], allOrders: [], jobs: []});
-  Object.assign(shop, {moreOrders: false, moreAllOrders: false, moreJobs: false});
-  Object.assign(inOrders, {isRead: false, found: "", sought: "", note: "", isListed: false});
-  Object.assign(atSaw, {plans: new Map(), ended: [], endedTo: 0, told: null, opening: 0, breaking: false, lost: null, canvas: null});
+  const {by, old, lines, orders} = facts;
+  for (const it of [by, old, lines, orders, halts, breaks, inStock.wanted, inOrders.typed]) it.clear();
+  Object.assign(facts, {last: null, shops: facts.shops + 1});
+  Object.assign(inOrders, {found: "", sought: "", note: ""});
+  Object.assign(atSaw, {ended: [], endedTo: 0, told: null, opening: 0, breaking: false, lost: null, canvas: null});
   forgetTrace();
   leaveHappened();
   owner.report = held.target = null;
-  shop.changes++;
   refresh.lost = true;
   toCut.all?.abort();
   for (const code of [...plansByMaterial.keys()]) forgetPlans(code);

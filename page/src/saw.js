@@ -1,10 +1,8 @@
 // ---- At the saw.
 
-// told: the job that is shown, with its plan; opening: the number that was asked for last; plans: of waiting jobs that may be
-// equal, each job's plan; ended: the entries that ended the last jobs, as of entry endedTo; isListed: whether the list of jobs is unfolded where it lies
-// above the ticket; deaf: until when *Done* takes no press.
+// told: the job that is shown, with its plan; opening: the number that was asked for last; ended: the entries that ended the last jobs, as of
+// entry endedTo; isListed: whether the list of jobs is unfolded where it lies above the ticket; deaf: until when *Done* takes no press.
 const atSaw = {
-  plans: new Map(),
   ended: [],
   endedTo: 0,
   job: 0,
@@ -70,10 +68,8 @@ function waitingJobs() {
 // Reads the plans of waiting jobs whose material, sides and cuts are those of another.
 async function readPlans() {
   const alike = groupsOf(shop.jobs, row => [row.material, row.w, row.h, row.cuts].join(" ")).filter(rows => rows.length > 1);
-  const plans = new Map();
   await learnPlans(alike.flat().filter(({job}) => !factOf(`/job/${job}`)));
-  for (const {job} of alike.flat()) plans.set(job, (await askCalmly(`/job/${job}`)).tree);
-  atSaw.plans = plans;
+  for (const {job} of alike.flat()) await askCalmly(`/job/${job}`);
 }
 
 // Of many jobs the plans come from the entries that reserved them, back from the newest; the others are asked for one by one.
@@ -94,7 +90,7 @@ async function learnPlans(rows) {
 }
 
 // Waiting jobs of one plan: the same material, sides and cuts for the same demands.
-function kindOfPlan(row, tree = atSaw.plans.get(row.job)) {
+function kindOfPlan(row, tree = planOfJob(row)) {
   return tree ? [row.material, row.w, row.h, tree].join(" ") : tr`job ${row.job}`;
 }
 
@@ -121,7 +117,7 @@ function foldJobs() {
 }
 
 // What is known of a waiting job's plan.
-function planOfJob({job}) { return atSaw.plans.get(job) || factOf(`/job/${job}`)?.tree || ""; }
+function planOfJob({job}) { return toldOf(`/job/${job}`).tree || ""; }
 
 // Waiting jobs of one plan, as one row: what it cuts, how often, which jobs these are, when they are due, and which are begun.
 function jobRow(rows) {
@@ -253,15 +249,13 @@ async function readShown() {
   await readTexts(ordersOfJob(atSaw.told));
 }
 
-function ordersOfJob({tree}) { return [...new Set([...countPieces(tree).keys()].map(demand => shop.lines.get(demand)?.order).filter(Boolean))]; }
+function ordersOfJob({tree}) { return [...new Set([...countPieces(tree).keys()].map(demand => lineOfDemand(demand).order).filter(Boolean))]; }
 
 // A job with its plan, and whose its pieces are.
 async function readJob(job, by = askCalmly) {
   const told = await by(`/job/${job}`);
-  if ([...countPieces(told.tree).keys()].some(demand => !shop.lines.has(demand)))
-    learnLines((await by(`/steps/${job}`)).steps.filter(step => step.demand).map(step => ({...step, material: told.material})));
+  if ([...countPieces(told.tree).keys()].some(demand => !lineOfDemand(demand).order)) await by(`/steps/${job}`);
   Object.assign(told, {kind: kindOf(told.material), root: readPlan(told.tree, told.w, told.h, told.kerf)});
-  shop.kindOfJob.set(job, told.kind);
   if (told.state !== "broken") halts.delete(keyOf(told));
   return told;
 }
@@ -362,7 +356,7 @@ function jobPicture({told, made, halt, isWaiting, isPlan}) {
   const restName = box => `${told.job}/${box.node}`, holder = el("div", {});
   atSaw.canvas = drawPlan(holder, told.root, limitsOf(told), {
     room: Math.max(200, $("jobPicture").clientWidth - 2),
-    wordsOf: box => pieceWords(box, shop.lines.get(box.demand)),
+    wordsOf: pieceWords,
     restName,
     made,
     halt,
@@ -436,7 +430,7 @@ function jobPieces({told, boxes}, jobs = told.jobs) {
 function piecesTable(kind, boxes, restWords) {
   const right = text => el("td", {class: "right", text}), pieces = boxes.filter(box => box.fate === "piece");
   const rows = [...new Set(pieces.map(box => box.demand))].map(demand => {
-    const {order, line} = shop.lines.get(demand) || {}, same = pieces.filter(box => box.demand === demand), [one] = same;
+    const {order, line} = lineOfDemand(demand), same = pieces.filter(box => box.demand === demand), [one] = same;
     return el("tr", {}, right(`${same.length} ×`), right(pieceSize(kind, one)),
       el("td", {text: tr`order ${order}, line ${line} (no. ${demand})`}));
   });
@@ -501,7 +495,7 @@ function partWords(box, told) {
     const fate = box.fate === "kept" ? tr`, kept as ${told.job}/${box.node}` : box.fate ? `, ${word(box.fate)}` : "";
     return `${name}${size}${fate}`;
   }
-  const {order, line} = shop.lines.get(box.demand) || {};
+  const {order, line} = lineOfDemand(box.demand);
   return tr`piece ${size} of ${order} line ${line} (no. ${box.demand})${box.turned ? tr` turned` : ""}`;
 }
 
@@ -526,7 +520,7 @@ function cutLines({told, halt, made, isWaiting, left}) {
 
 function sheetWords(box, told) {
   if (box.kind !== "piece") return box.fate === "kept" ? tr`keep ${namesIn(told, box)}` : word(box.fate);
-  const {order, line} = shop.lines.get(box.demand) || {};
+  const {order, line} = lineOfDemand(box.demand);
   return `${order}/${line}${box.turned ? " ↻" : ""}`;
 }
 

@@ -188,7 +188,7 @@ async function askPlans(it, asked, calls, signal, again = MAX_AGAIN) {
 async function learnPieces({plans, missing}) {
   const demands = new Set([...plans.flatMap(plan => [...countPieces(plan.tree).keys()]), ...missing.map(row => row.demand)]);
   for (const demand of demands)
-    if (!shop.lines.has(demand)) await ask(`/demand/${demand}`).then(row => learnLines([row]), () => {});
+    if (!lineOfDemand(demand).order) await ask(`/demand/${demand}`).catch(() => {});
 }
 
 // Takes what was found where it is better than what is shown: plans, bound and what is proved are one answer's own. What is shown
@@ -388,7 +388,7 @@ function takenWords(found) {
 function nextSteps() {
   const {found} = toCut;
   if (!found?.sent || [...found.sent].some(part => shop.promisedParts.has(part))) return [];
-  const steps = [], other = shop.materials.find(row => row.material !== shop.material && shop.left.get(row.material) > 0);
+  const steps = [], other = shop.materials.find(row => row.material !== shop.material && sumLeft(knownOf(row.material).demands) > 0);
   const isLeft = found.refused.length || (!found.missing.length && chosenDemands().length);
   if (isLeft && !$("planAll").disabled) steps.push([tr`Plan what is left`, planAll]);
   if (other) steps.push([tr`Plan all of ${other.material}`, () => planMaterial(other.material)]);

@@ -77,18 +77,52 @@ function isBare(path, status) {
 }
 
 // A reply's object; a refusal is thrown.
-async function ask(path, options = {}) {
-  const asOf = facts.last, {status, reply} = await request(path, options);
+async function fetchReply(path, options) {
+  const {status, reply} = await request(path, options);
   if (!reply) throw new NoAnswer(status === 412 ? tr`the program was started anew` : strangeWords(status));
   if (reply.refused !== undefined) throw new Refused(reply);
-  if (options.body === undefined) noteFact(path, {...reply}, asOf);
+  return reply;
+}
+
+// The same, which is known from then on.
+async function ask(path, options = {}) {
+  const {last, shops} = facts, reply = await fetchReply(path, options);
+  if (options.body !== undefined || shops !== facts.shops) return reply;
+  learn(reply);
+  noteFact(path, {...reply}, last);
   return reply;
 }
 
 // What is known still, or else what the shop says when nobody waits for another answer.
 async function askCalmly(path) {
-  const known = factOf(path);
-  return known ? {...known} : ask(path, {calm: true});
+  const known = facts.by.get(path);
+  if (!known) return ask(path, {calm: true});
+  keepFact(facts.by, path, known);
+  return {...known.reply};
+}
+
+// A list is read up to so many pages of so many rows.
+const MAX_PAGES = 20, ROWS = 100;
+
+// A list, as many of its pages as are shown, and whether there are more: one answer, which is known by the path of the first page once all
+// of it was read and nothing was dropped meanwhile.
+async function readPages(start, pages = MAX_PAGES) {
+  const [, key] = start.split("/"), {last, shops} = facts, told = {...factOf(start) || await fetchReply(start, {calm: true})};
+  const {drops} = facts, rows = told[key] = [...told[key]];
+  while (told.more && rows.length < pages * ROWS) {
+    const next = await fetchReply(pathBehind(start, key, rows[rows.length - 1]), {calm: true});
+    rows.push(...next[key]);
+    told.more = next.more && next[key].length > 0;
+  }
+  if (shops === facts.shops) learn(told);
+  if (shops === facts.shops && drops === facts.drops && pages < Infinity) noteFact(start, told, last);
+  return [rows, told.more];
+}
+
+// The path of the page behind a row.
+function pathBehind(start, key, row) {
+  const last = key === "pieces" ? row.part : row[key.slice(0, -1)];
+  return ["demands", "jobs"].includes(key) ? start.replace("0", last) : `${start}/${last}`;
 }
 
 // An answer of the shop is a JSON object that says what was done or why not; another program may listen at its port, or stand

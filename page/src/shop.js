@@ -1,45 +1,44 @@
-// ---- What is known of the shop.
+// ---- What views show of what is known, and what was pressed here and has no answer yet.
 
-// A list is read up to so many pages of a hundred.
-const MAX_PAGES = 20;
-
+// Lists are what the shop told last; what was answered here since is in them. moreX: whether list X goes on; partsOf: the material whose
+// parts these are; jobPages, allOrderPages: how many pages are shown; promised: by demand the pieces in reservations that were pressed here
+// and have no answer yet; promisedParts: the parts of those; partsGoing: those that are being scrapped or returned; amending: by demand how
+// many are wanted of it by a message without an answer yet.
 const shop = {
-  materials: [],
-  isKnown: false,  // whether the materials were read
   material: storage.read("cutshop.material", ""),
-  totals: new Map(),
-  open: new Map(),
-  left: new Map(),  // material -> how many pieces are left to cut of it
-  turn: 0,
-  get demands() { return knownOf().demands; },  // open ones of the chosen material
-  get moreDemands() { return knownOf().moreDemands; },
-  orders: [],
-  moreOrders: false,
-  allOrders: [],
-  moreAllOrders: false,
-  allOrderPages: 1,  // orders with their sums, finished ones too
+  jobPages: 1,
+  allOrderPages: 1,
+  promised: new Map(),
+  promisedParts: new Set(),
+  partsGoing: new Set(),
+  amending: new Map(),
+  get materials() { return toldOf("/materials").materials || []; },
+  get isKnown() { return Boolean(toldOf("/materials").ok); },
+  get jobs() { return toldOf("/jobs/0").jobs || []; },
+  get moreJobs() { return toldOf("/jobs/0").more; },
+  get demands() { return knownOf().demands; },
   get parts() { return knownOf().parts; },
   get moreParts() { return knownOf().moreParts; },
-  get partsOf() { return knownOf().isRead ? shop.material : ""; },
-  jobs: [],
-  moreJobs: false,
-  jobPages: 1,
-  kindOfJob: new Map(),
-  lines: new Map(),  // demand -> { order, line, material }: what never changes of it
-  said: new Map(),  // order -> { due, text }: what is said of it
-  promised: new Map(),  // demand -> pieces in reservations that were pressed here and have no answer yet
-  promisedParts: new Set(),  // the parts of those
-  partsGoing: new Set(),  // the parts that are being scrapped or returned, without an answer yet
-  amending: new Map(),  // demand -> how many are wanted of it by a message without an answer yet
-  changes: 0,  // how often an answer changed the lists: what is being read meanwhile is older
+  get partsOf() { return knownOf().isRead ? shop.material : ""; }
 };
 
-// What was read of each material: its open demands, and its parts. It stays when another one is looked at.
-const known = new Map();
-
+// What is known of a material: its open demands, and its parts.
 function knownOf(code = shop.material) {
-  if (!known.has(code)) known.set(code, {demands: [], moreDemands: false, parts: [], moreParts: false, isRead: false});
-  return known.get(code);
+  const {demands = [], more} = demandsTold(code), told = toldOf(`/parts/${code}`), parts = told.parts || [];
+  return {
+    demands: demands.filter(row => row.material === code),
+    moreDemands: more,
+    parts: parts.map(row => ({...row, material: code})),
+    moreParts: told.more,
+    isRead: Boolean(told.ok)
+  };
+}
+
+// What tells a material's open demands, its own list or that of all: one that is read to its end; of what isn't known any more the later one.
+function demandsTold(code) {
+  const [known, old] = [facts.by, facts.old].map(map => [`/demands/0/${code}`, "/demands/0"].map(path => map.get(path)).filter(Boolean));
+  const fact = known.find(it => !it.reply.more) || known[0] || old.sort((a, b) => b.asOf - a.asOf)[0];
+  return fact?.reply || {};
 }
 
 // Takes from the kept messages which parts and pieces are promised, and what is amended.
@@ -51,21 +50,6 @@ function notePromised() {
   shop.promised = new Map();
   for (const {tree} of reserved)
     for (const [demand, pieces] of countPieces(tree)) shop.promised.set(demand, (shop.promised.get(demand) || 0) + pieces);
-}
-
-// Enters into the lists what an answer told, so that nobody waits until they are read again.
-function noteReserved(part, tree, job) {
-  const counts = countPieces(tree), more = row => counts.get(row.demand) || 0;
-  for (const of of known.values()) {
-    of.parts = of.parts.map(row => row.part === part ? {...row, state: "reserved", of: job} : row);
-    of.demands = of.demands.map(row => ({...row, reserved: row.reserved + more(row)}));
-  }
-  shop.changes++;
-}
-
-function noteGone(part) {
-  for (const of of known.values()) of.parts = of.parts.filter(row => row.part !== part);
-  shop.changes++;
 }
 
 // The open demands of a material as they are once what was pressed here is answered.
@@ -85,91 +69,52 @@ function kindOf(code) { return materialOf(code)?.kind || "sheet"; }
 
 function isRemnant(part) { return part.root !== part.part; }
 
-// The rows of a list, page by page, as many pages as are shown.
-async function readPages(start, key, pages, behind) {
-  let rows = [], more = true, path = start;
-  for (let page = 0; page < pages && more; page++) {
-    const reply = await askCalmly(path);
-    rows = rows.concat(reply[key]);
-    more = reply.more && reply[key].length > 0;
-    if (more) path = behind(rows[rows.length - 1]);
-  }
-  return [rows, more];
-}
-
 async function readMaterials() {
-  shop.materials = (await askCalmly("/materials")).materials;
-  if (!shop.isKnown) {
-    shop.isKnown = true;
-    fillTyped();
-  }
+  const wasKnown = shop.isKnown;
+  await askCalmly("/materials");
+  if (!shop.isKnown) return;
+  if (!wasKnown) fillTyped();
   const {word, of} = readAddress();
   if (["cut", "stock"].includes(word) && of && !materialOf(of)) settle(word);
   if (!materialOf(shop.material) && (shop.material || shop.materials.length)) chooseMaterial(shop.materials[0]?.material || "");
 }
 
-function learnLines(rows) {
-  for (const row of rows) shop.lines.set(row.demand, {order: row.order, line: row.line, material: row.material});
-}
-
-function learnSaid(rows) {
-  for (const {order, due, text} of rows) shop.said.set(order, {due, text});
-}
-
 // Reads what is said of orders, where it isn't known.
 async function readTexts(codes) {
-  await readSums(codes.filter(code => !shop.said.has(code)));
+  await readSums(codes.filter(code => facts.orders.get(code)?.isOld !== false));
 }
 
 // What is said of an order: its day and its text.
 function saidOf(order) {
-  const {due = 0, text = ""} = shop.said.get(order) || {};
+  const {due = 0, text = ""} = facts.orders.get(order) || {};
   return [dueWords({due}), text].filter(Boolean).join(", ");
 }
 
 async function readDemands(code = shop.material) {
-  const before = shop.changes;
-  if (!code) return;
-  const [rows, more] = await readPages(`/demands/0/${code}`, "demands", MAX_PAGES, row => `/demands/${row.demand}/${code}`);
-  if (before === shop.changes) takeDemands(code, rows, more);
-}
-
-function takeDemands(code, rows, more) {
-  learnLines(rows);
-  noteOpen(code, rows, more);
-  Object.assign(knownOf(code), {demands: rows, moreDemands: more});
+  if (code) await readPages(`/demands/0/${code}`);
 }
 
 // The open demands of one other material a pass, so that each material's button tells how much is open.
 async function readOthers() {
-  const others = shop.materials.filter(row => row.material !== shop.material);
-  if (!others.length || shop.materials.length > MANY || isAllShown()) return;
-  const code = (others.find(row => !shop.open.has(row.material)) || others[shop.turn++ % others.length]).material;
-  const {demands, more} = await askCalmly(`/demands/0/${code}`);
-  noteOpen(code, demands, more);
+  const other = shop.materials.find(({material}) => material !== shop.material && !factOf(`/demands/0/${material}`));
+  if (other && shop.materials.length <= MANY && !isAllShown()) await askCalmly(`/demands/0/${other.material}`);
 }
 
-function noteOpen(code, rows, more) {
-  const left = rows.reduce((sum, row) => sum + leftOf(row), 0);
-  shop.left.set(code, left);
-  shop.open.set(code, tr`${grouped(left)}${more ? tr` and more` : ""} to cut`);
+function openWords(code) {
+  const {demands, more} = demandsTold(code);
+  return demands ? tr`${grouped(sumLeft(knownOf(code).demands))}${more ? tr` and more` : ""} to cut` : "";
 }
 
-async function readJobs() {
-  [shop.jobs, shop.moreJobs] = await readPages("/jobs/0", "jobs", shop.jobPages, row => `/jobs/${row.job}`);
-  for (const row of shop.jobs) shop.kindOfJob.set(row.job, kindOf(row.material));
+function readJobs() { return readPages("/jobs/0", shop.jobPages); }
+
+// The kind of a job's material, as far as that is known.
+function kindOfJob(job) {
+  const {material = shop.jobs.find(row => row.job === job)?.material} = toldOf(`/job/${job}`);
+  return kindOf(material);
 }
 
 async function readParts(code = shop.material) {
-  const before = shop.changes;
-  if (!code) return;
-  const [parts, more] = await readPages(`/parts/${code}`, "parts", MAX_PAGES, row => `/parts/${code}/${row.part}`);
-  if (before === shop.changes) Object.assign(knownOf(code), {parts: parts.map(row => ({...row, material: code})), moreParts: more, isRead: true});
-}
-
-async function readTotals() {
-  const shown = shop.materials.slice(0, 12).concat(shop.materials.slice(12).filter(row => row.material === shop.material));
-  for (const row of shown) shop.totals.set(row.material, await askCalmly(`/totals/${row.material}`));
+  if (code) await readPages(`/parts/${code}`);
 }
 
 function chooseMaterial(code) {
@@ -227,7 +172,7 @@ function materialWords(row) {
 }
 
 function materialButton(row) {
-  const open = shop.open.get(row.material);
+  const open = openWords(row.material);
   return el("button", {
     "data-key": row.material,
     "aria-pressed": String(row.material === shop.material && !isAllShown()),

@@ -151,14 +151,10 @@ async function takeAway(word, words, parts) {
   const asked = wanted > 1 ? `${what} (${namesOf(chosen)})` : `${what}, ${shop.material} ${size}`;
   if (!await confirmed(tr`${asked}? This can't be taken back.`, wanted > 1 ? `${words} ${wanted}` : words)) return;
   inStock.wanted.delete(part);
-  const gone = name => {
-    noteGone(name);
-    showView();
-  };
-  if (wanted === 1) send({do: word, part}, what, () => gone(part));
+  if (wanted === 1) send({do: word, part}, what, showView);
   else {
     const commands = chosen.map(({part: name}) => [`${words} ${name}`, {do: word, part: name}]);
-    sendMany(what, commands, command => gone(command.part));
+    sendMany(what, commands, showView);
   }
   showView();
 }
@@ -219,12 +215,12 @@ async function trace(name) {
     traced.chain = chain;
     if (viewName() === "stock") go(`part/${name}`);
     const [part] = traced.chain;
-    if (part.state === "piece" && !shop.lines.has(part.of)) learnLines([await ask(`/demand/${part.of}`)]);
+    if (part.state === "piece" && !lineOfDemand(part.of).order) await ask(`/demand/${part.of}`);
     $("traceWords").replaceChildren(...traceWords(traced.chain));
     drawChain();
     if (window.innerWidth < NARROW) $("tracePanel").scrollIntoView({block: "nearest"});
     if (chain.length > 1) return;
-    const [pieces, more] = await readPages(`/pieces/unit/${name}`, "pieces", MAX_PAGES, row => `/pieces/unit/${name}/${row.part}`);
+    const [pieces, more] = await readPages(`/pieces/unit/${name}`);
     if (traced.name === name) $("traceWords").append(...pieceRows(tr`Pieces of orders`, pieces, "order", more).filter(Boolean));
   } catch (error) {
     const fault = el("p", {class: "fault", text: await faultWords(error)});
@@ -254,7 +250,7 @@ function chainKind(chain) { return chain[chain.length - 1].h === 1 ? "bar" : "sh
 
 function traceWords(chain) {
   const part = chain[0], unit = chain[chain.length - 1], kind = chainKind(chain);
-  const {order, line} = shop.lines.get(part.of) || {};
+  const {order, line} = lineOfDemand(part.of);
   const state = {
     reserved: tr`reserved for job ${part.of}`,
     cut: tr`cut by job ${part.of}`,
@@ -296,13 +292,13 @@ async function showBatch(batch) {
 async function partsOfBatch(batch) {
   const found = [];
   for (const {material} of shop.materials) {
-    const [parts] = await readPages(`/parts/${material}`, "parts", MAX_PAGES, row => `/parts/${material}/${row.part}`);
+    const [parts] = await readPages(`/parts/${material}`);
     found.push(...parts.filter(part => part.batch === batch).map(part => ({...part, material})));
   }
   return found;
 }
 
-function piecesOfBatch(batch) { return readPages(`/pieces/batch/${batch}`, "pieces", MAX_PAGES, row => `/pieces/batch/${batch}/${row.part}`); }
+function piecesOfBatch(batch) { return readPages(`/pieces/batch/${batch}`); }
 
 function batchRows(batch, parts) {
   const rows = groupsOf(parts, ({material, w, h, state, of, root, part}) => [material, w, h, state, of, root === part].join(" "));

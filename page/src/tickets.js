@@ -24,7 +24,7 @@ async function reservedJobs({sent, jobs, plans, material}) {
 
 // All jobs that wait, of one material or of all.
 async function readTickets(material) {
-  const [rows] = await readPages("/jobs/0", "jobs", Infinity, row => `/jobs/${row.job}`), jobs = [];
+  const [rows] = await readPages("/jobs/0", Infinity), jobs = [];
   for (const row of rows)
     if (!material || row.material === material) jobs.push(await readJob(row.job));
   return jobs.filter(told => told.state === "waiting");
@@ -60,7 +60,7 @@ function barList(kinds) {
 function barRow(jobs) {
   const [first] = jobs, numbers = jobs.map(({job}) => job), boxes = layPlan(first.root, limitsOf(first));
   const pieces = runsOf(boxes.filter(box => box.fate === "piece").map(box => {
-    const {order = "?", line = "?"} = shop.lines.get(box.demand) || {};
+    const {order = "?", line = "?"} = lineOfDemand(box.demand);
     return `${mm(box.w)} ${order}/${line}`;
   }));
   const rests = boxes.filter(box => ["kept", "scrap"].includes(box.fate)).map(box => box.fate === "scrap"
@@ -94,7 +94,7 @@ function ticketSheet(jobs) {
   const left = new Map(boxes.filter(box => box.fate !== "kerf").map(box => [box.node, box]));
   const work = {told, boxes, left, halt: null, made: new Set(), isWaiting: true}, isHalf = root.cuts <= HALF_CUTS;
   drawPlan(holder, root, limits,
-    {wordsOf: box => pieceWords(box, shop.lines.get(box.demand)), restName: box => namesIn(told, box), made: work.made, room: 720});
+    {wordsOf: pieceWords, restName: box => namesIn(told, box), made: work.made, room: 720});
   const isMany = jobs.length > 1, many = isMany ? `${jobs.length} × ` : "";
   const name = isMany ? tr`Jobs ${told.jobs.join(", ")}` : tr`Job ${told.job}`;
   return el("section", {class: `ticket ${isHalf ? "half" : linesClass(root)}`}, el("p", {class: "pagehead", text: pageWords(material)}),
@@ -114,15 +114,14 @@ async function labelsOf(kinds) {
   for (const {demand} of pieces) counts.set(demand, (counts.get(demand) || 0) + 1);
   for (const [demand, here] of counts) {
     const row = await ask(`/demand/${demand}`);
-    learnLines([row]);
     wanted.set(demand, row.wanted);
     counts.set(demand, Math.max(0, row.made + row.reserved - here));
   }
-  await readTexts([...new Set([...counts.keys()].map(demand => shop.lines.get(demand).order))]);
+  await readTexts([...new Set([...counts.keys()].map(demand => lineOfDemand(demand).order))]);
   return pieces.map(({demand, job, material, size}) => {
-    const {order, line} = shop.lines.get(demand), number = counts.get(demand) + 1;
+    const {order, line} = lineOfDemand(demand), number = counts.get(demand) + 1;
     counts.set(demand, number);
-    return {order, line, size, nth: tr`piece ${number} of ${wanted.get(demand)}`, job, material, said: shop.said.get(order)?.text || ""};
+    return {order, line, size, nth: tr`piece ${number} of ${wanted.get(demand)}`, job, material, said: facts.orders.get(order)?.text || ""};
   });
 }
 

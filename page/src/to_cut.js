@@ -124,7 +124,7 @@ function orderRow(rows, isOpen) {
     "aria-pressed": String(shownCodes().some(code => plansOf(code).only === order)),
     on: {click: () => isAllShown() ? planEach(order) : planOnly(order)}
   });
-  const said = [dueWords(rows[0]), shop.said.get(order)?.text, tr`${grouped(sumLeft(rows))} left`].filter(Boolean).join(", ");
+  const said = [dueWords(rows[0]), facts.orders.get(order)?.text, tr`${grouped(sumLeft(rows))} left`].filter(Boolean).join(", ");
   return el("tr", {class: "order"}, el("td", {colspan: "5"},
     el("div", {class: "orderhead"}, box, fold, only, el("span", {class: "quiet", text: said}))));
 }

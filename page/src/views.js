@@ -88,7 +88,7 @@ function pauseOf() {
 // A question that fails stops neither the others nor the view's drawing.
 async function refreshPass() {
   Object.assign(refresh, {running: true, again: false});
-  const before = knownText(), steps = document.hidden ? [] : [renewShop, readMaterials, readJobs, ...VIEWS[viewName()].read, showView];
+  const before = facts.last, steps = document.hidden ? [] : [renewShop, readMaterials, readJobs, ...VIEWS[viewName()].read, showView];
   for (const step of steps) {
     try {
       await step();
@@ -97,14 +97,9 @@ async function refreshPass() {
     }
   }
   Object.assign(refresh, {running: false, ended: performance.now()});
-  if (knownText() !== before) refresh.lively = refresh.ended;
+  if (facts.last !== before) refresh.lively = refresh.ended;
   if (refresh.again) refreshPass();
   else waitForPass();
-}
-
-function knownText() {
-  const {materials, jobs, demands, orders, allOrders, parts, totals, open} = shop;
-  return JSON.stringify([materials, jobs, demands, orders, allOrders, parts, [...totals], [...open], atSaw.told?.state]);
 }
 
 async function renewShop() {

@@ -8,9 +8,15 @@ const HEAPS = [
   ["kerf", "kerf", tr`kerf`], ["scrap", "scrap", tr`scrap`]
 ];
 
+// The first materials, and the one that is chosen.
+function yieldMaterials() { return shop.materials.filter((row, i) => i < 12 || row.material === shop.material); }
+
+async function readTotals() {
+  for (const {material} of yieldMaterials()) await askCalmly(`/totals/${material}`);
+}
+
 function showYield() {
-  const rows =
-    shop.materials.filter(row => shop.totals.has(row.material)).map(row => ({...row, ...shop.totals.get(row.material)}));
+  const rows = yieldMaterials().map(row => ({...row, ...toldOf(`/totals/${row.material}`)})).filter(row => row.ok);
   fill($("yieldBars"),
     () => [el("h2", {text: tr`Where the material is`}), rows.length ? null : quiet(noMaterial()), ...rows.map(yieldRow),
       ...(rows.length ? [yieldHint(), yieldTable(rows)] : []),
@@ -99,7 +105,7 @@ async function openReport(code) {
   try {
     await lookAtShop();
     const totals = await ask(`/totals/${code}`),
-          [parts, more] = await readPages(`/parts/${code}`, "parts", 2 * MAX_PAGES, row => `/parts/${code}/${row.part}`);
+          [parts, more] = await readPages(`/parts/${code}`, 2 * MAX_PAGES);
     owner.report = {...materialOf(code), totals, parts, more, at: timeText(Date.now())};
   } catch (error) { tell(tr`Report: ${await faultWords(error)}`, "refused"); }
   showYield();

@@ -147,7 +147,7 @@ class Terminal(Browser):
         """Has the part planned alone that comes first in the list."""
         self.view("tocut")
         self.material("tocut", code)
-        self.until(f"shop.open.has('{code}') && {by_id('cutFrom')}.querySelector('button.small:not(:disabled)')")
+        self.until(f"factOf('/demands/0/{code}') && {by_id('cutFrom')}.querySelector('button.small:not(:disabled)')")
         self.click(f"{by_id('cutFrom')}.querySelector('.row button')")
         self.until("!toCut.planning && chosenPlan() && document.querySelector('#planList svg[role=img]')", 300)
 

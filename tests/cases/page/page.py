@@ -101,7 +101,8 @@ def day(trial):
         sheet = cut_sheet(it)
         bar = cut_bar(it)
         is_quiet(it)
-        shown = it.value("[...shop.totals].map(([code, row]) => [code, row.pieces, row.kerf, row.scrap, row.rack, row.stock])")
+        told = it.value("['GLASS', 'STEEL'].map(code => ({code, ...factOf(`/totals/${code}`)}))")
+        shown = [[row[key] for key in ("code", "pieces", "kerf", "scrap", "rack", "stock")] for row in told]
     shop.kill()
     found = tables.rows(shop.store)
     trial.equal([row[:8] + row[8:9] for row in found["demands"]], DEMANDS)
@@ -157,7 +158,7 @@ def cut_bar(it):
     it.says(f"Job {job} done: pieces")
     it.until("atSaw.told.state === 'done'")
     it.view("yield")
-    it.until("shop.totals.size === 2")
+    it.until("factOf('/totals/GLASS') && factOf('/totals/STEEL')")
     return told
 
 
@@ -466,7 +467,7 @@ def crowd(trial):
         trial.equal(sorted(acts), list(range(3, 51)), "each is received once")
         it.view("yield")
         received = 60000 + 48 * 30000
-        it.until(f"shop.totals.get('STEEL')?.received === {received}")
+        it.until(f"factOf('/totals/STEEL')?.received === {received}")
         it.click("document.querySelector('#yieldBars [data-key=ySTEEL]')")
         it.until(f"{by_id('report')}.textContent.includes('49 parts')")
         trial.equal(it.ask("/totals/STEEL")["received"], received)

@@ -318,7 +318,7 @@ def other_run(trial):
     begun_again(shop)
     order_and_job(shop, "MUELLER-1")
     known = (
-        "[shop.lines.size, facts.by.size, halts.size, inOrders.lines.size, inOrders.typed.size, shop.orders.length, atSaw.told, "
+        "[facts.lines.size, facts.by.size, facts.old.size, facts.orders.size, halts.size, inOrders.typed.size, atSaw.told, "
         "toCut.found, owner.report, traced.chain]"
     )
     for run in (RUNS[0], ""):

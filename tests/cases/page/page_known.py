@@ -211,7 +211,6 @@ LOOK = """(async paths => {
   await lookAtShop();
   const stayed = [...facts.by.keys()];
   for (const path of paths) await askCalmly(path).catch(() => 0);
-  learnLines(factOf("/demands/0").demands);
   return [stayed, [...facts.by].map(([path, {reply}]) => [path, reply])];
 })"""
 

@@ -441,19 +441,19 @@ def held_down(trial):
         is_chosen = "{}.getAttribute('aria-pressed') === 'true' && {}.textContent.includes('{} to cut')"
         line = {"count": 2, "h": 1, "line": 1, "material": "STEEL", "turn": False, "w": 5000, "worth": 500}
         message = {"do": "order", "lines": [line], "number": 1, "order": "A-1", "terminal": 9}
-        it.until("shop.open.has('STEEL')")
+        it.until("factOf('/demands/0/STEEL')")
         trial.holds(it.press(button.format("STEEL")), "the button isn't where it was")
         trial.equal(exchange(it.shop, "/message", message).get("ok"), "order")
-        it.until("shop.left.get('STEEL') === 2")
+        it.until("factOf('/demands/0/STEEL')?.demands[0]?.wanted === 2")
         it.mouse("mouseReleased", *it.pressed)
         it.until(is_chosen.format(button.format("STEEL"), button.format("STEEL"), 2))
-        it.until("shop.open.has('GLASS')")
+        it.until("factOf('/demands/0/GLASS')")
         it.value(f"{button.format('GLASS')}.focus()")
         it.call("Input.dispatchKeyEvent", type="rawKeyDown", key=" ", code="Space", windowsVirtualKeyCode=32)
         line = {**line, "h": 2000, "material": "GLASS", "w": 3000}
         message = {**message, "lines": [line], "number": 2, "order": "A-2"}
         trial.equal(exchange(it.shop, "/message", message).get("ok"), "order")
-        it.until("shop.left.get('GLASS') === 2")
+        it.until("factOf('/demands/0/GLASS')?.demands[0]?.wanted === 2")
         it.call("Input.dispatchKeyEvent", type="keyUp", key=" ", code="Space", windowsVirtualKeyCode=32)
         it.until(is_chosen.format(button.format("GLASS"), button.format("GLASS"), 2))
         is_quiet(it)

@@ -53,7 +53,7 @@ def bars_on_paper(trial):
         trial.holds(len(heads) == 6 and all(map(is_head, heads)), heads)
         it.until("!document.body.classList.contains('sheets')")
         send(do="note", order="HUBER-12", due=0, text="edges ground")
-        it.until("shop.said.get('HUBER-12')?.text === 'edges ground'")
+        it.until("facts.orders.get('HUBER-12')?.text === 'edges ground'")
         asked_to_print(it, "listWaiting")
         rows = it.value("[...document.querySelectorAll('#sheets tr')].map(e => [...e.cells].map(cell => cell.textContent))")
         trial.equal((len(rows), is_head(*rows[0]), rows[1]), (140, True, ["Order", "Line", "Size in mm", "Piece", "Job", "Text"]))

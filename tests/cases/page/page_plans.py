@@ -523,3 +523,42 @@ def at_once(trial):
         it.until("!terminal.kept().length")
         it.until(f"{rows}.includes('2 units, standing')", 10)
         is_quiet(it)
+
+
+# What is shown is drawn again and again, and each of its states is noted.
+WATCH = "(window.seen = [], setInterval(() => {{ showView(); const now = {}; if (now !== seen.at(-1)) seen.push(now); }}, 20))"
+ALL_READ = "!terminal.kept().length && !refresh.running && !refresh.again && factOf('/parts/STEEL') && factOf('/demands/0/STEEL')"
+
+
+@case(
+    "lists of the page while they are read anew",
+    "From the press until the lists are read behind its answer, each of their pages, nothing that was reserved is shown as free again, and no "
+    "list is empty or shorter for a moment; nor is one that another terminal changed.",
+)
+def read_anew(trial):
+    shop, send = bars(trial)
+    send(do="order", order="B-1", lines=[{**PIECES, "line": line, "count": 1} for line in range(1, 151)])
+    with Terminal(trial, shop) as it:
+        it.begin(7)
+        it.view("tocut")
+        it.material("tocut", "STEEL")
+        it.until(f"demandsToCut().length === 151 && {ALL_READ}")
+        it.call("Network.emulateNetworkConditions", offline=False, latency=50, downloadThroughput=-1, uploadThroughput=-1)
+        watch = it.value(WATCH.format("planWords.textContent"))
+        it.until("seen.length")
+        it.value("void send({do: 'reserve', part: '1/0', tree: 'x10000 p1 r'}, 'Reserve 1/0')")
+        it.until(f"facts.last.entry === 6 && {ALL_READ}")
+        send(do="order", order="C-1", lines=[PIECES])
+        it.until(f"facts.last.entry === 7 && {ALL_READ}")
+        it.until("seen.at(-1).includes('152 kinds')")
+        told = [re.search(r"(\d+) pieces of (\d+) kinds, (\d) parts", text).groups() for text in it.value("seen")]
+        states = [state for place, state in enumerate(told) if not place or state != told[place - 1]]
+        trial.equal(states, [("162", "151", "4"), ("161", "151", "3"), ("173", "152", "3")])
+        it.value(f"clearInterval({watch})")
+        it.view("orders")
+        it.until("orderList.querySelectorAll('.ordered').length === 3 && !refresh.running")
+        it.value(WATCH.format("orderList.querySelectorAll('.ordered').length"))
+        it.value("void send({do: 'reserve', part: '1/1', tree: 'x10000 p1 r'}, 'Reserve 1/1')")
+        it.until("facts.last.entry === 8 && !terminal.kept().length && !refresh.running && !refresh.again")
+        trial.equal(it.value("seen"), [3])
+        is_quiet(it)

@@ -489,7 +489,7 @@ def of_one_material(trial):
         trial.equal(it.value(listed), [["2 × 600.0: 100.0", f"STEEL, jobs {jobs[0]}, {jobs[2]}"]])
         it.click(by_id("nextJob"))
         it.until(f"atSaw.job === {jobs[2]}")
-        it.until("atSaw.plans.size === 2")
+        it.until(f"factOf('/job/{jobs[0]}') && factOf('/job/{jobs[2]}')")
         it.value("(window.print = () => { window.asked = (window.asked || 0) + 1; }, window.asked = 0)")
         sheet = (
             "[...document.querySelectorAll('#sheets .ticket')].map(e => [e.querySelector('h2'), e.querySelector('h2 + p'), "
