@@ -4,7 +4,7 @@ import os
 
 from kit import tables
 from kit.case import case
-from kit.full_day import DAY
+from kit.full_day import EXCHANGES
 from kit.stores import filled
 from kit.ttys import at_terminal
 
@@ -35,8 +35,8 @@ def shown(trial, *words, terminal="stderr"):
     "nothing of a smaller store, and nothing if standard error is no terminal.",
 )
 def large(trial):
-    path = filled(trial, exchanges=DAY[:2])
-    commands = [("yield", "--store", "shop.db", "GLASS"), ("yield", "--store", "shop.db", "--read-only", "GLASS"), ("history", "--store", "shop.db")]
+    path = filled(trial, exchanges=EXCHANGES[:2])
+    commands = [("yield", "--store", "shop.db", "STEEL"), ("yield", "--store", "shop.db", "--read-only", "STEEL"), ("history", "--store", "shop.db")]
     trial.equal(grown_to(path, LARGE - PAGE), LARGE - PAGE)
     for words in commands:
         trial.equal(shown(trial, *words), "", words)
