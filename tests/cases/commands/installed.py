@@ -21,6 +21,8 @@ INSTALLED = {
     "share/doc/cutshop/FORMATS.md": 0o644,
     "share/doc/cutshop/openapi.json": 0o644,
     "share/doc/cutshop/SHOP.md": 0o644,
+    "share/doc/cutshop/SPREADSHEETS.md": 0o644,
+    "share/doc/cutshop/PLANNING.md": 0o644,
     "share/doc/cutshop/errors.txt": 0o644,
 }
 

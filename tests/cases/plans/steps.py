@@ -1,4 +1,4 @@
-"""Which steps the planner of sheets takes, as docs/SHOP.md reports them."""
+"""Which steps the planner of sheets takes, as docs/PLANNING.md reports them."""
 
 import json
 
