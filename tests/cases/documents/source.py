@@ -414,6 +414,8 @@ LAWLESS = {
     "shop_problems wholes DEFAULT_CALLS": ("500", "plan_from plan_order", "tables of a search where the words say no number, as the formats have it"),
     "shop_commands memory MIN_MEGABYTES": ("16", "wanted_megabytes", "what the program takes without a store, by the second line: the definition `wanted_megabytes` has the number"),
     "shop_commands progress PAUSE": ("500", "is_early", "milliseconds between two lines that say how far a work is: the definition `is_early` has the number"),
+    "shop_commands progress MEGABYTE": ("1048576", "note_opening", "the unit of a size in the line of a large store: the case “a large store is opened” has the size"),
+    "shop_commands progress LARGE_STORE": ("16777216", "note_opening", "from so many bytes on the line of a large store is written: the case “a large store is opened” has both sides of it"),
     "shop_request fields MAX_BODY_LEN": ("131072", "short_number", "the definition `most_body` has the number"),
     "shop_request heads MAX_HEAD_LEN": ("8192", "least_bytes part_fault prefix_of", "the definition `most_head` has the number"),
     "shop_request heads MAX_FIELDS": ("64", "new read", "the definition `most_fields` has the number"),
