@@ -118,16 +118,24 @@ function dropStale(message, entry = Infinity, answer = null) {
     if (isStaleBy(message, of, path)) fact.reply = withAnswer(fact.reply, message, answer);
 }
 
-// What was told, with what a message did that was answered since: its part is reserved or gone, its pieces are reserved, a line is changed.
+// What was told, with what a message did that was answered since: its part is reserved or gone, its pieces are reserved, a line is changed, its
+// job is begun or over.
 function withAnswer(told, {do: done, part, tree = "", demand, wanted}, {job}) {
-  const counts = countPieces(tree), {parts = [], demands = [], lines = []} = told;
+  const counts = countPieces(tree), {parts = [], demands = [], lines = [], state, begun} = told;
   const partOf = row => row.part !== part ? [row] : done === "reserve" ? [{...row, state: "reserved", of: job}] : [];
   const lineOf = row => ({
     ...row,
     reserved: row.reserved + (counts.get(row.demand) || 0),
     wanted: row.demand === demand ? wanted : row.wanted
   });
-  return {...told, parts: parts.flatMap(partOf), demands: demands.map(lineOf), lines: lines.map(lineOf)};
+  return {
+    ...told,
+    parts: parts.flatMap(partOf),
+    demands: demands.map(lineOf),
+    lines: lines.map(lineOf),
+    state: ENDS[done] || state,
+    begun: done === "begin" ? terminal.number : begun
+  };
 }
 
 function lastOf({entry, at, message: {terminal: sender, number}}) { return {entry, at, sender, number}; }

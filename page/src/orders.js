@@ -79,11 +79,11 @@ function stateOf({wanted, made}) { return wanted === 0 ? tr`cancelled` : made ==
 function showOrders() {
   notePromised();
   if (!$("orderLines").children.length && shop.materials.length) addOrderLine();
-  fill($("orderList"), () => orderRows(ordersToShow()));
+  fill($("orderList"), () => orderRows(ordersToShow().filter(([{order}, isOpen]) => !isOpen || inOrders.folds.has(order) || linesOf(order))));
   fill($("foundOrder"), foundRows);
 }
 
-// The orders of the list, and whether each is unfolded: few are at first.
+// The orders of the list, and whether each is unfolded: few are at first, and come with their lines.
 function ordersToShow() {
   const rows = isFinishedToo() ? toldOf("/orders").orders || [] : openOrders().map(order => facts.orders.get(order)).filter(Boolean);
   const isFew = !isFinishedToo() && rows.reduce((all, row) => all + row.lines, 0) <= MAX_OPEN;

@@ -72,7 +72,7 @@ function forgetShop() {
   for (const it of [by, old, lines, orders, halts, breaks, inStock.wanted, inOrders.typed]) it.clear();
   Object.assign(facts, {last: null, shops: facts.shops + 1});
   Object.assign(inOrders, {found: "", sought: "", note: ""});
-  Object.assign(atSaw, {ended: [], endedTo: 0, told: null, opening: 0, breaking: false, lost: null, canvas: null});
+  Object.assign(atSaw, {ended: [], endedTo: 0, key: "", opening: 0, breaking: false, lost: null, canvas: null});
   forgetTrace();
   leaveHappened();
   owner.report = held.target = null;

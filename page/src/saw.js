@@ -1,25 +1,30 @@
 // ---- At the saw.
 
-// told: the job that is shown, with its plan; opening: the number that was asked for last; ended: the entries that ended the last jobs, as of
-// entry endedTo; isListed: whether the list of jobs is unfolded where it lies above the ticket; deaf: until when *Done* takes no press.
+// job, told: the job that is shown, and what was told of it last; key: its key when it was opened; opening: the number that was asked for last;
+// ended: the entries that ended the last jobs, as of entry endedTo; isListed: whether the list of jobs is unfolded where it lies above the
+// ticket; deaf: until when *Done* takes no press.
 const atSaw = {
   ended: [],
   endedTo: 0,
   job: 0,
-  told: null,
+  key: "",
   opening: 0,
   breaking: false,
   lost: null,
   canvas: null,
   isListed: false,
-  deaf: 0
+  deaf: 0,
+  get told() {
+    const told = toldOf(`/job/${atSaw.job}`);
+    return told.ok ? withPlan(told) : null;
+  }
 };
 
 // Of jobs whose break is marked: the wrong cut and the rest that was typed, by the job's key.
 const breaks = new Map();
 
 function noteBreak() {
-  if (atSaw.breaking) breaks.set(keyOf(atSaw.told), {lost: atSaw.lost, rest: $("breakRest").value});
+  if (atSaw.breaking) breaks.set(atSaw.key, {lost: atSaw.lost, rest: $("breakRest").value});
 }
 
 // Behind *One done* the next job opens, and a second press of the same hand is none of it.
@@ -237,7 +242,7 @@ async function readShown() {
     if (readAddress().word === "saw" && !readAddress().of) settle(`saw/${job}`);
   } catch (error) {
     if (!isRefused(error, 70) || atSaw.job !== shown) throw error;
-    Object.assign(atSaw, {job: 0, told: null});
+    atSaw.job = 0;
     showFault("jobFault", noJobWords(job));
     if (readAddress().word === "saw") settle("saw");
   }
@@ -253,11 +258,18 @@ function ordersOfJob({tree}) { return [...new Set([...countPieces(tree).keys()].
 
 // A job with its plan, and whose its pieces are.
 async function readJob(job, by = askCalmly) {
-  const told = await by(`/job/${job}`);
+  const told = withPlan(await by(`/job/${job}`));
   if ([...countPieces(told.tree).keys()].some(demand => !lineOfDemand(demand).order)) await by(`/steps/${job}`);
-  Object.assign(told, {kind: kindOf(told.material), root: readPlan(told.tree, told.w, told.h, told.kerf)});
   if (told.state !== "broken") halts.delete(keyOf(told));
   return told;
+}
+
+// What was told of a job, with its plan, which is read of each answer once.
+const roots = new WeakMap();
+
+function withPlan(told) {
+  if (!roots.has(told)) roots.set(told, readPlan(told.tree, told.w, told.h, told.kerf));
+  return {...told, kind: kindOf(told.material), root: roots.get(told)};
 }
 
 // Reads how a job halted: the entry tells it; of one that has no entry the steps do.
@@ -281,9 +293,9 @@ function haltOfSteps(told, steps) {
 // A job is shown; a break of it that was being marked is marked on.
 function takeJob(told) {
   noteBreak();
-  const isSame = atSaw.told && keyOf(atSaw.told) === keyOf(told), marked = told.state === "waiting" ? breaks.get(keyOf(told)) : null;
-  Object.assign(atSaw, {job: told.job, told, breaking: Boolean(marked), lost: marked?.lost ?? null});
-  if (!isSame) $("breakRest").value = marked?.rest ?? "";
+  const key = keyOf(told), marked = told.state === "waiting" ? breaks.get(key) : null;
+  if (atSaw.key !== key) $("breakRest").value = marked?.rest ?? "";
+  Object.assign(atSaw, {job: told.job, key, breaking: Boolean(marked), lost: marked?.lost ?? null});
   ticks.keepTo(told);
 }
 
@@ -553,21 +565,14 @@ function isBegunHere({job, begun}) {
 
 // Tells that work on the shown job begins here; who else had begun it is told.
 function beginJob() {
-  const {told} = atSaw, {job} = told;
-  send({do: "begin", job}, tr`Begin job ${job}`, () => {
-    if (atSaw.told && keyOf(atSaw.told) === keyOf(told)) atSaw.told = {...atSaw.told, begun: terminal.number};
-    showView();
-  });
+  const {job} = atSaw;
+  send({do: "begin", job}, tr`Begin job ${job}`, showView);
   showView();
 }
 
 // Takes back that a job was done or broken off.
 function undoJob(job) {
-  const {told} = atSaw;
-  send({do: "undo", job}, tr`Take back job ${job}`, () => {
-    if (told && atSaw.told && told.job === job && keyOf(atSaw.told) === keyOf(told)) atSaw.told = {...atSaw.told, state: "undone"};
-    showView();
-  });
+  send({do: "undo", job}, tr`Take back job ${job}`, showView);
   showView();
 }
 
@@ -636,11 +641,9 @@ async function finishAll() {
   const {told} = atSaw, jobs = sameJobs(told), what = tr`Jobs ${rangesOf(jobs)} done`;
   const words = tr`All ${jobs.length} jobs of this plan, ${rangesOf(jobs)}: were all their cuts made?`, ended = [];
   if (!await confirmed(words, tr`All ${jobs.length} done`)) return;
-  const isHere = command => atSaw.told?.job === command.job;
   sendMany(what, jobs.map(job => [tr`Job ${job} done`, {do: "done", job}]), command => {
     ended.push(command.job);
     ticks.forget(command.job);
-    if (isHere(command)) atSaw.told = {...atSaw.told, state: "done"};
     showView();
   }, () => ended.length ? {words: tr`Take back`, go: () => undoJobs(ended)} : null);
   showView();
@@ -681,7 +684,6 @@ function endJob(told, command, what, refused) {
     if (command.do === "break") halts.set(keyOf(told), haltOf(command));
     ticks.forget(told.job);
     if (!atSaw.told || keyOf(atSaw.told) !== keyOf(told)) return;
-    atSaw.told = {...atSaw.told, state: ENDS[command.do]};
     setBreaking(false);
     if (command.do === "done") openSame(told);
   }, refused);

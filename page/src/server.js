@@ -115,7 +115,7 @@ async function readPages(start, pages = MAX_PAGES) {
     told.more = next.more && next[key].length > 0;
   }
   if (shops === facts.shops) learn(told);
-  if (shops === facts.shops && drops === facts.drops && pages < Infinity) noteFact(start, told, last);
+  if (shops === facts.shops && drops === facts.drops && (pages < Infinity || rows.length <= ROWS)) noteFact(start, told, last);
   return [rows, told.more];
 }
 

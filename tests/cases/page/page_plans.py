@@ -544,7 +544,7 @@ def read_anew(trial):
         it.material("tocut", "STEEL")
         it.until(f"demandsToCut().length === 151 && {ALL_READ}")
         it.call("Network.emulateNetworkConditions", offline=False, latency=50, downloadThroughput=-1, uploadThroughput=-1)
-        watch = it.value(WATCH.format("planWords.textContent"))
+        watch = it.value(WATCH.format(f"{by_id('planWords')}.textContent"))
         it.until("seen.length")
         it.value("void send({do: 'reserve', part: '1/0', tree: 'x10000 p1 r'}, 'Reserve 1/0')")
         it.until(f"facts.last.entry === 6 && {ALL_READ}")
