@@ -165,6 +165,37 @@ def more_sizes(trial):
             trial.holds(alone[0] or bound <= alone[1], f"bound {bound}, and from {one} alone {alone}: {line}")
 
 
+# Orders of pieces that fill whole strips of the sheets that they take: the sheets to buy, the pieces, and how many sheets are taken.
+STRIPS = """
+100x100 | 30x20*5 | 1
+100x100 | 25x20*10 | 1
+100x60 | 20x20*6 | 1
+100x100 | 60x20*2 60x30*2 | 1
+100x100 | 50x100*2 30x20*5 | 2
+200x120 | 70x40*3 70x30t*4 | 1
+"""
+
+
+@case(
+    "best plans with the largest rest",
+    "Where the pieces of an order fill whole strips of sheets, the plan that is proved best leaves all else of them in one rest, as no "
+    "rest is larger.",
+)
+def rests(trial):
+    for line in STRIPS.strip().split("\n"):
+        units, pieces, count = line.split(" | ")
+        ((w, h, _, _),) = sizes_in(units)
+        kinds = sizes_in(pieces)
+        yard = Yard()
+        yard.material(MATERIAL, 0, "sheet")
+        yard.order(MATERIAL, *[(*sides, number, turn) for *sides, turn, number in kinds])
+        output = answered(trial, yard.replay(trial), question(MATERIAL, buy=[{"h": h, "w": w}]))
+        cells = int(count) * w * h
+        rest = cells - sum(across * down * number for across, down, _, number in kinds)
+        trial.equal((output["missing"], output["cost"], output["proved"]), ([], 100 * cells, True), line)
+        trial.equal(output["rest"], rest, line)
+
+
 def seconds_of(trial, problem, calls, *step):
     """Seconds of the processor's time that the plan of a whole order takes, the least of three runs."""
     path = trial.write("order.txt", problem.text())
