@@ -2,12 +2,15 @@
 
 import os
 import resource
+import shutil
 
 from kit import aged, tables
 from kit.audits import lies_there
 from kit.case import Skipped, case, fault_in
 from kit.commands import taken_port
+from kit.copies import both
 from kit.days import ASKED, NAMES, day_of
+from kit.faults import Faults
 from kit.memory import replayed, served, sweep, texts_refused
 
 SHOP_FILE = "".join(
@@ -114,6 +117,47 @@ def commands(trial):
     swept(41, refused, "yield", "--store", store, "GLASS")
     swept(97, refused[:1], "audit", "--store", store)
     swept(97, refused[:1], "history", "--store", store)
+
+
+@case(
+    "memory refused in a restore",
+    "Each request for memory of a `restore`, from where it opens a good backup on, is refused in turn: it is done and told so, or ends "
+    "with `fault memory`, and never because the backup is none; the files that were there have their names, or FILE.before, and the "
+    "backup stays.",
+)
+def restores(trial):
+    store = stored(trial)
+
+    def place_of(faults):
+        """A store and a backup of it, each run's own: one that another program has open is none."""
+        place = trial.path(f"{faults.at:06}")
+        os.makedirs(f"{place}/1")
+        return tables.copy(store, f"{place}/shop.db"), tables.copy(store, f"{place}/1/shop.db")
+
+    def restored(faults, path, backup):
+        return trial.run("restore", "--store", path, "--from", os.path.dirname(backup), environment=faults.environment)
+
+    # (a backup that a shop serves is looked for as a good one is, and then refused)
+    before = Faults(trial, "memory", at=999999, date=0)
+    path, backup = place_of(before)
+    shop = trial.shop(backup)
+    trial.equal(fault_in(restored(before, path, backup).err), b"fault backup\n", "a backup that is served")
+    shop.kill()
+
+    def run(faults):
+        path, backup = place_of(faults)
+        files, copy = both(path), lies_there(backup)
+        ran = restored(faults, path, backup)
+        is_done = ran.status == 0 and ran.out.startswith(f"restored {path} from {os.path.dirname(backup)}\nentries ".encode())
+        is_refused = (ran.status, ran.out, fault_in(ran.err)) == (1, b"", b"fault memory\n")
+        trial.equal(is_done or is_refused, True, f"request {faults.at}: {ran}")
+        there = zip(both(path), both(f"{path}.before"))
+        trial.equal([was in found for was, found in zip(files, there)], [True, True], f"request {faults.at}: the files that were there")
+        trial.equal(lies_there(backup) == copy, True, f"request {faults.at}: the backup")
+        shutil.rmtree(os.path.dirname(path))
+        return before.calls()
+
+    sweep(trial, run, 97)
 
 
 # ---- a shop that is too large

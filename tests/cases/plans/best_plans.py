@@ -58,6 +58,9 @@ BOUGHT = """
 30 20 | 24000x13000 21770x11803 15422x11512 | 4407x5499*5 2974x2362*6 7034x2368*5
 30 100 | 24000x13000 21770x11803 15422x11512 | 4407x5499*5 2974x2362*6 7034x2368*5
 1 20 | 67x24 44x38 32x31 | 24x13t*4 24x11*4 11x12*4 12x12t*4 19x19t*4 19x18t*4 11x10*3 11x13t*3 22x24t*3
+0 20 | 105x69 119x63 | 10x8*1 60x10t*2 47x34t*2 20x23*2
+3 20 | 51x47 118x48 117x53 | 60x9t*1 52x42*1 26x16*1
+30 20 | 17211x11495 16130x12665 | 4544x2853*7 7244x5307*6 2196x2509*6 5710x4590*3
 """
 
 
@@ -163,6 +166,37 @@ def more_sizes(trial):
             alone = planned_from([one])
             trial.holds((missing, cost) <= alone[:2], f"{(missing, cost)}, and from {one} alone {alone}: {line}")
             trial.holds(alone[0] or bound <= alone[1], f"bound {bound}, and from {one} alone {alone}: {line}")
+
+
+# Orders of pieces that fill whole strips of the sheets that they take: the sheets to buy, the pieces, and how many sheets are taken.
+STRIPS = """
+100x100 | 30x20*5 | 1
+100x100 | 25x20*10 | 1
+100x60 | 20x20*6 | 1
+100x100 | 60x20*2 60x30*2 | 1
+100x100 | 50x100*2 30x20*5 | 2
+200x120 | 70x40*3 70x30t*4 | 1
+"""
+
+
+@case(
+    "best plans with the largest rest",
+    "Where the pieces of an order fill whole strips of sheets, the plan that is proved best leaves all else of them in one rest, as no "
+    "rest is larger.",
+)
+def rests(trial):
+    for line in STRIPS.strip().split("\n"):
+        units, pieces, count = line.split(" | ")
+        ((w, h, _, _),) = sizes_in(units)
+        kinds = sizes_in(pieces)
+        yard = Yard()
+        yard.material(MATERIAL, 0, "sheet")
+        yard.order(MATERIAL, *[(*sides, number, turn) for *sides, turn, number in kinds])
+        output = answered(trial, yard.replay(trial), question(MATERIAL, buy=[{"h": h, "w": w}]))
+        cells = int(count) * w * h
+        rest = cells - sum(across * down * number for across, down, _, number in kinds)
+        trial.equal((output["missing"], output["cost"], output["proved"]), ([], 100 * cells, True), line)
+        trial.equal(output["rest"], rest, line)
 
 
 def seconds_of(trial, problem, calls, *step):

@@ -73,6 +73,7 @@ def silent_ones(trial):
     with crowds.thinking(shop, PLACES, large) as held:
         time.sleep(1.2 * alone)
         trial.holds(goes_on(shop, BEHIND), "nothing is thought about, though no question waits")
+        trial.equal(select.select(held, [], [], 0)[0], [], "which of the eight were told what was found, though no question waits")
         asked_behind(trial, shop, asked, BEHIND, "behind eight that had their calls")
         came = select.select(held, [], [], BEHIND)[0]
         trial.holds(came, "none of the eight was told what was found")

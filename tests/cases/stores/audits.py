@@ -9,7 +9,9 @@ from kit.copies import killed
 from kit.earlier import NEXT, made
 from kit.faults import Faults
 from kit.full_day import EXCHANGES, GLASS_FILE, STEEL_FILE
+from kit.lines import LONGEST
 from kit.stores import DAY, NO_ROW, sent
+from kit.yards import Yard
 
 # When the day of each command is, whose clock stands; and how many entries it has.
 DATE = 1000
@@ -163,6 +165,54 @@ def many(job, count):
     """Adds so many orders to a job: A0, A1 and so on."""
     numbers = f"WITH RECURSIVE n(i) AS (SELECT 0 UNION ALL SELECT i + 1 FROM n WHERE i < {count - 1})"
     return f"{numbers} INSERT INTO uses SELECT {job}, 'A' || i FROM n"
+
+
+# So many orders of a piece each, and so many jobs with a piece of each of them: more rows than are read at once.
+ORDERS, JOBS = 150, 7
+
+
+@case(
+    "an audit of over 1000 orders of jobs",
+    "A store of seven jobs, each with a piece of each of 150 orders, is whole; where the last of these 1050 rows is missing, or the first "
+    "one behind the 1000th, it is told with its job and its order.",
+)
+def many_uses(trial):
+    yard = Yard()
+    yard.material("STEEL")
+    tree = " ".join(f"x1 p{yard.bars('STEEL', (1, JOBS))}" for _ in range(ORDERS))
+    part = yard.receive("STEEL", ORDERS + 1, 1, JOBS)
+    for node in range(JOBS):
+        yard.reserve(part.replace("/0", f"/{node}"), f"{tree} r")
+    shop = yard.serve(trial)
+    shop.kill()
+    entries, rows = len(yard.lines), tables.rows(shop.store)["uses"]
+    trial.equal(len(rows), ORDERS * JOBS, "the orders of the jobs")
+    audited(trial, "shop.db", entries)
+    for job, order in (rows[1000], rows[-1]):
+        change = f"DELETE FROM uses WHERE job = {job} AND ord = '{order}'"
+        name = changed(trial, shop.store, "changed.db", change)
+        audited(trial, name, entries, f"uses: {job}/{order} differs", sent=change)
+
+
+@case(
+    "an audit of a job of 255 cuts",
+    "Of the parts of a job of 255 cuts the one that was changed is told by its name: one before node 256, one behind it, and the last.",
+)
+def many_cuts(trial):
+    yard = Yard()
+    yard.material("STEEL")
+    yard.bars("STEEL", (1, 256))
+    job = yard.cut(yard.receive("STEEL", 256), LONGEST)
+    shop = yard.serve(trial)
+    shop.kill()
+    audited(trial, "shop.db", len(yard.lines))
+    # (a cut without a kerf becomes no part: the pieces are the nodes behind each cut, and the last one)
+    nodes = [node for act, node, *_ in tables.rows(shop.store)["parts"] if act == job]
+    trial.equal(nodes, [*range(1, 510, 2), 510], "the parts of the job")
+    for node in (253, 255, 257, 383, 509, 510):
+        change = f"UPDATE parts SET batch = 'B-9' WHERE act = {job} AND node = {node}"
+        name = changed(trial, shop.store, "changed.db", change)
+        audited(trial, name, len(yard.lines), f"parts: {job}/{node} differs", sent=change)
 
 
 @case(

@@ -143,6 +143,56 @@ def bound(trial):
     opened(trial, "others.db", DAY)
 
 
+def lying_over(trial, name, word, letters, statement, plain):
+    """Makes a copy of a store with a trigger or a view, whose comment is so long that so many letters of its type's word lie before a
+    place where reads of 4096 bytes behind a head of 100 meet."""
+    for length in range(3800, 3960):
+        path = tables.copy(plain, trial.path(name))
+        tables.change(path, statement.format("-" * length))
+        store = both(path)[0]
+        trial.equal(store.count(word), 1, f"how often {word} is there")
+        if (store.index(word) + letters - 100) % 4096 == 0:
+            return
+    trial.holds(False, f"{word} lies nowhere over the end of a read")
+
+
+@case(
+    "triggers and views over the end of a read",
+    "A trigger on a shop's table and a view of one are refused wherever they lie in the store's file, also where the word for them lies "
+    "over the end of what is read at once, behind any of its letters.",
+)
+def bound_anywhere(trial):
+    plain = filled(trial, "plain.db")
+    for word, statement in (
+        (b"trigger", "CREATE TRIGGER again AFTER INSERT ON kept BEGIN /* {} */ DELETE FROM kept; END"),
+        (b"view", "CREATE VIEW all_parts AS SELECT * FROM Parts /* {} */"),
+    ):
+        for letters in range(1, len(word)):
+            lying_over(trial, "bound.db", word, letters, statement, plain)
+            refused(trial, "bound.db", BOUND, sent=f"{letters} letters of {word}")
+
+
+@case(
+    "a journal that SQLite emptied",
+    "Beside a journal of zeros, as SQLite leaves one that has nothing to play back, a store is what it is without one: it is served, "
+    "printed with `--read-only`, and refused where its log is damaged or isn't there.",
+)
+def emptied_journal(trial):
+    store, log = killed(trial)
+    trial.write("copy.db-journal", bytes(512))
+    put(trial.path("copy.db"), store, flipped(log, 40))
+    refused(trial, "copy.db", DAMAGED)
+    put(trial.path("copy.db"), store, log)
+    for words in (("ticket", "3"), ("yield", "GLASS")):
+        wanted = trial.run(words[0], "--store", "day.db", words[1])
+        trial.equal(wanted.status, 0, words)
+        trial.equal(trial.run(words[0], "--store", "copy.db", "--read-only", words[1]), wanted, words)
+    opened(trial, "copy.db", DAY)
+    put(trial.path("copy.db"), both(trial.path("copy.db"))[0], None)
+    refused(trial, "copy.db", NO_LOG)
+    trial.equal(both(trial.path("copy.db-journal"))[0], bytes(512), "the journal")
+
+
 @case(
     "a damaged log",
     "One bit of a log before its last commit, one of its head, and a store of 0 bytes beside a log that has commits are refused as that by "

@@ -5,6 +5,7 @@ import json
 from kit import tables
 from kit.case import case
 from kit.earlier import FOUND, NEXT, REPORT, made
+from kit.shop import begin_line
 from kit.stores import DAY, DONE_AGAIN, NO_ROW, QUESTIONS, ROWS, sent
 
 TICKET = (
@@ -121,6 +122,21 @@ def texts(trial):
             trial.equal(tables.select(path, "SELECT * FROM kept ORDER BY number"), [*before, (1, 8, *NEXT)])
             trial.equal(tables.rows(path)["journal"], [(1, 0, 1, 8, "receive", 4, 0, "", 0, 0)])
         trial.equal(tables.select(path, "SELECT value FROM meta WHERE name = 'version'"), [(3,)])
+
+
+@case(
+    "messages of an earlier version, counted",
+    "A server of a file of version 1, 2 or 3 reports at its start how many messages are kept, those from before entries began among them; "
+    "so it does behind the first entry.",
+)
+def counted(trial):
+    for version in (1, 2, 3):
+        made(trial, f"{version}.db", version)
+        for kept in (len(DAY), len(DAY) + 1):
+            shop = trial.shop(f"{version}.db", limit=1)
+            trial.equal(shop.reply(NEXT[0]).decode(), NEXT[1])
+            begin = begin_line(shop.store, is_new=False, kept=kept)
+            trial.equal(shop.end()[2][: len(begin)], begin, f"version {version}, {kept} messages")
 
 
 @case(

@@ -4,6 +4,7 @@ import errno
 import os
 import shutil
 import sqlite3
+import stat
 from functools import partial
 
 from kit import tables
@@ -64,6 +65,36 @@ def restored(trial):
         for name in before:
             os.remove(trial.path(name))
     trial.equal(held(trial, f"backups/1/{STORE}", f"backups/1/{LOG}"), wanted)
+
+
+def access(path):
+    """The owner, the group and the permissions of a file."""
+    found = os.stat(path)
+    return found.st_uid, found.st_gid, stat.S_IMODE(found.st_mode)
+
+
+@case(
+    "who may read a restored store",
+    "A restore gives both files the owner and the permissions of those that were there, or of the one that isn't lost, and not the "
+    "backup's.",
+)
+def accessible(trial):
+    terminal = two_states(trial)
+    kept = held(trial, STORE, LOG)
+    # (root alone may give files another owner)
+    own = os.geteuid(), os.getegid()
+    owner = (1234, 2345) if own[0] == 0 else own
+    trial.equal([access(trial.path(f"backups/1/{it}")) for it in (STORE, LOG)], [(*own, 0o600)] * 2, "the backup")
+    for lost, mode in (("nothing", 0o640), ("nothing", 0o666), ("log", 0o660), ("store", 0o644)):
+        for name in held(trial, STORE, LOG, "shop.db.before", "shop.db.before-wal"):
+            os.remove(trial.path(name))
+        for name in [it for it in kept if it not in LOST[lost]]:
+            trial.write(name, kept[name])
+            os.chmod(trial.path(name), mode)
+            os.chown(trial.path(name), *owner)
+        trial.ended(restore(trial), 0, out=RESTORED, sent=lost)
+        trial.equal([access(trial.path(it)) for it in (STORE, LOG)], [(*owner, mode)] * 2, f"{lost} lost, {mode:o}")
+    trial.equal(is_whole(trial, trial.path(STORE), [terminal]), [2])
 
 
 @case(

@@ -5,6 +5,7 @@ import json
 from kit import tables
 from kit.case import case
 from kit.glass import GLASS, ORDER, RESERVE
+from kit.shop import answer
 from kit.stores import DAY, NO_ROW, ORDERS, PROBLEM, QUESTIONS, ROWS, TOTALS, filled, long_answer, many_parts, numbers, received, sent
 
 
@@ -195,6 +196,53 @@ def last_numbers(trial):
     one = compact({"do": "order", "lines": [line], "number": 13, "order": "A-3", "terminal": 1})
     trial.equal(shop.reply(one), b'{"count":1,"first":2147483647,"ok":"order","order":"A-3"}')
     trial.equal(shop.reply(one.replace("A-3", "A-4").replace("13", "14")), spent)
+
+
+# The nodes of the first job of “remnant cut again”: what each is, the demand of a piece, the place of a cut, its rectangle, and what it
+# becomes.
+STEPS = [
+    ("cut x", 0, 4, (0, 0, 10, 8), "kerf"),
+    ("cut y", 0, 3, (0, 0, 4, 8), "kerf"),
+    ("piece", 1, 0, (0, 0, 4, 3), "piece"),
+    ("piece", 2, 0, (0, 4, 4, 4), "piece"),
+    ("rest", 0, 0, (5, 0, 5, 8), "standing"),
+]
+
+
+@case(
+    "the job of the last number",
+    "Behind act 2147483646 a job has the number 2147483647: its steps, its plan and its ticket are told as any other's, while it waits and "
+    "when it is done, also behind a start, and its parts have its number.",
+)
+def last_job(trial):
+    last = 2147483647
+    path = filled(trial, exchanges=DAY[:3])
+    numbers(path, "act", last - 1)
+
+    def steps(state):
+        is_done, rows = state == "done", []
+        for node, (what, demand, place, (x, y, w, h), became) in enumerate(STEPS):
+            part, order = f"{last}/{node}" if is_done else "", "A-1" if demand else ""
+            row = {"demand": demand, "h": h, "line": demand, "node": node, "order": order, "part": part, "place": place}
+            rows.append(row | {"state": became if is_done else "", "turned": False, "w": w, "what": what, "x": x, "y": y})
+        return compact({"job": last, "kerf": 1, "material": "GLASS", "ok": "steps", "part": "1/0", "state": state, "steps": rows})
+
+    shop = trial.shop()
+    trial.equal(shop.reply(RESERVE).decode(), compact({"cuts": 2, "job": last, "ok": "reserve"}))
+    done = compact({"do": "done", "job": last, "number": 5, "terminal": 1})
+    output = compact({"job": last, "kerf": 12, "ok": "done", "pieces": 28, "rack": 40, "scrap": 0})
+    for state in ("waiting", "done"):
+        if state == "done":
+            trial.equal(shop.reply(done).decode(), output)
+        for _ in range(2):
+            trial.equal(shop.get(f"/steps/{last}"), answer(200, steps(state)), state)
+            job = {"begun": 0, "cuts": 2, "h": 8, "job": last, "kerf": 1, "material": "GLASS", "ok": "job", "part": "1/0", "state": state}
+            trial.equal(shop.reply(f'{{"ask":"job","job":{last}}}').decode(), compact(job | {"tree": "x4 y3 p1 p2 r", "w": 10}), state)
+            trial.equal(shop.get(f"/ticket/{last}").partition(b"\r\n\r\n")[2].split(b"\n")[0], f"job {last} {state}".encode())
+            shop.kill()
+            shop = trial.shop()
+    shop.kill()
+    trial.equal([it[:2] for it in tables.rows(path)["parts"]], [(1, 0), *((last, node) for node in range(5))])
 
 
 @case(
