@@ -1,4 +1,4 @@
-//! What a server reports of an answer for which memory was wanting, or the store failed, and of its backups.
+//! What a server reports of an answer for which memory ran out, or the store failed, and of its backups.
 
 ghost use Rattle.std.specs.Prelude.{◌≡◌, IfOk, option_map, string_bytes};
 ghost use Rattle.shop_advice.specs.Notes as spec;
@@ -13,14 +13,14 @@ fn is_unavailable(answer: &[u8]) -> bool
     answer.starts_with(b"HTTP/1.1 503 ")
 }
 
-// Whether the text of an answer ends as one for which memory was wanting.
+// Whether the text of an answer ends as one for which memory ran out.
 fn reports_memory(answer: &[u8]) -> bool
     ensures { result ≡ spec.reports_memory answer.now }
 {
     answer.ends_with(b":98}")
 }
 
-/// Whether an answer reports, by its bytes, that the store failed (99): it has the status 503, and isn't that of wanting memory (98).
+/// Whether an answer reports, by its bytes, that the store failed (99): it has the status 503, and isn't that of memory that ran out (98).
 pub fn reports_failure(answer: &[u8]) -> bool
     ensures { result ≡ spec.reports_failure answer.now }
 {
@@ -42,7 +42,7 @@ fn failure_note(cause: FailureCause) -> &'static str
     }
 }
 
-/// What is reported about an answer, by its bytes: of one with the status 503 that memory was wanting (98) or that the store failed
+/// What is reported about an answer, by its bytes: of one with the status 503 that memory ran out (98) or that the store failed
 /// (99), and for which cause, and nothing of another. `cause` says nothing but of an answer that reports a failure
 /// (`reports_failure`).
 pub fn answer_note(answer: &[u8], cause: FailureCause) -> Option<&'static str>

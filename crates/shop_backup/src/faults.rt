@@ -6,7 +6,7 @@ use std::alloc::AllocError;
 /// Why a backup wasn't made.
 #[derive(Clone, Copy, Debug, PartialEq, Eq)]
 pub enum BackupFault {
-    /// Memory was wanting.
+    /// Memory ran out.
     NoMemory,
     /// It couldn't be made in the folder.
     Failed(BackupCause),

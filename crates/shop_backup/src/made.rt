@@ -6,7 +6,7 @@ ghost use Rattle.shop_backup.specs.Notes as spec;
 use std::alloc::{AllocError, Global};
 
 /// A backup that was made: its number, and those of the older ones that were to be taken away and stayed, in rising order. Of the
-/// latter some aren't reported where memory is wanting for that.
+/// latter some aren't reported if memory runs out for that.
 #[derive(Drop)]
 pub struct Made {
     pub number: u32,

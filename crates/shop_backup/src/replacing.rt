@@ -53,13 +53,26 @@ fn failed(error: &io::Error) -> RestoreFault {
     }
 }
 
-// Whether something has this name, be it a link to nothing.
-fn is_named<R: Files>(rt: &R, path: &str) -> Result<bool, RestoreFault> {
+// Why a backup can't be read.
+fn unread(error: &io::Error) -> RestoreFault {
+    match error.kind() {
+        ErrorKind::OutOfMemory => RestoreFault::NoMemory,
+        _ => RestoreFault::NoBackup,
+    }
+}
+
+// What has this name, be it a link to nothing, if anything has it.
+fn found_at<R: Files>(rt: &R, path: &str) -> Result<Option<Metadata>, RestoreFault> {
     match fs::symlink_metadata(rt, path) {
-        Ok(_) => Ok(true),
-        Err(error) if error.kind() == ErrorKind::NotFound => Ok(false),
+        Ok(found) => Ok(Some(found)),
+        Err(error) if error.kind() == ErrorKind::NotFound => Ok(None),
         Err(error) => Err(failed(&error)),
     }
+}
+
+// Whether something has this name, be it a link to nothing.
+fn is_named<R: Files>(rt: &R, path: &str) -> Result<bool, RestoreFault> {
+    Ok(found_at(rt, path)?.is_some())
 }
 
 // The folder in which a path is.
@@ -118,12 +131,11 @@ impl Paths {
 
 // A file of a store, locked as it is by a program that has it open, if it is there.
 fn lock<R: Files>(rt: &R, path: &str) -> Result<Option<HeldFile>, RestoreFault> {
-    match fs::symlink_metadata(rt, path) {
-        Ok(found) if found.is_dir() => return Err(RestoreFault::Store(StoreCause::Folder)),
-        Ok(found) if !found.is_file() => return Err(RestoreFault::Store(StoreCause::NotPlain)),
-        Ok(_) => (),
-        Err(error) if error.kind() == ErrorKind::NotFound => return Ok(None),
-        Err(error) => return Err(failed(&error)),
+    match found_at(rt, path)? {
+        Some(found) if found.is_dir() => return Err(RestoreFault::Store(StoreCause::Folder)),
+        Some(found) if !found.is_file() => return Err(RestoreFault::Store(StoreCause::NotPlain)),
+        Some(_) => (),
+        None => return Ok(None),
     }
     match HeldFile::lock(path) {
         Ok(held) => Ok(Some(held)),
@@ -133,28 +145,33 @@ fn lock<R: Files>(rt: &R, path: &str) -> Result<Option<HeldFile>, RestoreFault> 
 }
 
 // Whether two names are of one file.
-fn are_one<R: Files>(rt: &R, first: &str, second: &str) -> bool {
-    match (
-        fs::symlink_metadata(rt, first),
-        fs::symlink_metadata(rt, second),
-    ) {
-        (Ok(first), Ok(second)) => first.dev() == second.dev() && first.ino() == second.ino(),
-        _ => false,
+fn are_one<R: Files>(rt: &R, first: &str, second: &str) -> Result<bool, RestoreFault> {
+    match (found_at(rt, first)?, found_at(rt, second)?) {
+        (Some(first), Some(second)) => {
+            Ok(first.dev() == second.dev() && first.ino() == second.ino())
+        }
+        _ => Ok(false),
     }
 }
 
 // Whether a file in a folder has a byte, and its log is there, too.
-fn is_store<R: Files>(rt: &R, alloc: Global, folder: &str, name: &str) -> Result<bool, AllocError> {
+fn is_store<R: Files>(
+    rt: &R,
+    alloc: Global,
+    folder: &str,
+    name: &str,
+) -> Result<bool, RestoreFault> {
     let store = format!(in alloc; "{folder}/{name}")?;
     let log = format!(in alloc; "{folder}/{name}-wal")?;
-    Ok(is_plain(rt, store.as_str(), 1) && is_plain(rt, log.as_str(), 0))
+    Ok(is_plain(rt, store.as_str(), 1)? && is_plain(rt, log.as_str(), 0)?)
 }
 
-// Whether a file has this path, and so many bytes at least.
-fn is_plain<R: Files>(rt: &R, path: &str, least: u64) -> bool {
+// Whether a file has this path, and so many bytes at least. What can't be looked at is none.
+fn is_plain<R: Files>(rt: &R, path: &str, least: u64) -> Result<bool, RestoreFault> {
     match fs::symlink_metadata(rt, path) {
-        Ok(found) => found.is_file() && found.len() >= least,
-        Err(_) => false,
+        Ok(found) => Ok(found.is_file() && found.len() >= least),
+        Err(error) if error.kind() == ErrorKind::OutOfMemory => Err(RestoreFault::NoMemory),
+        Err(_) => Ok(false),
     }
 }
 
@@ -162,13 +179,13 @@ fn is_plain<R: Files>(rt: &R, path: &str, least: u64) -> bool {
 fn store_in<R: Files>(rt: &R, alloc: Global, folder: &str) -> Result<String, RestoreFault> {
     let names = match fs::read_dir(&(rt, alloc), folder) {
         Ok(names) => names,
-        Err(error) if error.kind() == ErrorKind::OutOfMemory => return Err(RestoreFault::NoMemory),
-        Err(_) => return Err(RestoreFault::NoBackup),
+        Err(error) => return Err(unread(&error)),
     };
     let mut found = None;
     for name in names {
-        let Ok(name) = name else {
-            return Err(RestoreFault::NoBackup);
+        let name = match name {
+            Ok(name) => name,
+            Err(error) => return Err(unread(&error)),
         };
         let name = name.file_name();
         if is_store(rt, alloc, folder, name)? {
@@ -198,11 +215,19 @@ fn free_name<R: Files>(rt: &R, path: &str) -> Result<(), RestoreFault> {
     }
 }
 
+// What was tried, be it refused. Only that memory ran out is handed on.
+fn tried(done: io::Result<()>) -> io::Result<()> {
+    match done {
+        Err(error) if error.kind() == ErrorKind::OutOfMemory => Err(error),
+        _ => Ok(()),
+    }
+}
+
 // Gives a file the owner and the permissions of another, as far as this account may.
-fn copy_access<R: Files>(rt: &R, path: &str, from: &Metadata) {
-    let _ = rt.chown(path, None, Some(from.gid()));
-    let _ = rt.chown(path, Some(from.uid()), None);
-    let _ = rt.set_permissions(path, Permissions::from_mode(from.mode() & 0o666));
+fn copy_access<R: Files>(rt: &R, path: &str, from: &Metadata) -> io::Result<()> {
+    tried(rt.chown(path, None, Some(from.gid())))?;
+    tried(rt.chown(path, Some(from.uid()), None))?;
+    tried(rt.set_permissions(path, Permissions::from_mode(from.mode() & 0o666)))
 }
 
 // Makes a file of this access, where nothing has its name.
@@ -211,7 +236,7 @@ fn make_file<R: Files>(rt: &R, path: &str, access: Option<&Metadata>) -> io::Res
     options.write(true).create_new(true).mode(0o600);
     let file = options.open(rt, path)?;
     if let Some(access) = access {
-        copy_access(rt, path, access);
+        copy_access(rt, path, access)?;
     }
     Ok(file)
 }
@@ -223,8 +248,9 @@ fn copy_file<R: Files>(
     to: &str,
     access: Option<&Metadata>,
 ) -> Result<(), RestoreFault> {
-    let Ok(source) = File::open(rt, from) else {
-        return Err(RestoreFault::NoBackup);
+    let source = match File::open(rt, from) {
+        Ok(source) => source,
+        Err(error) => return Err(unread(&error)),
     };
     let file = match make_file(rt, to, access) {
         Ok(file) => file,
@@ -262,7 +288,7 @@ impl<'a, R: Files, J: Judges> Replacing<'a, R, J> {
     // An earlier try may have been stopped with the store under the log's name, too.
     fn close(&mut self) -> Result<(), RestoreFault> {
         let (store, log) = (self.paths.store.as_str(), self.paths.log.as_str());
-        self.is_shielded = are_one(self.rt, store, log);
+        self.is_shielded = are_one(self.rt, store, log)?;
         let held = lock(self.rt, store)?;
         self.held = if self.is_shielded {
             [held, None]
@@ -298,17 +324,17 @@ impl<'a, R: Files, J: Judges> Replacing<'a, R, J> {
     }
 
     // The owner and the permissions that the new files get: those of the old ones, or of the backup.
-    fn access(&self, copy: &str) -> Option<Metadata> {
+    fn access(&self, copy: &str) -> Result<Option<Metadata>, RestoreFault> {
         for path in [
             self.paths.name(StoreFile::Store),
             self.paths.name(StoreFile::Log),
             copy,
         ] {
-            if let Ok(found) = fs::symlink_metadata(self.rt, path) {
-                return Some(found);
+            if let Some(found) = found_at(self.rt, path)? {
+                return Ok(Some(found));
             }
         }
-        None
+        Ok(None)
     }
 
     fn copy(&self, which: StoreFile) -> Result<(), RestoreFault> {
@@ -323,7 +349,8 @@ impl<'a, R: Files, J: Judges> Replacing<'a, R, J> {
         };
         let to = self.paths.new_name(which);
         free_name(self.rt, to)?;
-        copy_file(self.rt, from, to, self.access(store).as_ref())
+        let access = self.access(store)?;
+        copy_file(self.rt, from, to, access.as_ref())
     }
 
     // Renames a file, and has that on the disk.
@@ -350,11 +377,10 @@ impl<'a, R: Files, J: Judges> Replacing<'a, R, J> {
     // its own log, nor a log without its store, so that what a stop leaves now isn't taken for a new shop.
     fn shield(&self) -> Result<bool, RestoreFault> {
         let log = self.paths.log.as_str();
-        match fs::symlink_metadata(self.rt, log) {
-            Ok(found) if found.len() > 0 => return Ok(false),
-            Ok(_) => self.rename(log, self.paths.old_log.as_str())?,
-            Err(error) if error.kind() == ErrorKind::NotFound => (),
-            Err(error) => return Err(failed(&error)),
+        match found_at(self.rt, log)? {
+            Some(found) if found.len() > 0 => return Ok(false),
+            Some(_) => self.rename(log, self.paths.old_log.as_str())?,
+            None => (),
         }
         self.link(self.paths.store.as_str(), log)?;
         Ok(true)

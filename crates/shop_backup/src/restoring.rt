@@ -11,7 +11,7 @@ use std::alloc::AllocError;
 /// Why a backup wasn't put in the place of a store.
 #[derive(Clone, Copy, Debug, PartialEq, Eq)]
 pub enum RestoreFault {
-    /// Memory was wanting.
+    /// Memory ran out.
     NoMemory,
     /// The store is in use, or its files can't be made or renamed.
     Store(StoreCause),

@@ -31,7 +31,7 @@ pub const MAX_FAILURES: u64 = 18446744073709551615;
 /// Why a book has no answer.
 #[derive(Clone, Copy, Debug, PartialEq, Eq)]
 pub enum BookFault {
-    /// Memory was wanting.
+    /// Memory ran out.
     NoMemory,
     /// The store failed; the book counts it.
     Store,

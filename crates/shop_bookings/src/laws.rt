@@ -16,8 +16,8 @@ ghost use Rattle.shop_bookings.specs.Bookings.{Booking, AreBookable, OnlySpent, 
 ghost use Rattle.shop_bookings.specs.Reported.{AreBookedBy};
 
 /// Reservations of different standing parts, whose plans have together no more pieces of a demand than are left of it, are
-/// accepted one after another, in whatever order they come: refused are only those for which numbers are spent, want of
-/// memory and a failed store aside.
+/// accepted one after another, in whatever order they come: unless memory runs out or the store fails, refused are only those for
+/// which numbers are spent.
 pub fn bookings_stand_together()
     ensures { (texts : Texts) (old new : Content) (bookings : List Booking) (answers : List Reply)
         → IsSound texts old → AreBookable old bookings

@@ -11,3 +11,4 @@ pub mod JudgedFiles
 pub mod PlannedFiles
 pub mod StageLimits
 pub mod Audited
+pub mod Concluded

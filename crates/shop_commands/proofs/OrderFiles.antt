@@ -4,6 +4,7 @@ use Rattle.std.specs.Prelude.{◌||◌, ◌==◌, IfErr, if◌then◌else◌}
 use Rattle.std.specs.List.{list_any, prefix_len}
 use Rattle.std.proofs.Math.Seq.{drop-cons}
 use Rattle.std.proofs.lemmas.Bool.{eq-eqb, ne_eqb}
+use Rattle.shop_files.specs.declared.limits.TheConstants.{MAX_TEXT_LEN}
 use Rattle.shop_words.specs.declared.words.ImportAs.{ImportAs}
 use Rattle.shop_commands.specs.Orders.{first_line_has, IsOrdersLine, IsOrdersStopped}
 use Rattle.shop_commands.specs.Sinks.{SinkChange, AddsPrefix, SinkFailed}
@@ -56,7 +57,8 @@ module _ (wanted : ℕ) (text : List ℕ) (i d : ℕ) (within : i < length text)
 
 -- ---- a line that isn't written to its end
 
-pub unwritten : {X : Type 0} (given : Bool) (reported : Option ImportAs) (bytes line : List ℕ) (out : SinkChange) → IsOrdersLine given reported bytes line → AddsPrefix out line
-    → (result : Result X Fault) → IfErr result (λ fault. (fault ≡ Write) × SinkFailed out) → IfErr result (λ fault. IsOrdersStopped given reported fault out)
-unwritten given reported bytes line out made prefix (Ok x) is = tt
-unwritten given reported bytes line out made prefix (Err fault) is = inr (inr (bytes, line, made, is.0, prefix, is.1))
+pub unwritten : {X : Type 0} (holds : List ℕ → ℕ → List ℕ → Type 0) (file : List ℕ) (path : Option (List ℕ)) (reported : Option ImportAs) (bytes line : List ℕ) (out : SinkChange) → holds file MAX_TEXT_LEN bytes
+    → IsOrdersLine holds path reported bytes line → AddsPrefix out line
+    → (result : Result X Fault) → IfErr result (λ fault. (fault ≡ Write) × SinkFailed out) → IfErr result (λ fault. IsOrdersStopped holds file path reported fault out)
+unwritten holds file path reported bytes line out has made prefix (Ok x) is = tt
+unwritten holds file path reported bytes line out has made prefix (Err fault) is = inr (inr (bytes, line, has, made, is.0, prefix, is.1))

@@ -1,5 +1,5 @@
 -- Order files that are read by the program.
-use Rattle.std.specs.Prelude.{◌≡◌, ◌⊎◌, ℕ, ◌==◌, ◌&&◌, not, Bool, false, true, List, [], ◌∷◌, ◌++◌, length, nat_lt, Option, Some, None, codes, if◌then◌else◌}
+use Rattle.std.specs.Prelude.{◌≡◌, ◌⊎◌, ℕ, ◌==◌, ◌&&◌, not, Bool, List, [], ◌∷◌, ◌++◌, length, nat_lt, Option, Some, None, codes, if◌then◌else◌}
 use Rattle.std.specs.Fmt.{decimal}
 use Rattle.std.specs.List.{before_first, list_any}
 use Rattle.std.specs.Str.{IsUtf8}
@@ -71,20 +71,21 @@ bad_fault bad = Order (record { row = bad.row; field = bad.field; cause = judged
 abbrev pub IsBadBy : Option (List MaterialEntry) → List OrderLine → Fault → Type 0
 IsBadBy shop lines fault = (bad : BadField) × (first_bad_field shop lines ≡ Some bad) × (fault ≡ bad_fault bad)
 
--- the materials of a shop file, where one is given
-abbrev pub IsKnownShop : (given : Bool) → Option (List MaterialEntry) → Type 0
-IsKnownShop false shop = shop ≡ None
-IsKnownShop true None = ⊥
-IsKnownShop true (Some entries) = IsShopRead entries
+-- the materials of a shop file, where one is named, by the bytes that it holds
+abbrev pub IsKnownShop : (holds : List ℕ → ℕ → List ℕ → Type 0) → (path : Option (List ℕ)) → Option (List MaterialEntry) → Type 0
+IsKnownShop holds None shop = shop ≡ None
+IsKnownShop holds (Some path) None = ⊥
+IsKnownShop holds (Some path) (Some entries) = IsShopRead holds path entries
 
 -- no field of the lines is bad
-abbrev pub IsJudgedGood : (given : Bool) → List OrderLine → Type 0
-IsJudgedGood given lines = (shop : Option (List MaterialEntry)) × IsKnownShop given shop × (first_bad_field shop lines ≡ None)
+abbrev pub IsJudgedGood : (holds : List ℕ → ℕ → List ℕ → Type 0) → (path : Option (List ℕ)) → List OrderLine → Type 0
+IsJudgedGood holds path lines = (shop : Option (List MaterialEntry)) × IsKnownShop holds path shop × (first_bad_field shop lines ≡ None)
 
 -- the shop file has this fault, or this is the one of the first bad field of the lines
-abbrev pub IsJudgedBad : (given : Bool) → List OrderLine → Fault → Type 0
-IsJudgedBad given lines fault =
-    ((given ≡ true) × IsShopUnread fault) ⊎ ((shop : Option (List MaterialEntry)) × IsKnownShop given shop × IsBadBy shop lines fault)
+abbrev pub IsJudgedBad : (holds : List ℕ → ℕ → List ℕ → Type 0) → (path : Option (List ℕ)) → List OrderLine → Fault → Type 0
+IsJudgedBad holds path lines fault =
+    ((named : List ℕ) × (path ≡ Some named) × IsShopUnread holds named fault)
+    ⊎ ((shop : Option (List MaterialEntry)) × IsKnownShop holds path shop × IsBadBy shop lines fault)
 
 -- ---- what is reported
 
@@ -105,27 +106,27 @@ orders_line None text count = count_line count
 orders_line (Some reported) text count = import_line reported text
 
 -- the line that is reported about an order file's bytes, which spell good lines
-abbrev pub IsOrdersLine : (given : Bool) → Option ImportAs → List ℕ → List ℕ → Type 0
-IsOrdersLine given reported text line =
-    (lines : List OrderLine) × IsOrders text lines × IsJudgedGood given lines × (line ≡ orders_line reported text (length lines))
+abbrev pub IsOrdersLine : (holds : List ℕ → ℕ → List ℕ → Type 0) → (path : Option (List ℕ)) → Option ImportAs → List ℕ → List ℕ → Type 0
+IsOrdersLine holds path reported text line =
+    (lines : List OrderLine) × IsOrders text lines × IsJudgedGood holds path lines × (line ≡ orders_line reported text (length lines))
 
 -- the line of good bytes can't be made: memory ran out, or they are no text
 abbrev pub IsUnsaid : List ℕ → Fault → Type 0
 IsUnsaid text fault = (fault ≡ NoMemory) ⊎ ((fault ≡ File) × (IsUtf8 text → ⊥))
 
 -- the bytes have this first fault; or they spell lines that are judged to be bad; or good ones, and memory ran out or they are no text
-abbrev pub IsOrderFileFault : (given : Bool) → List ℕ → Fault → Type 0
-IsOrderFileFault given text fault =
+abbrev pub IsOrderFileFault : (holds : List ℕ → ℕ → List ℕ → Type 0) → (path : Option (List ℕ)) → List ℕ → Fault → Type 0
+IsOrderFileFault holds path text fault =
     IsUnordered text fault
-    ⊎ ((lines : List OrderLine) × IsOrders text lines × (IsJudgedBad given lines fault ⊎ (IsJudgedGood given lines × IsUnsaid text fault)))
+    ⊎ ((lines : List OrderLine) × IsOrders text lines × (IsJudgedBad holds path lines fault ⊎ (IsJudgedGood holds path lines × IsUnsaid text fault)))
 
--- the line of a file's bytes was written
-abbrev pub IsOrdersDone : (given : Bool) → Option ImportAs → (out : SinkChange) → Type 0
-IsOrdersDone given reported out = (bytes line : List ℕ) × IsOrdersLine given reported bytes line × Adds out line
+-- the line of the bytes that a file holds was written
+abbrev pub IsOrdersDone : (holds : List ℕ → ℕ → List ℕ → Type 0) → (file : List ℕ) → (path : Option (List ℕ)) → Option ImportAs → (out : SinkChange) → Type 0
+IsOrdersDone holds file path reported out = (bytes line : List ℕ) × holds file MAX_TEXT_LEN bytes × IsOrdersLine holds path reported bytes line × Adds out line
 
 -- the file can't be read, or its bytes have a fault, and nothing was written; or a write failed, and a first part was
-abbrev pub IsOrdersStopped : (given : Bool) → Option ImportAs → Fault → (out : SinkChange) → Type 0
-IsOrdersStopped given reported fault out =
+abbrev pub IsOrdersStopped : (holds : List ℕ → ℕ → List ℕ → Type 0) → (file : List ℕ) → (path : Option (List ℕ)) → Option ImportAs → Fault → (out : SinkChange) → Type 0
+IsOrdersStopped holds file path reported fault out =
     (((fault ≡ NoMemory) ⊎ (fault ≡ File)) × AddsNone out)
-    ⊎ ((((bytes : List ℕ) × IsOrderFileFault given bytes fault) × AddsNone out)
-    ⊎ ((bytes line : List ℕ) × IsOrdersLine given reported bytes line × (fault ≡ Write) × AddsPrefix out line × SinkFailed out))
+    ⊎ ((((bytes : List ℕ) × holds file MAX_TEXT_LEN bytes × IsOrderFileFault holds path bytes fault) × AddsNone out)
+    ⊎ ((bytes line : List ℕ) × holds file MAX_TEXT_LEN bytes × IsOrdersLine holds path reported bytes line × (fault ≡ Write) × AddsPrefix out line × SinkFailed out))

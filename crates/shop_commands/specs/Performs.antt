@@ -1,5 +1,5 @@
 -- What the program did: what was written, and with which status it ended.
-use Rattle.std.specs.Prelude.{◌≡◌, ◌≢◌, ◌⊎◌, ℕ, true, false, List, [], ◌++◌, Result, Ok, Err, codes, is_some, option_map}
+use Rattle.std.specs.Prelude.{◌≡◌, ◌≢◌, ◌⊎◌, ℕ, true, false, List, [], ◌++◌, Result, Ok, Err, codes, option_map}
 use Rattle.clap.specs.Kinds.{IsAmong}
 use Rattle.clap.specs.Faults as clap
 use Rattle.clap.specs.Words.{Text, subcommand_of}
@@ -7,6 +7,7 @@ use Rattle.clap.specs.declared.error.kind.ErrorKind.{ErrorKind}
 use Rattle.clap.specs.declared.error.kind.ErrorKind.TheVariants.{DisplayHelp, DisplayVersion, OutOfMemory}
 use Rattle.shop_book.specs.declared.books.Book.{Ghosts}
 use Rattle.shop_opening.specs.declared.stores.OpenFault.{OpenFault}
+use Rattle.shop_files.specs.declared.limits.TheConstants.{MAX_TEXT_LEN}
 use Rattle.shop_text.specs.Tickets.{ticket_of}
 use Rattle.shop_text.specs.Yields.{yield_of}
 use Rattle.shop_wire.specs.Lines.{AreLines}
@@ -33,9 +34,9 @@ use Rattle.shop_commands.specs.Sources.{SourceChange, SourceFailed}
 abbrev pub IsReplayDone : (input : SourceChange) → (out : SinkChange) → Type 0
 IsReplayDone input out = (lines : List (List ℕ)) × AreLines input.left lines × IsReplayedFresh out.old out.new lines []
 
--- what is made of a file's bytes was written
-abbrev pub IsPlanDone : (List ℕ → List ℕ → Type 0) → (out : SinkChange) → Type 0
-IsPlanDone made out = (bytes plan : List ℕ) × made bytes plan × Adds out plan
+-- what is made of the bytes that a file holds was written
+abbrev pub IsPlanDone : (holds : List ℕ → ℕ → List ℕ → Type 0) → (file : List ℕ) → (List ℕ → List ℕ → Type 0) → (out : SinkChange) → Type 0
+IsPlanDone holds file made out = (bytes plan : List ℕ) × holds file MAX_TEXT_LEN bytes × made bytes plan × Adds out plan
 
 -- a fault stopped it: some first lines have their replies, which were written but for some last bytes, after `Read` all of them;
 -- after `Read` the input had failed, and after `Write` a write had
@@ -45,19 +46,20 @@ IsReplayStopped fault input out =
     × IsReplayedFresh out.old out.new lines unwritten × (fault ≡ Read → SourceFailed input)
     × (fault ≡ Write → SinkFailed out)
 
--- a fault stopped it: the file can't be read, or nothing can be made of its bytes, or a write failed and some first bytes of what was made
+-- a fault stopped it: the file can't be read, memory ran out, or nothing can be made of its bytes, or a write failed and some first bytes of what was made
 -- were written
-abbrev pub IsPlanStopped : (List ℕ → List ℕ → Type 0) → (List ℕ → Fault → Type 0) → Fault → (out : SinkChange) → Type 0
-IsPlanStopped made stops File out = AddsNone out
-IsPlanStopped made stops Write out = (bytes plan : List ℕ) × made bytes plan × AddsPrefix out plan × SinkFailed out
-IsPlanStopped made stops fault out = ((bytes : List ℕ) × stops bytes fault) × AddsNone out
+abbrev pub IsPlanStopped : (holds : List ℕ → ℕ → List ℕ → Type 0) → (file : List ℕ) → (List ℕ → List ℕ → Type 0) → (List ℕ → Fault → Type 0) → Fault → (out : SinkChange) → Type 0
+IsPlanStopped holds file made stops File out = AddsNone out
+IsPlanStopped holds file made stops NoMemory out = AddsNone out
+IsPlanStopped holds file made stops Write out = (bytes plan : List ℕ) × holds file MAX_TEXT_LEN bytes × made bytes plan × AddsPrefix out plan × SinkFailed out
+IsPlanStopped holds file made stops fault out = ((bytes : List ℕ) × holds file MAX_TEXT_LEN bytes × stops bytes fault) × AddsNone out
 
 -- the same of what is made of two files: either can't be read, or nothing can be made of their bytes, and nothing was written; or a write failed
-abbrev pub IsMadeStopped : (List ℕ → List ℕ → Type 0) → (List ℕ → Fault → Type 0) → Fault → (out : SinkChange) → Type 0
-IsMadeStopped made stops fault out =
+abbrev pub IsMadeStopped : (holds : List ℕ → ℕ → List ℕ → Type 0) → (file : List ℕ) → (List ℕ → List ℕ → Type 0) → (List ℕ → Fault → Type 0) → Fault → (out : SinkChange) → Type 0
+IsMadeStopped holds file made stops fault out =
     (((fault ≡ NoMemory) ⊎ (fault ≡ File)) × AddsNone out)
-    ⊎ ((((bytes : List ℕ) × stops bytes fault) × AddsNone out)
-    ⊎ ((bytes plan : List ℕ) × made bytes plan × (fault ≡ Write) × AddsPrefix out plan × SinkFailed out))
+    ⊎ ((((bytes : List ℕ) × holds file MAX_TEXT_LEN bytes × stops bytes fault) × AddsNone out)
+    ⊎ ((bytes plan : List ℕ) × holds file MAX_TEXT_LEN bytes × made bytes plan × (fault ≡ Write) × AddsPrefix out plan × SinkFailed out))
 
 -- the line of the version
 abbrev pub version_line : List ℕ
@@ -74,17 +76,18 @@ abbrev pub Concludes : Result (Unit {0}) Fault → (err : SinkChange) → ℕ �
 Concludes (Ok _) err status = (status ≡ 0) × AddsNone err
 Concludes (Err fault) err status = (status ≡ 1) × ReportsFault fault err
 
--- ---- over what the opener of stores gives for a path, and over what that gives which only reads their files
+-- ---- over what the opener of stores gives for a path, and over what that gives which only reads their files; and over the bytes that a file
+-- of a path may hold, up to one more than so many
 
-module _ {B A : Type 0} (book : Ghosts B) (apart : Ghosts A) (gives : List ℕ → Result B OpenFault → Type 0) (reads : List ℕ → Result A OpenFault → Type 0) where
+module _ {B A : Type 0} (book : Ghosts B) (apart : Ghosts A) (gives : List ℕ → Result B OpenFault → Type 0) (reads : List ℕ → Result A OpenFault → Type 0) (holds : List ℕ → ℕ → List ℕ → Type 0) where
   abbrev pub IsDone : Request → (input : SourceChange) → (out : SinkChange) → Type 0
   IsDone Replay input out = IsReplayDone input out
-  IsDone (Plan file kerf step) input out = IsPlanDone (λ bytes. IsFilePlan bytes kerf step) out
-  IsDone (PlanOrder file kerf step calls stages) input out = IsPlanDone (λ bytes. IsFileWhole bytes kerf step stages) out
+  IsDone (Plan file kerf step) input out = IsPlanDone holds file.now (λ bytes. IsFilePlan bytes kerf step) out
+  IsDone (PlanOrder file kerf step calls stages) input out = IsPlanDone holds file.now (λ bytes. IsFileWhole bytes kerf step stages) out
   IsDone (Serve s) input out =
-      (address : Address) × IsAddressOf s address × IsServeDone book (gives s.store.now) address s.limit (option_map (λ p. p.now) s.page) (option_map (λ p. p.now) s.backup) out
-  IsDone (PlanLines asked) input out = IsPlanDone (λ bytes. IsFileLines bytes asked) out
-  IsDone (Orders file shop reported) input out = IsOrdersDone (is_some shop) reported out
+      (address : Address) × IsAddressOf s address × IsServeDone book (gives s.store.now) holds address s.shop.now s.limit (option_map (λ p. p.now) s.page) (option_map (λ p. p.now) s.backup) out
+  IsDone (PlanLines asked) input out = IsPlanDone holds asked.file.now (λ bytes. IsFileLines holds bytes asked) out
+  IsDone (Orders file shop reported) input out = IsOrdersDone holds file.now (option_map (λ p. p.now) shop) reported out
   IsDone (Ticket store job false) input out = IsTextDone book (gives store.now) (λ m. ticket_of m job) out
   IsDone (Ticket store job true) input out = IsTextDone apart (reads store.now) (λ m. ticket_of m job) out
   IsDone (Yield store material false) input out = IsTextDone book (gives store.now) (λ m. yield_of m material) out
@@ -96,13 +99,13 @@ module _ {B A : Type 0} (book : Ghosts B) (apart : Ghosts A) (gives : List ℕ �
 
   abbrev pub IsStopped : Request → Fault → (input : SourceChange) → (out : SinkChange) → Type 0
   IsStopped Replay fault input out = IsReplayStopped fault input out
-  IsStopped (Plan file kerf step) fault input out = IsPlanStopped (λ bytes. IsFilePlan bytes kerf step) (λ bytes. IsFileFault bytes kerf step) fault out
+  IsStopped (Plan file kerf step) fault input out = IsPlanStopped holds file.now (λ bytes. IsFilePlan bytes kerf step) (λ bytes. IsFileFault bytes kerf step) fault out
   IsStopped (PlanOrder file kerf step calls stages) fault input out =
-      IsPlanStopped (λ bytes. IsFileWhole bytes kerf step stages) (λ bytes. IsFileWholeFault bytes kerf step) fault out
+      IsPlanStopped holds file.now (λ bytes. IsFileWhole bytes kerf step stages) (λ bytes. IsFileWholeFault bytes kerf step) fault out
   IsStopped (Serve s) fault input out =
-      (address : Address) × IsAddressOf s address × IsServeStopped book (gives s.store.now) address s.limit (option_map (λ p. p.now) s.page) (option_map (λ p. p.now) s.backup) fault out
-  IsStopped (PlanLines asked) fault input out = IsMadeStopped (λ bytes. IsFileLines bytes asked) (λ bytes. IsFileLinesFault bytes asked) fault out
-  IsStopped (Orders file shop reported) fault input out = IsOrdersStopped (is_some shop) reported fault out
+      (address : Address) × IsAddressOf s address × IsServeStopped book (gives s.store.now) holds address s.shop.now s.limit (option_map (λ p. p.now) s.page) (option_map (λ p. p.now) s.backup) fault out
+  IsStopped (PlanLines asked) fault input out = IsMadeStopped holds asked.file.now (λ bytes. IsFileLines holds bytes asked) (λ bytes. IsFileLinesFault holds bytes asked) fault out
+  IsStopped (Orders file shop reported) fault input out = IsOrdersStopped holds file.now (option_map (λ p. p.now) shop) reported fault out
   IsStopped (Ticket store job false) fault input out = IsTextStopped book (gives store.now) (λ m. ticket_of m job) fault out
   IsStopped (Ticket store job true) fault input out = IsTextStopped apart (reads store.now) (λ m. ticket_of m job) fault out
   IsStopped (Yield store material false) fault input out = IsTextStopped book (gives store.now) (λ m. yield_of m material) fault out
@@ -149,9 +152,9 @@ faults_of words = clap.fault_of shop_app words
 
 -- The words ask for something, which was done or stopped by a fault; or `clap` said something to them; or it took them, and they
 -- ask for nothing, by a mistake that was reported.
-abbrev pub IsPerformed : {B A : Type 0} → Ghosts B → Ghosts A → (List ℕ → Result B OpenFault → Type 0) → (List ℕ → Result A OpenFault → Type 0) → List Text → (input : SourceChange) → (out err : SinkChange) → ℕ → Type 0
-IsPerformed book apart gives reads words input out err status =
-    ((request : Request) × (faults_of words ≡ []) × AsksFor (subcommand_of shop_app words) request × IsConcluded book apart gives reads input out err request status)
+abbrev pub IsPerformed : {B A : Type 0} → Ghosts B → Ghosts A → (List ℕ → Result B OpenFault → Type 0) → (List ℕ → Result A OpenFault → Type 0) → (List ℕ → ℕ → List ℕ → Type 0) → List Text → (input : SourceChange) → (out err : SinkChange) → ℕ → Type 0
+IsPerformed book apart gives reads holds words input out err status =
+    ((request : Request) × (faults_of words ≡ []) × AsksFor (subcommand_of shop_app words) request × IsConcluded book apart gives reads holds input out err request status)
     ⊎ ((kind : ErrorKind) × ((kind ≡ OutOfMemory) ⊎ IsAmong kind (faults_of words)) × IsReported out err kind status)
     ⊎ ((faults_of words ≡ []) × AsksNothing (subcommand_of shop_app words)
     × ((mistake : Mistake) × IsMistakeOf (subcommand_of shop_app words) mistake × IsMistakeReported mistake err status) × AddsNone out)

@@ -84,18 +84,18 @@ abbrev pub sizes_asked : OrderPlan → List (List ℕ)
 sizes_asked asked = map (λ t. t.now) asked.sizes.items
 
 -- a shop file has entries that a shop takes, and these are the lines of the plans of a material's lines
-pub record IsShopLines (lines : List OrderLine) (asked : OrderPlan) (text : List ℕ) : Type 0 where
+pub record IsShopLines (holds : List ℕ → ℕ → List ℕ → Type 0) (lines : List OrderLine) (asked : OrderPlan) (text : List ℕ) : Type 0 where
   pub entries : List MaterialEntry
-  pub read : IsShopRead entries
+  pub read : IsShopRead holds asked.shop.now entries
   pub taken : first_bad_entry entries ≡ None
   pub reported : IsLinesText lines entries asked.material.now (sizes_asked asked) asked.stages text
 
 -- bytes spell good lines, and these are the lines of their plans
-pub record IsFileLines (bytes : List ℕ) (asked : OrderPlan) (text : List ℕ) : Type 0 where
+pub record IsFileLines (holds : List ℕ → ℕ → List ℕ → Type 0) (bytes : List ℕ) (asked : OrderPlan) (text : List ℕ) : Type 0 where
   pub lines : List OrderLine
   pub spelt : IsOrders bytes lines
   pub good : first_bad_field None lines ≡ None
-  pub planned : IsShopLines lines asked text
+  pub planned : IsShopLines holds lines asked text
 
 -- of these entries: the fault of one that a shop refuses, or why the lines aren't planned
 abbrev pub IsPlanFaultBy : List OrderLine → List MaterialEntry → OrderPlan → Fault → Type 0
@@ -104,12 +104,14 @@ IsPlanFaultBy lines entries asked fault =
     ⊎ ((first_bad_entry entries ≡ None) × ((f : LinesFault) × IsLinesFault lines entries asked.material.now (sizes_asked asked) f × (fault ≡ lines_fault f)))
 
 -- the shop file has a fault, or it has entries from which the lines can't be planned
-abbrev pub IsShopLinesFault : List OrderLine → OrderPlan → Fault → Type 0
-IsShopLinesFault lines asked fault = IsShopUnread fault ⊎ ((entries : List MaterialEntry) × IsShopRead entries × IsPlanFaultBy lines entries asked fault)
+abbrev pub IsShopLinesFault : (holds : List ℕ → ℕ → List ℕ → Type 0) → List OrderLine → OrderPlan → Fault → Type 0
+IsShopLinesFault holds lines asked fault =
+    IsShopUnread holds asked.shop.now fault
+    ⊎ ((entries : List MaterialEntry) × IsShopRead holds asked.shop.now entries × IsPlanFaultBy lines entries asked fault)
 
 -- the bytes have a first fault; or they spell lines of which a field is bad; or good ones, which can't be planned from the shop file
-abbrev pub IsFileLinesFault : List ℕ → OrderPlan → Fault → Type 0
-IsFileLinesFault bytes asked fault =
+abbrev pub IsFileLinesFault : (holds : List ℕ → ℕ → List ℕ → Type 0) → List ℕ → OrderPlan → Fault → Type 0
+IsFileLinesFault holds bytes asked fault =
     IsUnordered bytes fault
     ⊎ ((lines : List OrderLine) × IsOrders bytes lines
-    × (IsBadBy None lines fault ⊎ ((first_bad_field None lines ≡ None) × IsShopLinesFault lines asked fault)))
+    × (IsBadBy None lines fault ⊎ ((first_bad_field None lines ≡ None) × IsShopLinesFault holds lines asked fault)))

@@ -1,8 +1,9 @@
--- What the commands on a store do: tickets, yield reports, and serving. A real file reports no bytes, so that a file was read or
--- a store was opened is said of some bytes and of what the store's opener may give: some book, or some fault.
+-- What the commands on a store do: tickets, yield reports, and serving. A real file reports no bytes and a real store no content, so what was
+-- read is said of the bytes that a reader of files may find at a path, and what was opened of what a store's opener may give.
 use Rattle.std.specs.Prelude.{◌≡◌, ◌≤◌, ◌⊎◌, None, Some, length, ℕ, List, ◌++◌, codes, string_bytes, is_some, Option, Result, Ok, Err, All}
 use Rattle.std.specs.Fmt.{decimal}
 use Rattle.shop_files.specs.Shops.{IsShopFile, IsShopFault}
+use Rattle.shop_files.specs.declared.limits.TheConstants.{MAX_TEXT_LEN}
 use Rattle.shop_files.specs.declared.shops.MaterialEntry.{MaterialEntry}
 use Rattle.shop_files.specs.declared.shops.ShopFault.{ShopFault}
 use Rattle.shop_records.specs.Content.{Content}
@@ -39,18 +40,19 @@ use Rattle.shop_commands.specs.declared.stored.StoreText.TheVariants.{Ticket, Yi
 use Rattle.shop_commands.specs.Faults.{shop_fault, store_fault}
 use Rattle.shop_commands.specs.Sinks.{SinkChange, Adds, AddsPrefix, AddsNone, SinkFailed}
 
--- a shop file's bytes spell these entries
-abbrev pub IsShopRead : List MaterialEntry → Type 0
-IsShopRead entries = (bytes : List ℕ) × IsShopFile bytes entries
+-- bytes that a shop file holds spell these entries
+abbrev pub IsShopRead : (holds : List ℕ → ℕ → List ℕ → Type 0) → (path : List ℕ) → List MaterialEntry → Type 0
+IsShopRead holds path entries = (bytes : List ℕ) × holds path MAX_TEXT_LEN bytes × IsShopFile bytes entries
 
--- the shop file can't be read, or its bytes have this fault
-abbrev pub IsShopUnread : Fault → Type 0
-IsShopUnread fault = ((fault ≡ NoMemory) ⊎ (fault ≡ File)) ⊎ ((bytes : List ℕ) × (f : ShopFault) × IsShopFault bytes f × (fault ≡ shop_fault f))
+-- the shop file can't be read, or bytes that it holds have this fault
+abbrev pub IsShopUnread : (holds : List ℕ → ℕ → List ℕ → Type 0) → (path : List ℕ) → Fault → Type 0
+IsShopUnread holds path fault =
+    ((fault ≡ NoMemory) ⊎ (fault ≡ File)) ⊎ ((bytes : List ℕ) × holds path MAX_TEXT_LEN bytes × (f : ShopFault) × IsShopFault bytes f × (fault ≡ shop_fault f))
 
--- a page is asked for, and these are the bytes of one that isn't too long; or none is
-abbrev pub IsPageRead : (path page : Option (List ℕ)) → Type 0
-IsPageRead None page = page ≡ None
-IsPageRead (Some path) page = (bytes : List ℕ) × (page ≡ Some bytes) × (length bytes ≤ MAX_PAGE_LEN)
+-- a page is asked for, and these are the bytes of its file, which isn't too long; or none is
+abbrev pub IsPageRead : (holds : List ℕ → ℕ → List ℕ → Type 0) → (path page : Option (List ℕ)) → Type 0
+IsPageRead holds None page = page ≡ None
+IsPageRead holds (Some path) page = (bytes : List ℕ) × (page ≡ Some bytes) × holds path MAX_PAGE_LEN bytes × (length bytes ≤ MAX_PAGE_LEN)
 
 -- the page can't be read, is too long, or memory ran out
 abbrev pub IsPageUnread : Fault → Type 0
@@ -73,9 +75,9 @@ abbrev pub IsAddressOf : Serving → Address → Type 0
 IsAddressOf s address = (address.port ≡ s.port) × (address.hosts.now ≡ s.hosts.items) × (address.origins.now ≡ s.origins.items)
 
 -- what is served at an address, with the page of a path, and with backups where there is a folder for them; under some run
-abbrev pub IsSite : Address → (path folder : Option (List ℕ)) → Site → Type 0
-IsSite address path folder site =
-    ((page : Option (List ℕ)) × IsPageRead path page × HasPage site page × IsGuardOf address (is_some page) (is_some folder) (string_bytes site.run) site.guard)
+abbrev pub IsSite : (holds : List ℕ → ℕ → List ℕ → Type 0) → Address → (path folder : Option (List ℕ)) → Site → Type 0
+IsSite holds address path folder site =
+    ((page : Option (List ℕ)) × IsPageRead holds path page × HasPage site page × IsGuardOf address (is_some page) (is_some folder) (string_bytes site.run) site.guard)
     × IsRun (string_bytes site.run) × (string_bytes site.version ≡ VERSION.now)
 
 -- the opener gave no book, and this reports why
@@ -171,19 +173,19 @@ module _ {B : Type 0} (book : Ghosts B) where
       ⊎ (AddFailed before after entries fault × AddsNone out)
       ⊎ ((IsShopped before after entries × IsUnannounced port fault out) ⊎ IsBookLeft site before after entries port limit fault out)
 
-  -- a shop file's entries were added to the book of a store, which was served
-  abbrev pub IsServeDone : (Result B OpenFault → Type 0) → Address → (limit : Option ℕ) → (page folder : Option (List ℕ)) → (out : SinkChange) → Type 0
-  IsServeDone gives address limit page folder out =
-      (entries : List MaterialEntry) × IsShopRead entries × (site : Site) × IsSite address page folder site
+  -- the entries of this shop file were added to the book of a store, which was served with this page
+  abbrev pub IsServeDone : (Result B OpenFault → Type 0) → (holds : List ℕ → ℕ → List ℕ → Type 0) → Address → (shop : List ℕ) → (limit : Option ℕ) → (page folder : Option (List ℕ)) → (out : SinkChange) → Type 0
+  IsServeDone gives holds address shop limit page folder out =
+      (entries : List MaterialEntry) × IsShopRead holds shop entries × (site : Site) × IsSite holds address page folder site
       × (before after : B) × gives (Ok before) × IsBookServed site before after entries address.port limit out
 
   -- the shop file's fault; or its entries were read, and then the page's fault came, or that of the folder of backups, or no run was
   -- drawn; or the store's, or what stopped the serving of its book
-  abbrev pub IsServeStopped : (Result B OpenFault → Type 0) → Address → (limit : Option ℕ) → (page folder : Option (List ℕ)) → Fault → (out : SinkChange) → Type 0
-  IsServeStopped gives address limit page folder fault out =
-      (IsShopUnread fault × AddsNone out)
-      ⊎ ((entries : List MaterialEntry) × IsShopRead entries
+  abbrev pub IsServeStopped : (Result B OpenFault → Type 0) → (holds : List ℕ → ℕ → List ℕ → Type 0) → Address → (shop : List ℕ) → (limit : Option ℕ) → (page folder : Option (List ℕ)) → Fault → (out : SinkChange) → Type 0
+  IsServeStopped gives holds address shop limit page folder fault out =
+      (IsShopUnread holds shop fault × AddsNone out)
+      ⊎ ((entries : List MaterialEntry) × IsShopRead holds shop entries
       × (((IsPageUnread fault ⊎ IsUnbacked fault ⊎ IsUndrawn fault) × AddsNone out)
-      ⊎ ((site : Site) × IsSite address page folder site
+      ⊎ ((site : Site) × IsSite holds address page folder site
       × ((IsUnopened gives fault × AddsNone out)
       ⊎ ((before after : B) × gives (Ok before) × IsBookUnserved site before after entries address.port limit fault out)))))

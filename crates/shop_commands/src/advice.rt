@@ -9,7 +9,7 @@ ghost use Rattle.shop_commands.specs.declared.faults.Fault.{Fault as FaultOf};
 ghost use Rattle.shop_commands.specs.declared.faults.Fault.TheVariants as fault;
 
 use crate::faults::{Fault, Torn};
-use crate::files::read_file;
+use crate::files::{Reads, read_file};
 use crate::helping::{lines_cause, step_advice};
 use crate::memory::memory_advice;
 use shop_advice::{
@@ -22,7 +22,6 @@ use shop_records::Refusal;
 use shop_serve::PortCause;
 use shop_words::{Request, Serving};
 use std::alloc::{AllocError, Global};
-use std::fs::Files;
 
 /// What stands after the line of a fault where memory ran out.
 const NO_MEMORY: &str = "  memory ran out; end other programs, or give this one more\n";
@@ -265,7 +264,7 @@ fn backup_name<'a>(request: &Request<'a>) -> &'a str {
 }
 
 // Whether a file can be read to its end, or to that of the longest text.
-fn can_be_read<R: Files>(rt: &R, alloc: Global, path: &str) -> bool {
+fn can_be_read<R: Reads>(rt: &R, alloc: Global, path: &str) -> bool {
     match read_file(rt, alloc, path) {
         Ok(_) => true,
         Err(_) => false,
@@ -285,7 +284,7 @@ fn shop_name<'a>(request: &Request<'a>) -> &'a str {
 }
 
 // The page of a server, where its shop file can be read.
-fn unread_of_serving<'a, R: Files>(rt: &R, alloc: Global, serving: &Serving<'a>) -> &'a str {
+fn unread_of_serving<'a, R: Reads>(rt: &R, alloc: Global, serving: &Serving<'a>) -> &'a str {
     match serving.page {
         Some(page) if can_be_read(rt, alloc, serving.shop) => page,
         _ => serving.shop,
@@ -293,7 +292,7 @@ fn unread_of_serving<'a, R: Files>(rt: &R, alloc: Global, serving: &Serving<'a>)
 }
 
 // The shop file beside an order file, where it can't be read and the order file can be.
-fn unread_of_order<'a, R: Files>(rt: &R, alloc: Global, file: &'a str, shop: &'a str) -> &'a str {
+fn unread_of_order<'a, R: Reads>(rt: &R, alloc: Global, file: &'a str, shop: &'a str) -> &'a str {
     if can_be_read(rt, alloc, file) && !can_be_read(rt, alloc, shop) {
         shop
     } else {
@@ -302,7 +301,7 @@ fn unread_of_order<'a, R: Files>(rt: &R, alloc: Global, file: &'a str, shop: &'a
 }
 
 // The file that can't be read.
-fn unread_name<'a, R: Files>(rt: &R, alloc: Global, request: &Request<'a>) -> &'a str {
+fn unread_name<'a, R: Reads>(rt: &R, alloc: Global, request: &Request<'a>) -> &'a str {
     match request {
         Request::Serve(serving) => unread_of_serving(rt, alloc, serving),
         Request::Orders { file, .. } => unread_of_order(rt, alloc, file, shop_name(request)),
@@ -321,7 +320,7 @@ fn unused_cause(request: &Request<'_>) -> FileCause {
 }
 
 // Why a file of a request can't be read.
-fn file_cause<R: Files>(rt: &R, alloc: Global, request: &Request<'_>, path: &str) -> FileCause {
+fn file_cause<R: Reads>(rt: &R, alloc: Global, request: &Request<'_>, path: &str) -> FileCause {
     match look_at_file(rt, path) {
         FileCause::NoText => {
             if can_be_read(rt, alloc, path) {
@@ -335,7 +334,7 @@ fn file_cause<R: Files>(rt: &R, alloc: Global, request: &Request<'_>, path: &str
 }
 
 // Why a file of a request can't be read.
-fn file_advice<R: Files>(rt: &R, alloc: Global, request: &Request<'_>) -> Option<Advice>
+fn file_advice<R: Reads>(rt: &R, alloc: Global, request: &Request<'_>) -> Option<Advice>
     ensures { IfSome result (IsAdviceOf fault.File) }
 {
     let path = unread_name(rt, alloc, request);
@@ -358,7 +357,7 @@ fn shop_about(
 }
 
 // What is wrong in a shop file, of which this entry is bad, from 1, or the whole.
-fn shop_advice<R: Files>(rt: &R, alloc: Global, path: &str, entry: Option<usize>) -> Option<Advice>
+fn shop_advice<R: Reads>(rt: &R, alloc: Global, path: &str, entry: Option<usize>) -> Option<Advice>
     ensures { IfSome result (λ a. (c : ShopCauseOf) × IsOf (kind.Shop c) a) }
 {
     let bytes = read_file(rt, alloc, path).ok()?;
@@ -404,7 +403,7 @@ fn plain_advice(
 
 // The same, and what helps where a step is refused, or what is planned is too large.
 #[tactic(auto, using(crate::proofs::StepAdvice::large_help, crate::proofs::StepAdvice::bad_help))]
-fn refused_advice<R: Files>(
+fn refused_advice<R: Reads>(
     rt: &R,
     alloc: Global,
     request: &Request<'_>,
@@ -505,7 +504,7 @@ fn system_advice(alloc: Global, request: &Request<'_>, fault: Fault) -> Option<A
 
 /// Why the work on a request stopped; `is_new` where its store wasn't there before. None because memory ran out to say it, of an order
 /// file's fault, and where memory ran out over no store.
-pub(crate) fn advise<R: Files>(
+pub(crate) fn advise<R: Reads>(
     rt: &R,
     alloc: Global,
     request: &Request<'_>,
@@ -540,7 +539,7 @@ pub(crate) fn advise<R: Files>(
 }
 
 /// Whether a request on a store will make it, since none is there: what is found now.
-pub(crate) fn makes_store<R: Files>(rt: &R, request: &Request<'_>) -> bool {
+pub(crate) fn makes_store<R: Reads>(rt: &R, request: &Request<'_>) -> bool {
     match request {
         Request::Ticket {
             store,

@@ -1,6 +1,7 @@
 //! Files read whole up to a limit, and texts written to the last byte.
 
 ghost use Rattle.std.specs.Prelude.{◌≡◌, ◌⊎◌, ◌≤◌, IfOk, IfErr, OnOk, length};
+ghost use Rattle.shop_files.specs.declared.limits.TheConstants.{MAX_TEXT_LEN};
 ghost use Rattle.shop_commands.specs.declared.faults.Fault.TheVariants as fault;
 ghost use Rattle.shop_commands.specs.declared.files.TheConstants.{MAX_PAGE_LEN};
 ghost use Rattle.shop_commands.specs.Sinks.{Adds, AddsPrefix, IsWritten, SinkFailed, change_of};
@@ -15,6 +16,26 @@ use std::io::{self, Read};
 /// The longest page, in bytes.
 pub(crate) const MAX_PAGE_LEN: usize = 1_048_576;
 
+/// What reads the files that the words name.
+pub trait Reads: Files {
+    ghost use Rattle.std.specs.Prelude.{List, ℕ};
+
+    /// A file of this path may hold these bytes: all that it has, or of one with more bytes than so many the first ones, up to one more.
+    ghost holds: { Self → List ℕ → ℕ → List ℕ → Type 0 };
+
+    /// What a file holds; of one with more bytes than these the first too many is the last.
+    fn read_first(&self, alloc: Global, path: &str, most: usize) -> io::Result<Vec<u8>>
+        ensures { IfOk result (λ bytes. holds self.now path.now most bytes.items) };
+}
+
+impl Reads for HostRuntime {
+    ghost holds = { λ _ _ _ _. Unit {0} };
+
+    fn read_first(&self, alloc: Global, path: &str, most: usize) -> io::Result<Vec<u8>> {
+        bytes_of(self, alloc, path, most)
+    }
+}
+
 // What a file holds; of one with more bytes than these the first too many is the last.
 fn bytes_of<R: Files>(rt: &R, alloc: Global, path: &str, most: usize) -> io::Result<Vec<u8>> {
     let mut bytes = Vec::new(alloc);
@@ -26,10 +47,11 @@ fn bytes_of<R: Files>(rt: &R, alloc: Global, path: &str, most: usize) -> io::Res
 }
 
 // What a file holds, up to one byte more than these.
-fn read_up_to<R: Files>(rt: &R, alloc: Global, path: &str, most: usize) -> Result<Vec<u8>, Fault>
-    ensures { IfErr result (λ f. (f ≡ fault.NoMemory) ⊎ (f ≡ fault.File)) }
+fn read_up_to<R: Reads>(rt: &R, alloc: Global, path: &str, most: usize) -> Result<Vec<u8>, Fault>
+    ensures ok { IfOk result (λ bytes. R.holds rt.now path.now most bytes.items) }
+    ensures err { IfErr result (λ f. (f ≡ fault.NoMemory) ⊎ (f ≡ fault.File)) }
 {
-    match bytes_of(rt, alloc, path, most) {
+    match rt.read_first(alloc, path, most) {
         Ok(bytes) => Ok(bytes),
         Err(error) if error.kind() == io::ErrorKind::OutOfMemory => Err(Fault::NoMemory),
         Err(_) => Err(Fault::File),
@@ -37,15 +59,17 @@ fn read_up_to<R: Files>(rt: &R, alloc: Global, path: &str, most: usize) -> Resul
 }
 
 /// What a file holds, up to one byte more than the longest text that is read.
-pub fn read_file<R: Files>(rt: &R, alloc: Global, path: &str) -> Result<Vec<u8>, Fault>
-    ensures { IfErr result (λ f. (f ≡ fault.NoMemory) ⊎ (f ≡ fault.File)) }
+pub fn read_file<R: Reads>(rt: &R, alloc: Global, path: &str) -> Result<Vec<u8>, Fault>
+    ensures ok { IfOk result (λ bytes. R.holds rt.now path.now MAX_TEXT_LEN bytes.items) }
+    ensures err { IfErr result (λ f. (f ≡ fault.NoMemory) ⊎ (f ≡ fault.File)) }
 {
     read_up_to(rt, alloc, path, MAX_TEXT_LEN)
 }
 
 /// The page that a file holds, of at most 1048576 bytes.
-pub fn read_page<R: Files>(rt: &R, alloc: Global, path: &str) -> Result<Vec<u8>, Fault>
-    ensures ok { IfOk result (λ page. length page.items ≤ MAX_PAGE_LEN) }
+pub fn read_page<R: Reads>(rt: &R, alloc: Global, path: &str) -> Result<Vec<u8>, Fault>
+    ensures ok { IfOk result (λ page. R.holds rt.now path.now MAX_PAGE_LEN page.items
+        × (length page.items ≤ MAX_PAGE_LEN)) }
     ensures err { IfErr result (λ f. (f ≡ fault.NoMemory) ⊎ (f ≡ fault.File)) }
 {
     let page = read_up_to(rt, alloc, path, MAX_PAGE_LEN)?;

@@ -6,23 +6,22 @@ ghost use Rattle.shop_commands.specs.Advice as spec;
 ghost use Rattle.shop_commands.specs.declared.faults.Fault.TheVariants as fault;
 
 use crate::advice::{Advice, Cause, advice_of};
-use crate::files::read_file;
+use crate::files::{Reads, read_file};
 use cut_measure::MAX_KERF;
 use shop_files::{Problem, read_cgcut};
 use shop_problems::{StepHelp, Steps, help_of_all, help_of_one};
 use shop_records::Refusal;
 use shop_words::Request;
 use std::alloc::Global;
-use std::fs::Files;
 
 // The problem of a file, as it is now.
-fn problem_of<R: Files>(rt: &R, alloc: Global, file: &str) -> Option<Problem> {
+fn problem_of<R: Reads>(rt: &R, alloc: Global, file: &str) -> Option<Problem> {
     let bytes = read_file(rt, alloc, file).ok()?;
     read_cgcut(alloc, &bytes).ok()
 }
 
 // What helps where the plan of a problem is refused for its step or its size.
-fn step_help<R: Files>(rt: &R, alloc: Global, request: &Request<'_>) -> Option<StepHelp> {
+fn step_help<R: Reads>(rt: &R, alloc: Global, request: &Request<'_>) -> Option<StepHelp> {
     match request {
         Request::Plan { file, kerf, step } => {
             let problem = problem_of(rt, alloc, file)?;
@@ -53,7 +52,7 @@ fn steps_advice(alloc: Global, file: &str, steps: Steps) -> Option<Advice>
 /// What helps where a plan of a file is refused for its step, or as it is too large: the steps that serve it, `--whole`, or a
 /// shorter bar. None because memory ran out, and where the file can't be read any more.
 #[tactic(auto, using(crate::proofs::StepAdvice::of_step))]
-pub(crate) fn step_advice<R: Files>(
+pub(crate) fn step_advice<R: Reads>(
     rt: &R,
     alloc: Global,
     request: &Request<'_>,

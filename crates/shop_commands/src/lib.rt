@@ -20,6 +20,7 @@ mod stored;
 
 pub use advice::second_lines_are_lines;
 pub use faults::{Fault, Torn};
+pub use files::Reads;
 pub use limits::limits_have_numbers;
 pub use performing::perform;
 pub use plans::plan_file;

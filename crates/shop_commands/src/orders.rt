@@ -1,13 +1,13 @@
 //! `cutshop orders`: an order file is judged, or becomes a message.
 
-ghost use Rattle.std.specs.Prelude.{◌≡◌, None, true, is_some, option_map, IfOk, IfErr, OnOk, string_bytes};
+ghost use Rattle.std.specs.Prelude.{◌≡◌, None, Some, option_map, IfOk, IfErr, OnOk, string_bytes};
 ghost use Rattle.shop_files.specs.Orders.{IsOrders};
 ghost use Rattle.shop_problems.specs.Judged.{AreSized, first_bad_field};
 ghost use Rattle.shop_commands.specs.Orders as spec;
 ghost use Rattle.shop_commands.specs.Sinks.{change_of};
 
 use crate::faults::{Fault, OrderCause, OrderFault};
-use crate::files::{read_file, write_text};
+use crate::files::{Reads, read_file, write_text};
 use crate::stored::shop_entries;
 use shop_files::{
     MAX_LINES, MAX_TEXT_LEN, MaterialEntry, OrderLine, OrdersFault, RowList, read_orders,
@@ -18,7 +18,6 @@ use shop_rules::message_text;
 use shop_text::Sink;
 use shop_words::ImportAs;
 use std::alloc::{AllocError, Global};
-use std::fs::Files;
 use std::str;
 
 // Whether the first line of a text has a byte.
@@ -153,14 +152,14 @@ pub(crate) fn judge(shop: Option<&[MaterialEntry]>, lines: &[OrderLine]) -> Resu
 
 // Judges lines by the materials of a shop file, too.
 #[tactic(auto, using(crate::proofs::JudgedFiles::good_by_shop, crate::proofs::JudgedFiles::bad_by_shop))]
-fn judge_by_shop<R: Files>(
+fn judge_by_shop<R: Reads>(
     rt: &R,
     alloc: Global,
     path: &str,
     lines: &[OrderLine],
 ) -> Result<(), Fault>
-    ensures ok { OnOk result (spec.IsJudgedGood true lines.now) }
-    ensures err { IfErr result (spec.IsJudgedBad true lines.now) }
+    ensures ok { OnOk result (spec.IsJudgedGood (R.holds rt.now) (Some path.now) lines.now) }
+    ensures err { IfErr result (spec.IsJudgedBad (R.holds rt.now) (Some path.now) lines.now) }
 {
     let entries = shop_entries(rt, alloc, path)?;
     judge(Some(entries.as_slice()), lines)
@@ -168,14 +167,14 @@ fn judge_by_shop<R: Files>(
 
 // Judges lines by all that needs no store, and where a shop file is given, by its materials.
 #[tactic(auto, using(crate::proofs::JudgedFiles::alone_ok, crate::proofs::JudgedFiles::alone_err, crate::proofs::JudgedFiles::known_ok, crate::proofs::JudgedFiles::known_err))]
-fn judge_by<R: Files>(
+fn judge_by<R: Reads>(
     rt: &R,
     alloc: Global,
     shop: Option<&str>,
     lines: &[OrderLine],
 ) -> Result<(), Fault>
-    ensures ok { OnOk result (spec.IsJudgedGood (is_some shop.entry) lines.now) }
-    ensures err { IfErr result (spec.IsJudgedBad (is_some shop.entry) lines.now) }
+    ensures ok { OnOk result (spec.IsJudgedGood (R.holds rt.now) (option_map (λ p. p.now) shop.entry) lines.now) }
+    ensures err { IfErr result (spec.IsJudgedBad (R.holds rt.now) (option_map (λ p. p.now) shop.entry) lines.now) }
 {
     match shop {
         None => judge(None, lines),
@@ -233,7 +232,7 @@ fn line_of(
 /// first fault, the shop file's, the first bad field of the lines, or lack of memory; `File` for a text that is no UTF-8 and has
 /// no fault.
 #[tactic(auto, using(crate::proofs::JudgedFiles::line_ok, crate::proofs::JudgedFiles::line_err, crate::proofs::JudgedFiles::bad_file))]
-pub fn orders_line<R: Files>(
+pub fn orders_line<R: Reads>(
     rt: &R,
     alloc: Global,
     shop: Option<&str>,
@@ -241,8 +240,8 @@ pub fn orders_line<R: Files>(
     text: &[u8],
 ) -> Result<String, Fault>
     ensures ok { IfOk result
-        (λ line. spec.IsOrdersLine (is_some shop.entry) reported text.now (string_bytes line)) }
-    ensures err { IfErr result (spec.IsOrderFileFault (is_some shop.entry) text.now) }
+        (λ line. spec.IsOrdersLine (R.holds rt.now) (option_map (λ p. p.now) shop.entry) reported text.now (string_bytes line)) }
+    ensures err { IfErr result (spec.IsOrderFileFault (R.holds rt.now) (option_map (λ p. p.now) shop.entry) text.now) }
 {
     let lines = lines_in(alloc, text)?;
     let rows = lines.as_slice();
@@ -251,7 +250,7 @@ pub fn orders_line<R: Files>(
 }
 
 /// Writes the line that is reported about an order file.
-pub fn check_orders<R: Files, W: Sink>(
+pub fn check_orders<R: Reads, W: Sink>(
     rt: &R,
     alloc: Global,
     file: &str,
@@ -260,9 +259,9 @@ pub fn check_orders<R: Files, W: Sink>(
     sink: &mut W,
 ) -> Result<(), Fault>
     ensures ok { OnOk result
-        (spec.IsOrdersDone (is_some shop.entry) reported (change_of W.Sink sink.old sink.new)) }
+        (spec.IsOrdersDone (R.holds rt.now) file.now (option_map (λ p. p.now) shop.entry) reported (change_of W.Sink sink.old sink.new)) }
     ensures err { IfErr result
-        (λ f. spec.IsOrdersStopped (is_some shop.entry) reported f (change_of W.Sink sink.old sink.new)) }
+        (λ f. spec.IsOrdersStopped (R.holds rt.now) file.now (option_map (λ p. p.now) shop.entry) reported f (change_of W.Sink sink.old sink.new)) }
 {
     let bytes = read_file(rt, alloc, file)?;
     let line = orders_line(rt, alloc, shop, reported, &bytes)?;

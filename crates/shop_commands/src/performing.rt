@@ -18,7 +18,7 @@ ghost use Rattle.shop_commands.specs.Sources.{source_change};
 use crate::advice::{Advice, NO_MEMORY_REPORTED, advise, fault_lines, makes_store, stream_advice};
 use crate::audits::{audit_store, print_history};
 use crate::faults::Fault;
-use crate::files::{read_file, write_text};
+use crate::files::{Reads, read_file, write_text};
 use crate::orders::check_orders;
 use crate::plans::{plan_file, plan_order_file, plan_whole_file};
 use crate::progress::note_opening;
@@ -65,7 +65,7 @@ pub(crate) fn report_fault<E: Sink>(alloc: Global, fault: Fault, errors: &mut E)
 }
 
 // Writes the plan of a problem file.
-fn plan<R: Files, W: Sink>(
+fn plan<R: Reads, W: Sink>(
     rt: &R,
     alloc: Global,
     file: &str,
@@ -74,9 +74,9 @@ fn plan<R: Files, W: Sink>(
     sink: &mut W,
 ) -> Result<(), Fault>
     requires { kerf ≤ MAX_KERF }
-    ensures ok { OnOk result (IsPlanDone (λ bytes. IsFilePlan bytes kerf step)
+    ensures ok { OnOk result (IsPlanDone (R.holds rt.now) file.now (λ bytes. IsFilePlan bytes kerf step)
         (change_of W.Sink sink.old sink.new)) }
-    ensures err { IfErr result (λ f. IsPlanStopped (λ bytes. IsFilePlan bytes kerf step)
+    ensures err { IfErr result (λ f. IsPlanStopped (R.holds rt.now) file.now (λ bytes. IsFilePlan bytes kerf step)
         (λ bytes. IsFileFault bytes kerf step) f (change_of W.Sink sink.old sink.new)) }
 {
     let bytes = read_file(rt, alloc, file)?;
@@ -85,7 +85,7 @@ fn plan<R: Files, W: Sink>(
 }
 
 // Writes the plans of all pieces of a problem file.
-fn plan_order<R: Files, W: Sink>(
+fn plan_order<R: Reads, W: Sink>(
     rt: &R,
     alloc: Global,
     file: &str,
@@ -97,9 +97,9 @@ fn plan_order<R: Files, W: Sink>(
 ) -> Result<(), Fault>
     requires kerf { kerf ≤ MAX_KERF }
     requires limit { IsStageLimit stages }
-    ensures ok { OnOk result (IsPlanDone (λ bytes. IsFileWhole bytes kerf step stages)
+    ensures ok { OnOk result (IsPlanDone (R.holds rt.now) file.now (λ bytes. IsFileWhole bytes kerf step stages)
         (change_of W.Sink sink.old sink.new)) }
-    ensures err { IfErr result (λ f. IsPlanStopped (λ bytes. IsFileWhole bytes kerf step stages)
+    ensures err { IfErr result (λ f. IsPlanStopped (R.holds rt.now) file.now (λ bytes. IsFileWhole bytes kerf step stages)
         (λ bytes. IsFileWholeFault bytes kerf step) f (change_of W.Sink sink.old sink.new)) }
 {
     let calls = calls.unwrap_or(DEFAULT_CALLS);
@@ -126,17 +126,17 @@ fn address_of<'a>(serving: &'a Serving<'a>) -> Address<'a>
 }
 
 // Writes the plans of the lines of an order file.
-fn plan_lines<R: Files, W: Sink>(
+fn plan_lines<R: Reads, W: Sink>(
     rt: &R,
     alloc: Global,
     asked: &OrderPlan<'_>,
     sink: &mut W,
 ) -> Result<(), Fault>
     requires { IsStageLimit asked.now.stages }
-    ensures ok { OnOk result (IsPlanDone (λ bytes. IsFileLines bytes asked.now)
+    ensures ok { OnOk result (IsPlanDone (R.holds rt.now) asked.now.file.now (λ bytes. IsFileLines (R.holds rt.now) bytes asked.now)
         (change_of W.Sink sink.old sink.new)) }
-    ensures err { IfErr result (λ f. IsMadeStopped (λ bytes. IsFileLines bytes asked.now)
-        (λ bytes. IsFileLinesFault bytes asked.now) f (change_of W.Sink sink.old sink.new)) }
+    ensures err { IfErr result (λ f. IsMadeStopped (R.holds rt.now) asked.now.file.now (λ bytes. IsFileLines (R.holds rt.now) bytes asked.now)
+        (λ bytes. IsFileLinesFault (R.holds rt.now) bytes asked.now) f (change_of W.Sink sink.old sink.new)) }
 {
     let bytes = read_file(rt, alloc, asked.file)?;
     let lines = plan_order_file(rt, alloc, &bytes, asked)?;
@@ -145,7 +145,7 @@ fn plan_lines<R: Files, W: Sink>(
 
 // Does what is asked, or stops.
 fn do_request<
-    R: Files + Net + Clock + Eprint + RandomSource,
+    R: Reads + Net + Clock + Eprint + RandomSource,
     B: Book + Drop,
     A: Book + Drop,
     O: Opens<B>,
@@ -163,10 +163,10 @@ fn do_request<
 ) -> Result<(), Fault>
     requires { HasMeasures request.now }
     ensures ok { OnOk result
-        (IsDone B.Book A.Book (O.gives stores) (P.gives apart) request.now (source_change S.Source source.old source.new)
+        (IsDone B.Book A.Book (O.gives stores) (P.gives apart) (R.holds rt.now) request.now (source_change S.Source source.old source.new)
         (change_of W.Sink sink.old sink.new)) }
     ensures err { IfErr result (λ f.
-        IsStopped B.Book A.Book (O.gives stores) (P.gives apart) request.now f (source_change S.Source source.old source.new)
+        IsStopped B.Book A.Book (O.gives stores) (P.gives apart) (R.holds rt.now) request.now f (source_change S.Source source.old source.new)
         (change_of W.Sink sink.old sink.new)) }
     ensures reads { S.reads source.new ≤ S.reads source.old + most_reads }
 {
@@ -257,7 +257,7 @@ fn note_store<R: Files + Eprint>(rt: &R, alloc: Global, request: &Request<'_>) {
 }
 
 // The status of what was done, or of what stopped, which is reported.
-fn conclude<R: Files, E: Sink>(
+fn conclude<R: Reads, E: Sink>(
     rt: &R,
     alloc: Global,
     request: &Request<'_>,
@@ -349,7 +349,7 @@ fn report_mistake<E: Sink>(alloc: Global, mistake: Mistake<'_>, errors: &mut E) 
 /// help, 2 for a mistake in the words, and else 1, with the fault as one line of `errors`, and but for an order file's one more that
 /// begins with two spaces and reports why.
 pub fn perform<
-    R: Files + Net + Clock + Eprint + RandomSource,
+    R: Reads + Net + Clock + Eprint + RandomSource,
     B: Book + Drop,
     A: Book + Drop,
     O: Opens<B>,
@@ -367,7 +367,7 @@ pub fn perform<
     sink: &mut W,
     errors: &mut E,
 ) -> u8
-    ensures done { IsPerformed B.Book A.Book (O.gives stores) (P.gives apart) (map string_bytes words.now)
+    ensures done { IsPerformed B.Book A.Book (O.gives stores) (P.gives apart) (R.holds rt.now) (map string_bytes words.now)
         (source_change S.Source source.old source.new) (change_of W.Sink sink.old sink.new)
         (change_of E.Sink errors.old errors.new) result }
     ensures reads { S.reads source.new ≤ S.reads source.old + most_reads }

@@ -12,6 +12,7 @@ ghost use Rattle.shop_problems.specs.Wholes.{IsWholeText};
 ghost use Rattle.shop_commands.specs.Plans as spec;
 
 use crate::faults::Fault;
+use crate::files::Reads;
 use crate::orders::{judge, lines_in};
 use crate::stored::shop_entries;
 use cut_plan::{SheetProposal, plan_sheet};
@@ -22,7 +23,6 @@ use shop_problems::{
 };
 use shop_words::OrderPlan;
 use std::alloc::{AllocError, Global};
-use std::fs::Files;
 
 // The four lines of a plan.
 fn plan_lines(alloc: Global, proposal: &SheetProposal) -> Result<String, AllocError>
@@ -138,7 +138,7 @@ fn plan_from(
 
 // The plans of lines from a shop file.
 #[tactic(auto, using(crate::proofs::PlannedFiles::from_shop, crate::proofs::PlannedFiles::from_shop_fault))]
-fn plan_good_lines<R: Files>(
+fn plan_good_lines<R: Reads>(
     rt: &R,
     alloc: Global,
     lines: &[OrderLine],
@@ -147,8 +147,8 @@ fn plan_good_lines<R: Files>(
     requires few { length lines.now ≤ MAX_LINES }
     requires sized { AreSized lines.now }
     requires limit { IsStageLimit asked.now.stages }
-    ensures ok { IfOk result (λ text. spec.IsShopLines lines.now asked.now (string_bytes text)) }
-    ensures err { IfErr result (spec.IsShopLinesFault lines.now asked.now) }
+    ensures ok { IfOk result (λ text. spec.IsShopLines (R.holds rt.now) lines.now asked.now (string_bytes text)) }
+    ensures err { IfErr result (spec.IsShopLinesFault (R.holds rt.now) lines.now asked.now) }
 {
     let entries = shop_entries(rt, alloc, asked.shop)?;
     plan_from(alloc, lines, entries.as_slice(), asked)
@@ -159,15 +159,15 @@ fn plan_good_lines<R: Files>(
 ///
 /// The faults of the order file, then those of the shop file, then those of the plan. Lack of memory may come at any point.
 #[tactic(auto, using(crate::proofs::OrderLines::few_lines, crate::proofs::PlannedFiles::from_file, crate::proofs::PlannedFiles::from_file_fault, crate::proofs::PlannedFiles::bad_rows))]
-pub fn plan_order_file<R: Files>(
+pub fn plan_order_file<R: Reads>(
     rt: &R,
     alloc: Global,
     bytes: &[u8],
     asked: &OrderPlan<'_>,
 ) -> Result<String, Fault>
     requires { IsStageLimit asked.now.stages }
-    ensures ok { IfOk result (λ text. spec.IsFileLines bytes.now asked.now (string_bytes text)) }
-    ensures err { IfErr result (spec.IsFileLinesFault bytes.now asked.now) }
+    ensures ok { IfOk result (λ text. spec.IsFileLines (R.holds rt.now) bytes.now asked.now (string_bytes text)) }
+    ensures err { IfErr result (spec.IsFileLinesFault (R.holds rt.now) bytes.now asked.now) }
 {
     let lines = lines_in(alloc, bytes)?;
     let rows = lines.as_slice();

@@ -14,7 +14,7 @@ fn read_words(rt: &HostRuntime) -> io::Result<Vec<String>> {
     Ok(words)
 }
 
-// Reports why the words can't be read: memory is wanting, or one is no UTF-8, which is a mistake in the words.
+// Reports why the words can't be read: memory ran out, or one is no UTF-8, which is a mistake in the words.
 fn refuse_words<E: Sink>(rt: &HostRuntime, error: &io::Error, errors: &mut E) -> u8 {
     if error.kind() == io::ErrorKind::OutOfMemory {
         return report_fault(rt.alloc(), Fault::NoMemory, errors);

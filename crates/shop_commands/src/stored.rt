@@ -14,7 +14,7 @@ ghost use Rattle.shop_serve.specs.declared.ports.PortCause.{PortCause as PortCau
 ghost use Rattle.shop_commands.specs.Sinks.{Adds, change_of};
 
 use crate::faults::Fault;
-use crate::files::{read_file, read_page, write_text};
+use crate::files::{Reads, read_file, read_page, write_text};
 use crate::log::{note_begin, note_disk, note_end, note_host, note_last};
 use cut_measure::Code;
 use shop_advice::StoreCause;
@@ -116,13 +116,14 @@ fn entries_in(alloc: Global, bytes: &[u8]) -> Result<RowList<MaterialEntry>, Fau
 }
 
 /// The entries of a shop file.
-pub(crate) fn shop_entries<R: Files>(
+pub(crate) fn shop_entries<R: Reads>(
     rt: &R,
     alloc: Global,
     path: &str,
 ) -> Result<RowList<MaterialEntry>, Fault>
-    ensures ok { IfOk result (λ entries. IsShopRead entries × (length entries ≤ MAX_ENTRIES)) }
-    ensures err { IfErr result IsShopUnread }
+    ensures ok { IfOk result (λ entries. IsShopRead (R.holds rt.now) path.now entries
+        × (length entries ≤ MAX_ENTRIES)) }
+    ensures err { IfErr result (IsShopUnread (R.holds rt.now) path.now) }
 {
     let bytes = read_file(rt, alloc, path)?;
     let entries = entries_in(alloc, &bytes)?;
@@ -130,9 +131,9 @@ pub(crate) fn shop_entries<R: Files>(
 }
 
 // The page of a file, where there is one.
-fn page_in<R: Files>(rt: &R, alloc: Global, path: Option<&str>) -> Result<Option<Vec<u8>>, Fault>
+fn page_in<R: Reads>(rt: &R, alloc: Global, path: Option<&str>) -> Result<Option<Vec<u8>>, Fault>
     ensures ok { IfOk result (λ page.
-        IsPageRead (option_map (λ p. p.now) path.entry) (option_map (λ b. b.items) page)) }
+        IsPageRead (R.holds rt.now) (option_map (λ p. p.now) path.entry) (option_map (λ b. b.items) page)) }
     ensures err { IfErr result IsPageUnread }
 {
     match path {
@@ -200,14 +201,14 @@ fn run_of<R: RandomSource>(rt: &R, alloc: Global) -> Result<String, Fault>
 }
 
 // The site of an address, with the page of a file or without one, and with backups in a folder or without any, and its run.
-fn site_of<R: Files + RandomSource>(
+fn site_of<R: Reads + RandomSource>(
     rt: &R,
     alloc: Global,
     address: &Address,
     page: Option<&str>,
     backup: Option<&str>,
 ) -> Result<Site, Fault>
-    ensures ok { IfOk result (λ site. IsSite address.now (option_map (λ p. p.now) page.entry)
+    ensures ok { IfOk result (λ site. IsSite (R.holds rt.now) address.now (option_map (λ p. p.now) page.entry)
         (option_map (λ p. p.now) backup.entry) site) }
     ensures err { IfErr result (λ f. IsPageUnread f ⊎ IsUnbacked f ⊎ IsUndrawn f) }
 {
@@ -364,7 +365,7 @@ fn end_store<R: Files, B: Book + Drop, O: Opens<B>>(
 
 /// Adds the materials of a shop file to the book of a store, reports the port, and serves connections on it. Where it ends before
 /// that, a store that was made for it is taken away.
-pub fn serve<R: Files + Net + Clock + Eprint + RandomSource, B: Book + Drop, O: Opens<B>, W: Sink>(
+pub fn serve<R: Reads + Net + Clock + Eprint + RandomSource, B: Book + Drop, O: Opens<B>, W: Sink>(
     rt: &R,
     stores: O,
     alloc: Global,
@@ -378,10 +379,10 @@ pub fn serve<R: Files + Net + Clock + Eprint + RandomSource, B: Book + Drop, O: 
     keep: Option<u32>,
     sink: &mut W,
 ) -> Result<(), Fault>
-    ensures ok { OnOk result (IsServeDone B.Book (O.gives stores store.now) address.now limit
+    ensures ok { OnOk result (IsServeDone B.Book (O.gives stores store.now) (R.holds rt.now) address.now shop.now limit
         (option_map (λ p. p.now) page.entry) (option_map (λ p. p.now) backup.entry)
         (change_of W.Sink sink.old sink.new)) }
-    ensures err { IfErr result (λ f. IsServeStopped B.Book (O.gives stores store.now) address.now limit
+    ensures err { IfErr result (λ f. IsServeStopped B.Book (O.gives stores store.now) (R.holds rt.now) address.now shop.now limit
         (option_map (λ p. p.now) page.entry) (option_map (λ p. p.now) backup.entry) f
         (change_of W.Sink sink.old sink.new)) }
 {

@@ -5,7 +5,7 @@ ghost use Rattle.shop_desk.specs.Racks.{TakesRack};
 use shop_records::PartVisitor;
 use shop_rules::{Part, RackList};
 
-// Takes the parts with a job's name, as they are reported. It stops where memory is wanting.
+// Takes the parts with a job's name, as they are reported. It stops when memory runs out.
 #[derive(Drop)]
 pub struct RackTaker {
     pub parts: RackList,

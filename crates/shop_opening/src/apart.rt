@@ -97,7 +97,7 @@ fn open_quietly(rt: &HostRuntime, path: &str) -> Result<File, LookFault> {
 // Opens a store's file for reading, and reads both files.
 fn read_plain(rt: &HostRuntime, alloc: Global, path: &str, length: u64) -> Result<Pair, LookFault> {
     let journal = format!(in alloc; "{path}-journal")?;
-    if is_hot(rt, journal.as_str()) {
+    if is_hot(rt, journal.as_str())? {
         return refused(StoreCause::Journal);
     }
     let mut file = open_quietly(rt, path)?;

@@ -42,7 +42,7 @@ const TABLES: [&str; 15] = [
 /// Why a store isn't to be opened.
 #[derive(Clone, Copy, Debug)]
 pub(crate) enum LookFault {
-    /// Memory was wanting.
+    /// Memory ran out.
     NoMemory,
     Store(StoreCause),
 }
@@ -104,12 +104,23 @@ pub(crate) fn refused<T>(cause: StoreCause) -> Result<T, LookFault> {
     Err(LookFault::Store(cause))
 }
 
+// What the system answered. Where memory ran out, that is handed on: no answer stands for it.
+fn answered<T>(answer: io::Result<T>) -> Result<io::Result<T>, LookFault> {
+    match answer {
+        Ok(found) => Ok(Ok(found)),
+        Err(error) => match error.kind() {
+            ErrorKind::OutOfMemory => Err(LookFault::NoMemory),
+            _ => Ok(Err(error)),
+        },
+    }
+}
+
 /// Opens a store's file alone, as an open by the port does. None where that can't be, which the port reports then.
 pub(crate) fn open_alone(rt: &HostRuntime, path: &str) -> Result<Option<File>, LookFault> {
-    let Ok(file) = OpenOptions::new().read(true).write(true).open(rt, path) else {
-        return Ok(None);
-    };
-    lock_alone(file, RangeLock::Exclusive)
+    match answered(OpenOptions::new().read(true).write(true).open(rt, path))? {
+        Ok(file) => lock_alone(file, RangeLock::Exclusive),
+        Err(_) => Ok(None),
+    }
 }
 
 // Locks a store's file as long as it is open, as SQLite and the port do. Another program that looks at it has it open, too: what it
@@ -133,11 +144,7 @@ pub(crate) fn head_of(file: &mut File, length: u64) -> Option<Head> {
 
 // What a file holds. None where it can't be read, which the port reports then.
 fn bytes_of(rt: &HostRuntime, path: &str) -> Result<Option<Vec<u8>>, LookFault> {
-    match fs::read(rt, path) {
-        Ok(bytes) => Ok(Some(bytes)),
-        Err(error) if error.kind() == ErrorKind::OutOfMemory => Err(LookFault::NoMemory),
-        Err(_) => Ok(None),
-    }
+    Ok(answered(fs::read(rt, path))?.ok())
 }
 
 // How many letters of a word were found, once this byte was read behind so many of them. No letter of it is its first again.
@@ -343,7 +350,7 @@ fn look_inside(
         return refused(StoreCause::OtherForm);
     }
     let log = format!(in alloc; "{path}-wal")?;
-    match fs::symlink_metadata(rt, log.as_str()) {
+    match answered(fs::symlink_metadata(rt, log.as_str()))? {
         Ok(found) if found.is_file() => (),
         Err(error) if error.kind() == ErrorKind::NotFound => return look_without_log(head),
         _ => return Ok(Found::Files),
@@ -359,33 +366,34 @@ fn look_inside(
 }
 
 // Whether a journal has something to play back. One that can't be read may have.
-fn has_entries(rt: &HostRuntime, journal: &str) -> bool {
+fn has_entries(rt: &HostRuntime, journal: &str) -> Result<bool, LookFault> {
     let mut first = [0u8];
-    let Ok(mut file) = File::open(rt, journal) else {
-        return true;
+    let Ok(mut file) = answered(File::open(rt, journal))? else {
+        return Ok(true);
     };
     match file.read(&mut first) {
-        Ok(count) => count == 1 && first[0] != 0,
-        Err(_) => true,
+        Ok(count) => Ok(count == 1 && first[0] != 0),
+        Err(_) => Ok(true),
     }
 }
 
 // Whether something has the name of a rollback journal that the port doesn't pass over.
-pub(crate) fn is_hot(rt: &HostRuntime, journal: &str) -> bool {
-    match fs::symlink_metadata(rt, journal) {
-        Ok(found) => !found.is_file() || has_entries(rt, journal),
-        Err(_) => false,
+pub(crate) fn is_hot(rt: &HostRuntime, journal: &str) -> Result<bool, LookFault> {
+    match answered(fs::symlink_metadata(rt, journal))? {
+        Ok(found) if found.is_file() => has_entries(rt, journal),
+        Ok(_) => Ok(true),
+        Err(_) => Ok(false),
     }
 }
 
 // Looks at a store under the name to which no link leads any more.
 fn look_at_files(rt: &HostRuntime, alloc: Global, path: &str) -> Result<Found, LookFault> {
-    let length = match fs::metadata(rt, path) {
+    let length = match answered(fs::metadata(rt, path))? {
         Ok(found) if found.is_file() => found.len(),
         _ => return Ok(Found::Files),
     };
     let journal = format!(in alloc; "{path}-journal")?;
-    if is_hot(rt, journal.as_str()) {
+    if is_hot(rt, journal.as_str())? {
         return Ok(Found::Files);
     }
     let Some(mut file) = open_alone(rt, path)? else {
@@ -399,10 +407,9 @@ fn look_at_files(rt: &HostRuntime, alloc: Global, path: &str) -> Result<Found, L
 
 // Looks at what has a store's name.
 fn look_at_name(rt: &HostRuntime, alloc: Global, path: &str) -> Result<Found, LookFault> {
-    match fs::canonicalize(rt, path) {
+    match answered(fs::canonicalize(rt, path))? {
         Ok(real) => look_at_files(rt, alloc, real.as_str()),
         Err(error) if error.kind() == ErrorKind::NotFound => refused(StoreCause::DanglingLink),
-        Err(error) if error.kind() == ErrorKind::OutOfMemory => Err(LookFault::NoMemory),
         Err(_) => Ok(Found::Files),
     }
 }
@@ -415,7 +422,7 @@ fn look_beside(
     existing: bool,
 ) -> Result<Found, LookFault> {
     let log = format!(in alloc; "{path}-wal")?;
-    match fs::symlink_metadata(rt, log.as_str()) {
+    match answered(fs::symlink_metadata(rt, log.as_str()))? {
         Ok(found) if found.len() > 0 => refused(StoreCause::LoneLog),
         _ if existing => refused(StoreCause::Missing),
         _ => Ok(Found::Nothing),
@@ -430,7 +437,7 @@ pub(crate) fn look_before(
     path: &str,
     existing: bool,
 ) -> Result<Found, LookFault> {
-    match fs::symlink_metadata(rt, path) {
+    match answered(fs::symlink_metadata(rt, path))? {
         Ok(_) => look_at_name(rt, alloc, path),
         Err(error) if error.kind() == ErrorKind::NotFound => {
             look_beside(rt, alloc, path, existing)

@@ -27,7 +27,7 @@ pub struct EntryRefused {
 /// Why a shop file's materials aren't all there.
 #[derive(Clone, Copy, Debug, PartialEq, Eq)]
 pub enum AddFault {
-    /// Memory was wanting, and nothing was done.
+    /// Memory ran out, and nothing was done.
     NoMemory,
     /// The first entry that was refused; every other one was handled too.
     Refused(EntryRefused),
@@ -106,7 +106,7 @@ fn first_refused(replies: &[Reply]) -> Option<EntryRefused>
 /// Handles a shop file's entries, the i-th, from 1, as message number i of terminal 0: each is added once, however often
 /// the file is read, and one that was changed is refused 11. Each is given this time, the one of the start.
 ///
-/// `NoMemory` where room for the replies is wanting, and then nothing was done; `Refused` the first entry that was
+/// `NoMemory` if there is no memory for the replies, and then nothing was done; `Refused` the first entry that was
 /// refused, where one was.
 pub fn add_shop<B: Book>(
     alloc: Global,

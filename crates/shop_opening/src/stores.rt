@@ -30,7 +30,7 @@ pub type StoreBook<S> = SqlBook<FileStore<FileFrom<S>>>;
 /// Why a store can't be opened.
 #[derive(Clone, Copy, Debug, PartialEq)]
 pub enum OpenFault {
-    /// Memory was wanting.
+    /// Memory ran out.
     NoMemory,
     /// It can't be read and written, or is no database.
     Store(StoreCause),

@@ -70,7 +70,7 @@ pub enum Refusal {
     BadStep,
     /// 93: no list of wants for the planner.
     BadWant,
-    /// 98: want of memory.
+    /// 98: memory ran out.
     NoMemory,
     /// 99: the store failed.
     StoreFault,

@@ -7,7 +7,7 @@ use crate::records::Part;
 
 /// Looks at parts that are handed out one at a time.
 ///
-/// It is given no memory. One that needs memory brings its own, and where that is wanting it keeps the fault and answers
+/// It is given no memory. One that needs memory brings its own, and if that runs out it keeps the fault and answers
 /// false.
 pub trait PartVisitor {
     /// What it was, a part that it looked at, its answer, and what it is then.

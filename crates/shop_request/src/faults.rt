@@ -25,6 +25,6 @@ pub enum RequestFault {
 pub enum StreamFault {
     /// The source failed.
     Read,
-    /// Want of memory.
+    /// Memory ran out.
     NoMemory,
 }

@@ -75,7 +75,7 @@ fn is_own(own: &[String], value: &[u8]) -> bool
 
 impl Guard {
     /// A guard of what is reached at an address, with a page or without one, with backups or without any, and of a run. The only
-    /// error is want of memory.
+    /// error: memory ran out.
     pub fn new(
         alloc: Global,
         address: &Address,

@@ -149,8 +149,8 @@ fn gather<S: Source>(
 /// pieces in which they come.
 ///
 /// The first fault in this order is answered: a bad head, or a large one; the hosts; a transfer coding; the lengths that are
-/// said; the path; the method; no length; a large body; a body that ends early. An `Err` is want of memory, and then the
-/// source didn't fail, or comes where it failed. At most 139264 reads are made.
+/// said; the path; the method; no length; a large body; a body that ends early. At an `Err` memory ran out, and then the
+/// source didn't fail, or the source failed. At most 139264 reads are made.
 pub fn read_request<'b, S: Source>(
     routes: &Routes,
     source: &mut S,

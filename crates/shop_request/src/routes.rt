@@ -248,7 +248,7 @@ fn all(alloc: Global) -> Result<Router<Route>, InsertError>
 }
 
 impl Routes {
-    /// Makes them. The only error is want of memory.
+    /// Makes them. The only error: memory ran out.
     pub fn new(alloc: Global) -> Result<Routes, AllocError> {
         match all(alloc) {
             Ok(router) => Ok(Routes { router }),

@@ -89,7 +89,7 @@ fn begin_list(lists: &mut Vec<NameList>, material: Code, count: usize) -> Result
 }
 
 /// Makes room for so many names of a material, and gives the place of its list, which is looked for first near this one. The
-/// names stay, also where memory is wanting.
+/// names stay, also when memory runs out.
 pub fn make_room(
     lists: &mut Vec<NameList>,
     near: usize,
@@ -150,7 +150,7 @@ fn reserve_some(
 }
 
 /// Makes room for the names of a part that moves, if there is one, of parts that are undone after it, and of parts that are put
-/// after those. The names stay, also where memory is wanting.
+/// after those. The names stay, also when memory runs out.
 pub fn reserve_names(
     lists: &mut Vec<NameList>,
     moved: &Option<Part>,

@@ -281,7 +281,7 @@ fn ruled_answer<B: Book>(
 }
 
 // Serves the bytes that came, and gives the whole answer, or begins their question. A message is given this time. A backup that
-// they ask for is still to be made. Where memory is wanting there is nothing, though what was asked for may be done.
+// they ask for is still to be made. If memory runs out there is nothing, though what was asked for may be done.
 fn answer_of<B: Book>(
     alloc: Global,
     site: &Site,
@@ -317,7 +317,7 @@ fn note_made<K: Watch>(watch: &mut K, is_message: bool, made: &Made)
     }
 }
 
-// Notes that memory was wanting for a backup.
+// Notes that memory ran out for a backup.
 fn note_want<K: Watch>(watch: &mut K, outcome: Result<u32, Refusal>, answer: &str)
     ensures { ReportsNone (K.times watch.old) (K.times watch.new) }
 {
@@ -343,7 +343,7 @@ fn copied_answer<K: Watch>(alloc: Global, watch: &mut K) -> Option<Vec<u8>>
 }
 
 /// Serves the bytes that came, by their head, and gives the whole answer, or begins their question. A message is given the time
-/// that it is. A backup that they ask for is made. Where memory is wanting there is nothing, though what was asked for may be done.
+/// that it is. A backup that they ask for is made. If memory runs out there is nothing, though what was asked for may be done.
 pub(crate) fn made_of<K: Watch, B: Book>(
     alloc: Global,
     site: &Site,

@@ -48,7 +48,7 @@ pub(crate) struct Client<C> {
     pub(crate) sent: usize,
 }
 
-/// What comes of a connection that is attended to: it stays, or is closed, since it is over or memory was wanting.
+/// What comes of a connection that is serviced: it stays, or is closed, since it is over or memory ran out.
 #[derive(Clone, Copy, PartialEq, Eq)]
 pub(crate) enum ConnectionStatus {
     Stays,
@@ -277,7 +277,7 @@ fn attend_once<C: Connection, K: Watch, B: Book>(
     }
 }
 
-/// Attends to the connection of a key, and closes it when it is over or memory is wanting.
+/// Attends to the connection of a key, and closes it when it is over or memory runs out.
 pub(crate) fn attend_at<C: Connection + Drop, K: Watch, B: Book>(
     alloc: Global,
     site: &Site,

@@ -5,7 +5,7 @@ use std::alloc::AllocError;
 /// Why no more connections are served.
 #[derive(Clone, Copy, Debug, PartialEq, Eq)]
 pub enum ServeFault {
-    /// Memory was wanting before the first connection.
+    /// Memory ran out before the first connection.
     NoMemory,
     /// Connections couldn't be accepted or waited for.
     Port,

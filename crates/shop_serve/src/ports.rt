@@ -161,7 +161,7 @@ fn note_keys(events: &Events, keys: &mut Vec<usize>) -> Result<(), AllocError>
 }
 
 // Whether an error says that no connection can be accepted for good: EBADF, EINVAL, ENOTSOCK and EOPNOTSUPP. Any other, as
-// the want of descriptors or of memory, passes.
+// running out of descriptors or memory, is temporary.
 fn is_gone(error: &io::Error) -> bool {
     match error.raw_os_error() {
         Some(number) => number == 9 || number == 22 || number == 88 || number == 95,

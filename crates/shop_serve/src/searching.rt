@@ -152,7 +152,7 @@ pub(crate) enum Progress {
     NoMemory,
 }
 
-// Reports that memory was wanting for a connection's question, where there is memory for that.
+// Reports that memory ran out for a connection's question, if there is memory for that.
 fn refuse<C, K: Watch>(alloc: Global, client: &mut Client<C>, watch: &mut K) -> Progress
     ensures goes_on { result ≢ progress.GoesOn }
     ensures answered { result ≡ progress.Answered
@@ -182,7 +182,7 @@ fn is_there<C: Connection>(stream: &mut C) -> bool
 }
 
 // Takes one search step of the question of a connection that is there, and notes when. It is reported as far as its search came where its
-// input ended, or where it had its calls and others wait. Where memory is wanting what was found is let go first.
+// input ended, or where it had its calls and others wait. If memory runs out, what was found is freed first.
 fn step_search_once<C: Connection, K: Watch>(
     alloc: Global,
     client: &mut Client<C>,
@@ -223,7 +223,7 @@ fn step_search_once<C: Connection, K: Watch>(
     }
 }
 
-// Takes one search step of the question of a key's connection, and closes it where memory is wanting. Reports what came of it.
+// Takes one search step of the question of a key's connection, and closes it when memory runs out. Reports what came of it.
 fn step_search_at<C: Connection + Drop, K: Watch>(
     alloc: Global,
     clients: &mut Slab<Client<C>>,

@@ -1,4 +1,4 @@
-//! Why tables gave no answer: want of memory, or a failed store.
+//! Why tables gave no answer: memory ran out, or the store failed.
 
 use sqlite::{Error, ErrorCode};
 use std::alloc::AllocError;
@@ -6,7 +6,7 @@ use std::alloc::AllocError;
 /// Why the tables gave no answer.
 #[derive(Clone, Copy, Debug, PartialEq, Eq)]
 pub enum TableFault {
-    /// Memory was wanting.
+    /// Memory ran out.
     NoMemory,
     /// The store failed, or a row is none of ours.
     Store,

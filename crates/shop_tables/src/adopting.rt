@@ -37,7 +37,7 @@ pub enum Adopted {
 /// Why a connection wasn't taken over.
 #[derive(Clone, Copy, Debug, PartialEq, Eq)]
 pub enum AdoptFault {
-    /// Memory was wanting.
+    /// Memory ran out.
     NoMemory,
     /// The store failed.
     Store,

@@ -17,7 +17,7 @@ use std::fmt;
 /// Why a text wasn't printed.
 #[derive(Clone, Copy, Debug, PartialEq, Eq)]
 pub enum PrintFault {
-    /// There is nothing to print for this refusal, memory was wanting (98), or the store failed (99), as do rows that no
+    /// There is nothing to print for this refusal, memory ran out (98), or the store failed (99), as do rows that no
     /// history gives where they contradict each other. Nothing was written.
     Refused(Refusal),
     /// The sink failed. A first part of the text was written.

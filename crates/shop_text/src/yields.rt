@@ -114,7 +114,7 @@ fn push_part(kind: Kind, part: &Part, text: &mut String) -> Result<(), AllocErro
     push_line_end(part.state, text)
 }
 
-// Appends a line for each part. It stops where memory is wanting.
+// Appends a line for each part. It stops when memory runs out.
 #[derive(Drop)]
 pub struct PartLines {
     pub kind: Kind,

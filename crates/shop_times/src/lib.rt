@@ -32,7 +32,7 @@ fn text_of(alloc: Global, instant: Timestamp) -> Result<Option<String>, AllocErr
 }
 
 /// A second, counted from 1970-01-01 00:00 UTC, as a day and a time of the calendar in UTC: `2026-11-28 02:00:13 UTC`. There is
-/// none for a second behind 9999-12-30 22:00:00, where `jiff` ends. The only error is want of memory.
+/// none for a second behind 9999-12-30 22:00:00, where `jiff` ends. The only error: memory ran out.
 pub fn time_text(alloc: Global, second: u64) -> Result<Option<String>, AllocError>
     ensures { IfOk result (λ text. IfSome text (IsTimeText second)) }
 {

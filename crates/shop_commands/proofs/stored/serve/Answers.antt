@@ -13,7 +13,7 @@ returns-in-Ok-clause-ok g c =
     let site = c.in_ok-site.site in
     let out = change_of g.W.Sink c.args.sink.now c.serve_book-served.new.sink in
     let done = of_ok (IsBookServed g.B.Book site before after entries c.args.address.now.port c.args.limit out) c.serve_book-served.result c.in-Ok.is c.serve_book-served.ensures.ok in
-    (entries, subst IsShopRead (sym c.as_slice.ensures) c.in_ok-entries.ensures.ok.0, site, c.in_ok-site.ensures.ok, before, after, c.in_ok-book.ensures.ok, done)
+    (entries, subst (IsShopRead (g.R.Reads.holds c.args.rt.now) c.args.shop.now) (sym c.as_slice.ensures) c.in_ok-entries.ensures.ok.0, site, c.in_ok-site.ensures.ok, before, after, c.in_ok-book.ensures.ok, done)
 
 pub returns-clause-err : goal.returns-clause-err
 returns-clause-err g c =
@@ -24,7 +24,7 @@ returns-clause-err g c =
     let out = change_of g.W.Sink c.args.sink.now c.serve_book-served.new.sink in
     let stopped = of_err (λ f. IsBookUnserved g.B.Book site before after entries c.args.address.now.port c.args.limit f out)
     c.serve_book-served.result c.in-Err.fault c.in-Err.is c.serve_book-served.ensures.err in
-    inr (entries, subst IsShopRead (sym c.as_slice.ensures) c.in_ok-entries.ensures.ok.0, inr (site, c.in_ok-site.ensures.ok, inr (before, after, c.in_ok-book.ensures.ok, stopped)))
+    inr (entries, subst (IsShopRead (g.R.Reads.holds c.args.rt.now) c.args.shop.now) (sym c.as_slice.ensures) c.in_ok-entries.ensures.ok.0, inr (site, c.in_ok-site.ensures.ok, inr (before, after, c.in_ok-book.ensures.ok, stopped)))
 
 pub returns-in_err-book-clause-err : goal.returns-in_err-book-clause-err
 returns-in_err-book-clause-err g c =
