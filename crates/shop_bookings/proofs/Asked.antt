@@ -1,4 +1,4 @@
--- What a question asks of a content: its wants are open demands, and its parts stand.
+-- What a query asks of a content: its wants are open demands, and its parts stand.
 use Rattle.std.proofs.Common.{◌≡◌, ℕ, ◌+◌, List, [], ◌∷◌, map, take, Bool, true, false, refl, sym, ap, subst, ◌∙◌}
 use Rattle.std.specs.Prelude.{Option, Some, None, All, filter, not, ◌==◌, ◌&&◌, nat_lt, if◌then◌else◌}
 use Rattle.std.specs.List.{cons_option, AllByRecursion}
@@ -26,7 +26,7 @@ use Rattle.shop_answers.specs.declared.planning.FoundDemand.{FoundDemand}
 use Rattle.shop_answers.specs.Planning.{demand_refusal, found_refusal, found_wants, is_demand_number, left_of, planned_size, want_of}
 use Rattle.shop_planning.specs.declared.instance.StockPart.{StockPart}
 use Rattle.shop_planning.specs.Asked.{before_it, demands_for, first_by_day, parts_for, found_demand, with_row, has_left, can_be_planned, is_long}
-use Rattle.shop_planning.specs.Questions.{part_refusal, parts_refusal}
+use Rattle.shop_planning.specs.Queries.{part_refusal, parts_refusal}
 use Rattle.shop_planning.specs.Stock.{parts_from, stock_part, stock_parts}
 use Rattle.shop_bookings.proofs.Values.{each_found}
 

@@ -30,14 +30,14 @@ use Rattle.shop_machine.specs.Machine.{Run}
 use Rattle.shop_machine.proofs.Allowed.{or_none}
 use Rattle.shop_plans.specs.declared.answers.PlansReply.{PlansReply}
 use Rattle.shop_plans.specs.declared.answers.ReportedPlan.{ReportedPlan}
-use Rattle.shop_plans.specs.declared.questions.PlansQuery.{PlansQuery}
+use Rattle.shop_plans.specs.declared.queries.PlansQuery.{PlansQuery}
 use Rattle.shop_planning.specs.declared.instance.PlanInstance.{PlanInstance}
 use Rattle.shop_planning.specs.declared.instance.StockPart.{StockPart}
 use Rattle.shop_planning.specs.declared.response.Entry.{Entry}
 use Rattle.shop_planning.specs.Answers.{IsPlansReply}
 use Rattle.shop_planning.specs.Asked.{demands_for, parts_for}
 use Rattle.shop_planning.specs.Entries.{entries_of, is_of}
-use Rattle.shop_planning.specs.Questions.{IsInstance, parts_refusal, rows_refusal}
+use Rattle.shop_planning.specs.Queries.{IsInstance, parts_refusal, rows_refusal}
 use Rattle.shop_planning.specs.Shares.{are_alike, share_of, shares_of}
 use Rattle.shop_planning.specs.Stock.{firsts}
 use Rattle.shop_planning.proofs.Firsts.{all_firsts}

@@ -8,10 +8,10 @@ ghost use Rattle.shop_records.specs.Messages.{Texts};
 ghost use Rattle.shop_records.specs.Soundness.{IsSound};
 ghost use Rattle.shop_machine.specs.Machine.{Run};
 ghost use Rattle.shop_plans.specs.declared.answers.PlansReply.{PlansReply};
-ghost use Rattle.shop_plans.specs.declared.questions.PlansQuery.{PlansQuery};
-ghost use Rattle.shop_planning.specs.declared.instance.PlanInstance.{PlanInstance as InstanceOfQuestion};
+ghost use Rattle.shop_plans.specs.declared.queries.PlansQuery.{PlansQuery};
+ghost use Rattle.shop_planning.specs.declared.instance.PlanInstance.{PlanInstance as InstanceOfQuery};
 ghost use Rattle.shop_planning.specs.Answers.{IsPlansReply};
-ghost use Rattle.shop_planning.specs.Questions.{IsInstance};
+ghost use Rattle.shop_planning.specs.Queries.{IsInstance};
 ghost use Rattle.shop_bookings.specs.Bookings.{Booking, AreBookable, OnlySpent, sent_by};
 ghost use Rattle.shop_bookings.specs.Reported.{AreBookedBy};
 
@@ -27,7 +27,7 @@ pub fn bookings_stand_together()
 /// As long as nothing else happens in between, each plan that is reported for a part can be reserved, in any order, all of them
 /// or some: refused are only those for which numbers are spent, lack of memory and a failed store aside.
 pub fn reported_plans_are_reserved()
-    ensures { (texts : Texts) (old new : Content) (q : PlansQuery) (instance : InstanceOfQuestion)
+    ensures { (texts : Texts) (old new : Content) (q : PlansQuery) (instance : InstanceOfQuery)
         (reply : PlansReply) (messages : List Message) (answers : List Reply)
         → IsSound texts old → IsInstance old q instance → IsPlansReply instance reply
         → AreBookedBy old reply messages → Run texts old messages answers new

@@ -17,7 +17,7 @@ use Rattle.shop_wire.specs.declared.limits.TheConstants.{MAX_HELD}
 use Rattle.shop_wire.specs.Lines.{longest_line}
 use Rattle.shop_wire.specs.Streams.{most_reads}
 use Rattle.shop_serve.specs.declared.clients.TheConstants as connections
-use Rattle.shop_serve.specs.declared.searching.TheConstants as questions
+use Rattle.shop_serve.specs.declared.searching.TheConstants as searching
 use Rattle.shop_serve.specs.declared.serving.TheConstants.{MAX_SERVED}
 use Rattle.shop_words.specs.declared.words.TheConstants.{MIN_STAGES, MAX_STEP_LENGTH, MAX_CALLS, MAX_STAGES, LAST_PORT, MAX_AFTER, MAX_CONNECTIONS, MAX_KEPT, MAX_NAMES, MAX_PAIR, MAX_SIZES, VERSION}
 use Rattle.shop_problems.specs.declared.steps.TheConstants.{MAX_GIVEN_STEP}
@@ -71,12 +71,12 @@ pub record AreRequests : Type 0 where
   pub fields : most_fields ≡ 64
   pub body : most_body ≡ 131072
 
--- connections that are open, the seconds that each has for its request, and then for its answer, the calls that a question has though
+-- connections that are open, the seconds that each has for its request, and then for its answer, the calls that a query has though
 -- others wait, and how many are served where no limit is said
 pub record AreConnections : Type 0 where
   pub most : connections.MAX_CLIENTS ≡ 256
   pub patience : connections.PATIENCE ≡ 10
-  pub fair : questions.FAIR_CALLS ≡ 200
+  pub fair : searching.FAIR_CALLS ≡ 200
   pub served : MAX_SERVED ≡ 18446744073709551615
 
 -- of the command line: a step, and the longest that is reported, steps of a search, the limits of a plan's stages, a port, connections,

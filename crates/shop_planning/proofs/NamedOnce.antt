@@ -18,7 +18,7 @@ use Rattle.cut_order.proofs.GrownUnits.{sum_pushed}
 use Rattle.shop_records.specs.Same.{same_name}
 use Rattle.shop_plans.specs.declared.limits.TheConstants.{UNIT_COST}
 use Rattle.shop_plans.specs.declared.answers.ReportedPlan.{ReportedPlan}
-use Rattle.shop_plans.specs.declared.questions.BuySize.{BuySize}
+use Rattle.shop_plans.specs.declared.queries.BuySize.{BuySize}
 use Rattle.shop_planning.specs.declared.instance.PlanInstance.{PlanInstance}
 use Rattle.shop_planning.specs.declared.instance.StockPart.{StockPart}
 use Rattle.shop_planning.specs.declared.response.Entry.{Entry}

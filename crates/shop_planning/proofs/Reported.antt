@@ -11,12 +11,12 @@ use Rattle.cut_order.specs.Places.{unit_count}
 use Rattle.shop_records.specs.declared.refusals.Refusal.{Refusal}
 use Rattle.shop_records.specs.Content.{Content}
 use Rattle.shop_plans.specs.declared.answers.MissingPieces.{MissingPieces}
-use Rattle.shop_plans.specs.declared.questions.PlansQuery.{PlansQuery}
+use Rattle.shop_plans.specs.declared.queries.PlansQuery.{PlansQuery}
 use Rattle.shop_planning.specs.declared.instance.PlanInstance.{PlanInstance}
 use Rattle.shop_planning.specs.declared.response.Entry.{Entry}
 use Rattle.shop_planning.specs.Answers.{AreReportedMissing, IsPlansText, missing_rows}
 use Rattle.shop_planning.specs.Entries.{in_order}
-use Rattle.shop_planning.specs.Questions.{AnswersPlans, IsQuestionAnswered, IsInstance}
+use Rattle.shop_planning.specs.Queries.{AnswersPlans, IsQueryAnswered, IsInstance}
 use Rattle.shop_planning.specs.Shares.{are_alike, times_of}
 
 -- by places and then by texts is an order
@@ -34,8 +34,8 @@ missing_reported wants missing rows sorted reported made moved rising is =
 -- an answer that is reported
 pub answer_reported : (m : Content) (q : PlansQuery) (instance : PlanInstance) (text : List ℕ) → IsInstance m q instance → IsPlansText instance text → AnswersPlans m q (Ok text)
 answer_reported m q instance text asks reported n s =
-    let is : IsQuestionAnswered m q (Ok text) = record { instance = instance; asks = asks; text = text; reported = reported; is = refl } in
-    subst (λ o. MatchOption o (IsQuestionAnswered m q (Ok text)) (λ x. let answer : Result (List ℕ) Refusal = Ok text in answer ≡ Err x)) (sym asks.allowed) is
+    let is : IsQueryAnswered m q (Ok text) = record { instance = instance; asks = asks; text = text; reported = reported; is = refl } in
+    subst (λ o. MatchOption o (IsQueryAnswered m q (Ok text)) (λ x. let answer : Result (List ℕ) Refusal = Ok text in answer ≡ Err x)) (sym asks.allowed) is
 
 -- no more are planned like one than there are
 pub times_within : (units : List PlannedUnit) (u : PlannedUnit) → times_of units u ≤ unit_count units

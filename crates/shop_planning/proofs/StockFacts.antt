@@ -15,7 +15,7 @@ use Rattle.cut_bound.specs.declared.limits.TheConstants.{MAX_BOUGHT_SIZES, MAX_P
 use Rattle.cut_order.specs.declared.question.TheConstants.{MAX_COST}
 use Rattle.cut_order.specs.Stocks.{IsStock, parts_of}
 use Rattle.shop_plans.specs.declared.limits.TheConstants.{UNIT_COST}
-use Rattle.shop_plans.specs.declared.questions.BuySize.{BuySize}
+use Rattle.shop_plans.specs.declared.queries.BuySize.{BuySize}
 use Rattle.shop_planning.specs.declared.instance.StockPart.{StockPart}
 use Rattle.shop_planning.specs.Stock.{IsStockPart, IsStockSize, are_alike, bought_size, firsts, part_size, part_sizes, sizes_of}
 use Rattle.shop_planning.proofs.Firsts.{all_firsts, few_firsts}

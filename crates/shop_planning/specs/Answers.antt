@@ -1,4 +1,4 @@
--- What is answered to a question.
+-- What is answered to a query.
 use Rattle.std.specs.Prelude.{◌≡◌, ℕ, ◌==◌, List, [], ◌∷◌, map, if◌then◌else◌, unwrap_or}
 use Rattle.std.specs.List.Sorted.{IsPermutation, IsNonDecreasingBy}
 use Rattle.cut_wants.specs.declared.wants.Want.{Want}

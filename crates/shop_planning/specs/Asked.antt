@@ -1,4 +1,4 @@
--- The demands and the parts that a question asks for.
+-- The demands and the parts that a query asks for.
 use Rattle.std.specs.Prelude.{◌≡◌, ◌≤◌, ℕ, ◌&&◌, not, nat_lt, Bool, false, List, count_by, filter, length, map, take, Option, Some, None, IfSome}
 use Rattle.cut_measure.specs.declared.ranges.TheConstants.{MAX_NUMBERS}
 use Rattle.cut_measure.specs.declared.sizes.Kind.{Kind}
@@ -13,7 +13,7 @@ use Rattle.shop_records.specs.Content.{Content, demand_at, part_at}
 use Rattle.shop_records.specs.Lists.{is_due_before, open_demands, parts_after}
 use Rattle.shop_answers.specs.declared.planning.FoundDemand.{FoundDemand}
 use Rattle.shop_answers.specs.Planning.{left_of}
-use Rattle.shop_plans.specs.declared.questions.PlansQuery.{PlansQuery}
+use Rattle.shop_plans.specs.declared.queries.PlansQuery.{PlansQuery}
 use Rattle.shop_planning.specs.declared.asking.AskedRows.{AskedRows}
 
 -- ---- demands
@@ -69,7 +69,7 @@ parts_for content code kind (Some names) = map (part_at content) names
 abbrev pub AreFewNames : Option (List Name) → Type 0
 AreFewNames names = IfSome names (λ ns. length ns ≤ MAX_PARTS)
 
--- the rows that a question asks for
+-- the rows that a query asks for
 pub record AreAsked (content : Content) (kind : Kind) (q : PlansQuery) (rows : AskedRows) : Type 0 where
   pub demands : rows.demands.items ≡ demands_for content q.material q.demands
   pub parts : rows.parts.items ≡ parts_for content q.material kind q.parts

@@ -8,5 +8,5 @@ pub mod Entries
 pub mod Naming
 pub mod Rests
 pub mod Answers
-pub mod Questions
+pub mod Queries
 pub mod PlanTasks

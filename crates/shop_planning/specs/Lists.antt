@@ -1,4 +1,4 @@
--- When the numbers of a question are in their ranges, and its lists are ones that are planned.
+-- When the numbers of a query are in their ranges, and its lists are ones that are planned.
 use Rattle.std.specs.Prelude.{ℕ, ◌==◌, ◌&&◌, ◌||◌, Bool, false, nat_eq, nat_le, nat_lt, List, [], ◌∷◌, length, Option, Some, None}
 use Rattle.std.specs.List.{list_any}
 use Rattle.cut_measure.specs.Names.{Name}
@@ -6,8 +6,8 @@ use Rattle.cut_bound.specs.declared.limits.TheConstants.{MAX_BOUGHT_SIZES, MAX_C
 use Rattle.cut_order.specs.Stocks.{is_stage_limit}
 use Rattle.shop_records.specs.Same.{same_name}
 use Rattle.shop_plans.specs.declared.limits.TheConstants.{UNIT_COST}
-use Rattle.shop_plans.specs.declared.questions.BuySize.{BuySize}
-use Rattle.shop_plans.specs.declared.questions.PlansQuery.{PlansQuery}
+use Rattle.shop_plans.specs.declared.queries.BuySize.{BuySize}
+use Rattle.shop_plans.specs.declared.queries.PlansQuery.{PlansQuery}
 
 -- a remnant's cell costs 1 to 100, the search makes 1 to 5000 tables, and stages have a limit of 2 to 255 or none
 abbrev pub is_in_range : PlansQuery → Bool

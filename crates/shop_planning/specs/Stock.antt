@@ -1,4 +1,4 @@
--- The stock of a question: its parts and what they cost, the sizes, and the step.
+-- The stock of a query: its parts and what they cost, the sizes, and the step.
 use Rattle.std.specs.Prelude.{◌≡◌, ◌≤◌, ℕ, ◌+◌, ◌*◌, ◌==◌, ◌&&◌, Bool, List, [], ◌∷◌, ◌++◌, count_by, filter_map, map, Option, Some, None, option_map, if◌then◌else◌}
 use Rattle.std.specs.List.{list_any}
 use Rattle.cut_measure.specs.declared.sizes.Kind.{Kind}
@@ -10,12 +10,12 @@ use Rattle.shop_records.specs.declared.records.Part.{Part}
 use Rattle.shop_records.specs.Columns.{is_whole}
 use Rattle.shop_answers.specs.Planning.{planned_size}
 use Rattle.shop_plans.specs.declared.limits.TheConstants.{UNIT_COST}
-use Rattle.shop_plans.specs.declared.questions.BuySize.{BuySize}
+use Rattle.shop_plans.specs.declared.queries.BuySize.{BuySize}
 use Rattle.shop_planning.specs.declared.instance.StockPart.{StockPart}
 
 -- ---- parts
 
--- each cell of a unit costs 100, and one of a remnant as much as the question says
+-- each cell of a unit costs 100, and one of a remnant as much as the query says
 abbrev pub part_cost : (remnant : ℕ) → Part → Extent → ℕ
 part_cost remnant part size = if is_whole part then size.w * size.h * UNIT_COST else size.w * size.h * remnant
 

@@ -1,4 +1,4 @@
-//! The demands and the parts that a question asks for, found in a book.
+//! The demands and the parts that a query asks for, found in a book.
 
 ghost use Rattle.std.specs.Prelude.{◌≡◌, ◌≤◌, ◌++◌, ◌∷◌, [], IfOk, OnOk, filter, length, map, take, Some, None};
 ghost use Rattle.cut_bound.specs.declared.limits.TheConstants.{MAX_PARTS};
@@ -24,7 +24,7 @@ const FIRST_ROWS: usize = 2000;
 /// As many rows as there may be of a list.
 const ALL_ROWS: usize = MAX_NUMBERS as usize;
 
-/// The demands and the parts that a question asks for, as far as they were found.
+/// The demands and the parts that a query asks for, as far as they were found.
 #[derive(Drop)]
 pub struct AskedRows {
     pub demands: Vec<FoundDemand>,
@@ -222,7 +222,7 @@ fn parts_for<B: Book>(
     }
 }
 
-/// The demands and the parts that a question asks for. Its lists are ones that are planned.
+/// The demands and the parts that a query asks for. Its lists are ones that are planned.
 pub fn asked_rows<B: Book>(
     alloc: Global,
     book: &mut B,

@@ -1,4 +1,4 @@
-//! What a question asks: the stock, the wants, and how they are planned.
+//! What a query asks: the stock, the wants, and how they are planned.
 
 ghost use Rattle.std.specs.Prelude.{◌≡◌, ◌≤◌, None};
 ghost use Rattle.cut_measure.specs.declared.ranges.TheConstants.{MAX_KERF};
@@ -16,13 +16,13 @@ pub struct StockPart {
     pub name: PartName,
     /// Its sides as they are planned, in tenths of a millimetre: of a bar the height is 1.
     pub size: Size,
-    /// 100 for each cell, and of a remnant as much as the question says.
+    /// 100 for each cell, and of a remnant as much as the query says.
     pub cost: u64,
     /// Its place in the stock's list, from 0 on.
     pub place: usize,
 }
 
-/// What a question asks of a content.
+/// What a query asks of a content.
 #[derive(Drop)]
 pub struct PlanInstance {
     pub kind: Kind,

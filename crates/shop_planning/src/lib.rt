@@ -1,4 +1,4 @@
-//! Plans of all that is open of a material, from parts that stand and from sizes that may be bought: what a question asks of
+//! Plans of all that is open of a material, from parts that stand and from sizes that may be bought: what a query asks of
 //! a shop's content, the search for an answer, and the answer.
 #![tactic(auto)]
 

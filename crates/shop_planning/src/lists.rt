@@ -1,4 +1,4 @@
-//! Whether the numbers of a question are in their ranges, and its lists are ones that are planned.
+//! Whether the numbers of a query are in their ranges, and its lists are ones that are planned.
 
 ghost use Rattle.std.specs.Prelude.{◌≡◌, ◌≤◌, IsTrue};
 ghost use Rattle.std.specs.Prelude.{false};

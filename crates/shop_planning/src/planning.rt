@@ -1,10 +1,10 @@
-//! The answer to a question for plans, in one call.
+//! The answer to a `plans` query, in one call.
 
 ghost use Rattle.std.specs.Prelude.{◌≡◌, IfOk};
 ghost use Rattle.shop_book.specs.Kept.{Unchanged, OnContent};
 ghost use Rattle.shop_planning.specs.Answers.{IsPlansText};
 ghost use Rattle.shop_planning.specs.Faults.{CountsRefusal};
-ghost use Rattle.shop_planning.specs.Questions.{AnswersPlans};
+ghost use Rattle.shop_planning.specs.Queries.{AnswersPlans};
 ghost use Rattle.shop_planning.specs.PlanTasks.{instance_in};
 
 use crate::posing::build_instance;
@@ -28,7 +28,7 @@ fn step_search(alloc: Global, task: &mut PlanTask) -> Result<(), AllocError>
     Ok(())
 }
 
-// The answer to a question, searched to its end.
+// The answer to a query, searched to its end.
 fn finish_task(alloc: Global, task: PlanTask) -> Result<Text, AllocError>
     ensures { IfOk result (IsPlansText (instance_in task)) }
 {
@@ -38,7 +38,7 @@ fn finish_task(alloc: Global, task: PlanTask) -> Result<Text, AllocError>
     Ok(text)
 }
 
-/// The answer to a question for plans, for whoever waits for it; refused as by `build_instance`.
+/// The answer to a `plans` query, for whoever waits for it; refused as by `build_instance`.
 pub fn plan_all<B: Book>(alloc: Global, book: &mut B, query: &PlansQuery) -> Result<Text, Refusal>
     ensures answer { OnContent B.Book book.old book.new (λ m. AnswersPlans m query.now result) }
     ensures keeps { Unchanged B.Book (CountsRefusal result) book.old book.new }

@@ -1,4 +1,4 @@
-//! What a question asks of a book's content, or why it isn't answered.
+//! What a query asks of a book's content, or why it isn't answered.
 
 ghost use Rattle.std.specs.Prelude.{◌≡◌, ◌≢◌, ◌≤◌, All, Err, IfErr, IfNone, IfOk, None, Some, false, length};
 ghost use Rattle.cut_measure.specs.declared.ranges.TheConstants.{MAX_KERF};
@@ -12,8 +12,8 @@ ghost use Rattle.shop_plans.specs.declared.limits.TheConstants.{UNIT_COST};
 ghost use Rattle.shop_planning.specs.Asked as asked;
 ghost use Rattle.shop_planning.specs.Faults.{CountsRefusal};
 ghost use Rattle.shop_planning.specs.Lists.{has_bad_list};
-ghost use Rattle.shop_planning.specs.Questions as question;
-ghost use Rattle.shop_planning.specs.Questions.{AnswersPlans, IsInstance};
+ghost use Rattle.shop_planning.specs.Queries as queries;
+ghost use Rattle.shop_planning.specs.Queries.{AnswersPlans, IsInstance};
 ghost use Rattle.shop_planning.specs.PlanTasks.{instance_in};
 
 use crate::asking::{AskedRows, asked_rows};
@@ -33,7 +33,7 @@ use std::cmp::Ordering;
 
 // Why a part isn't used for this material, if it isn't.
 fn part_refusal(material: &Code, part: &Option<Part>) -> Option<Refusal>
-    ensures value { result ≡ question.part_refusal material.now part.now }
+    ensures value { result ≡ queries.part_refusal material.now part.now }
     ensures store { result ≢ Some StoreFault }
 {
     let Some(part) = part else {
@@ -50,7 +50,7 @@ fn part_refusal(material: &Code, part: &Option<Part>) -> Option<Refusal>
 
 // The first refusal of parts.
 fn parts_refusal(material: &Code, found: &[Option<Part>]) -> Option<Refusal>
-    ensures value { result ≡ question.parts_refusal material.now found.now }
+    ensures value { result ≡ queries.parts_refusal material.now found.now }
     ensures store { result ≢ Some StoreFault }
 {
     for part in found {
@@ -63,7 +63,7 @@ fn parts_refusal(material: &Code, found: &[Option<Part>]) -> Option<Refusal>
 
 // The refusal of sizes of which one isn't a size of the kind.
 fn sizes_refusal(kind: Kind, buy: &[BuySize]) -> Option<Refusal>
-    ensures value { result ≡ question.sizes_refusal kind buy.now }
+    ensures value { result ≡ queries.sizes_refusal kind buy.now }
     ensures store { result ≢ Some StoreFault }
 {
     let [first, more @ ..] = buy else {
@@ -77,7 +77,7 @@ fn sizes_refusal(kind: Kind, buy: &[BuySize]) -> Option<Refusal>
 
 // The first refusal of demands, parts or sizes.
 fn rows_refusal(query: &PlansQuery, kind: Kind, rows: &AskedRows) -> Option<Refusal>
-    ensures refusal { result ≡ question.rows_refusal query.now kind rows.now.demands.items rows.now.parts.items }
+    ensures refusal { result ≡ queries.rows_refusal query.now kind rows.now.demands.items rows.now.parts.items }
     ensures numbers { IfNone result (All HasNumber rows.now.demands.items) }
     ensures store { result ≢ Some StoreFault }
 {
@@ -90,7 +90,7 @@ fn rows_refusal(query: &PlansQuery, kind: Kind, rows: &AskedRows) -> Option<Refu
     sizes_refusal(kind, query.buy.as_slice())
 }
 
-// The stock and the wants of a question.
+// The stock and the wants of a query.
 #[derive(Drop)]
 struct Gathered {
     parts: Vec<StockPart>,
@@ -109,7 +109,7 @@ fn gather(
     requires parts { length rows.now.parts.items ≤ MAX_PARTS }
     requires buy { length query.now.buy ≤ MAX_BOUGHT_SIZES }
     requires numbers { All HasNumber rows.now.demands.items }
-    ensures is { IfOk result (question.IsGathered query.now kind rows.now.demands.items rows.now.parts.items) }
+    ensures is { IfOk result (queries.IsGathered query.now kind rows.now.demands.items rows.now.parts.items) }
     ensures stock { IfOk result (λ stock. IsStock kind stock.sizes.items) }
     ensures demands { IfOk result (λ stock. AreDemands stock.wants.items) }
 {
@@ -133,7 +133,7 @@ fn planner_fault(
     wants: &[Want],
 ) -> Option<PlanFault>
     requires { kerf ≤ MAX_KERF }
-    ensures value { result ≡ question.planner_fault kind kerf given step sizes.now wants.now }
+    ensures value { result ≡ queries.planner_fault kind kerf given step sizes.now wants.now }
 {
     match given {
         Some(_) => cost_fault(kind, kerf, step, sizes, wants),
@@ -150,8 +150,8 @@ fn instance_on(
     requires stages { IsStageLimit query.now.stages }
     requires stock { IsStock material.now.kind stock.sizes.items }
     requires demands { AreDemands stock.wants.items }
-    ensures ok { IfOk result (question.IsInstanceOn query.now material.now stock) }
-    ensures err { IfErr result (λ refusal. question.stock_refusal query.now material.now stock.sizes.items stock.wants.items ≡ Some refusal) }
+    ensures ok { IfOk result (queries.IsInstanceOn query.now material.now stock) }
+    ensures err { IfErr result (λ refusal. queries.stock_refusal query.now material.now stock.sizes.items stock.wants.items ≡ Some refusal) }
     ensures store { IfErr result (λ refusal. refusal ≢ StoreFault) }
 {
     let (kind, kerf) = (material.kind, material.limits.kerf());
@@ -183,9 +183,9 @@ fn instance_of(
     requires stages { IsStageLimit query.now.stages }
     requires parts { length rows.now.parts.items ≤ MAX_PARTS }
     requires buy { length query.now.buy ≤ MAX_BOUGHT_SIZES }
-    ensures ok { IfOk result (question.IsInstanceBy query.now material.now rows.now.demands.items rows.now.parts.items) }
+    ensures ok { IfOk result (queries.IsInstanceBy query.now material.now rows.now.demands.items rows.now.parts.items) }
     ensures err { IfErr result (λ refusal. refusal ≢ NoMemory
-        → question.material_refusal query.now material.now rows.now.demands.items rows.now.parts.items ≡ Some refusal) }
+        → queries.material_refusal query.now material.now rows.now.demands.items rows.now.parts.items ≡ Some refusal) }
     ensures store { IfErr result (λ refusal. refusal ≢ StoreFault) }
 {
     if let Some(refusal) = rows_refusal(query, material.kind, rows) {
@@ -197,7 +197,7 @@ fn instance_of(
     }
 }
 
-// What a question whose lists are planned asks of a material that is there.
+// What a query whose lists are planned asks of a material that is there.
 fn instance_for<B: Book>(
     alloc: Global,
     book: &mut B,
@@ -207,10 +207,10 @@ fn instance_for<B: Book>(
     requires remnant { query.now.remnant ≤ UNIT_COST }
     requires stages { IsStageLimit query.now.stages }
     requires lists { has_bad_list query.now ≡ false }
-    ensures ok { OnContent B.Book book.old book.new (λ m. IfOk result (question.IsInstanceOf m query.now material.now)) }
+    ensures ok { OnContent B.Book book.old book.new (λ m. IfOk result (queries.IsInstanceOf m query.now material.now)) }
     ensures err { OnContent B.Book book.old book.new
         (λ m. IfErr result (λ refusal. refusal ≢ NoMemory → refusal ≢ StoreFault
-        → question.refusal_of m query.now material.now ≡ Some refusal)) }
+        → queries.refusal_of m query.now material.now ≡ Some refusal)) }
     ensures keeps { Unchanged B.Book (CountsRefusal result) book.old book.new }
 {
     match asked_rows(alloc, book, query, material.kind) {
@@ -219,7 +219,7 @@ fn instance_for<B: Book>(
     }
 }
 
-// What a question asks, or its refusal.
+// What a query asks, or its refusal.
 fn what_is_asked<B: Book>(
     alloc: Global,
     book: &mut B,
@@ -228,7 +228,7 @@ fn what_is_asked<B: Book>(
     ensures ok { OnContent B.Book book.old book.new (λ m. IfOk result (IsInstance m query.now)) }
     ensures err { OnContent B.Book book.old book.new
         (λ m. IfErr result (λ refusal. refusal ≢ NoMemory → refusal ≢ StoreFault
-        → question.plans_refusal m query.now ≡ Some refusal)) }
+        → queries.plans_refusal m query.now ≡ Some refusal)) }
     ensures keeps { Unchanged B.Book (CountsRefusal result) book.old book.new }
 {
     if !is_in_range(query) {
@@ -242,7 +242,7 @@ fn what_is_asked<B: Book>(
     }
 }
 
-/// What a question asks of a book's content: it may be searched from then on, whatever becomes of the content. Refused
+/// What a query asks of a book's content: it may be searched from then on, whatever becomes of the content. Refused
 /// in this order: `BadMessage` for numbers out of their ranges; `NoMaterial`; `BadWant` for a list that is too long or has
 /// something twice, or one of no demand; demand by demand `NoDemand`, `WrongMaterial`; part by part `NoPart`, `NotStanding`,
 /// `WrongMaterial`; `BadSize`; `BadWant` where nothing is left; `BadStep` for a step that is given; `TableTooLarge`;

@@ -1,4 +1,4 @@
-//! The answer to a question: the plans with the parts that are cut by each, what is missing, and the prices.
+//! The answer to a query: the plans with the parts that are cut by each, what is missing, and the prices.
 
 ghost use Rattle.std.specs.Prelude.{◌≡◌, ◌≤◌, ◌<◌, ◌+◌, IfOk, IfSome, OnOk, drop, filter, length, map, slice_get, take};
 ghost use Rattle.std.specs.List.Sorted.{IsPermutation, IsSorted};

@@ -1,4 +1,4 @@
-//! The stock of a question: the parts with what they cost, and their sizes with those that may be bought.
+//! The stock of a query: the parts with what they cost, and their sizes with those that may be bought.
 
 ghost use Rattle.std.specs.Prelude.{◌≡◌, ◌≤◌, ◌++◌, All, IfOk, IfSome, OnOk, filter_map, length};
 ghost use Rattle.std.specs.List.{list_any};

@@ -1,4 +1,4 @@
-//! Questions that are being searched.
+//! Queries that are being searched.
 
 ghost use Rattle.std.proofs.Props.{props};
 ghost use Rattle.std.specs.Prelude.{◌≡◌, IfOk, IfSome};
@@ -14,7 +14,7 @@ use cut_plan::PlanFault;
 use shop_records::Text;
 use std::alloc::{AllocError, Global};
 
-/// A question that is being searched: the stock and the wants as the shop had them, the search, and how many calls are left.
+/// A query that is being searched: the stock and the wants as the shop had them, the search, and how many calls are left.
 #[derive(Drop)]
 pub struct PlanTask {
     instance: PlanInstance,
@@ -64,7 +64,7 @@ impl PlanTask {
     ghost use Rattle.shop_planning.specs.Answers.{IsPlanOf, IsPlansText};
     ghost use Rattle.shop_planning.specs.PlanTasks.{instance_in};
 
-    /// A question of which no search step was taken yet.
+    /// A query of which no search step was taken yet.
     pub(crate) fn new(instance: PlanInstance) -> PlanTask
         ensures instance { instance_in result ≡ instance }
         ensures left { result.left ≡ instance.calls }

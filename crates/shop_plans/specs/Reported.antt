@@ -1,4 +1,4 @@
--- The answer to a question for plans, as JSON.
+-- The answer to a `plans` query, as JSON.
 use Rattle.std.specs.Prelude.{ℕ, List, codes}
 use Rattle.cut_measure.specs.Names.{Name, name_text}
 use Rattle.serde_json.specs.Data.{Data, object, string, member, no_members}

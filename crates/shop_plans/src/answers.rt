@@ -1,4 +1,4 @@
-//! The answer to a question for plans, written in JSON.
+//! The answer to a `plans` query, written in JSON.
 
 ghost use Rattle.std.specs.Prelude.{◌≡◌, ◌∷◌, IfOk, OnOk};
 ghost use Rattle.json.specs.Token as token;
@@ -8,7 +8,7 @@ ghost use Rattle.shop_forms.specs.Forms.{rows_data};
 ghost use Rattle.shop_forms.specs.Tokens.{Adds, AddsValue};
 ghost use Rattle.shop_plans.specs.Reported as reported;
 
-use crate::questions::NameList;
+use crate::queries::NameList;
 use cut_measure::{PartName, RowList};
 use json::Writer;
 use shop_forms::{
@@ -42,7 +42,7 @@ pub struct ReportedPlan {
     pub w: u32,
 }
 
-/// The answer to a question for plans. Costs are cells times 100.
+/// The answer to a `plans` query. Costs are cells times 100.
 #[derive(Debug, Drop)]
 pub struct PlansReply {
     /// No whole cutting costs less.

@@ -1,12 +1,12 @@
-//! The question for plans of all that is open of a material, and its answer, in JSON.
+//! The `plans` query of all that is open of a material, and its answer, in JSON.
 #![tactic(auto)]
 
 mod answers;
 mod laws;
 mod limits;
-mod questions;
+mod queries;
 
 pub use answers::{DemandPrice, MissingPieces, PlansReply, ReportedPlan, plans_text};
-pub use laws::question_limits;
+pub use laws::query_limits;
 pub use limits::UNIT_COST;
-pub use questions::{BuyList, BuySize, NameList, PlansQuery, read_plans};
+pub use queries::{BuyList, BuySize, NameList, PlansQuery, read_plans};

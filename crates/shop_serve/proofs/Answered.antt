@@ -14,9 +14,9 @@ use Rattle.shop_serve.specs.declared.clients.ConnectionStatus.{ConnectionStatus}
 use Rattle.shop_serve.specs.declared.clients.ConnectionStatus.TheVariants.{NoMemory}
 use Rattle.shop_serve.specs.declared.clients.Client.{Client}
 use Rattle.shop_serve.specs.declared.sites.Site.{Site}
-use Rattle.shop_serve.specs.Known.{ReportsAll, BringsRequest, HasOwnAnswer, HasOwnQuestion}
+use Rattle.shop_serve.specs.Known.{ReportsAll, BringsRequest, HasOwnAnswer, HasOwnQuery}
 use Rattle.shop_serve.specs.Times.{Times}
-use Rattle.shop_serve.specs.Clients.{AwaitsMore, IsAnsweredWhole, IsAttended, IsAttendedAt, IsBegunWhole, IsClosedBy, IsFresh, IsHeard, IsMute, IsSpent, IsSpoiled}
+use Rattle.shop_serve.specs.Clients.{AwaitsMore, IsAnsweredWhole, IsServiced, IsServicedAt, IsBegunWhole, IsClosedBy, IsFresh, IsHeard, IsMute, IsSpent, IsSpoiled}
 use Rattle.shop_planning.specs.PlanTasks.{instance_in}
 use Rattle.shop_serve.proofs.Turns.{answered-then}
 
@@ -65,7 +65,7 @@ module _ {C : Type 0} (connection : ConnectionGhosts C) (site : Site) {B : Type 
   took (Some ys) bytes is = ap Some is
 
   abbrev HasOwn : Option (Client C) → Type 0
-  HasOwn place = HasOwnAnswer connection site book input place before after ⊎ HasOwnQuestion connection site book input before after
+  HasOwn place = HasOwnAnswer connection site book input place before after ⊎ HasOwnQuery connection site book input before after
 
   -- where it is now, or how much it took
   abbrev IsAt : Option (Client C) → Client C → Type 0
@@ -83,11 +83,11 @@ module _ {C : Type 0} (connection : ConnectionGhosts C) (site : Site) {B : Type 
   is_gone None left a e at none = subst (λ o. IsSomeAnd o (λ (x : Vec ℕ Global). length x.items ≤ left.sent)) e at
   is_gone (Some client) left a e at none = absurd (cc none)
 
-  answered : (place : Option (Client C)) (left : Client C) → IsAt place left → IsAttended connection site book client left before after seen seeing → HasOwn place
-  answered place left at attended = by_answer left.answer refl
+  answered : (place : Option (Client C)) (left : Client C) → IsAt place left → IsServiced connection site book client left before after seen seeing → HasOwn place
+  answered place left at serviced = by_answer left.answer refl
     where
       heard : IsHeard connection site book client left before after seen seeing
-      heard = attended.2 fresh.waits fresh.asks
+      heard = serviced.2 fresh.waits fresh.asks
 
       by_task : left.answer ≡ None → (t : Option _) → left.task ≡ t → HasOwn place
       by_task none None e =
@@ -127,8 +127,8 @@ module _ {C : Type 0} (connection : ConnectionGhosts C) (site : Site) {B : Type 
           })
 
   pub whole_is_answered : (status : ConnectionStatus) (key : ℕ) (old new : Slab (Client C)) → get old key ≡ Some client → status ≢ NoMemory
-      → IsAttendedAt connection site book status key old new before after seen seeing → HasOwn (get new key)
-  whole_is_answered status key old new is known attended = by_place (get new key) refl
+      → IsServicedAt connection site book status key old new before after seen seeing → HasOwn (get new key)
+  whole_is_answered status key old new is known serviced = by_place (get new key) refl
     where
       by_reason : IsClosedBy connection site book status client before after seen seeing → HasOwn None
       by_reason (inl wanting) = absurd (known wanting)
@@ -136,7 +136,7 @@ module _ {C : Type 0} (connection : ConnectionGhosts C) (site : Site) {B : Type 
       by_reason (inr (left, inr spoiled)) = absurd (not_spoiled left spoiled)
 
       by_place : (place : Option (Client C)) → get new key ≡ place → HasOwn (get new key)
-      by_place None e = subst HasOwn (sym e) (by_reason (attended.closed client is e))
+      by_place None e = subst HasOwn (sym e) (by_reason (serviced.closed client is e))
       by_place (Some left) e =
           subst HasOwn (sym e)
-          (answered (Some left) left refl (subst (λ slot. IfSome slot (λ left. IsAttended connection site book client left before after seen seeing)) e (attended.there client is)))
+          (answered (Some left) left refl (subst (λ slot. IfSome slot (λ left. IsServiced connection site book client left before after seen seeing)) e (serviced.there client is)))

@@ -11,7 +11,7 @@ use Rattle.shop_serve.specs.declared.clients.Client.{Client}
 use Rattle.shop_serve.specs.declared.clients.TheConstants.{MAX_CLIENTS}
 use Rattle.shop_serve.specs.declared.sites.Site.{Site}
 use Rattle.shop_serve.specs.Times.{Times}
-use Rattle.shop_serve.specs.Clients.{AreAttended, IsAttendedAt, IsOpened, IsTurnedAway, MakesRoom}
+use Rattle.shop_serve.specs.Clients.{AreServiced, IsServicedAt, IsOpened, IsTurnedAway, MakesRoom}
 use Rattle.shop_serve.specs.RunningTask.{IsSteppedAt, StepsSearch}
 use Rattle.shop_serve.specs.declared.searching.Progress.{Progress}
 use Rattle.shop_serve.specs.declared.searching.Progress.TheVariants.{GoesOn, Answered, NoMemory}
@@ -50,19 +50,19 @@ module _ {C : Type 0} where
       arrived-few port arrived run.0 new run.1 seeing (received-few port stream old run.0 seen run.1 few run.2) run.3
 
 module _ {C : Type 0} (connection : ConnectionGhosts C) (site : Site) {B : Type 0} (book : Ghosts B) {P : Type 0} (port : PortGhosts P C) where
-  attended-fewer : (status : ConnectionStatus) (key : ℕ) (old new : Slab (Client C)) (before after : B) (seen seeing : Times)
-      → IsAttendedAt connection site book status key old new before after seen seeing → slab_len new ≤ slab_len old
-  attended-fewer status key old new before after seen seeing attended = by_slot (get old key) refl
+  serviced-fewer : (status : ConnectionStatus) (key : ℕ) (old new : Slab (Client C)) (before after : B) (seen seeing : Times)
+      → IsServicedAt connection site book status key old new before after seen seeing → slab_len new ≤ slab_len old
+  serviced-fewer status key old new before after seen seeing serviced = by_slot (get old key) refl
     where
       by_slot : (slot : Option (Client C)) → get old key ≡ slot → slab_len new ≤ slab_len old
-      by_slot None is = omega (arith, count-but is_some refl key old.slots new.slots attended.others, ap counted is, ap counted (attended.absent is).0)
-      by_slot (Some client) is = omega (arith, count-but is_some refl key old.slots new.slots attended.others, ap counted is, one-most is_some refl (get new key))
+      by_slot None is = omega (arith, count-but is_some refl key old.slots new.slots serviced.others, ap counted is, ap counted (serviced.absent is).0)
+      by_slot (Some client) is = omega (arith, count-but is_some refl key old.slots new.slots serviced.others, ap counted is, one-most is_some refl (get new key))
 
   each-fewer : (keys : List ℕ) (old new : Slab (Client C)) (before after : B) (seen seeing : Times)
-      → AreAttended connection site book keys old new before after seen seeing → slab_len new ≤ slab_len old
+      → AreServiced connection site book keys old new before after seen seeing → slab_len new ≤ slab_len old
   each-fewer [] old new before after seen seeing run = omega (arith, ap (λ (s : Slab (Client C)). slab_len s) run.0)
   each-fewer (key ∷ keys) old new before after seen seeing run =
-      omega (arith, attended-fewer run.0 key old run.1 before run.2 seen run.3 run.4, each-fewer keys run.1 new run.2 after run.3 seeing run.5)
+      omega (arith, serviced-fewer run.0 key old run.1 before run.2 seen run.3 run.4, each-fewer keys run.1 new run.2 after run.3 seeing run.5)
 
   task-fewer : (crowded : Bool) (progress : Progress) (now : Instant) (key : ℕ) (old new : Slab (Client C)) (seen seeing : Times)
       → IsSteppedAt connection crowded progress now key old new seen seeing → slab_len new ≤ slab_len old
@@ -85,13 +85,13 @@ module _ {C : Type 0} (connection : ConnectionGhosts C) (site : Site) {B : Type 
       by_progress NoMemory e = on (λ is. absurd (cc (e, is)))
       by_progress Answered e =
           let handed = t.answered e in
-          omega (arith, once, attended-fewer handed.0 t.key t.clients new before after t.between seeing handed.1)
+          omega (arith, once, serviced-fewer handed.0 t.key t.clients new before after t.between seeing handed.1)
 
   round-few : (round : Round C) (old new : Slab (Client C)) (before after : B) (seen seeing : Times) → slab_len old ≤ MAX_CLIENTS
       → IsRound connection site book port round old new before after seen seeing → slab_len new ≤ MAX_CLIENTS
   round-few round old new before after seen seeing few r =
       arrived-few port round.arrived r.task new r.third seeing
-      (omega (arith, few, steps_search-fewer round.now r.kept r.task r.mid after r.second r.third r.steps_search, each-fewer round.keys old r.attended before r.mid seen r.first r.each, late-fewer is_some refl round.now r.attended r.kept r.late)) r.received
+      (omega (arith, few, steps_search-fewer round.now r.kept r.task r.mid after r.second r.third r.steps_search, each-fewer round.keys old r.serviced before r.mid seen r.first r.each, late-fewer is_some refl round.now r.serviced r.kept r.late)) r.received
 
   rounds-few : (rounds : List (Round C)) (old new : Slab (Client C)) (before after : B) (seen seeing : Times) → slab_len old ≤ MAX_CLIENTS
       → AreRounds connection site book port rounds old new before after seen seeing → slab_len new ≤ MAX_CLIENTS

@@ -2,7 +2,7 @@ pub mod Turns
 pub mod Counts
 pub mod Slots
 pub mod Oldest
-pub mod Attending
+pub mod Servicing
 pub mod Gathered
 pub mod Awaiting
 pub mod Answered

@@ -1,4 +1,4 @@
--- Each connection has its own question and its own answer, turn after turn.
+-- Each connection has its own query and its own answer, turn after turn.
 use Rattle.std.proofs.Common.{◌≡◌, ◌≢◌, ◌∙◌, ℕ, ◌+◌, Bool, true, false, List, [], ◌∷◌, inl, inr, refl, sym, ap, subst}
 use Rattle.std.proofs.lemmas.Bool.{eqb-true, eqb-false}
 use Rattle.std.specs.Prelude.{Option, Some, None, IfSome, IsSome, nat_eq, if◌then◌else◌}
@@ -14,7 +14,7 @@ use Rattle.shop_serve.specs.declared.sites.Site.{Site}
 use Rattle.shop_serve.specs.declared.searching.RunningTask.{RunningTask as RunningTaskOf}
 use Rattle.shop_serve.specs.declared.searching.Progress.{Progress}
 use Rattle.shop_serve.specs.declared.searching.Progress.TheVariants.{GoesOn, Answered, NoMemory}
-use Rattle.shop_serve.specs.Clients.{AreAttended, IsAttended, IsAttendedAt, IsHandedOn, IsOpened, IsTurnedAway, MakesRoom, in_time, is_late}
+use Rattle.shop_serve.specs.Clients.{AreServiced, IsServiced, IsServicedAt, IsHandedOn, IsOpened, IsTurnedAway, MakesRoom, in_time, is_late}
 use Rattle.shop_serve.specs.Own.{Leads, WasDone, WasAsked, WasAnswered, HasItsOwn, EachHasItsOwn}
 use Rattle.shop_serve.specs.Rounds.{AreReceived, AreRounds, IsReceived, IsRound, Round}
 use Rattle.shop_serve.specs.RunningTask.{IsSteppedAt, StepsSearch}
@@ -95,20 +95,20 @@ module _ {C : Type 0} (connection : ConnectionGhosts C) (site : Site) {B : Type 
   abbrev Open : B → B → Slab (Client C) → Type 0
   Open a b clients = Leads site book a b × Own site book a b clients
 
-  -- one connection, as it is attended to
+  -- one connection, as it is serviced
   client-own : (a b c : B) (seen seeing : Times) (old new : Client C) → Leads site book a b → Leads site book b c → (book.has_clean_disk c → book.has_clean_disk b)
-      → HasItsOwn site book a b old → IsAttended connection site book old new b c seen seeing → HasItsOwn site book a c new
-  client-own a b c seen seeing old new so_far more clean_disk own attended = by_answer old.answer refl
+      → HasItsOwn site book a b old → IsServiced connection site book old new b c seen seeing → HasItsOwn site book a c new
+  client-own a b c seen seeing old new so_far more clean_disk own serviced = by_answer old.answer refl
     where
       was : HasItsOwn site book a c old
       was = later-own site book a b c old more own
 
       by_task : old.answer ≡ None → (t : Option _) → old.task ≡ t → HasItsOwn site book a c new
       by_task none (Some t) e =
-          let heeded = attended.1 none (subst IsSome (sym e) refl) in
-          same-own site book a c old new (ap (λ (l : Client C). l.task) heeded.kept) (ap (λ (l : Client C). l.answer) heeded.kept) (ap (λ (l : Client C). l.received) heeded.kept) was
+          let discarded = serviced.1 none (subst IsSome (sym e) refl) in
+          same-own site book a c old new (ap (λ (l : Client C). l.task) discarded.kept) (ap (λ (l : Client C). l.answer) discarded.kept) (ap (λ (l : Client C). l.received) discarded.kept) was
       by_task none None e =
-          let heard = attended.2 none e in (
+          let heard = serviced.2 none e in (
             if_some new.task _ _ (λ t begun. record { old = b; new = c; earlier = so_far; step = begun.asked; clean_disk = clean_disk; later = stays site book c }) heard.begun,
             if_some new.answer _ _ (λ answer whole. inl (record { old = b; new = c; earlier = so_far; step = answered-then site book b c seen seeing new.since new.received.items answer.items whole.answered; clean_disk = clean_disk; later = stays site book c })) heard.answered,
           )
@@ -116,31 +116,31 @@ module _ {C : Type 0} (connection : ConnectionGhosts C) (site : Site) {B : Type 
       by_answer : (o : Option _) → old.answer ≡ o → HasItsOwn site book a c new
       by_answer None e = by_task e old.task refl
       by_answer (Some x) e =
-          let handed = subst (λ o. IfSome o (λ x. IsHandedOn connection site book old new b c seen seeing x.items)) e attended.0 in
+          let handed = subst (λ o. IfSome o (λ x. IsHandedOn connection site book old new b c seen seeing x.items)) e serviced.0 in
           same-own site book a c old new handed.asks handed.kept handed.received was
 
-  attended-own : (status : ConnectionStatus) (key : ℕ) (old new : Slab (Client C)) (a b c : B) (seen seeing : Times) → IsAttendedAt connection site book status key old new b c seen seeing
+  serviced-own : (status : ConnectionStatus) (key : ℕ) (old new : Slab (Client C)) (a b c : B) (seen seeing : Times) → IsServicedAt connection site book status key old new b c seen seeing
       → Open a b old → Open a c new
-  attended-own status key old new a b c seen seeing attended (so_far, own) = (
+  serviced-own status key old new a b c seen seeing serviced (so_far, own) = (
     on site book a b c so_far more,
-    at-key site book a b c old new key more attended.others (λ client is. by_slot client is (get old key) refl) own,
+    at-key site book a b c old new key more serviced.others (λ client is. by_slot client is (get old key) refl) own,
   )
     where
       more : Leads site book b c
-      more = record { clean_disk = attended.clean_disk; count = 1; served = attended.one }
+      more = record { clean_disk = serviced.clean_disk; count = 1; served = serviced.one }
 
       by_slot : (client : Client C) → get new key ≡ Some client → (slot : Option (Client C)) → get old key ≡ slot → HasItsOwn site book a c client
-      by_slot client is None e = absurd (cc (is, (attended.absent e).0))
+      by_slot client is None e = absurd (cc (is, (serviced.absent e).0))
       by_slot client is (Some there) e =
-          client-own a b c seen seeing there client so_far more attended.clean_disk (own key there e)
-          (subst (λ slot. IfSome slot (λ left. IsAttended connection site book there left b c seen seeing)) is (attended.there there e))
+          client-own a b c seen seeing there client so_far more serviced.clean_disk (own key there e)
+          (subst (λ slot. IfSome slot (λ left. IsServiced connection site book there left b c seen seeing)) is (serviced.there there e))
 
-  each-own : (keys : List ℕ) (old new : Slab (Client C)) (a b c : B) (seen seeing : Times) → AreAttended connection site book keys old new b c seen seeing → Open a b old → Open a c new
+  each-own : (keys : List ℕ) (old new : Slab (Client C)) (a b c : B) (seen seeing : Times) → AreServiced connection site book keys old new b c seen seeing → Open a b old → Open a c new
   each-own [] old new a b c seen seeing run here = subst (λ (n : Slab (Client C)). Open a c n) (sym run.0) (subst (λ (d : B). Open a d old) (sym run.1) here)
   each-own (key ∷ keys) old new a b c seen seeing run here =
-      each-own keys run.1 new a run.2 c run.3 seeing run.5 (attended-own run.0 key old run.1 a b run.2 seen run.3 run.4 here)
+      each-own keys run.1 new a run.2 c run.3 seeing run.5 (serviced-own run.0 key old run.1 a b run.2 seen run.3 run.4 here)
 
-  -- a question takes a search step
+  -- a query takes a search step
   task-own : (crowded : Bool) (progress : Progress) (now : Instant) (key : ℕ) (old new : Slab (Client C)) (a b : B) (seen seeing : Times) → IsSteppedAt connection crowded progress now key old new seen seeing
       → Own site book a b old → Own site book a b new
   task-own crowded progress now key old new a b seen seeing t own = at-key site book a b b old new key (stays site book b) t.others (λ client is. by_progress client is progress refl) own
@@ -178,7 +178,7 @@ module _ {C : Type 0} (connection : ConnectionGhosts C) (site : Site) {B : Type 
       by_progress GoesOn e = rests (λ is. absurd (cc (e, is)))
       by_progress NoMemory e = rests (λ is. absurd (cc (e, is)))
       by_progress Answered e =
-          let handed = t.answered e in attended-own handed.0 t.key t.clients new a b c t.between seeing handed.1 (so_far, once)
+          let handed = t.answered e in serviced-own handed.0 t.key t.clients new a b c t.between seeing handed.1 (so_far, once)
 
   -- a connection came
   opened-own : (now : Instant) (stream : C) (key : ℕ) (old new : Slab (Client C)) (a b : B) → IsOpened port now stream key old new → Own site book a b old → Own site book a b new
@@ -209,8 +209,8 @@ module _ {C : Type 0} (connection : ConnectionGhosts C) (site : Site) {B : Type 
 
   round-own : (round : Round C) (old new : Slab (Client C)) (a b c : B) (seen seeing : Times) → IsRound connection site book port round old new b c seen seeing → Open a b old → Open a c new
   round-own round old new a b c seen seeing r here =
-      let first = each-own round.keys old r.attended a b r.mid seen r.first r.each here in
-      let kept = fewer-own site book a r.mid r.mid r.attended r.kept (stays site book r.mid) (λ key client is. late-own site book round.now (get r.attended key) client (sym (r.late key) ∙ is)) first.1 in
+      let first = each-own round.keys old r.serviced a b r.mid seen r.first r.each here in
+      let kept = fewer-own site book a r.mid r.mid r.serviced r.kept (stays site book r.mid) (λ key client is. late-own site book round.now (get r.serviced key) client (sym (r.late key) ∙ is)) first.1 in
       arrived-own round.arrived r.task new a c r.third seeing r.received
       (steps_search-own round.now r.kept r.task a r.mid c r.second r.third r.steps_search (first.0, kept))
 

@@ -1,4 +1,4 @@
--- Which question takes a search step, and what that leaves.
+-- Which query takes a search step, and what that leaves.
 use Rattle.std.proofs.Common.{◌≡◌, ◌∙◌, ℕ, ◌≤◌, Bool, true, false, is_some, List, [], ◌∷◌, length, Contains, inl, inr, refl, sym, ap, subst, arith}
 use Rattle.std.specs.Prelude.{◌⊎◌, Option, Some, None, IfSome, IsSome}
 use Rattle.std.specs.declared.time.Instant.{Instant}
@@ -10,7 +10,7 @@ use Rattle.shop_serve.specs.declared.searching.Progress.TheVariants.{GoesOn, Ans
 use Rattle.shop_serve.specs.Clients.{AsksAt, NoneAsks, unanswered}
 use Rattle.shop_serve.specs.RunningTask.{IsSteppedAt, IsSteppedOnce, IsFinished}
 use Rattle.shop_serve.specs.Times.{Times, ReportsNone}
-use Rattle.shop_serve.proofs.Slots.{answered-of, has-answer, has-question, one_of, unanswered-updates}
+use Rattle.shop_serve.proofs.Slots.{answered-of, has-answer, has-query, one_of, unanswered-updates}
 
 module _ {C P : Type 0} (clients : Slab (Client C)) where
   -- this one was found among those that were looked at, and these are left
@@ -27,7 +27,7 @@ module _ {C P : Type 0} (clients : Slab (Client C)) where
   }
 
   module _ (key : ℕ) (client : Client C) (left : List (ℕ × Client C)) (found : Option (ℕ × P)) (so_far : IsFoundSo ((key, client) ∷ left) found) where
-    -- it has no question, or one was found
+    -- it has no query, or one was found
     pub found-passed : (IsSome client.task → IsSome found) → IsFoundSo left found
     found-passed other = record {
       later = λ other another listed. so_far.later other another (Contains-cons _ _ _ listed);
@@ -56,7 +56,7 @@ module _ {C P : Type 0} (clients : Slab (Client C)) where
     | inr some ↦ absurd (cc (subst IsSome is some))
   ]
 
--- the connection of this key has a question
+-- the connection of this key has a query
 pub asks-of : {C : Type 0} (clients : Slab (Client C)) (key : ℕ) (client : Client C) → AsksAt clients key → get clients key ≡ Some client → IsSome client.task
 asks-of clients key client (there, at, asks) is = let same : there ≡ client = cc (at, is) in subst (λ (l : Client _). IsSome l.task) same asks
 
@@ -75,7 +75,7 @@ module _ {C : Type 0} (connection : ConnectionGhosts C) (crowded : Bool) (now : 
   written = Updates-with_value clients key left (subst IsSome (sym is) refl)
 
   no_one : one_of (get clients key) ≡ 0
-  no_one = ap one_of is ∙ answered-of client (has-question client asks)
+  no_one = ap one_of is ∙ answered-of client (has-query client asks)
 
   -- it goes on
   pub goes-on : IsSteppedOnce connection crowded now client left → ReportsNone seen seeing → IsSteppedAt connection crowded GoesOn now key clients (with_value clients key left) seen seeing
@@ -95,7 +95,7 @@ module _ {C : Type 0} (connection : ConnectionGhosts C) (crowded : Bool) (now : 
         arith,
         unanswered-updates clients (with_value clients key left) key (Some left) written,
         no_one,
-        answered-of left (has-question left (subst IsSome (sym (ap (λ (l : Client C). l.task) once.kept)) refl)),
+        answered-of left (has-query left (subst IsSome (sym (ap (λ (l : Client C). l.task) once.kept)) refl)),
       )
 
   -- it is answered

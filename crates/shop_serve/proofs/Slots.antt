@@ -26,7 +26,7 @@ module _ {C : Type 0} where
   abbrev pub one_of : Option (Client C) → ℕ
   one_of slot = cond (is_unanswered slot) 1 0
 
-  -- whether it has an answer or a question
+  -- whether it has an answer or a query
   pub answered-of : (client : Client C) → is_unanswered (Some client) ≡ false → one_of (Some client) ≡ 0
   answered-of client e = ap (λ b. cond b 1 0) e
 
@@ -40,8 +40,8 @@ module _ {C : Type 0} where
       by_answer None some = absurd (cc some)
       by_answer (Some a) some = refl
 
-  pub has-question : (client : Client C) → IsSome client.task → is_unanswered (Some client) ≡ false
-  has-question client some = by_both client.answer client.task some
+  pub has-query : (client : Client C) → IsSome client.task → is_unanswered (Some client) ≡ false
+  has-query client some = by_both client.answer client.task some
     where
       by_both : (o : Option (Vec ℕ Global)) (t : Option RunningTask) → IsSome t → (is_none o && is_none t) ≡ false
       by_both o None some = absurd (cc some)

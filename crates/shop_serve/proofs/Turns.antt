@@ -158,7 +158,7 @@ module _ (site : Site) {B : Type 0} (book : Ghosts B) where
   one_done before after input left old new Same is some goes up (inl same) = none_done before after 1 same.0
   one_done before after input left old new Same is some goes up (inr s) = one_served before after input left old new s.0 is some goes up s.1
 
-  -- a question was begun
+  -- a query was begun
   begun_once : (before after : B) (input : List ℕ) (instance : PlanInstance) → 0 < length input → GoesToRoute input → CountsUp (book.failed before) (book.failed after)
       → IsBegun book before after (Some input) instance → HasServed site book before after 1
   begun_once before after input instance some goes up b clean_disk m held sound =

@@ -1,4 +1,4 @@
--- Open connections: which have no answer yet, and what it is to attend to one.
+-- Open connections: which have no answer yet, and what it is to service one.
 use Rattle.std.specs.Prelude.{◌≡◌, ◌≢◌, ◌⊎◌, ◌<◌, ◌≤◌, ◌-◌, ◌*◌, ◌++◌, leb, ◌&&◌, if◌then◌else◌, ℕ, List, [], ◌∷◌, length, take, Option, Some, None, IfSome, IsSome, IsSomeAnd, Bool, true, false, is_none, is_some, count_by}
 use Rattle.std.specs.Io.KnownBytes.{Appends, IsAtEnd}
 use Rattle.std.specs.Time.{instant_nanos}
@@ -27,29 +27,29 @@ pub record AwaitsMore (received : List ℕ) (needed : ℕ) : Type 0 where
   pub here : IsUnfinished received
   pub later : (more : List ℕ) → length (received ++ more) < needed → IsUnfinished (received ++ more)
 
--- a question has had a search step
+-- a query has had a search step
 abbrev pub was_stepped : Option RunningTask → Bool
 was_stepped None = false
 was_stepped (Some searching) = is_some searching.last
 
 module _ {C : Type 0} where
-  -- a connection that is open and has no answer yet, and no question
+  -- a connection that is open and has no answer yet, and no query
   abbrev pub is_unanswered : Option (Client C) → Bool
   is_unanswered None = false
   is_unanswered (Some client) = is_none client.answer && is_none client.task
 
-  -- how many of these connections have no answer yet, and no question
+  -- how many of these connections have no answer yet, and no query
   abbrev pub unanswered : Slab (Client C) → ℕ
   unanswered clients = count_by is_unanswered clients.slots
 
   abbrev pub is_begun : Client C → Bool
   is_begun client = was_stepped client.task
 
-  -- it had its seconds, from the time when it was accepted or its answer was made; a question has none
+  -- it had its seconds, from the time when it was accepted or its answer was made; a query has none
   abbrev pub is_late : Instant → Client C → Bool
   is_late now client = is_none client.task && leb (PATIENCE * 1000000000) (instant_nanos now - instant_nanos client.since)
 
-  -- a connection of this key has a question
+  -- a connection of this key has a query
   abbrev pub AsksAt : Slab (Client C) → ℕ → Type 0
   AsksAt clients key = (client : Client C) × (get clients key ≡ Some client) × IsSome client.task
 
@@ -70,11 +70,11 @@ module _ {C : Type 0} where
   abbrev pub IsSpent : Client C → Type 0
   IsSpent client = IsSomeAnd client.answer (λ answer. length answer.items ≤ client.sent)
 
-  -- no answer of it is on its way: it has none yet, and its question has had no search step; or it took all of it
+  -- no answer of it is on its way: it has none yet, and its query has had no search step; or it took all of it
   abbrev pub MayGo : Client C → Type 0
   MayGo client = ((client.answer ≡ None) × (is_begun client ≡ false)) ⊎ IsSpent client
 
-  -- each that is open has an answer on its way, or its question has had a search step
+  -- each that is open has an answer on its way, or its query has had a search step
   abbrev pub NoneMayGo : Slab (Client C) → Type 0
   NoneMayGo clients = (key : ℕ) (client : Client C) → get clients key ≡ Some client → MayGo client → ⊥
 
@@ -101,7 +101,7 @@ module _ {C : Type 0} where
     pub same : new.slots ≡ room.slots
     pub why : ((p : P) × port.is_deaf p) ⊎ (HasRoomFor room 1 → ⊥)
 
-  -- it was accepted now: nothing came of it, and it has no question and no answer
+  -- it was accepted now: nothing came of it, and it has no query and no answer
   pub record IsFresh (now : Instant) (stream : C) (client : Client C) : Type 0 where
     pub own : client.stream ≡ stream
     pub since : client.since ≡ now
@@ -164,7 +164,7 @@ module _ {C : Type 0} (connection : ConnectionGhosts C) (site : Site) {B : Type 
     pub takes : TakesAnswer connection answer old.stream 0 new.stream new.sent
     pub stops : StopsAt connection answer new.stream new.sent
 
-  -- The question that is all that came of a connection, once that was whole or at its end: this is what it asks of the content.
+  -- The query that is all that came of a connection, once that was whole or at its end: this is what it asks of the content.
   -- It waits for its search, since the time that is reported then, which stood still meanwhile. Nothing is done, and the connection took
   -- nothing.
   pub record IsBegunWhole (old new : Client C) (rest : Option (List ℕ)) (before after : B) (seen seeing : Times) (searching : RunningTask) : Type 0 where
@@ -175,8 +175,8 @@ module _ {C : Type 0} (connection : ConnectionGhosts C) (site : Site) {B : Type 
     pub none : new.answer ≡ None
     pub took : connection.contents new.stream ≡ connection.contents old.stream
 
-  -- A connection whose question is searched: it keeps that and waits, and what still came of it was dropped. Nothing is done.
-  pub record IsHeeded (old new : Client C) (before after : B) (seen seeing : Times) : Type 0 where
+  -- A connection whose query is searched: it keeps that and waits, and what still came of it was dropped. Nothing is done.
+  pub record IsInputDiscarded (old new : Client C) (before after : B) (seen seeing : Times) : Type 0 where
     pub same : after ≡ before
     pub unread : ReportsNone seen seeing
     pub kept : new ≡ record old { stream = new.stream }
@@ -193,8 +193,8 @@ module _ {C : Type 0} (connection : ConnectionGhosts C) (site : Site) {B : Type 
     pub read : IsReadOn (connection.remaining old.stream) (connection.remaining new.stream) old.received.items new.received.items
     pub awaits : AwaitsMore old.received.items old.needed → AwaitsMore new.received.items new.needed
 
-  -- A connection without an answer and a question: what came of it goes on by what it gave. It is left waiting, or it is answered,
-  -- or its question is begun.
+  -- A connection without an answer and a query: what came of it goes on by what it gave. It is left waiting, or it is answered,
+  -- or its query is begun.
   pub record IsHeard (old new : Client C) (before after : B) (seen seeing : Times) : Type 0 where
     pub rest : Option (List ℕ)
     pub read : IsReadOn (connection.remaining old.stream) rest old.received.items new.received.items
@@ -202,11 +202,11 @@ module _ {C : Type 0} (connection : ConnectionGhosts C) (site : Site) {B : Type 
     pub begun : IfSome new.task (IsBegunWhole old new rest before after seen seeing)
     pub answered : IfSome new.answer (λ answer. IsAnsweredWhole old new rest before after seen seeing answer.items)
 
-  -- a connection was attended to, and stays open
-  abbrev pub IsAttended : Client C → Client C → B → B → (seen seeing : Times) → Type 0
-  IsAttended old new before after seen seeing =
+  -- a connection was serviced, and stays open
+  abbrev pub IsServiced : Client C → Client C → B → B → (seen seeing : Times) → Type 0
+  IsServiced old new before after seen seeing =
       IfSome old.answer (λ answer. IsHandedOn old new before after seen seeing answer.items)
-      × (old.answer ≡ None → IsSome old.task → IsHeeded old new before after seen seeing)
+      × (old.answer ≡ None → IsSome old.task → IsInputDiscarded old new before after seen seeing)
       × (old.answer ≡ None → old.task ≡ None → IsHeard old new before after seen seeing)
 
   -- No request can come of it, or it can't take its answer: it is lost, or reported to have taken more than that.
@@ -216,26 +216,26 @@ module _ {C : Type 0} (connection : ConnectionGhosts C) (site : Site) {B : Type 
       ⊎ IsSomeAnd old.answer (λ answer. connection.is_lost new.stream ⊎ (length answer.items < old.sent))
       ⊎ IsSome old.task × connection.is_lost new.stream
 
-  -- Why a connection is closed that is attended to: it took its whole answer, and nothing more is to come of it; or it is spoiled; or
+  -- Why a connection is closed that is serviced: it took its whole answer, and nothing more is to come of it; or it is spoiled; or
   -- memory was wanting.
   abbrev pub IsClosedBy : ConnectionStatus → Client C → B → B → (seen seeing : Times) → Type 0
   IsClosedBy status client before after seen seeing =
-      (status ≡ NoMemory) ⊎ ((left : Client C) × (IsAttended client left before after seen seeing × IsSpent left × IsOver connection left ⊎ IsSpoiled client left))
+      (status ≡ NoMemory) ⊎ ((left : Client C) × (IsServiced client left before after seen seeing × IsSpent left × IsOver connection left ⊎ IsSpoiled client left))
 
-  -- The connection of a key was attended to, if there is one, and is closed or stays; no other was. At most one request was
-  -- served, and none where it had an answer or a question.
-  pub record IsAttendedAt (status : ConnectionStatus) (key : ℕ) (old new : Slab (Client C)) (before after : B) (seen seeing : Times) : Type 0 where
+  -- The connection of a key was serviced, if there is one, and is closed or stays; no other was. At most one request was
+  -- served, and none where it had an answer or a query.
+  pub record IsServicedAt (status : ConnectionStatus) (key : ℕ) (old new : Slab (Client C)) (before after : B) (seen seeing : Times) : Type 0 where
     pub others : (other : ℕ) → other ≢ key → get new other ≡ get old other
     pub absent : get old key ≡ None → (get new key ≡ None) × (after ≡ before)
-    pub there : (client : Client C) → get old key ≡ Some client → IfSome (get new key) (λ left. IsAttended client left before after seen seeing)
+    pub there : (client : Client C) → get old key ≡ Some client → IfSome (get new key) (λ left. IsServiced client left before after seen seeing)
     pub closed : (client : Client C) → get old key ≡ Some client → get new key ≡ None → IsClosedBy status client before after seen seeing
     pub once : (client : Client C) → get old key ≡ Some client → is_unanswered (Some client) ≡ false → after ≡ before
     pub one : HasServed site book before after 1
     pub clean_disk : book.has_clean_disk after → book.has_clean_disk before
 
-  -- the connections of these keys were attended to, one after another
-  abbrev pub AreAttended : List ℕ → Slab (Client C) → Slab (Client C) → B → B → (seen seeing : Times) → Type 0
-  AreAttended [] old new before after seen seeing = (new ≡ old) × (after ≡ before) × ReportsNone seen seeing
-  AreAttended (key ∷ keys) old new before after seen seeing =
-      (status : ConnectionStatus) × (clients : Slab (Client C)) × (mid : B) × (between : Times) × IsAttendedAt status key old clients before mid seen between
-      × AreAttended keys clients new mid after between seeing
+  -- the connections of these keys were serviced, one after another
+  abbrev pub AreServiced : List ℕ → Slab (Client C) → Slab (Client C) → B → B → (seen seeing : Times) → Type 0
+  AreServiced [] old new before after seen seeing = (new ≡ old) × (after ≡ before) × ReportsNone seen seeing
+  AreServiced (key ∷ keys) old new before after seen seeing =
+      (status : ConnectionStatus) × (clients : Slab (Client C)) × (mid : B) × (between : Times) × IsServicedAt status key old clients before mid seen between
+      × AreServiced keys clients new mid after between seeing

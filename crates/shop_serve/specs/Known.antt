@@ -1,4 +1,4 @@
--- What is done with a connection that reports all: its one request is answered, and it takes its own answer; or it is a question, and
+-- What is done with a connection that reports all: its one request is answered, and it takes its own answer; or it is a query, and
 -- that is its own.
 use Rattle.std.specs.Prelude.{◌≡◌, ◌≢◌, ◌⊎◌, ◌<◌, ◌≤◌, ℕ, List, [], ◌++◌, length, take, Option, Some, None, IfSome, IsSomeAnd}
 use Rattle.slab.specs.Slab.{Slab, get}
@@ -11,7 +11,7 @@ use Rattle.shop_serve.specs.declared.clients.ConnectionStatus.{ConnectionStatus}
 use Rattle.shop_serve.specs.declared.clients.ConnectionStatus.TheVariants.{NoMemory}
 use Rattle.shop_serve.specs.declared.clients.Client.{Client}
 use Rattle.shop_serve.specs.declared.sites.Site.{Site}
-use Rattle.shop_serve.specs.Clients.{IsAttendedAt, IsFresh, StopsAt}
+use Rattle.shop_serve.specs.Clients.{IsServicedAt, IsFresh, StopsAt}
 use Rattle.shop_planning.specs.declared.instance.PlanInstance.{PlanInstance}
 use Rattle.shop_serve.specs.Making.{IsAsked}
 use Rattle.shop_serve.specs.Serving.{IsAnswered}
@@ -48,8 +48,8 @@ module _ {C : Type 0} (connection : ConnectionGhosts C) where
       pub stays : IfSome place (λ client. (client.stream ≡ left) × (client.sent ≡ sent) × IsSomeAnd client.answer (λ a. a.items ≡ answer))
       pub goes : place ≡ None → length answer ≤ sent
 
-    -- the first of its bytes whose parse is determined, or all of them, are a question, and this is what it asks of the content
-    pub record HasOwnQuestion (input : List ℕ) (before after : B) : Type 0 where
+    -- the first of its bytes whose parse is determined, or all of them, are a query, and this is what it asks of the content
+    pub record HasOwnQuery (input : List ℕ) (before after : B) : Type 0 where
       pub received : List ℕ
       pub rest : List ℕ
       pub instance : PlanInstance
@@ -57,9 +57,9 @@ module _ {C : Type 0} (connection : ConnectionGhosts C) where
       pub whole : IsDetermined received ⊎ (rest ≡ [])
       pub asked : IsAsked site book before after received instance
 
-    -- one that came now with a whole request, and is attended to, has its answer or its question, where memory isn't wanting
+    -- one that came now with a whole request, and is serviced, has its answer or its query, unless memory runs out
     abbrev pub WholeIsAnswered : Type 0
     WholeIsAnswered =
         (now : Instant) (stream : C) (input : List ℕ) (client : Client C) (status : ConnectionStatus) (key : ℕ) (old new : Slab (Client C)) (before after : B) (seen seeing : Times)
         → ReportsAll → BringsRequest stream input → IsFresh now stream client → get old key ≡ Some client → status ≢ NoMemory
-        → IsAttendedAt connection site book status key old new before after seen seeing → HasOwnAnswer input (get new key) before after ⊎ HasOwnQuestion input before after
+        → IsServicedAt connection site book status key old new before after seen seeing → HasOwnAnswer input (get new key) before after ⊎ HasOwnQuery input before after

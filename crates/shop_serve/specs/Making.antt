@@ -1,4 +1,4 @@
--- What is made of a request: its answer, or what it asks; and what an answer to a question says.
+-- What is made of a request: its answer, or what it asks; and what an answer to a query says.
 use Rattle.std.specs.Prelude.{◌≡◌, ◌⊎◌, ℕ, List, Some, None, Vec}
 use Rattle.std.specs.declared.alloc.Global.{Global}
 use Rattle.std.specs.declared.time.Instant.{Instant}
@@ -24,7 +24,7 @@ use Rattle.shop_serve.specs.Times.{Times, ReportsNone}
 use Rattle.shop_wire.specs.AnswerBytes.{answer_bytes, printed, replied, response_answer}
 use Rattle.shop_wire.specs.Serves.{IsBegun}
 
--- By their head some bytes went to their route, and are a question; this is what it asks of the content. Nothing is done.
+-- By their head some bytes went to their route, and are a query; this is what it asks of the content. Nothing is done.
 abbrev pub IsAsked : Site → {B : Type 0} → Ghosts B → B → B → (received : List ℕ) → PlanInstance → Type 0
 IsAsked site book before after received instance =
     HasRuling site.guard received Routed × IsBegun book before after (Some received) instance
@@ -44,11 +44,11 @@ abbrev pub IsMadeMeanwhile : Site → {B : Type 0} → Ghosts B → B → B → 
 IsMadeMeanwhile site book before after seen between received (Answer answer) = IsAnsweredMeanwhile site book before after seen between received answer.items
 IsMadeMeanwhile site book before after seen between received (PlanTask task) = IsAsked site book before after received (instance_in task) × ReportsNone seen between
 
--- the answer that memory was wanting for a question
+-- the answer that memory was wanting for a query
 abbrev pub plans_refused : List ℕ
 plans_refused = answer_bytes (response_answer Plans (replied (Refused NoMemory)))
 
--- the answer to a question: it reports plans for just what was asked, or that memory was wanting
+-- the answer to a query: it reports plans for just what was asked, or that memory was wanting
 abbrev pub IsPlansAnswer : PlanInstance → List ℕ → Type 0
 IsPlansAnswer instance answer =
     ((text : List ℕ) × IsPlansText instance text × (answer ≡ answer_bytes (response_answer Plans (printed text))))
@@ -58,7 +58,7 @@ IsPlansAnswer instance answer =
 abbrev pub put_answer : {C : Type 0} → Client C → Vec ℕ Global → Instant → Client C
 put_answer client answer now = record client { task = None; answer = Some answer; sent = 0; since = now }
 
--- it has this question from now on, which waits
+-- it has this query from now on, which waits
 abbrev pub put_task : {C : Type 0} → Client C → PlanTasks → Instant → Client C
 put_task client task now = record client { task = Some (record { task = task; last = None; left = FAIR_CALLS }); answer = None; sent = 0; since = now }
 

@@ -1,4 +1,4 @@
--- Each connection has its own: its question and its answer are those of the bytes that came of it.
+-- Each connection has its own: its query and its answer are those of the bytes that came of it.
 use Rattle.std.specs.Prelude.{◌≡◌, ◌⊎◌, ℕ, List, Some, None, IfSome}
 use Rattle.slab.specs.Slab.{Slab, get}
 use Rattle.shop_book.specs.declared.books.Book.{Ghosts}
@@ -29,17 +29,17 @@ module _ (site : Site) {B : Type 0} (book : Ghosts B) where
     pub clean_disk : book.has_clean_disk new → book.has_clean_disk old
     pub later : Leads new after
 
-  -- these bytes are a question that was asked then, and this is what it asks of the content that the book had
+  -- these bytes are a query that was asked then, and this is what it asks of the content that the book had
   abbrev pub WasAsked : B → B → List ℕ → PlanInstance → Type 0
   WasAsked before after received instance = WasDone before after (λ old new. IsAsked site book old new received instance)
 
-  -- this is the answer to these bytes that was made then; or they are a question, and it is the answer to that
+  -- this is the answer to these bytes that was made then; or they are a query, and it is the answer to that
   abbrev pub WasAnswered : B → B → List ℕ → List ℕ → Type 0
   WasAnswered before after received answer =
       WasDone before after (λ old new. IsAnswered site book old new received answer)
       ⊎ ((instance : PlanInstance) × WasAsked before after received instance × IsPlansAnswer instance answer)
 
-  -- a connection's question and its answer are those of its own bytes
+  -- a connection's query and its answer are those of its own bytes
   abbrev pub HasItsOwn : {C : Type 0} → B → B → Client C → Type 0
   HasItsOwn before after client =
       IfSome client.task (λ t. WasAsked before after client.received.items (instance_in t.task))

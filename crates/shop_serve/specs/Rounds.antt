@@ -10,7 +10,7 @@ use Rattle.shop_serve.specs.declared.clients.Client.{Client}
 use Rattle.shop_serve.specs.declared.clients.TheConstants.{MAX_CLIENTS}
 use Rattle.shop_serve.specs.declared.sites.Site.{Site}
 use Rattle.shop_serve.specs.Times.{Adds, Looks, Times, Reports, ReportsNone}
-use Rattle.shop_serve.specs.Clients.{AreAttended, ClosesLate, IsOpened, IsTurnedAway}
+use Rattle.shop_serve.specs.Clients.{AreServiced, ClosesLate, IsOpened, IsTurnedAway}
 use Rattle.shop_serve.specs.RunningTask.{StepsSearch}
 
 -- a turn of a server: the keys that were reported, when those that had their time were closed, and the connections that came
@@ -38,17 +38,17 @@ module _ {C : Type 0} {P : Type 0} (port : PortGhosts P C) where
       (clients : Slab (Client C)) × (between : Times) × IsReceived stream old clients seen between × AreReceived streams clients new between seeing
 
 module _ {C : Type 0} (connection : ConnectionGhosts C) (site : Site) {B : Type 0} (book : Ghosts B) {P : Type 0} (port : PortGhosts P C) where
-  -- Those that are reported are attended to, one after another; the time is read, and those that had theirs are closed; a question
+  -- Those that are reported are serviced, one after another; the time is read, and those that had theirs are closed; a query
   -- takes one search step, where there is any; those that come are received, and nothing is done for them before the next turn.
   pub record IsRound (round : Round C) (old new : Slab (Client C)) (before after : B) (seen seeing : Times) : Type 0 where
-    pub attended : Slab (Client C)
+    pub serviced : Slab (Client C)
     pub mid : B
     pub first : Times
-    pub each : AreAttended connection site book round.keys old attended before mid seen first
+    pub each : AreServiced connection site book round.keys old serviced before mid seen first
     pub kept : Slab (Client C)
     pub second : Times
     pub read : Reports first second round.now
-    pub late : ClosesLate round.now attended kept
+    pub late : ClosesLate round.now serviced kept
     pub task : Slab (Client C)
     pub third : Times
     pub steps_search : StepsSearch connection site book round.now kept task mid after second third
@@ -67,7 +67,7 @@ module _ {C : Type 0} (connection : ConnectionGhosts C) (site : Site) {B : Type 
       (rounds : List (Round C)) (first last : Slab (Client C)) (before after : B) (seen seeing : Times) → AreRounds rounds first last before after seen seeing
       → ((key : ℕ) → get first key ≡ None) → slab_len last ≤ MAX_CLIENTS
 
-  -- As many connections came as the limit says, and each is closed: each key that was reported was attended to, turn after turn,
+  -- As many connections came as the limit says, and each is closed: each key that was reported was serviced, turn after turn,
   -- and each connection that was given was received. The time was read where that says so, and nowhere else.
   pub record HasServedAll (limit : ℕ) (earlier later : Option (List ℕ)) (given giving : Option (List C)) (before after : B) (seen seeing : Times) : Type 0 where
     pub rounds : List (Round C)

@@ -17,9 +17,9 @@ use Rattle.shop_request.specs.declared.guards.Ruling.TheVariants.{Routed}
 use Rattle.shop_request.specs.Requests.{ParseResult, silent, faulty, asking, ParsesTo}
 use Rattle.shop_request.specs.declared.routes.Route.{Route}
 use Rattle.shop_request.specs.declared.routes.Route.TheVariants.{Message, Plans, Backup}
-use Rattle.shop_planning.specs.Questions.{IsInstance}
+use Rattle.shop_planning.specs.Queries.{IsInstance}
 use Rattle.shop_planning.specs.declared.instance.PlanInstance.{PlanInstance}
-use Rattle.shop_plans.specs.declared.questions.PlansQuery.{PlansQuery}
+use Rattle.shop_plans.specs.declared.queries.PlansQuery.{PlansQuery}
 use Rattle.shop_forms.specs.Forms.{json_texts}
 use Rattle.shop_serve.specs.declared.faults.ServeFault.{ServeFault}
 use Rattle.shop_serve.specs.declared.faults.ServeFault.TheVariants.{NoMemory, Port, Moved}
@@ -35,7 +35,7 @@ use Rattle.shop_serve.specs.Times.{Times, Copies, Stands, Reports, ReportsNone}
 use Rattle.std.specs.declared.time.Instant.{Instant}
 
 -- What is done with a request: it goes to its route, with this parse, and this is reported; or the site answers by itself, and may
--- report how many entries there are; or its body is a question, and this is what it asks of the content, which is searched; or it asks for a backup, by this body, and
+-- report how many entries there are; or its body is a query, and this is what it asks of the content, which is searched; or it asks for a backup, by this body, and
 -- this came of it.
 pub data Handling : Type 0 where
   routed : ParseResult → Response → Handling
@@ -70,7 +70,7 @@ pub record Turn : Type 0 where
   pub answer : List ℕ
 
 -- By its head the request goes to its route, and the answer is that of its parse but for some last bytes; or it doesn't, and
--- the answer is the site's own. A question is asked at its route, and has no answer yet. A backup is asked for at its route,
+-- the answer is the site's own. A query is asked at its route, and has no answer yet. A backup is asked for at its route,
 -- and what came of it is reported.
 abbrev pub IsHandling : Site → (input answer : List ℕ) → Handling → Type 0
 IsHandling site input answer (routed parsed response) =
@@ -90,7 +90,7 @@ IsTurn site t = (0 < length t.input) × IsHandling site t.input t.answer t.handl
 abbrev pub IsCount : Content → Option ℕ → Type 0
 IsCount content entries = IfSome entries (λ count. count ≡ entry_count content)
 
--- What the site answers by itself does nothing, and a question and a backup neither. What a question asks is asked of the content as
+-- What the site answers by itself does nothing, and a query and a backup neither. What a query asks is asked of the content as
 -- it is then, and the entries that are reported are those of it.
 abbrev pub HandlingStep : Content → Handling → Content → Type 0
 HandlingStep old (routed parsed response) new = ParsedStep old parsed response new

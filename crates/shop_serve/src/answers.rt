@@ -1,4 +1,4 @@
-//! What is made of the bytes of a request: its route's answer, what the site answers by itself, a question that is to be
+//! What is made of the bytes of a request: its route's answer, what the site answers by itself, a query that is to be
 //! searched, or a backup that is to be made.
 
 ghost use Rattle.std.specs.Prelude.{◌≡◌, ◌≢◌, ◌⊎◌, ◌<◌, ◌++◌, ℕ, Result, length, IfErr, IfOk, IfSome, None, Ok, Option, Some, true, [], string_bytes, decimal};
@@ -109,7 +109,7 @@ fn asks_message(inbound: &Inbound) -> bool
     }
 }
 
-// Serves the bytes that came at their route, and gives the whole answer, or begins their question. A message is given this time.
+// Serves the bytes that came at their route, and gives the whole answer, or begins their query. A message is given this time.
 // A backup that they ask for is still to be made.
 fn routed_answer<B: Book>(
     alloc: Global,
@@ -280,7 +280,7 @@ fn ruled_answer<B: Book>(
     }
 }
 
-// Serves the bytes that came, and gives the whole answer, or begins their question. A message is given this time. A backup that
+// Serves the bytes that came, and gives the whole answer, or begins their query. A message is given this time. A backup that
 // they ask for is still to be made. If memory runs out there is nothing, though what was asked for may be done.
 fn answer_of<B: Book>(
     alloc: Global,
@@ -342,7 +342,7 @@ fn copied_answer<K: Watch>(alloc: Global, watch: &mut K) -> Option<Vec<u8>>
     }
 }
 
-/// Serves the bytes that came, by their head, and gives the whole answer, or begins their question. A message is given the time
+/// Serves the bytes that came, by their head, and gives the whole answer, or begins their query. A message is given the time
 /// that it is. A backup that they ask for is made. If memory runs out there is nothing, though what was asked for may be done.
 pub(crate) fn made_of<K: Watch, B: Book>(
     alloc: Global,

@@ -1,4 +1,4 @@
-//! The open connections: since when each has its seconds, what came of it, the question that it asks, and how much of its
+//! The open connections: since when each has its seconds, what came of it, the query that it asks, and how much of its
 //! answer was handed over.
 
 ghost use Rattle.std.specs.Prelude.{◌≡◌, ◌≢◌, ◌⊎◌, ◌<◌, ◌≤◌, ◌+◌, ◌-◌, ◌*◌, ◌↔◌, length, None, Some, true, false, IfSome, IsSome, IsSomeAnd};
@@ -6,7 +6,7 @@ ghost use Rattle.std.specs.Time.{instant_nanos};
 ghost use Rattle.std.specs.Io.KnownBytes.{IsAtEnd};
 ghost use Rattle.shop_request.specs.Reading.{IsReadOn};
 ghost use Rattle.shop_request.specs.Parses.{IsDetermined};
-ghost use Rattle.shop_serve.specs.Clients.{AwaitsMore, ClosesLate, IsAttended, IsAttendedAt, CanOpenOne, IsClosedBy, IsMute, IsOldest, IsOpened, IsOver, IsSpoiled, IsTurnedAway, MakesRoom, MayGo, NoneMayGo, StopsAt, TakesAnswer, is_begun, is_late, is_unanswered, unanswered};
+ghost use Rattle.shop_serve.specs.Clients.{AwaitsMore, ClosesLate, IsServiced, IsServicedAt, CanOpenOne, IsClosedBy, IsMute, IsOldest, IsOpened, IsOver, IsSpoiled, IsTurnedAway, MakesRoom, MayGo, NoneMayGo, StopsAt, TakesAnswer, is_begun, is_late, is_unanswered, unanswered};
 ghost use Rattle.shop_serve.specs.Making.{IsAsked, put_answer, put_made, put_task};
 ghost use Rattle.shop_planning.specs.PlanTasks.{instance_in};
 ghost use Rattle.shop_serve.specs.declared.clients.ConnectionStatus.TheVariants as status;
@@ -35,8 +35,8 @@ pub const PATIENCE: u64 = 10;
 /// The most connections that are open at once.
 pub const MAX_CLIENTS: usize = 256;
 
-/// An open connection: when it was accepted, its question was read or its answer was made, the bytes that came, how many are
-/// needed at least, the question that is searched, and the answer with how much of it was handed over.
+/// An open connection: when it was accepted, its query was read or its answer was made, the bytes that came, how many are
+/// needed at least, the query that is searched, and the answer with how much of it was handed over.
 #[derive(Drop)]
 pub(crate) struct Client<C> {
     pub(crate) stream: C,
@@ -95,7 +95,7 @@ pub(crate) fn put_answer<C>(client: &mut Client<C>, answer: Vec<u8>, now: Instan
     client.since = now;
 }
 
-// Puts a question into a connection, which waits for its search.
+// Puts a query into a connection, which waits for its search.
 fn put_task<C>(client: &mut Client<C>, task: PlanTask, now: Instant)
     ensures { client.new ≡ put_task client.old task now }
 {
@@ -121,7 +121,7 @@ fn put_made<C>(client: &mut Client<C>, made: Made, now: Instant)
     }
 }
 
-// Takes what has come of a request, and has it answered, be it by a backup, or its question begun once it is whole.
+// Takes what has come of a request, and has it answered, be it by a backup, or its query begun once it is whole.
 fn ask<C: Connection, K: Watch, B: Book>(
     alloc: Global,
     site: &Site,
@@ -180,9 +180,9 @@ fn ask<C: Connection, K: Watch, B: Book>(
     Taken::Whole
 }
 
-// Drops what still comes of a connection whose question is searched. Where its input ends it waits: its question is reported as
+// Drops what still comes of a connection whose query is searched. Where its input ends it waits: its query is reported as
 // far as it was searched.
-fn heed<C: Connection>(client: &mut Client<C>) -> Given
+fn discard_input<C: Connection>(client: &mut Client<C>) -> Given
     ensures kept { client.new ≡ record client.old { stream = client.new.stream } }
     ensures contents { C.contents client.new.stream ≡ C.contents client.old.stream }
     ensures lost { result ≡ given.Lost → C.is_lost client.new.stream }
@@ -195,16 +195,16 @@ fn heed<C: Connection>(client: &mut Client<C>) -> Given
 }
 
 // Takes what has come of a request, has it answered once it is whole, and hands over its answer as far as it is taken. One
-// whose question is searched waits.
-fn attend<C: Connection, K: Watch, B: Book>(
+// whose query is searched waits.
+fn service<C: Connection, K: Watch, B: Book>(
     alloc: Global,
     site: &Site,
     client: &mut Client<C>,
     watch: &mut K,
     book: &mut B,
 ) -> Given
-    ensures attended { result ≢ given.Lost → result ≢ given.NoMemory
-        → IsAttended C.Connection site.now B.Book client.old client.new book.old book.new
+    ensures serviced { result ≢ given.Lost → result ≢ given.NoMemory
+        → IsServiced C.Connection site.now B.Book client.old client.new book.old book.new
         (K.times watch.old) (K.times watch.new) }
     ensures lost { result ≡ given.Lost
         → IsSpoiled C.Connection site.now B.Book client.old client.new }
@@ -218,7 +218,7 @@ fn attend<C: Connection, K: Watch, B: Book>(
         return answer_on(client);
     }
     if client.task.is_some() {
-        return heed(client);
+        return discard_input(client);
     }
     match ask(alloc, site, client, watch, book) {
         Taken::NoMemory => return Given::NoMemory,
@@ -251,16 +251,16 @@ fn finish<C: Connection>(client: &mut Client<C>) -> ConnectionStatus
     }
 }
 
-// Attends to a connection.
-fn attend_once<C: Connection, K: Watch, B: Book>(
+// Services a connection.
+fn service_once<C: Connection, K: Watch, B: Book>(
     alloc: Global,
     site: &Site,
     client: &mut Client<C>,
     watch: &mut K,
     book: &mut B,
 ) -> ConnectionStatus
-    ensures attended { result ≡ status.Stays
-        → IsAttended C.Connection site.now B.Book client.old client.new book.old book.new
+    ensures serviced { result ≡ status.Stays
+        → IsServiced C.Connection site.now B.Book client.old client.new book.old book.new
         (K.times watch.old) (K.times watch.new) }
     ensures over { result ≡ status.Over
         → IsClosedBy C.Connection site.now B.Book status.Over client.old book.old book.new
@@ -269,7 +269,7 @@ fn attend_once<C: Connection, K: Watch, B: Book>(
     ensures one { HasServed site.now B.Book book.old book.new 1 }
     ensures clean_disk { B.has_clean_disk book.new → B.has_clean_disk book.old }
 {
-    match attend(alloc, site, client, watch, book) {
+    match service(alloc, site, client, watch, book) {
         Given::Waits => ConnectionStatus::Stays,
         Given::Lost => ConnectionStatus::Over,
         Given::NoMemory => ConnectionStatus::NoMemory,
@@ -277,8 +277,8 @@ fn attend_once<C: Connection, K: Watch, B: Book>(
     }
 }
 
-/// Attends to the connection of a key, and closes it when it is over or memory runs out.
-pub(crate) fn attend_at<C: Connection + Drop, K: Watch, B: Book>(
+/// Services the connection of a key, and closes it when it is over or memory runs out.
+pub(crate) fn service_at<C: Connection + Drop, K: Watch, B: Book>(
     alloc: Global,
     site: &Site,
     clients: &mut Slab<Client<C>>,
@@ -286,7 +286,7 @@ pub(crate) fn attend_at<C: Connection + Drop, K: Watch, B: Book>(
     watch: &mut K,
     book: &mut B,
 ) -> ConnectionStatus
-    ensures at { IsAttendedAt C.Connection site.now B.Book result key clients.old clients.new book.old
+    ensures at { IsServicedAt C.Connection site.now B.Book result key clients.old clients.new book.old
         book.new (K.times watch.old) (K.times watch.new) }
     ensures run { Advances site.now B.Book book.old book.new (unanswered clients.old)
         (unanswered clients.new) }
@@ -295,7 +295,7 @@ pub(crate) fn attend_at<C: Connection + Drop, K: Watch, B: Book>(
     let Some(client) = clients.get_mut(key) else {
         return ConnectionStatus::Stays;
     };
-    match attend_once(alloc, site, client, watch, book) {
+    match service_once(alloc, site, client, watch, book) {
         ConnectionStatus::Stays => ConnectionStatus::Stays,
         ConnectionStatus::Over => {
             drop(clients.try_remove(key));
@@ -308,7 +308,7 @@ pub(crate) fn attend_at<C: Connection + Drop, K: Watch, B: Book>(
     }
 }
 
-/// Whether a connection's question has had a search step already.
+/// Whether a connection's query has had a search step already.
 pub(crate) fn is_begun<C>(client: &Client<C>) -> bool
     ensures { result ≡ is_begun client.now }
 {
@@ -318,7 +318,7 @@ pub(crate) fn is_begun<C>(client: &Client<C>) -> bool
     }
 }
 
-// Whether a connection may be closed for another: its answer isn't on its way, and its question has had no search step.
+// Whether a connection may be closed for another: its answer isn't on its way, and its query has had no search step.
 fn may_go<C>(client: &Client<C>) -> bool
     ensures { result ≡ true ↔ MayGo client.now }
 {
@@ -408,7 +408,7 @@ pub(crate) fn open_client<C: Drop, P: Port<C>>(
     clients.insert(client).ok()
 }
 
-// Whether a connection has had its time. While its question is searched it has none.
+// Whether a connection has had its time. While its query is searched it has none.
 fn is_late<C>(client: &Client<C>, now: Instant) -> bool
     ensures { result ≡ is_late now client.now }
 {

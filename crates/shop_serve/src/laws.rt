@@ -9,8 +9,8 @@ use crate::connections::Connection;
 use crate::ports::Port;
 use shop_book::Book;
 
-/// A connection that brings a whole request, and is attended to when it comes, has its answer: it took the whole answer to its
-/// own bytes, and was given its end; or first bytes of it, until it took no more. Or its own bytes are a question, which is
+/// A connection that brings a whole request, and is serviced when it comes, has its answer: it took the whole answer to its
+/// own bytes, and was given its end; or first bytes of it, until it took no more. Or its own bytes are a query, which is
 /// searched.
 pub(crate) fn whole_is_answered<C: Connection, B: Book>()
     ensures { (site : SiteGhost) → WholeIsAnswered C.Connection site B.Book }

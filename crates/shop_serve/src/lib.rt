@@ -1,5 +1,5 @@
 //! Connections of a listener, many at once: whichever has bytes is read, and each request is answered whole, one after
-//! another, from a book. Questions for plans are searched beside that.
+//! another, from a book. `plans` queries are searched beside that.
 #![tactic(auto)]
 
 mod answers;

@@ -1,4 +1,4 @@
-//! Questions that are searched beside serving: one of them, once a turn.
+//! Queries that are searched beside serving: one of them, once a turn.
 
 ghost use Rattle.std.specs.Prelude.{◌≡◌, ◌≢◌, ◌≤◌, ℕ, None, true, false, IfOk, IfSome, IsSome, string_bytes};
 ghost use Rattle.std.specs.Duration.{as_nanos};
@@ -10,7 +10,7 @@ ghost use Rattle.shop_serve.specs.RunningTask.{IsRefused, IsSteppedAt, IsStepped
 ghost use Rattle.shop_serve.specs.Times.{ReportsNone};
 ghost use Rattle.shop_serve.specs.declared.searching.Progress.TheVariants as progress;
 
-use crate::clients::{Client, attend_at, is_begun, put_answer};
+use crate::clients::{Client, is_begun, put_answer, service_at};
 use crate::connections::Connection;
 use crate::sites::Site;
 use crate::transfers::{Rest, drop_rest};
@@ -22,13 +22,13 @@ use slab::Slab;
 use std::alloc::{AllocError, Global};
 use std::time::{Duration, Instant};
 
-/// How many questions are searched at once at most.
+/// How many queries are searched at once at most.
 pub const MAX_PLAN_TASKS: usize = 8;
 
-/// How many calls of a search a question has, though others wait to be begun.
+/// How many calls of a search a query has, though others wait to be begun.
 pub const FAIR_CALLS: u32 = 200;
 
-/// A question that is searched, with what was found so far, when that was done last, and how many calls it still has though
+/// A query that is searched, with what was found so far, when that was done last, and how many calls it still has though
 /// others wait. It waits where it has had no search step yet.
 #[derive(Drop)]
 pub(crate) struct RunningTask {
@@ -37,7 +37,7 @@ pub(crate) struct RunningTask {
     pub(crate) left: u32,
 }
 
-// A place in the row of questions: those that have to wait are after the others, and each is after those that wait longer.
+// A place in the row of queries: those that have to wait are after the others, and each is after those that wait longer.
 #[derive(Clone, Copy)]
 struct Place {
     has_to_wait: bool,
@@ -53,7 +53,7 @@ impl Place {
     }
 }
 
-// The place of a connection's question, where others may be begun or not.
+// The place of a connection's query, where others may be begun or not.
 fn place_of<C>(client: &Client<C>, is_full: bool) -> Option<Place>
     ensures some { IsSome result → IsSome client.now.task }
     ensures none { result ≡ None → client.now.task ≡ None }
@@ -80,7 +80,7 @@ fn is_first(found: Option<(usize, Place)>, place: Place) -> bool
     found.is_none_or(|(_, first)| place.is_before(first))
 }
 
-// How many questions were begun.
+// How many queries were begun.
 fn count_begun<C>(clients: &Slab<Client<C>>) -> usize {
     let mut begun = 0usize;
     for (_, client) in clients.iter() {
@@ -91,7 +91,7 @@ fn count_begun<C>(clients: &Slab<Client<C>>) -> usize {
     begun
 }
 
-// Whether a question waits to be begun.
+// Whether a query waits to be begun.
 fn has_waiting<C>(clients: &Slab<Client<C>>) -> bool {
     for (_, client) in clients.iter() {
         if client.task.is_some() && !is_begun(client) {
@@ -101,12 +101,12 @@ fn has_waiting<C>(clients: &Slab<Client<C>>) -> bool {
     false
 }
 
-// Whether as many questions were begun as may be, and others wait.
+// Whether as many queries were begun as may be, and others wait.
 fn is_crowded<C>(clients: &Slab<Client<C>>) -> bool {
     count_begun(clients) >= MAX_PLAN_TASKS && has_waiting(clients)
 }
 
-// The key of the connection whose question takes a search step next: of those that were begun, at most eight, and as long as they
+// The key of the connection whose query takes a search step next: of those that were begun, at most eight, and as long as they
 // are fewer of those that wait too, the one that waits longest since it has had a search step or read.
 fn next_task<C>(clients: &Slab<Client<C>>) -> Option<usize>
     ensures some { IfSome result (AsksAt clients.now) }
@@ -129,7 +129,7 @@ fn next_task<C>(clients: &Slab<Client<C>>) -> Option<usize>
     }
 }
 
-// Takes one search step of a question, unless that ends. Gives its answer, by what was found so far, where it ends or is done.
+// Takes one search step of a query, unless that ends. Gives its answer, by what was found so far, where it ends or is done.
 fn advance(alloc: Global, task: &mut PlanTask, ends: bool) -> Result<Option<String>, AllocError>
     ensures asks { instance_in task.new ≡ instance_in task.old }
     ensures goes_on { IfOk result (λ done. done ≡ None → ends ≡ false) }
@@ -152,7 +152,7 @@ pub(crate) enum Progress {
     NoMemory,
 }
 
-// Reports that memory ran out for a connection's question, if there is memory for that.
+// Reports that memory ran out for a connection's query, if there is memory for that.
 fn refuse<C, K: Watch>(alloc: Global, client: &mut Client<C>, watch: &mut K) -> Progress
     ensures goes_on { result ≢ progress.GoesOn }
     ensures answered { result ≡ progress.Answered
@@ -181,7 +181,7 @@ fn is_there<C: Connection>(stream: &mut C) -> bool
     }
 }
 
-// Takes one search step of the question of a connection that is there, and notes when. It is reported as far as its search came where its
+// Takes one search step of the query of a connection that is there, and notes when. It is reported as far as its search came where its
 // input ended, or where it had its calls and others wait. If memory runs out, what was found is freed first.
 fn step_search_once<C: Connection, K: Watch>(
     alloc: Global,
@@ -223,7 +223,7 @@ fn step_search_once<C: Connection, K: Watch>(
     }
 }
 
-// Takes one search step of the question of a key's connection, and closes it when memory runs out. Reports what came of it.
+// Takes one search step of the query of a key's connection, and closes it when memory runs out. Reports what came of it.
 fn step_search_at<C: Connection + Drop, K: Watch>(
     alloc: Global,
     clients: &mut Slab<Client<C>>,
@@ -250,7 +250,7 @@ fn step_search_at<C: Connection + Drop, K: Watch>(
     }
 }
 
-/// Thinks once on one of the questions, where there is any, and hands over its answer where that is done or ends.
+/// Thinks once on one of the queries, where there is any, and hands over its answer where that is done or ends.
 pub(crate) fn step_search<C: Connection + Drop, K: Watch, B: Book>(
     alloc: Global,
     site: &Site,
@@ -273,7 +273,7 @@ pub(crate) fn step_search<C: Connection + Drop, K: Watch, B: Book>(
         Progress::GoesOn => (),
         Progress::NoMemory => (),
         Progress::Answered => {
-            let _ = attend_at(alloc, site, clients, key, watch, book);
+            let _ = service_at(alloc, site, clients, key, watch, book);
         }
     }
 }
@@ -289,7 +289,7 @@ fn time_to_wait<C>(clients: &Slab<Client<C>>, wait: Duration) -> Duration
     wait
 }
 
-/// For how long is waited next, where one may wait: for no time, while a question is searched.
+/// For how long is waited next, where one may wait: for no time, while a query is searched.
 pub(crate) fn next_wait<C>(clients: &Slab<Client<C>>, wait: Option<Duration>) -> Option<Duration>
     ensures never { wait ≡ None → result ≡ None }
     ensures idle { NoneAsks clients.now → result ≡ wait }

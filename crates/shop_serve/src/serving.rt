@@ -1,16 +1,16 @@
-//! The turns of a server: it waits, attends to connections, closes late ones, takes one search step of a question and accepts those that
+//! The turns of a server: it waits, services connections, closes late ones, takes one search step of a query and accepts those that
 //! wait.
 
 ghost use Rattle.std.specs.Prelude.{◌≡◌, ◌≤◌, ◌+◌, ◌⊎◌, ℕ, List, length, IfErr, IfSome, OnOk};
 ghost use Rattle.std.specs.Duration.{as_nanos};
 ghost use Rattle.std.specs.declared.time.Instant.{Instant as Moment};
-ghost use Rattle.shop_serve.specs.Clients.{AreAttended, AsksAt, CanOpenOne, unanswered};
+ghost use Rattle.shop_serve.specs.Clients.{AreServiced, AsksAt, CanOpenOne, unanswered};
 ghost use Rattle.shop_serve.specs.Rounds.{AreReceived, HasServedAll, IsReceived, IsRound};
 ghost use Rattle.shop_serve.specs.Serving.{Advances, HasServed, IsUnserved, most_served};
 ghost use Rattle.shop_serve.specs.Times.{Adds};
 ghost use Rattle.shop_serve.specs.declared.faults.ServeFault.TheVariants as faults;
 
-use crate::clients::{Client, attend_at, can_open_one, close_late, open_client};
+use crate::clients::{Client, can_open_one, close_late, open_client, service_at};
 use crate::connections::Connection;
 use crate::faults::ServeFault;
 use crate::lines::Lines;
@@ -27,7 +27,7 @@ use std::io::Eprint;
 use std::net::Net;
 use std::time::{Clock, Duration};
 
-// How many connections are accepted before others are attended to.
+// How many connections are accepted before others are serviced.
 const MAX_ACCEPTED: u32 = 64;
 
 // How many seconds are waited at most before it is looked which connections have had their time.
@@ -36,7 +36,7 @@ const TURN: u64 = 1;
 /// How many connections are served without a limit.
 pub const MAX_SERVED: u64 = u64::MAX;
 
-// Opens a connection. The next turn attends to it, behind its own look at the store's names.
+// Opens a connection. The next turn services it, behind its own look at the store's names.
 fn receive<C: Drop, P: Port<C>, K: Watch>(
     alloc: Global,
     port: &mut P,
@@ -91,8 +91,8 @@ fn accept_waiting<C: Drop, P: Port<C>, K: Watch>(
     Some(Duration::ZERO)
 }
 
-// Attends to each connection that is reported.
-fn attend_reported<C: Connection + Drop, K: Watch, B: Book>(
+// Services each connection that is reported.
+fn service_reported<C: Connection + Drop, K: Watch, B: Book>(
     alloc: Global,
     site: &Site,
     keys: &[usize],
@@ -100,19 +100,19 @@ fn attend_reported<C: Connection + Drop, K: Watch, B: Book>(
     clients: &mut Slab<Client<C>>,
     book: &mut B,
 )
-    ensures each { AreAttended C.Connection site.now B.Book keys.now clients.old clients.new book.old
+    ensures each { AreServiced C.Connection site.now B.Book keys.now clients.old clients.new book.old
         book.new (K.times watch.old) (K.times watch.new) }
     ensures run { Advances site.now B.Book book.old book.new (unanswered clients.old)
         (unanswered clients.new) }
     ensures clean_disk { B.has_clean_disk book.new → B.has_clean_disk book.old }
 {
     for key in keys {
-        let _ = attend_at(alloc, site, clients, *key, watch, book);
+        let _ = service_at(alloc, site, clients, *key, watch, book);
     }
 }
 
-// One turn: attends to what is reported, closes what had its time, takes one search step of a question, and accepts what waits, to which
-// the next turn attends. Gives how long that one may wait, or `None` where none can be accepted for good.
+// One turn: services what is reported, closes what had its time, takes one search step of a query, and accepts what waits, to which
+// the next turn services. Gives how long that one may wait, or `None` where none can be accepted for good.
 fn turn<C: Connection + Drop, P: Port<C>, K: Watch, B: Book>(
     alloc: Global,
     site: &Site,
@@ -137,7 +137,7 @@ fn turn<C: Connection + Drop, P: Port<C>, K: Watch, B: Book>(
     ensures bound { accepted.new ≤ limit }
     ensures clean_disk { B.has_clean_disk book.new → B.has_clean_disk book.old }
 {
-    attend_reported(alloc, site, port.keys(), watch, clients, book);
+    service_reported(alloc, site, port.keys(), watch, clients, book);
     let moment = watch.now();
     close_late(clients, moment);
     step_search(alloc, site, clients, moment, watch, book);
@@ -208,7 +208,7 @@ fn most_served(limit: Option<u32>) -> u64
 /// it serves on, to 18446744073709551615. Whichever has bytes is read; a request is answered once it is whole, one after
 /// another. A fault of one ends that one alone. Each has 10 seconds from when it was accepted to the last byte of its request,
 /// and 10 more to take its answer; the time in which a request is answered isn't counted. Where 256 are open, the oldest that
-/// has no answer on its way and whose question has had no search step makes room for the next; where there is none, the next
+/// has no answer on its way and whose query has had no search step makes room for the next; where there is none, the next
 /// waits. A backup that is asked for is made between two requests.
 ///
 /// `NoMemory` before the first connection; `Port` where none can be accepted for good, or waited for, and `Moved` where the names

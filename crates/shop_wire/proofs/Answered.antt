@@ -22,9 +22,9 @@ use Rattle.shop_book.specs.declared.books.Book.{Ghosts}
 use Rattle.serde_json.specs.Data.{Data}
 use Rattle.serde_json.specs.Read.{read}
 use Rattle.shop_forms.specs.Forms.{message_of, query_of, json_texts}
-use Rattle.shop_plans.specs.declared.questions.PlansQuery.{PlansQuery}
-use Rattle.shop_plans.specs.Questions.{plans_query_of}
-use Rattle.shop_planning.specs.Questions.{AnswersPlans}
+use Rattle.shop_plans.specs.declared.queries.PlansQuery.{PlansQuery}
+use Rattle.shop_plans.specs.Queries.{plans_query_of}
+use Rattle.shop_planning.specs.Queries.{AnswersPlans}
 use Rattle.shop_desk.specs.Faults.{StoreFailed, ReportOfFailures}
 use Rattle.shop_desk.specs.Handled.{HasAccount, LeftBy}
 use Rattle.shop_desk.proofs.Blame.{report_one}
@@ -71,16 +71,16 @@ module _ (old new : Content) (d : Data) (reply : Reply) where
   pub of_query : (query : Query) → message_of d ≡ None → query_of d ≡ Some query → Answers old query reply → new ≡ old → ValueStep old d (replied reply) new
   of_query query none is answered stays = of_no_message old new d (replied reply) none (subst (Otherwise old new d (replied reply)) (sym is) (answered, stays))
 
--- ---- questions for plans
+-- ---- `plans` queries
 
 -- lack of memory may be answered to any of them
 plans_no_memory : (m : Content) (o : Option PlansQuery) → PlansStep m o (replied (Refused NoMemory)) m
 plans_no_memory m None = ((λ no. absurd (no refl)), refl)
-plans_no_memory m (Some question) = ((NoMemory, refl, (λ no _. absurd (no refl))), refl)
+plans_no_memory m (Some query) = ((NoMemory, refl, (λ no _. absurd (no refl))), refl)
 
-pub plans_read : (r : Result PlansQuery Refusal) (meant : Option PlansQuery) → IfOk r (λ question. meant ≡ Some question)
-    → IfErr r (λ refusal. IsUnread refusal meant) → IsRead (λ (question : PlansQuery). question) r meant
-plans_read (Ok question) meant is unread = is
+pub plans_read : (r : Result PlansQuery Refusal) (meant : Option PlansQuery) → IfOk r (λ query. meant ≡ Some query)
+    → IfErr r (λ refusal. IsUnread refusal meant) → IsRead (λ (query : PlansQuery). query) r meant
+plans_read (Ok query) meant is unread = is
 plans_read (Err refusal) meant is unread = unread
 
 pub plans_unread : (m : Content) (o : Option PlansQuery) (refusal : Refusal) (response : Response) → IsUnread refusal o → response ≡ replied (Refused refusal) → PlansStep m o response m
@@ -88,12 +88,12 @@ plans_unread m o refusal response (inl is) reported = subst (λ t. PlansStep m o
 plans_unread m o refusal response (inr why) reported =
     subst (λ t. PlansStep m o t m) (sym reported) (subst (λ o. PlansStep m o (replied (Refused refusal)) m) (sym why.1) ((λ _. ap Refused why.0), refl))
 
-pub plans_answered_to : (m : Content) (o : Option PlansQuery) (question : PlansQuery) (response : Response) → o ≡ Some question → ReportsPlans m question response → PlansStep m o response m
-plans_answered_to m o question response is reports = subst (λ o. PlansStep m o response m) (sym is) (reports, refl)
+pub plans_answered_to : (m : Content) (o : Option PlansQuery) (query : PlansQuery) (response : Response) → o ≡ Some query → ReportsPlans m query response → PlansStep m o response m
+plans_answered_to m o query response is reports = subst (λ o. PlansStep m o response m) (sym is) (reports, refl)
 
-pub reports_refusal : (m : Content) (question : PlansQuery) (refusal : Refusal) (response : Response) → response ≡ replied (Refused refusal) → AnswersPlans m question (Err refusal)
-    → ReportsPlans m question response
-reports_refusal m question refusal response reported answers = subst (ReportsPlans m question) (sym reported) (refusal, refl, answers)
+pub reports_refusal : (m : Content) (query : PlansQuery) (refusal : Refusal) (response : Response) → response ≡ replied (Refused refusal) → AnswersPlans m query (Err refusal)
+    → ReportsPlans m query response
+reports_refusal m query refusal response reported answers = subst (ReportsPlans m query) (sym reported) (refusal, refl, answers)
 
 -- ---- any value
 

@@ -17,9 +17,9 @@ use Rattle.shop_records.specs.Soundness.{IsSound}
 use Rattle.serde_json.specs.Data.{Data}
 use Rattle.serde_json.specs.Read.{read}
 use Rattle.shop_forms.specs.Forms.{message_of, query_of, json_texts}
-use Rattle.shop_plans.specs.declared.questions.PlansQuery.{PlansQuery}
-use Rattle.shop_plans.specs.Questions.{plans_query_of}
-use Rattle.shop_planning.specs.Questions.{AnswersPlans}
+use Rattle.shop_plans.specs.declared.queries.PlansQuery.{PlansQuery}
+use Rattle.shop_plans.specs.Queries.{plans_query_of}
+use Rattle.shop_planning.specs.Queries.{AnswersPlans}
 use Rattle.shop_book.specs.declared.books.Book.{Ghosts}
 use Rattle.shop_book.specs.Kept.{OnContent}
 use Rattle.shop_desk.specs.Faults.{CountsUp, ReportOfFailures}
@@ -40,17 +40,17 @@ abbrev pub IsReplied : Response → (Reply → Type 0) → Type 0
 IsReplied (replied reply) of = of reply
 IsReplied (printed text) of = ⊥
 
--- the answer to a question for plans is reported: its text, or its refusal
+-- the answer to a `plans` query is reported: its text, or its refusal
 abbrev pub ReportsPlans : Content → PlansQuery → Response → Type 0
-ReportsPlans old question (printed text) = AnswersPlans old question (Ok text)
-ReportsPlans old question (replied reply) = (refusal : Refusal) × (reply ≡ Refused refusal) × AnswersPlans old question (Err refusal)
+ReportsPlans old query (printed text) = AnswersPlans old query (Ok text)
+ReportsPlans old query (replied reply) = (refusal : Refusal) × (reply ≡ Refused refusal) × AnswersPlans old query (Err refusal)
 
--- a question for plans is answered, and anything else is refused
+-- a `plans` query is answered, and anything else is refused
 abbrev pub PlansStep : Content → Option PlansQuery → Response → Content → Type 0
 PlansStep old asked response new =
-    MatchOption asked (IsReplied response (λ reply. IsNoMessage old reply new)) (λ question. ReportsPlans old question response × (new ≡ old))
+    MatchOption asked (IsReplied response (λ reply. IsNoMessage old reply new)) (λ query. ReportsPlans old query response × (new ≡ old))
 
--- a value that is a message is a step of the machine, a query is answered, and so is a question for plans; anything else is
+-- a value that is a message is a step of the machine, a query is answered, and so is a `plans` query; anything else is
 -- refused
 abbrev pub ValueStep : Content → Data → Response → Content → Type 0
 ValueStep old d response new =

@@ -22,10 +22,10 @@ use Rattle.shop_machine.specs.Machine.{Step, StepAt}
 use Rattle.shop_answers.specs.Queries.{Answers}
 use Rattle.shop_records.specs.Soundness.{IsSound}
 use Rattle.shop_forms.specs.Forms.{query_of, json_texts}
-use Rattle.shop_plans.specs.declared.questions.PlansQuery.{PlansQuery}
-use Rattle.shop_plans.specs.Questions.{plans_query_of}
+use Rattle.shop_plans.specs.declared.queries.PlansQuery.{PlansQuery}
+use Rattle.shop_plans.specs.Queries.{plans_query_of}
 use Rattle.shop_planning.specs.declared.instance.PlanInstance.{PlanInstance}
-use Rattle.shop_planning.specs.Questions.{IsInstance}
+use Rattle.shop_planning.specs.Queries.{IsInstance}
 use Rattle.shop_book.specs.declared.books.Book.{Ghosts}
 use Rattle.shop_book.specs.Kept.{OnContent, Unchanged}
 use Rattle.shop_desk.specs.Faults.{StoreFailed}
@@ -137,7 +137,7 @@ is_of route _ = false
 abbrev pub body_query : Route → List ℕ → Option Query
 body_query route body = option_and_then (λ d. option_and_then (λ q. if is_of route q then Some q else None) (query_of d)) (data_of body)
 
--- the question for plans that a body is
+-- the `plans` query that a body is
 abbrev pub body_plans : List ℕ → Option PlansQuery
 body_plans body = option_and_then plans_query_of (data_of body)
 
@@ -312,7 +312,7 @@ abbrev pub HandlesReadAt : {B : Type 0} → Ghosts B → B → B → (at : ℕ) 
 HandlesReadAt book before after at left =
     (parsed : ParseResult) × IfSome left (λ input. ParsesTo input parsed) × HandlesInputAt book before after at parsed
 
--- The question for plans that an input asks at /plans, for whoever searches it: a book with a clean disk holds what it
+-- The `plans` query that an input asks at /plans, for whoever searches it: a book with a clean disk holds what it
 -- held, each such content was asked it, and the book is left as it was.
 pub record IsBegun {B : Type 0} (book : Ghosts B) (before after : B) (left : Option (List ℕ)) (instance : PlanInstance) : Type 0 where
   pub body : List ℕ

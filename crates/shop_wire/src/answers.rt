@@ -1,4 +1,4 @@
-//! The response to a line: it is read as a message, a query or a question for plans, done over a book, and held as a line.
+//! The response to a line: it is read as a message, a query or a `plans` query, done over a book, and held as a line.
 
 ghost use Rattle.std.specs.Prelude.{◌≡◌, ◌++◌, ◌∷◌, [], ℕ, List, OnOk, OnErr, None};
 ghost use Rattle.serde_json.specs.View.{view};

@@ -1,4 +1,4 @@
-//! Messages, queries and questions for plans as lines of JSON, and what they are reported as lines, over any source, sink and book;
+//! Messages, queries and `plans` queries as lines of JSON, and what they are reported as lines, over any source, sink and book;
 //! one request of HTTP, and its answer.
 #![tactic(auto)]
 

@@ -1,4 +1,4 @@
-//! Questions for plans of a whole order: answered at once, or built for whoever searches them.
+//! `plans` queries of a whole order: answered at once, or built for whoever searches them.
 
 ghost use Rattle.std.specs.Prelude.{◌≡◌, ℕ, List, Option, IfErr, IfOk, IfSome};
 ghost use Rattle.shop_records.specs.declared.messages.Reply.TheVariants.{Refused};
@@ -7,7 +7,7 @@ ghost use Rattle.shop_records.specs.Soundness.{IsSound};
 ghost use Rattle.shop_forms.specs.Forms.{json_texts};
 ghost use Rattle.shop_book.specs.Kept.{OnContent, Unchanged};
 ghost use Rattle.shop_desk.specs.Faults.{CountsUp, StoreFailed};
-ghost use Rattle.shop_plans.specs.declared.questions.PlansQuery.{PlansQuery as PlansQueryOf};
+ghost use Rattle.shop_plans.specs.declared.queries.PlansQuery.{PlansQuery as PlansQueryOf};
 ghost use Rattle.shop_planning.specs.Faults.{CountsRefusal};
 ghost use Rattle.shop_planning.specs.PlanTasks.{instance_in};
 ghost use Rattle.shop_request.specs.Requests.{ParsesTo, asking};
@@ -25,51 +25,51 @@ use shop_plans::{PlansQuery, read_plans};
 use shop_rules::Refusal;
 use std::alloc::Global;
 
-// The answer to a question for plans.
-fn question_reported<B: Book>(alloc: Global, book: &mut B, question: &PlansQuery) -> Reported
+// The answer to a `plans` query.
+fn plans_query_reported<B: Book>(alloc: Global, book: &mut B, query: &PlansQuery) -> Reported
     ensures answer { OnContent B.Book book.old book.new
-        (λ m. ReportsPlans m question.now (response_of result)) }
+        (λ m. ReportsPlans m query.now (response_of result)) }
     ensures printed { HasPrintedText result }
     ensures keeps { Unchanged B.Book CountsUp book.old book.new }
     ensures store_fault { response_of result ≡ replied (Refused StoreFault)
         → StoreFailed (B.failed book.old) (B.failed book.new) }
 {
-    match plan_all(alloc, book, question) {
+    match plan_all(alloc, book, query) {
         Ok(text) => Reported::Text(text),
         Err(refusal) => refused(refusal),
     }
 }
 
-/// The answer to what was read as a question for plans.
+/// The answer to what was read as a `plans` query.
 pub(crate) fn plans_reported<B: Book>(
     alloc: Global,
     book: &mut B,
     asked: Result<PlansQuery, Refusal>,
 ) -> Reported
-    ensures answer { (meant : Option PlansQueryOf) → IsRead (λ question. question) asked meant
+    ensures answer { (meant : Option PlansQueryOf) → IsRead (λ query. query) asked meant
         → OnContent B.Book book.old book.new (λ m. PlansStep m meant (response_of result) m) }
     ensures printed { HasPrintedText result }
     ensures keeps { Unchanged B.Book CountsUp book.old book.new }
-    ensures store_fault { (meant : Option PlansQueryOf) → IsRead (λ question. question) asked meant
+    ensures store_fault { (meant : Option PlansQueryOf) → IsRead (λ query. query) asked meant
         → response_of result ≡ replied (Refused StoreFault)
         → StoreFailed (B.failed book.old) (B.failed book.new) }
 {
     match asked {
-        Ok(question) => question_reported(alloc, book, &question),
+        Ok(query) => plans_query_reported(alloc, book, &query),
         Err(refusal) => refused(refusal),
     }
 }
 
-// The question for plans that a body is.
+// The `plans` query that a body is.
 fn plans_in(alloc: Global, body: &[u8]) -> Result<PlansQuery, Refusal>
-    ensures { IsRead (λ question. question) result (body_plans body.now) }
+    ensures { IsRead (λ query. query) result (body_plans body.now) }
 {
     let value = value_in(alloc, body)?;
-    let question = read_plans(alloc, &value)?;
-    Ok(question)
+    let query = read_plans(alloc, &value)?;
+    Ok(query)
 }
 
-/// The response to a body as a question for plans.
+/// The response to a body as a `plans` query.
 pub(crate) fn body_reported<B: Book>(alloc: Global, book: &mut B, body: &[u8]) -> Reported
     ensures served { OnContent B.Book book.old book.new
         (λ m. IsSound json_texts m
@@ -82,7 +82,7 @@ pub(crate) fn body_reported<B: Book>(alloc: Global, book: &mut B, body: &[u8]) -
     plans_reported(alloc, book, plans_in(alloc, body))
 }
 
-/// What a body asks of a book's content as a question for plans, or why it is refused.
+/// What a body asks of a book's content as a `plans` query, or why it is refused.
 pub(crate) fn build_body<B: Book>(
     alloc: Global,
     book: &mut B,
@@ -99,7 +99,7 @@ pub(crate) fn build_body<B: Book>(
     ensures keeps { Unchanged B.Book (CountsRefusal result) book.old book.new }
 {
     match plans_in(alloc, body) {
-        Ok(question) => build_instance(alloc, book, &question),
+        Ok(query) => build_instance(alloc, book, &query),
         Err(refusal) => Err(refusal),
     }
 }

@@ -201,7 +201,7 @@ pub(crate) fn reported_text(
     }
 }
 
-/// The answer at `/plans` that reports a text: that of an answer to a question for plans.
+/// The answer at `/plans` that reports a text: that of an answer to a `plans` query.
 pub fn plans_answer(alloc: Global, text: &Text) -> Result<String, AllocError>
     ensures { IfOk result (λ whole. string_bytes whole
         ≡ answer_bytes (response_answer AtPlans (printed text.now))) }

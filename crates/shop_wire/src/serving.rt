@@ -176,7 +176,7 @@ pub fn serve_request<S: Source, W: Sink, B: Book>(
     }
 }
 
-// Poses the question for plans that a body is, or answers its refusal.
+// Poses the `plans` query that a body is, or answers its refusal.
 fn begin_plans<W: Sink, B: Book>(
     alloc: Global,
     body: &[u8],
@@ -224,7 +224,7 @@ fn plans_body<'b>(inbound: &Inbound<'b>) -> Option<&'b [u8]>
     }
 }
 
-/// Does what was read of a request and writes the answer, as `serve_request`; but a question at `/plans` whose instance was built isn't
+/// Does what was read of a request and writes the answer, as `serve_request`; but a query at `/plans` whose instance was built isn't
 /// answered: it is given to whoever searches it, and nothing is written.
 ///
 /// `Write` and `NoMemory` as there.
@@ -262,7 +262,7 @@ pub fn begin_inbound<W: Sink, B: Book>(
     }
 }
 
-/// As `serve_request`, but that a question at `/plans` whose instance was built isn't answered: it is given to whoever searches it,
+/// As `serve_request`, but that a query at `/plans` whose instance was built isn't answered: it is given to whoever searches it,
 /// and nothing is written.
 ///
 /// `Read`, `Write` and `NoMemory` as there.

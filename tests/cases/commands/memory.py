@@ -121,43 +121,51 @@ def commands(trial):
 
 @case(
     "memory refused in a restore",
-    "Each request for memory of a `restore`, from where it opens a good backup on, is refused in turn: it is done and told so, or ends "
-    "with `fault memory`, and never because the backup is none; the files that were there have their names, or FILE.before, and the "
+    "Each request for memory of a `restore` of a good backup is refused in turn: it is done and reported so, or ends with "
+    "`fault memory`, and never because the backup is none; the files that were there have their names, or FILE.before, and the "
     "backup stays.",
 )
 def restores(trial):
     store = stored(trial)
 
-    def place_of(faults):
-        """A store and a backup of it, each run's own: one that another program has open is none."""
+    def run(faults):
+        # (each run has a store and a backup of its own: one that another program has open is none)
         place = trial.path(f"{faults.at:06}")
         os.makedirs(f"{place}/1")
-        return tables.copy(store, f"{place}/shop.db"), tables.copy(store, f"{place}/1/shop.db")
-
-    def restored(faults, path, backup):
-        return trial.run("restore", "--store", path, "--from", os.path.dirname(backup), environment=faults.environment)
-
-    # (a backup that a shop serves is looked for as a good one is, and then refused)
-    before = Faults(trial, "memory", at=999999, date=0)
-    path, backup = place_of(before)
-    shop = trial.shop(backup)
-    trial.equal(fault_in(restored(before, path, backup).err), b"fault backup\n", "a backup that is served")
-    shop.kill()
-
-    def run(faults):
-        path, backup = place_of(faults)
+        path, backup = tables.copy(store, f"{place}/shop.db"), tables.copy(store, f"{place}/1/shop.db")
         files, copy = both(path), lies_there(backup)
-        ran = restored(faults, path, backup)
-        is_done = ran.status == 0 and ran.out.startswith(f"restored {path} from {os.path.dirname(backup)}\nentries ".encode())
+        ran = trial.run("restore", "--store", path, "--from", f"{place}/1", environment=faults.environment)
+        is_done = ran.status == 0 and ran.out.startswith(f"restored {path} from {place}/1\nentries ".encode())
         is_refused = (ran.status, ran.out, fault_in(ran.err)) == (1, b"", b"fault memory\n")
         trial.equal(is_done or is_refused, True, f"request {faults.at}: {ran}")
         there = zip(both(path), both(f"{path}.before"))
         trial.equal([was in found for was, found in zip(files, there)], [True, True], f"request {faults.at}: the files that were there")
         trial.equal(lies_there(backup) == copy, True, f"request {faults.at}: the backup")
-        shutil.rmtree(os.path.dirname(path))
-        return before.calls()
+        shutil.rmtree(place)
 
     sweep(trial, run, 97)
+
+
+@case(
+    "memory refused beside a lone log",
+    "Each of the first requests for memory of a start beside a log without its store is refused in turn: `fault memory`, or the "
+    "refusal of such a log, and never a new store.",
+)
+def lone_logs(trial):
+    store = trial.path("shop.db")
+    tables.copy(stored(trial), store)
+    os.remove(store)
+    log = lies_there(store)
+    first = trial.run("audit", "--store", store)
+    trial.equal((first.status, fault_in(first.err)), (1, b"fault store\n"), first)
+
+    def run(faults):
+        shop = trial.shop("shop.db", environment=faults.environment)
+        trial.equal((shop.is_open, shop.status), (False, 1), f"request {faults.at}")
+        trial.equal(fault_in(shop.errors) in (b"fault memory\n", b"fault store\n"), True, f"request {faults.at}: {shop.errors}")
+        trial.equal(lies_there(store) == log, True, f"request {faults.at}: the files")
+
+    sweep(trial, run, 1)
 
 
 # ---- a shop that is too large

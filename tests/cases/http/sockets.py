@@ -210,7 +210,7 @@ def done_with(trial):
         let_go(trial, shop, "behind a refused one")
 
 
-# Connections that come while the shop stands still: far more than it accepts before it attends to others.
+# Connections that come while the shop stands still: far more than it accepts before it services others.
 WAITING = 500
 
 

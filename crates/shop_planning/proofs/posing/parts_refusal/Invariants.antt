@@ -1,5 +1,5 @@
 use Rattle.std.proofs.Common.{◌≡◌, drop}
-use Rattle.shop_planning.specs.Questions.{parts_refusal}
+use Rattle.shop_planning.specs.Queries.{parts_refusal}
 use Rattle.shop_planning.proofs.posing.parts_refusal.Given as goal
 
 abbrev pub invariant-loop-part : goal.invariant-loop-part

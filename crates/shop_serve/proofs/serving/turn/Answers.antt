@@ -1,5 +1,5 @@
 use Rattle.std.proofs.Common.{◌+◌, subst, arith}
-use Rattle.shop_serve.specs.Clients.{AreAttended, unanswered}
+use Rattle.shop_serve.specs.Clients.{AreServiced, unanswered}
 use Rattle.shop_serve.proofs.Turns.{advances_more, advances_within}
 use Rattle.shop_serve.proofs.serving.turn.Goals as goal
 
@@ -12,10 +12,10 @@ returns-clause-round g c =
       (
         c.now-moment.result,
         record {
-          attended = c.attend_reported.new.clients;
-          mid = c.attend_reported.new.book;
-          first = g.K.Watch.times c.attend_reported.new.watch;
-          each = subst (λ keys. AreAttended g.C.Connection c.args.site.now g.B.Book keys c.args.clients.now c.attend_reported.new.clients c.args.book.now c.attend_reported.new.book (g.K.Watch.times c.args.watch.now) (g.K.Watch.times c.attend_reported.new.watch)) c.keys.ensures c.attend_reported.ensures.each;
+          serviced = c.service_reported.new.clients;
+          mid = c.service_reported.new.book;
+          first = g.K.Watch.times c.service_reported.new.watch;
+          each = subst (λ keys. AreServiced g.C.Connection c.args.site.now g.B.Book keys c.args.clients.now c.service_reported.new.clients c.args.book.now c.service_reported.new.book (g.K.Watch.times c.args.watch.now) (g.K.Watch.times c.service_reported.new.watch)) c.keys.ensures c.service_reported.ensures.each;
           kept = c.close_late.new.clients;
           second = g.K.Watch.times c.now-moment.new.self;
           read = c.now-moment.ensures;
@@ -33,6 +33,6 @@ returns-clause-run g c =
     advances_within c.args.site.now g.B.Book c.args.book.now c.step_search.new.book (unanswered c.args.clients.now) (unanswered c.step_search.new.clients)
     (unanswered c.args.clients.now + c.accept_waiting-wait.new.accepted) (unanswered c.accept_waiting-wait.new.clients + c.args.accepted.now)
     (omega (arith, c.accept_waiting-wait.ensures.fewer))
-    (advances_more c.args.site.now g.B.Book c.args.book.now c.attend_reported.new.book c.step_search.new.book (unanswered c.args.clients.now) (unanswered c.attend_reported.new.clients)
+    (advances_more c.args.site.now g.B.Book c.args.book.now c.service_reported.new.book c.step_search.new.book (unanswered c.args.clients.now) (unanswered c.service_reported.new.clients)
     (unanswered c.close_late.new.clients) (unanswered c.step_search.new.clients) (unanswered c.args.clients.now) (unanswered c.step_search.new.clients)
-    (omega (arith, c.close_late.ensures.fewer)) c.step_search.ensures.clean_disk c.attend_reported.ensures.run c.step_search.ensures.run)
+    (omega (arith, c.close_late.ensures.fewer)) c.step_search.ensures.clean_disk c.service_reported.ensures.run c.step_search.ensures.run)

@@ -1,7 +1,7 @@
 use Rattle.std.proofs.Common.{inl, refl}
 use Rattle.shop_forms.specs.Forms.{message_of, query_of}
 use Rattle.serde_json.specs.View.{view}
-use Rattle.shop_plans.specs.Questions.{plans_query_of}
+use Rattle.shop_plans.specs.Queries.{plans_query_of}
 use Rattle.shop_wire.specs.Replays.{ValueStep}
 use Rattle.shop_wire.specs.Responses.{response_of}
 use Rattle.shop_wire.proofs.Answered.{query_answered, plans_answered, plans_read, one_refused, of_no_memory}

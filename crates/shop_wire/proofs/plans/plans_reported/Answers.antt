@@ -6,7 +6,7 @@ use Rattle.shop_wire.proofs.plans.plans_reported.Goals as goal
 
 pub returns-in-Ok-clause-answer : goal.returns-in-Ok-clause-answer
 returns-in-Ok-clause-answer g c = λ meant read clean_disk m held.
-    plans_answered_to m meant c.in-Ok.question (response_of c.question_reported.result) (asked_some c.args.asked meant c.in-Ok.question c.in-Ok.is read) (c.question_reported.ensures.answer clean_disk m held)
+    plans_answered_to m meant c.in-Ok.query (response_of c.plans_query_reported.result) (asked_some c.args.asked meant c.in-Ok.query c.in-Ok.is read) (c.plans_query_reported.ensures.answer clean_disk m held)
 
 pub returns-in-Err-clause-answer : goal.returns-in-Err-clause-answer
 returns-in-Err-clause-answer g c = λ meant read clean_disk m held.

@@ -1,4 +1,4 @@
--- What attending to a connection leaves, and how many have no answer then.
+-- What servicing a connection leaves, and how many have no answer then.
 use Rattle.std.proofs.Common.{◌≡◌, ◌≢◌, ◌∙◌, ℕ, ◌+◌, ◌<◌, ◌≤◌, Bool, true, false, List, length, take, inl, inr, refl, sym, ap, subst, arith}
 use Rattle.std.specs.Io.KnownBytes.{Appends, IsAtEnd}
 use Rattle.std.specs.declared.alloc.Global.{Global}
@@ -19,10 +19,10 @@ use Rattle.shop_planning.specs.PlanTasks.{instance_in}
 use Rattle.shop_serve.specs.declared.answers.Made.{Made}
 use Rattle.shop_serve.specs.declared.answers.Made.TheVariants.{Answer, PlanTask}
 use Rattle.shop_serve.specs.Making.{IsAsked, IsMadeMeanwhile, put_made}
-use Rattle.shop_serve.specs.Clients.{is_unanswered, unanswered, StopsAt, TakesAnswer, IsHandedOn, IsAnsweredWhole, IsBegunWhole, IsHeard, IsAttended, IsAttendedAt, IsClosedBy, IsSpent, IsSpoiled}
+use Rattle.shop_serve.specs.Clients.{is_unanswered, unanswered, StopsAt, TakesAnswer, IsHandedOn, IsAnsweredWhole, IsBegunWhole, IsHeard, IsServiced, IsServicedAt, IsClosedBy, IsSpent, IsSpoiled}
 use Rattle.shop_serve.specs.Serving.{Advances, HasServed, IsAnsweredThen}
 use Rattle.shop_serve.specs.Times.{Times, Stands, StandsUntil, Reports}
-use Rattle.shop_serve.proofs.Slots.{answered-of, has-answer, has-neither, has-question, one_of, unanswered-of, unanswered-updates}
+use Rattle.shop_serve.proofs.Slots.{answered-of, has-answer, has-neither, has-query, one_of, unanswered-of, unanswered-updates}
 use Rattle.shop_serve.proofs.Turns.{stays, one_advances}
 
 if_some_at : {A : Type 0} (o : Option A) (P Q : A → Type 0) → ((a : A) → o ≡ Some a → P a → Q a) → IfSome o P → IfSome o Q
@@ -42,11 +42,11 @@ module _ {C : Type 0} (connection : ConnectionGhosts C) (site : Site) {B : Type 
   stops-ended answer mid new there more same whole keeps (inr waits) = absurd (omega (arith, whole, waits.0))
 
   -- it took its whole answer and was given the end of it, and what still came was dropped
-  pub attended-ended : (old mid new : Client C) (before after : B) (seen seeing : Times)
+  pub serviced-ended : (old mid new : Client C) (before after : B) (seen seeing : Times)
       → (new.received ≡ mid.received) × (new.answer ≡ mid.answer) × (new.sent ≡ mid.sent) → new.since ≡ mid.since → new.task ≡ mid.task
       → connection.contents new.stream ≡ connection.contents mid.stream → (connection.has_ended mid.stream → connection.has_ended new.stream) → IsSomeAnd mid.answer (λ answer. mid.sent ≡ length answer.items)
-      → IsAttended connection site book old mid before after seen seeing → IsAttended connection site book old new before after seen seeing
-  attended-ended old mid new before after seen seeing kept since asks contents keeps whole attended = (
+      → IsServiced connection site book old mid before after seen seeing → IsServiced connection site book old new before after seen seeing
+  serviced-ended old mid new before after seen seeing kept since asks contents keeps whole serviced = (
     if_some_at old.answer _ _ (λ answer is handed. record {
       same = handed.same;
       unread = handed.unread;
@@ -56,9 +56,9 @@ module _ {C : Type 0} (connection : ConnectionGhosts C) (site : Site) {B : Type 
       kept = kept.1 ∙ handed.kept;
       takes = takes-ended answer.items old.stream mid.stream new.stream old.sent mid.sent new.sent kept.2 contents handed.takes;
       stops = stops-ended answer.items mid.stream new.stream mid.sent new.sent kept.2 (subst (λ o. IsSomeAnd o (λ a. mid.sent ≡ length a.items)) (handed.kept ∙ is) whole) keeps handed.stops;
-    }) attended.0,
-    λ none steps_search. absurd (some_answer (ap (λ (l : Client C). l.answer) (attended.1 none steps_search).kept ∙ none)),
-    λ none rests. let heard = attended.2 none rests in record {
+    }) serviced.0,
+    λ none steps_search. absurd (some_answer (ap (λ (l : Client C). l.answer) (serviced.1 none steps_search).kept ∙ none)),
+    λ none rests. let heard = serviced.2 none rests in record {
       rest = heard.rest;
       read = subst (λ received. IsReadOn (connection.remaining old.stream) heard.rest old.received.items received.items) (sym kept.0) heard.read;
       waits = λ waits idle. absurd (some_answer (sym kept.1 ∙ waits));
@@ -77,8 +77,8 @@ module _ {C : Type 0} (connection : ConnectionGhosts C) (site : Site) {B : Type 
       some_answer : mid.answer ≡ None → ⊥
       some_answer none = subst (λ o. IsSomeAnd o (λ a. mid.sent ≡ length a.items)) none whole
 
-  -- it was answered or its question begun, and its answer handed over as far as that went
-  pub attended-first : (old mid new : Client C) (before after : B) (seen seeing : Times) (r : Given) → old.answer ≡ None → old.task ≡ None
+  -- it was answered or its query begun, and its answer handed over as far as that went
+  pub serviced-first : (old mid new : Client C) (before after : B) (seen seeing : Times) (r : Given) → old.answer ≡ None → old.task ≡ None
       → IsReadOn (connection.remaining old.stream) (connection.remaining mid.stream) old.received.items mid.received.items
       → connection.contents mid.stream ≡ connection.contents old.stream
       → ((IsSome mid.answer × (mid.task ≡ None)) ⊎ (IsSome mid.task × (mid.answer ≡ None))) × (mid.sent ≡ 0)
@@ -88,8 +88,8 @@ module _ {C : Type 0} (connection : ConnectionGhosts C) (site : Site) {B : Type 
       → (IsSome mid.task → StandsUntil seen seeing mid.since) → (new.received ≡ mid.received) × (new.answer ≡ mid.answer) → new.since ≡ mid.since → new.task ≡ mid.task
       → (mid.answer ≡ None → (new ≡ mid) × (r ≡ given.Waits)) → r ≢ given.Lost
       → (r ≢ given.Lost → IfSome mid.answer (λ answer. TakesAnswer connection answer.items mid.stream mid.sent new.stream new.sent))
-      → (r ≢ given.Lost → IfSome mid.answer (λ answer. StopsAt connection answer.items new.stream new.sent)) → IsAttended connection site book old new before after seen seeing
-  attended-first old mid new before after seen seeing r none rests read contents begins whole own asked timed kept since asks idle stays takes stops = (
+      → (r ≢ given.Lost → IfSome mid.answer (λ answer. StopsAt connection answer.items new.stream new.sent)) → IsServiced connection site book old new before after seen seeing
+  serviced-first old mid new before after seen seeing r none rests read contents begins whole own asked timed kept since asks idle stays takes stops = (
     subst (λ o. IfSome o (λ answer. IsHandedOn connection site book old new before after seen seeing answer.items)) (sym none) tt,
     λ none steps_search. absurd (cc (subst IsSome rests steps_search)),
     λ none rests. heard mid.answer refl,
@@ -159,10 +159,10 @@ module _ {C : Type 0} (connection : ConnectionGhosts C) (site : Site) {B : Type 
   made-whole client (Answer answer) now whole = whole
   made-whole client (PlanTask task) now whole = whole
 
-  -- its question is searched
-  pub attended-heeded : (old new : Client C) (before : B) (seen : Times) → old.answer ≡ None → IsSome old.task → new ≡ record old { stream = new.stream }
-      → connection.contents new.stream ≡ connection.contents old.stream → IsAttended connection site book old new before before seen seen
-  attended-heeded old new before seen none steps_search kept contents = (
+  -- its query is searched
+  pub serviced-discarded : (old new : Client C) (before : B) (seen : Times) → old.answer ≡ None → IsSome old.task → new ≡ record old { stream = new.stream }
+      → connection.contents new.stream ≡ connection.contents old.stream → IsServiced connection site book old new before before seen seen
+  serviced-discarded old new before seen none steps_search kept contents = (
     subst (λ o. IfSome o (λ answer. IsHandedOn connection site book old new before before seen seen answer.items)) (sym none) tt,
     λ none steps_search. record { same = refl; unread = refl; kept = kept; took = contents },
     λ none rests. absurd (cc (subst IsSome rests steps_search)),
@@ -197,28 +197,28 @@ module _ {C : Type 0} (connection : ConnectionGhosts C) (site : Site) {B : Type 
       by_answer None e over = absurd over
       by_answer (Some answer) e over = absurd (omega (arith, begins, over))
 
-  -- it keeps its answer or its question
+  -- it keeps its answer or its query
   keeps-own : (client left : Client C) (before after : B) (seen seeing : Times) → is_unanswered (Some client) ≡ false
-      → IsAttended connection site book client left before after seen seeing → is_unanswered (Some left) ≡ false
-  keeps-own client left before after seen seeing own attended = by_answer client.answer refl
+      → IsServiced connection site book client left before after seen seeing → is_unanswered (Some left) ≡ false
+  keeps-own client left before after seen seeing own serviced = by_answer client.answer refl
     where
       by_task : client.answer ≡ None → (t : Option _) → client.task ≡ t → is_unanswered (Some left) ≡ false
       by_task none None e = absurd (cc (own, none, e))
       by_task none (Some x) e =
-          let heeded = attended.1 none (subst IsSome (sym e) refl) in
-          has-question left (subst IsSome (sym (ap (λ (l : Client C). l.task) heeded.kept ∙ e)) refl)
+          let discarded = serviced.1 none (subst IsSome (sym e) refl) in
+          has-query left (subst IsSome (sym (ap (λ (l : Client C). l.task) discarded.kept ∙ e)) refl)
 
       by_answer : (o : Option _) → client.answer ≡ o → is_unanswered (Some left) ≡ false
       by_answer None e = by_task e client.task refl
       by_answer (Some a) e =
-          let handed = subst (λ o. IfSome o (λ a. IsHandedOn connection site book client left before after seen seeing a.items)) e attended.0 in
+          let handed = subst (λ o. IfSome o (λ a. IsHandedOn connection site book client left before after seen seeing a.items)) e serviced.0 in
           has-answer left (subst IsSome (sym (handed.kept ∙ e)) refl)
 
-  -- as many fewer have no answer and no question as were served
+  -- as many fewer have no answer and no query as were served
   fewer : (before after : B) (seen seeing : Times) (client : Client C) (left : Option (Client C)) (from to : ℕ) → to + one_of (Some client) ≡ from + one_of left
-      → (is_unanswered (Some client) ≡ false → after ≡ before) → IfSome left (λ l. IsAttended connection site book client l before after seen seeing) → HasServed site book before after 1
+      → (is_unanswered (Some client) ≡ false → after ≡ before) → IfSome left (λ l. IsServiced connection site book client l before after seen seeing) → HasServed site book before after 1
       → Advances site book before after from to
-  fewer before after seen seeing client left from to sum once attended one = by_line (is_unanswered (Some client)) refl
+  fewer before after seen seeing client left from to sum once serviced one = by_line (is_unanswered (Some client)) refl
     where
       stayed : to ≤ from → after ≡ before → Advances site book before after from to
       stayed within same = subst (λ b. Advances site book before b from to) (sym same) (stays site book before from to within)
@@ -228,7 +228,7 @@ module _ {C : Type 0} (connection : ConnectionGhosts C) (site : Site) {B : Type 
       by_left (Some l) is none = by_new (is_unanswered (Some l)) refl
         where
           heard : IsHeard connection site book client l before after seen seeing
-          heard = (subst (λ slot. IfSome slot (λ l. IsAttended connection site book client l before after seen seeing)) is attended).2 (has-neither client none).0 (has-neither client none).1
+          heard = (subst (λ slot. IfSome slot (λ l. IsServiced connection site book client l before after seen seeing)) is serviced).2 (has-neither client none).0 (has-neither client none).1
 
           by_new : (b : Bool) → is_unanswered (Some l) ≡ b → Advances site book before after from to
           by_new true e = stayed (omega (arith, sum, unanswered-of client none, ap one_of is, unanswered-of l e)) (heard.waits (has-neither l e).0 (has-neither l e).1).same
@@ -237,7 +237,7 @@ module _ {C : Type 0} (connection : ConnectionGhosts C) (site : Site) {B : Type 
       kept_left : (slot : Option (Client C)) → left ≡ slot → is_unanswered (Some client) ≡ false → one_of left ≡ 0
       kept_left None is e = ap one_of is
       kept_left (Some l) is e =
-          ap one_of is ∙ answered-of l (keeps-own client l before after seen seeing e (subst (λ slot. IfSome slot (λ l. IsAttended connection site book client l before after seen seeing)) is attended))
+          ap one_of is ∙ answered-of l (keeps-own client l before after seen seeing e (subst (λ slot. IfSome slot (λ l. IsServiced connection site book client l before after seen seeing)) is serviced))
 
       by_line : (b : Bool) → is_unanswered (Some client) ≡ b → Advances site book before after from to
       by_line true e = by_left left refl e
@@ -245,12 +245,12 @@ module _ {C : Type 0} (connection : ConnectionGhosts C) (site : Site) {B : Type 
 
   -- it stays open
   pub advances-stays : (before after : B) (seen seeing : Times) (clients : Slab (Client C)) (key : ℕ) (client left : Client C) → get clients key ≡ Some client
-      → (is_unanswered (Some client) ≡ false → after ≡ before) → IsAttended connection site book client left before after seen seeing → HasServed site book before after 1
+      → (is_unanswered (Some client) ≡ false → after ≡ before) → IsServiced connection site book client left before after seen seeing → HasServed site book before after 1
       → Advances site book before after (unanswered clients) (unanswered (with_value clients key left))
-  advances-stays before after seen seeing clients key client left is once attended one =
+  advances-stays before after seen seeing clients key client left is once serviced one =
       fewer before after seen seeing client (Some left) (unanswered clients) (unanswered (with_value clients key left))
       (subst (λ slot. unanswered (with_value clients key left) + one_of slot ≡ unanswered clients + one_of (Some left)) is
-      (unanswered-updates clients (with_value clients key left) key (Some left) (Updates-with_value clients key left (subst IsSome (sym is) refl)))) once attended one
+      (unanswered-updates clients (with_value clients key left) key (Some left) (Updates-with_value clients key left (subst IsSome (sym is) refl)))) once serviced one
 
   -- it is closed
   pub advances-closed : (before after : B) (seen seeing : Times) (clients new : Slab (Client C)) (key : ℕ) (client left : Client C) → get clients key ≡ Some client
@@ -263,15 +263,15 @@ module _ {C : Type 0} (connection : ConnectionGhosts C) (site : Site) {B : Type 
       once tt one
 
   -- the connection of a key is closed
-  pub attended-closed : (status : ConnectionStatus) (key : ℕ) (clients new : Slab (Client C)) (client left : Client C) (before after : B) (seen seeing : Times) → get clients key ≡ Some client
+  pub serviced-closed : (status : ConnectionStatus) (key : ℕ) (clients new : Slab (Client C)) (client left : Client C) (before after : B) (seen seeing : Times) → get clients key ≡ Some client
       → Updates (with_value clients key left) new key None → (is_unanswered (Some client) ≡ false → after ≡ before) → HasServed site book before after 1 → (book.has_clean_disk after → book.has_clean_disk before)
-      → IsClosedBy connection site book status client before after seen seeing → IsAttendedAt connection site book status key clients new before after seen seeing
-  attended-closed status key clients new client left before after seen seeing is removed once one clean_disk closed =
+      → IsClosedBy connection site book status client before after seen seeing → IsServicedAt connection site book status key clients new before after seen seeing
+  serviced-closed status key clients new client left before after seen seeing is removed once one clean_disk closed =
       let written = Updates-with_value clients key left (subst IsSome (sym is) refl) in
       record {
         others = λ other differs. removed.others other differs ∙ written.others other differs;
         absent = λ none. absurd (cc (is, none));
-        there = λ l e. subst (λ slot. IfSome slot (λ left. IsAttended connection site book l left before after seen seeing)) (sym removed.changed) tt;
+        there = λ l e. subst (λ slot. IfSome slot (λ left. IsServiced connection site book l left before after seen seeing)) (sym removed.changed) tt;
         closed = λ l e none. let same : client ≡ l = cc (is, e) in subst (λ l. IsClosedBy connection site book status l before after seen seeing) same closed;
         once = λ l e. let same : client ≡ l = cc (is, e) in subst (λ (l : Client C). is_unanswered (Some l) ≡ false → after ≡ before) same once;
         one = one;
@@ -279,17 +279,17 @@ module _ {C : Type 0} (connection : ConnectionGhosts C) (site : Site) {B : Type 
       }
 
   -- it stays
-  pub attended-stays : (status : ConnectionStatus) (key : ℕ) (clients : Slab (Client C)) (client left : Client C) (before after : B) (seen seeing : Times) → get clients key ≡ Some client
+  pub serviced-stays : (status : ConnectionStatus) (key : ℕ) (clients : Slab (Client C)) (client left : Client C) (before after : B) (seen seeing : Times) → get clients key ≡ Some client
       → (is_unanswered (Some client) ≡ false → after ≡ before) → HasServed site book before after 1 → (book.has_clean_disk after → book.has_clean_disk before)
-      → IsAttended connection site book client left before after seen seeing → IsAttendedAt connection site book status key clients (with_value clients key left) before after seen seeing
-  attended-stays status key clients client left before after seen seeing is once one clean_disk attended =
+      → IsServiced connection site book client left before after seen seeing → IsServicedAt connection site book status key clients (with_value clients key left) before after seen seeing
+  serviced-stays status key clients client left before after seen seeing is once one clean_disk serviced =
       let written = Updates-with_value clients key left (subst IsSome (sym is) refl) in
       record {
         others = λ other differs. written.others other differs;
         absent = λ none. absurd (cc (is, none));
         there = λ l e. let same : client ≡ l = cc (is, e) in
-            subst (λ slot. IfSome slot (λ left. IsAttended connection site book l left before after seen seeing)) (sym written.changed)
-            (subst (λ l. IsAttended connection site book l left before after seen seeing) same attended);
+            subst (λ slot. IfSome slot (λ left. IsServiced connection site book l left before after seen seeing)) (sym written.changed)
+            (subst (λ l. IsServiced connection site book l left before after seen seeing) same serviced);
         closed = λ l e none. absurd (cc (written.changed, none));
         once = λ l e. let same : client ≡ l = cc (is, e) in subst (λ (l : Client C). is_unanswered (Some l) ≡ false → after ≡ before) same once;
         one = one;

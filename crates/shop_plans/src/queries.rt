@@ -1,10 +1,10 @@
-//! The question for plans, read from JSON.
+//! The `plans` query, read from JSON.
 
 ghost use Rattle.std.specs.Prelude.{◌≡◌, ◌⊎◌, Some, None, IfOk, IfErr, map, option_map};
 ghost use Rattle.serde_json.specs.View.{view};
 ghost use Rattle.shop_records.specs.declared.refusals.Refusal.TheVariants.{BadMessage, NoMemory};
 ghost use Rattle.shop_forms.specs.Fields.{all_of, elements_at, number_at as number_there};
-ghost use Rattle.shop_plans.specs.Questions as form;
+ghost use Rattle.shop_plans.specs.Queries as form;
 
 use crate::limits::{DEFAULT_CALLS, DEFAULT_REMNANT, MAX_CALLS, MAX_STAGES, MIN_STAGES, UNIT_COST};
 use cut_measure::{Code, PartName, RowList};
@@ -26,7 +26,7 @@ pub struct BuySize {
     pub w: u32,
 }
 
-/// A question for plans of all that is open of a material. Its lists may have any length and hold anything twice.
+/// A `plans` query of all that is open of a material. Its lists may have any length and hold anything twice.
 #[derive(Debug, Drop)]
 pub struct PlansQuery {
     pub material: Code,
@@ -122,7 +122,7 @@ fn there(value: &Value, key: &str) -> usize
     }
 }
 
-// How many keys a question has that has these of the keys that may be missing.
+// How many keys a query has that has these of the keys that may be missing.
 fn keys_there(value: &Value) -> usize
     ensures { result ≡ form.keys_there (view value.now) }
 {
@@ -209,7 +209,7 @@ fn sizes(alloc: Global, value: &Value) -> Result<Option<BuyList>, AllocError>
     }
 }
 
-// The question at the keys of an object.
+// The query at the keys of an object.
 fn plans_fields(alloc: Global, value: &Value) -> Result<Option<PlansQuery>, AllocError>
     ensures { IfOk result (λ query. query ≡ form.plans_fields (view value.now)) }
 {
@@ -241,7 +241,7 @@ fn plans_fields(alloc: Global, value: &Value) -> Result<Option<PlansQuery>, Allo
     }))
 }
 
-// The question that a value stands for.
+// The query that a value stands for.
 fn asked(alloc: Global, value: &Value) -> Result<Option<PlansQuery>, AllocError>
     ensures { IfOk result (λ query. query ≡ form.plans_query_of (view value.now)) }
 {
@@ -255,7 +255,7 @@ fn asked(alloc: Global, value: &Value) -> Result<Option<PlansQuery>, AllocError>
     }
 }
 
-/// The question for plans that a value stands for; refused `BadMessage` if it stands for none, also if `remnant`, `calls` or
+/// The `plans` query that a value stands for; refused `BadMessage` if it stands for none, also if `remnant`, `calls` or
 /// `stages` is out of its range, and `NoMemory` where memory runs out.
 pub fn read_plans(alloc: Global, value: &Value) -> Result<PlansQuery, Refusal>
     ensures ok { IfOk result (λ query. form.plans_query_of (view value.now) ≡ Some query) }

@@ -1,12 +1,12 @@
--- The question for plans of all that is open of a material: what a JSON value stands for.
+-- The `plans` query of all that is open of a material: what a JSON value stands for.
 use Rattle.std.specs.Prelude.{ℕ, ◌+◌, ◌&&◌, Bool, true, List, [], nat_le, if◌then◌else◌, Option, Some, None, is_some, option_map, option_and_then, unwrap_or, codes, bytes_eq}
 use Rattle.cut_measure.specs.Names.{Name, spelled_name}
 use Rattle.serde_json.specs.Data.{Data}
 use Rattle.serde_json.specs.Find.{get, as_str}
 use Rattle.shop_forms.specs.Fields.{number_at, number_of, code_at, word_at, elements_at, all_of, row}
 use Rattle.shop_plans.specs.declared.limits.TheConstants.{MIN_STAGES, MAX_CALLS, MAX_STAGES, UNIT_COST, DEFAULT_CALLS, DEFAULT_REMNANT}
-use Rattle.shop_plans.specs.declared.questions.BuySize.{BuySize}
-use Rattle.shop_plans.specs.declared.questions.PlansQuery.{PlansQuery}
+use Rattle.shop_plans.specs.declared.queries.BuySize.{BuySize}
+use Rattle.shop_plans.specs.declared.queries.PlansQuery.{PlansQuery}
 
 -- ---- keys that may be missing
 
@@ -48,7 +48,7 @@ size_fields d = option_and_then (λ h. option_map (λ w. record { h = h; w = w }
 abbrev pub size_of : Data → Option BuySize
 size_of d = row 2 size_fields d
 
--- ---- the question
+-- ---- the query
 
 abbrev pub demands_of : Data → Option (Option (List ℕ))
 demands_of d = given (rows_in number_of) (codes "demands") d

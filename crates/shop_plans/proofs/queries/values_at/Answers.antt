@@ -3,7 +3,7 @@ use Rattle.std.specs.Prelude.{option_map, option_and_then}
 use Rattle.serde_json.specs.Find.{as_array}
 use Rattle.shop_forms.specs.Fields.{elements}
 use Rattle.shop_forms.proofs.Lists.{elements_there}
-use Rattle.shop_plans.proofs.questions.values_at.Goals as goal
+use Rattle.shop_plans.proofs.queries.values_at.Goals as goal
 
 pub returns : goal.returns
 returns c =

@@ -1,8 +1,8 @@
 use Rattle.std.proofs.Common.{◌≡◌, None, rules}
 use Rattle.std.specs.Prelude.{IsSome}
-use Rattle.shop_serve.proofs.Attending.{attended-first, spoiled-first, spoiled-on}
+use Rattle.shop_serve.proofs.Servicing.{serviced-first, spoiled-first, spoiled-on}
 use Rattle.shop_serve.proofs.Turns.{none_served}
-use Rattle.shop_serve.proofs.clients.attend.Goals as goal
+use Rattle.shop_serve.proofs.clients.service.Goals as goal
 
 pub returns-then-is_some-clause-one : goal.returns-then-is_some-clause-one
 returns-then-is_some-clause-one g c = none_served c.args.site.now g.B.Book c.args.book.now 1
@@ -10,11 +10,11 @@ returns-then-is_some-clause-one g c = none_served c.args.site.now g.B.Book c.arg
 pub returns-then-is_some-2-clause-one : goal.returns-then-is_some-2-clause-one
 returns-then-is_some-2-clause-one g c = none_served c.args.site.now g.B.Book c.args.book.now 1
 
-pub returns-clause-attended : goal.returns-clause-attended
-returns-clause-attended g c stays known =
+pub returns-clause-serviced : goal.returns-clause-serviced
+returns-clause-serviced g c stays known =
     let none : c.args.client.now.answer ≡ None = search rules in
     let rests : c.args.client.now.task ≡ None = search rules in
-    attended-first g.C.Connection c.args.site.now g.B.Book c.args.client.now c.ask.new.client c.answer_on-2.new.client c.args.book.now c.ask.new.book (g.K.Watch.times c.args.watch.now) (g.K.Watch.times c.ask.new.watch) c.answer_on-2.result none rests
+    serviced-first g.C.Connection c.args.site.now g.B.Book c.args.client.now c.ask.new.client c.answer_on-2.new.client c.args.book.now c.ask.new.book (g.K.Watch.times c.args.watch.now) (g.K.Watch.times c.ask.new.watch) c.answer_on-2.result none rests
     (c.ask.ensures.read (λ over. absurd (cc (over, c.in-Whole.is))) (λ none. absurd (cc (none, c.in-Whole.is)))) c.ask.ensures.kept (c.ask.ensures.begins c.in-Whole.is) (c.ask.ensures.whole c.in-Whole.is) c.ask.ensures.own c.ask.ensures.asked (c.ask.ensures.since c.in-Whole.is)
     c.answer_on-2.ensures.kept c.answer_on-2.ensures.since c.answer_on-2.ensures.task c.answer_on-2.ensures.idle stays c.answer_on-2.ensures.takes c.answer_on-2.ensures.stops
 

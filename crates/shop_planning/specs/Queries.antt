@@ -1,4 +1,4 @@
--- What a question asks of a content, or why it is refused, and what may be answered.
+-- What a query asks of a content, or why it is refused, and what may be answered.
 use Rattle.std.specs.Prelude.{◌≡◌, ◌≢◌, ℕ, not, List, [], ◌∷◌, Option, Some, None, MatchOption, option_map, Result, Ok, Err, if◌then◌else◌}
 use Rattle.std.specs.Option.{option_or}
 use Rattle.cut_measure.specs.declared.sizes.Kind.{Kind}
@@ -17,8 +17,8 @@ use Rattle.shop_records.specs.Same.{same_code}
 use Rattle.shop_machine.specs.Decisions.{first_of}
 use Rattle.shop_answers.specs.declared.planning.FoundDemand.{FoundDemand}
 use Rattle.shop_answers.specs.Planning.{found_refusal, found_wants, planner_refusal}
-use Rattle.shop_plans.specs.declared.questions.BuySize.{BuySize}
-use Rattle.shop_plans.specs.declared.questions.PlansQuery.{PlansQuery}
+use Rattle.shop_plans.specs.declared.queries.BuySize.{BuySize}
+use Rattle.shop_plans.specs.declared.queries.PlansQuery.{PlansQuery}
 use Rattle.shop_planning.specs.declared.instance.PlanInstance.{PlanInstance}
 use Rattle.shop_planning.specs.declared.posing.Gathered.{Gathered}
 use Rattle.shop_planning.specs.Lists.{has_bad_list, is_in_range}
@@ -113,7 +113,7 @@ pub record IsInstanceBy (q : PlansQuery) (material : Material) (demands : List F
 abbrev pub IsInstanceOf : Content → PlansQuery → Material → PlanInstance → Type 0
 IsInstanceOf content q material instance = IsInstanceBy q material (demands_for content q.material q.demands) (parts_for content q.material material.kind q.parts) instance
 
--- what a question that isn't refused asks of a content
+-- what a query that isn't refused asks of a content
 pub record IsInstance (content : Content) (q : PlansQuery) (instance : PlanInstance) : Type 0 where
   pub allowed : plans_refusal content q ≡ None
   pub material : Material
@@ -123,7 +123,7 @@ pub record IsInstance (content : Content) (q : PlansQuery) (instance : PlanInsta
 -- ---- what is answered
 
 -- the text of an answer to what is asked
-pub record IsQuestionAnswered (content : Content) (q : PlansQuery) (result : Result (List ℕ) Refusal) : Type 0 where
+pub record IsQueryAnswered (content : Content) (q : PlansQuery) (result : Result (List ℕ) Refusal) : Type 0 where
   pub instance : PlanInstance
   pub asks : IsInstance content q instance
   pub text : List ℕ
@@ -133,4 +133,4 @@ pub record IsQuestionAnswered (content : Content) (q : PlansQuery) (result : Res
 -- an answer, or the first refusal that holds; memory and the store aside
 abbrev pub AnswersPlans : Content → PlansQuery → Result (List ℕ) Refusal → Type 0
 AnswersPlans content q result =
-    result ≢ Err NoMemory → result ≢ Err StoreFault → MatchOption (plans_refusal content q) (IsQuestionAnswered content q result) (λ refusal. result ≡ Err refusal)
+    result ≢ Err NoMemory → result ≢ Err StoreFault → MatchOption (plans_refusal content q) (IsQueryAnswered content q result) (λ refusal. result ≡ Err refusal)

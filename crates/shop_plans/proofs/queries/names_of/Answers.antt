@@ -3,8 +3,8 @@ use Rattle.std.specs.Prelude.{option_map}
 use Rattle.serde_json.specs.View.{view}
 use Rattle.shop_forms.specs.Fields.{all_of}
 use Rattle.shop_forms.proofs.Lists.{values_more, values_end, read_more, read_none, read_all}
-use Rattle.shop_plans.specs.Questions.{name_of}
-use Rattle.shop_plans.proofs.questions.names_of.Goals as goal
+use Rattle.shop_plans.specs.Queries.{name_of}
+use Rattle.shop_plans.proofs.queries.names_of.Goals as goal
 
 pub returns-in_default : goal.returns-in_default
 returns-in_default c =
