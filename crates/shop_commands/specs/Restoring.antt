@@ -21,7 +21,7 @@ IsUntilLine time line = (line ≡ []) ⊎ ((time ≢ 0) × ((text : String Globa
 abbrev pub IsRestoredText : (store from : List ℕ) → List ℕ → Type 0
 IsRestoredText store from text = (entries : ℕ) × (time : ℕ) × (until : List ℕ) × IsUntilLine time until × (text ≡ restored_lines store from entries until)
 
--- the store is in use or its files can't be replaced, or the folder is no backup, or memory is wanting
+-- the store is in use or its files can't be replaced, or the folder is no backup, or memory runs out
 abbrev pub IsUnrestored : Fault → Type 0
 IsUnrestored fault = (fault ≡ NoMemory) ⊎ ((cause : StoreCause) × (fault ≡ Store cause)) ⊎ ((cause : BackupCause) × (fault ≡ Backup cause))
 
@@ -29,7 +29,7 @@ IsUnrestored fault = (fault ≡ NoMemory) ⊎ ((cause : StoreCause) × (fault �
 abbrev pub IsRestoreDone : List ℕ → List ℕ → (out : SinkChange) → Type 0
 IsRestoreDone store from out = (text : List ℕ) × IsRestoredText store from text × Adds out text
 
--- it wasn't restored, or memory was wanting for its lines, and nothing was printed; or it was, and its lines can't be written
+-- it wasn't restored, or memory ran out for its lines, and nothing was printed; or it was, and its lines can't be written
 abbrev pub IsRestoreStopped : List ℕ → List ℕ → Fault → (out : SinkChange) → Type 0
 IsRestoreStopped store from fault out =
     (IsUnrestored fault × AddsNone out) ⊎ ((fault ≡ Write) × ((text : List ℕ) × IsRestoredText store from text × AddsPrefix out text) × SinkFailed out)

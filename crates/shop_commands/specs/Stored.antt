@@ -87,7 +87,7 @@ IsUnopened gives fault = (why : OpenFault) × gives (Err why) × (fault ≡ stor
 abbrev pub listening_line : ℕ → List ℕ
 listening_line port = codes "listening on 127.0.0.1:" ++ decimal port ++ codes "\n"
 
--- the port can't be listened to, or memory for its line is wanting, or the line can't be written
+-- the port can't be listened to, or memory for its line runs out, or the line can't be written
 abbrev pub IsUnannounced : ℕ → Fault → (out : SinkChange) → Type 0
 IsUnannounced port fault out =
     ((((cause : PortCause) × (fault ≡ Port cause)) ⊎ (fault ≡ NoMemory)) × AddsNone out) ⊎ ((fault ≡ Write) × AddsPrefix out (listening_line port) × SinkFailed out)
@@ -143,12 +143,12 @@ module _ {B : Type 0} (book : Ghosts B) where
     pub dates : Unchanged book (CountsFailure last) counted dated
     pub served : HasServed site book dated after (most_served limit)
 
-  -- memory was wanting, and nothing was done, or an entry was refused
+  -- memory ran out, and nothing was done, or an entry was refused
   abbrev pub AddFailed : B → B → List MaterialEntry → Fault → Type 0
   AddFailed before after entries fault =
       ((fault ≡ NoMemory) × (after ≡ before)) ⊎ ((e : EntryRefused) × (fault ≡ Entry e) × HasShop book before after entries (λ replies. IsFirstRefused replies e))
 
-  -- memory was wanting before the first connection; or no more could be accepted, or the store's names led to other files
+  -- memory ran out before the first connection; or no more could be accepted, or the store's names led to other files
   abbrev pub IsUnaccepted : Site → B → B → Option ℕ → Fault → Type 0
   IsUnaccepted site before after limit fault = ((fault ≡ NoMemory) × (after ≡ before)) ⊎ (((fault ≡ Port port_cause.Refused) ⊎ (fault ≡ Store store_cause.Moved)) × HasServed site book before after (most_served limit))
 

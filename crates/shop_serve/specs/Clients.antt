@@ -94,7 +94,7 @@ module _ {C : Type 0} where
   MakesRoom old new =
       ((slab_len old < MAX_CLIENTS) × (new.slots ≡ old.slots)) ⊎ ((MAX_CLIENTS ≤ slab_len old) × (key : ℕ) × IsOldest old key × Updates old new key None)
 
-  -- It isn't opened, though room was made: it can't be watched, or memory for one more is wanting.
+  -- It isn't opened, though room was made: it can't be watched, or memory for one more runs out.
   pub record IsTurnedAway {P : Type 0} (port : PortGhosts P C) (old new : Slab (Client C)) : Type 0 where
     pub room : Slab (Client C)
     pub made : MakesRoom old room
@@ -217,7 +217,7 @@ module _ {C : Type 0} (connection : ConnectionGhosts C) (site : Site) {B : Type 
       ⊎ IsSome old.task × connection.is_lost new.stream
 
   -- Why a connection is closed that is serviced: it took its whole answer, and nothing more is to come of it; or it is spoiled; or
-  -- memory was wanting.
+  -- memory ran out.
   abbrev pub IsClosedBy : ConnectionStatus → Client C → B → B → (seen seeing : Times) → Type 0
   IsClosedBy status client before after seen seeing =
       (status ≡ NoMemory) ⊎ ((left : Client C) × (IsServiced client left before after seen seeing × IsSpent left × IsOver connection left ⊎ IsSpoiled client left))

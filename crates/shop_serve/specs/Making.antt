@@ -44,11 +44,11 @@ abbrev pub IsMadeMeanwhile : Site → {B : Type 0} → Ghosts B → B → B → 
 IsMadeMeanwhile site book before after seen between received (Answer answer) = IsAnsweredMeanwhile site book before after seen between received answer.items
 IsMadeMeanwhile site book before after seen between received (PlanTask task) = IsAsked site book before after received (instance_in task) × ReportsNone seen between
 
--- the answer that memory was wanting for a query
+-- the answer that memory ran out for a query
 abbrev pub plans_refused : List ℕ
 plans_refused = answer_bytes (response_answer Plans (replied (Refused NoMemory)))
 
--- the answer to a query: it reports plans for just what was asked, or that memory was wanting
+-- the answer to a query: it reports plans for just what was asked, or that memory ran out
 abbrev pub IsPlansAnswer : PlanInstance → List ℕ → Type 0
 IsPlansAnswer instance answer =
     ((text : List ℕ) × IsPlansText instance text × (answer ≡ answer_bytes (response_answer Plans (printed text))))

@@ -17,7 +17,7 @@ use Rattle.shop_serve.specs.Making.{IsPlansAnswer, plans_refused, put_answer}
 use Rattle.shop_serve.specs.Times.{Times, Reports, ReportsNone}
 
 module _ {C : Type 0} where
-  -- It is reported that memory was wanting for its query, and took nothing of that.
+  -- It is reported that memory ran out for its query, and took nothing of that.
   pub record IsRefused (old new : Client C) (seen seeing : Times) : Type 0 where
     pub answer : Vec ℕ Global
     pub now : Instant
@@ -51,7 +51,7 @@ module _ {C : Type 0} (connection : ConnectionGhosts C) where
     pub took : connection.contents new.stream ≡ connection.contents old.stream
     pub kept : new ≡ put_answer (record old { stream = new.stream }) answer now
 
-  -- The connection of this key has a query, and no other connection changed. It goes on, it is answered, or memory was wanting
+  -- The connection of this key has a query, and no other connection changed. It goes on, it is answered, or memory ran out
   -- for that and it is closed.
   pub record IsSteppedAt (crowded : Bool) (progress : Progress) (now : Instant) (key : ℕ) (old new : Slab (Client C)) (seen seeing : Times) : Type 0 where
     pub client : Client C

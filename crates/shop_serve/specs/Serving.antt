@@ -165,7 +165,7 @@ abbrev pub most_served : Option ℕ → ℕ
 most_served (Some limit) = limit
 most_served None = MAX_SERVED
 
--- memory was wanting before the first connection, or at most as many as the limit says were served until the port failed, or the
+-- memory ran out before the first connection, or at most as many as the limit says were served until the port failed, or the
 -- store's names led to other files
 abbrev pub IsUnserved : Site → {B : Type 0} → Ghosts B → B → B → ℕ → ServeFault → Type 0
 IsUnserved site book before after limit NoMemory = after ≡ before

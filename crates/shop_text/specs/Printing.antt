@@ -32,7 +32,7 @@ place_text Sheet x y = mm_text x ++ codes " " ++ mm_text y
 abbrev pub part_start : Name → List ℕ
 part_start name = codes "part " ++ name_text name ++ codes " "
 
--- memory was wanting, or the store failed, which is counted
+-- memory ran out, or the store failed, which is counted
 abbrev pub IsFailure : Refusal → ℕ → ℕ → Type 0
 IsFailure refusal before after = ((refusal ≡ NoMemory) × (after ≡ before)) ⊎ ((refusal ≡ StoreFault) × (after ≡ one_more_failure before))
 

@@ -160,7 +160,7 @@ steps_in nodes = map (λ (n : FoundNode). n.step) nodes
 abbrev pub AreNodesFound : (ℕ → Option Demand) → List FoundNode → Type 0
 AreNodesFound at nodes = All (λ (n : FoundNode). n.demand ≡ demand_for at n.step.what) nodes
 
--- memory was wanting, or there is nothing to report
+-- memory ran out, or there is nothing to report
 abbrev pub IsUnreported : Refusal → Option (List ℕ) → Type 0
 IsUnreported refusal said = (refusal ≡ NoMemory) ⊎ ((refusal ≡ StoreFault) × (said ≡ None))
 

@@ -62,7 +62,7 @@ yield_found m code (Some material) = Ok (yield_text code material.kind (totals_o
 abbrev pub yield_of : Content → List ℕ → Result (List ℕ) Refusal
 yield_of m code = yield_found m code (material_at m code)
 
--- a part's line is appended, or memory is wanting
+-- a part's line is appended, or memory runs out
 abbrev pub TakesLine : PartLines → Part → Bool → PartLines → Type 0
 TakesLine old part true new = (new.kind ≡ old.kind) × (string_bytes new.text ≡ string_bytes old.text ++ part_line old.kind part)
 TakesLine old part false new = ⊤

@@ -16,7 +16,7 @@ use Rattle.shop_wire.specs.Responses.{IsUnread}
 
 -- ---- what isn't there
 
--- where memory wasn't wanting, nothing is there
+-- where memory didn't run out, nothing is there
 pub nothing_there : {B : Type 0} (refusal : Refusal) (o : Option B) → IsUnread refusal o → refusal ≢ NoMemory → o ≡ None
 nothing_there refusal o (inl is) other = absurd (other is)
 nothing_there refusal o (inr why) other = why.1

@@ -20,7 +20,7 @@ abbrev pub HasPrintedText : Reported → Type 0
 HasPrintedText (reported.Reply reply text) = IfSome text (λ t. t ≡ json_texts.of_reply reply)
 HasPrintedText (reported.Text text) = ⊤
 
--- nothing was meant, or memory was wanting
+-- nothing was meant, or memory ran out
 abbrev pub IsUnread : {B : Type 0} → Refusal → Option B → Type 0
 IsUnread refusal meant = (refusal ≡ NoMemory) ⊎ ((refusal ≡ BadMessage) × (meant ≡ None))
 
