@@ -20,10 +20,10 @@ pub(crate) const MAX_PAGE_LEN: usize = 1_048_576;
 pub trait Reads: Files {
     ghost use Rattle.std.specs.Prelude.{List, ℕ};
 
-    /// A file of this path may hold these bytes: all that it has, or of one with more bytes than so many the first ones, up to one more.
+    /// Reading a file of this path up to this many bytes may give these bytes: the whole file, or, if it is longer, as many and one more.
     ghost holds: { Self → List ℕ → ℕ → List ℕ → Type 0 };
 
-    /// What a file holds; of one with more bytes than these the first too many is the last.
+    /// Reads a whole file, or, if it is longer than `most` bytes, its first `most` bytes and one more.
     fn read_first(&self, alloc: Global, path: &str, most: usize) -> io::Result<Vec<u8>>
         ensures { IfOk result (λ bytes. holds self.now path.now most bytes.items) };
 }
@@ -36,7 +36,7 @@ impl Reads for HostRuntime {
     }
 }
 
-// What a file holds; of one with more bytes than these the first too many is the last.
+// Reads a whole file, or, if it is longer than `most` bytes, its first `most` bytes and one more.
 fn bytes_of<R: Files>(rt: &R, alloc: Global, path: &str, most: usize) -> io::Result<Vec<u8>> {
     let mut bytes = Vec::new(alloc);
     let file = File::open(rt, path)?;
@@ -46,7 +46,7 @@ fn bytes_of<R: Files>(rt: &R, alloc: Global, path: &str, most: usize) -> io::Res
     Ok(bytes)
 }
 
-// What a file holds, up to one byte more than these.
+// The same, with the fault that a command reports.
 fn read_up_to<R: Reads>(rt: &R, alloc: Global, path: &str, most: usize) -> Result<Vec<u8>, Fault>
     ensures ok { IfOk result (λ bytes. R.holds rt.now path.now most bytes.items) }
     ensures err { IfErr result (λ f. (f ≡ fault.NoMemory) ⊎ (f ≡ fault.File)) }
