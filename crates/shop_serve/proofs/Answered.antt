@@ -18,7 +18,7 @@ use Rattle.shop_serve.specs.Known.{ReportsAll, BringsRequest, HasOwnAnswer, HasO
 use Rattle.shop_serve.specs.Times.{Times}
 use Rattle.shop_serve.specs.Clients.{AwaitsMore, IsAnsweredWhole, IsServiced, IsServicedAt, IsBegunWhole, IsClosedBy, IsFresh, IsHeard, IsMute, IsSpent, IsSpoiled}
 use Rattle.shop_planning.specs.PlanTasks.{instance_in}
-use Rattle.shop_serve.proofs.Turns.{answered-then}
+use Rattle.shop_serve.proofs.ServedRequests.{answered-then}
 
 module _ {C : Type 0} (connection : ConnectionGhosts C) (site : Site) {B : Type 0} (book : Ghosts B)
     (now : Instant) (stream : C) (input : List ℕ) (client : Client C) (before after : B) (seen seeing : Times)

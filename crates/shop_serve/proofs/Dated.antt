@@ -12,7 +12,7 @@ use Rattle.shop_request.proofs.Uniqueness.{one_parse}
 use Rattle.shop_wire.specs.Serves.{HandlesInputAt}
 use Rattle.shop_serve.specs.declared.sites.Site.{Site}
 use Rattle.shop_serve.specs.Serving.{HandlesRequestAt, asks_backup}
-use Rattle.shop_serve.proofs.Turns.{is_for_backup}
+use Rattle.shop_serve.proofs.ServedRequests.{is_for_backup}
 
 module _ (site : Site) {B : Type 0} (book : Ghosts B) (before after : B) (at : ℕ) where
   -- a fault is no message

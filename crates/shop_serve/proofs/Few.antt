@@ -1,4 +1,4 @@
--- How many connections are open, turn after turn.
+-- How many connections are open, round after round.
 use Rattle.std.proofs.Common.{◌≡◌, ◌≢◌, ℕ, ◌≤◌, ◌<◌, is_some, List, [], ◌∷◌, count_by, inl, inr, refl, ap, arith}
 use Rattle.std.specs.Prelude.{Bool, Option, Some, None}
 use Rattle.std.specs.declared.time.Instant.{Instant}

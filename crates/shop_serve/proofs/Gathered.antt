@@ -1,4 +1,4 @@
--- What was reported and given, gathered from turn to turn.
+-- What was reported and given, gathered from round to round.
 use Rattle.std.proofs.Common.{◌≡◌, ◌∙◌, ℕ, ◌+◌, true, List, [], ◌∷◌, ◌++◌, length, refl, sym, ap, subst, arith, length-append}
 use Rattle.std.proofs.lemmas.List.{append_assoc, append-nil}
 use Rattle.std.proofs.lemmas.List.Concat.{flat_map-append}
@@ -58,7 +58,7 @@ module _ {C : Type 0} {P : Type 0} (port : PortGhosts P C) where
   )
 
 module _ {C : Type 0} (connection : ConnectionGhosts C) (site : Site) {B : Type 0} (book : Ghosts B) {P : Type 0} (port : PortGhosts P C) where
-  -- the turns so far, and whatever comes later
+  -- the rounds so far, and whatever comes later
   abbrev pub RoundsSoFar : Option (List ℕ) → Option (List ℕ) → Option (List C) → Option (List C) → ℕ → Slab (Client C) → Slab (Client C) → B → B → (seen now : Times) → Type 0
   RoundsSoFar reported response given giving count first mid before here seen now =
       (rounds : List (Round C)) × (count ≡ length (all_arrived rounds)) × Adds reported response (all_keys rounds) × Adds given giving (all_arrived rounds)

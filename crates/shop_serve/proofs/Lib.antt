@@ -1,4 +1,4 @@
-pub mod Turns
+pub mod ServedRequests
 pub mod Counts
 pub mod Slots
 pub mod Oldest

@@ -1,4 +1,4 @@
--- Each connection has its own query and its own answer, turn after turn.
+-- Each connection has its own query and its own answer, round after round.
 use Rattle.std.proofs.Common.{◌≡◌, ◌≢◌, ◌∙◌, ℕ, ◌+◌, Bool, true, false, List, [], ◌∷◌, inl, inr, refl, sym, ap, subst}
 use Rattle.std.proofs.lemmas.Bool.{eqb-true, eqb-false}
 use Rattle.std.specs.Prelude.{Option, Some, None, IfSome, IsSome, nat_eq, if◌then◌else◌}
@@ -19,7 +19,7 @@ use Rattle.shop_serve.specs.Own.{Leads, WasDone, WasAsked, WasAnswered, HasItsOw
 use Rattle.shop_serve.specs.Rounds.{AreReceived, AreRounds, IsReceived, IsRound, Round}
 use Rattle.shop_serve.specs.RunningTask.{IsSteppedAt, StepsSearch}
 use Rattle.shop_serve.specs.Times.{Times}
-use Rattle.shop_serve.proofs.Turns.{answered-then, none_served, more_served}
+use Rattle.shop_serve.proofs.ServedRequests.{answered-then, none_served, more_served}
 
 if_some : {A : Type 0} (o : Option A) (P Q : A → Type 0) → ((a : A) → P a → Q a) → IfSome o P → IfSome o Q
 if_some None P Q f p = p

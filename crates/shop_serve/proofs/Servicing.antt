@@ -23,7 +23,7 @@ use Rattle.shop_serve.specs.Clients.{is_unanswered, unanswered, StopsAt, TakesAn
 use Rattle.shop_serve.specs.Serving.{Advances, HasServed, IsAnsweredThen}
 use Rattle.shop_serve.specs.Times.{Times, Stands, StandsUntil, Reports}
 use Rattle.shop_serve.proofs.Slots.{answered-of, has-answer, has-neither, has-query, one_of, unanswered-of, unanswered-updates}
-use Rattle.shop_serve.proofs.Turns.{stays, one_advances}
+use Rattle.shop_serve.proofs.ServedRequests.{stays, one_advances}
 
 if_some_at : {A : Type 0} (o : Option A) (P Q : A → Type 0) → ((a : A) → o ≡ Some a → P a → Q a) → IfSome o P → IfSome o Q
 if_some_at None P Q f p = p

@@ -6,7 +6,7 @@ use Rattle.shop_serve.specs.declared.faults.ServeFault.{ServeFault}
 use Rattle.shop_serve.specs.declared.faults.ServeFault.TheVariants as faults
 use Rattle.shop_serve.specs.declared.sites.Site.{Site}
 use Rattle.shop_serve.specs.Serving.{IsUnserved}
-use Rattle.shop_serve.proofs.Turns.{none_served}
+use Rattle.shop_serve.proofs.ServedRequests.{none_served}
 
 module _ (site : Site) {B : Type 0} (book : Ghosts B) (here : B) (count : ℕ) where
   none_left : (fault : ServeFault) → IsUnserved site book here here count fault

@@ -45,7 +45,7 @@ module _ (site : Site) {B : Type 0} (book : Ghosts B) where
       IfSome client.task (λ t. WasAsked before after client.received.items (instance_in t.task))
       × IfSome client.answer (λ answer. WasAnswered before after client.received.items answer.items)
 
--- where none is open at first, each that is open after the turns has its own
+-- where none is open at first, each that is open after the rounds has its own
 abbrev pub EachHasItsOwn : {C : Type 0} → ConnectionGhosts C → Site → {B : Type 0} → Ghosts B → {P : Type 0} → PortGhosts P C → Type 0
 EachHasItsOwn {C} connection site {B} book port =
     (rounds : List (Round C)) (first last : Slab (Client C)) (before after : B) (seen seeing : Times) → AreRounds connection site book port rounds first last before after seen seeing

@@ -1,4 +1,4 @@
--- The turns of a server: which connections a port reports and gives, and what is done with them.
+-- The rounds of a server: which connections a port reports and gives, and what is done with them.
 use Rattle.std.specs.Prelude.{◌≡◌, ◌≤◌, ◌⊎◌, ℕ, List, [], ◌∷◌, length, Option, None, true}
 use Rattle.std.specs.List.{flat_map}
 use Rattle.slab.specs.Slab.{Slab, get, slab_len}
@@ -13,7 +13,7 @@ use Rattle.shop_serve.specs.Times.{Adds, Looks, Times, Reports, ReportsNone}
 use Rattle.shop_serve.specs.Clients.{AreServiced, ClosesLate, IsOpened, IsTurnedAway}
 use Rattle.shop_serve.specs.RunningTask.{StepsSearch}
 
--- a turn of a server: the keys that were reported, when those that had their time were closed, and the connections that came
+-- a round of a server: the keys that were reported, when those that had their time were closed, and the connections that came
 pub record Round (C : Type 0) : Type 0 where
   pub now : Instant
   pub keys : List ℕ
@@ -39,7 +39,7 @@ module _ {C : Type 0} {P : Type 0} (port : PortGhosts P C) where
 
 module _ {C : Type 0} (connection : ConnectionGhosts C) (site : Site) {B : Type 0} (book : Ghosts B) {P : Type 0} (port : PortGhosts P C) where
   -- Those that are reported are serviced, one after another; the time is read, and those that had theirs are closed; a query
-  -- takes one search step, where there is any; those that come are received, and nothing is done for them before the next turn.
+  -- takes one search step, where there is any; those that come are received, and nothing is done for them before the next round.
   pub record IsRound (round : Round C) (old new : Slab (Client C)) (before after : B) (seen seeing : Times) : Type 0 where
     pub serviced : Slab (Client C)
     pub mid : B
@@ -54,20 +54,20 @@ module _ {C : Type 0} (connection : ConnectionGhosts C) (site : Site) {B : Type 
     pub steps_search : StepsSearch connection site book round.now kept task mid after second third
     pub received : AreReceived port round.arrived task new third seeing
 
-  -- turn after turn; before each it was looked, and the store's names led to the files that are open
+  -- round after round; before each it was looked, and the store's names led to the files that are open
   abbrev pub AreRounds : List (Round C) → Slab (Client C) → Slab (Client C) → B → B → (seen seeing : Times) → Type 0
   AreRounds [] old new before after seen seeing = (new ≡ old) × (after ≡ before) × ReportsNone seen seeing
   AreRounds (round ∷ rounds) old new before after seen seeing =
       (clients : Slab (Client C)) × (mid : B) × (between : Times) × ((looked : Times) × Looks seen looked true × IsRound round old clients before mid looked between)
       × AreRounds rounds clients new mid after between seeing
 
-  -- where none is open at first, no more are after the turns than may be
+  -- where none is open at first, no more are after the rounds than may be
   abbrev pub FewAreOpen : Type 0
   FewAreOpen =
       (rounds : List (Round C)) (first last : Slab (Client C)) (before after : B) (seen seeing : Times) → AreRounds rounds first last before after seen seeing
       → ((key : ℕ) → get first key ≡ None) → slab_len last ≤ MAX_CLIENTS
 
-  -- As many connections came as the limit says, and each is closed: each key that was reported was serviced, turn after turn,
+  -- As many connections came as the limit says, and each is closed: each key that was reported was serviced, round after round,
   -- and each connection that was given was received. The time was read where that says so, and nowhere else.
   pub record HasServedAll (limit : ℕ) (earlier later : Option (List ℕ)) (given giving : Option (List C)) (before after : B) (seen seeing : Times) : Type 0 where
     pub rounds : List (Round C)

@@ -1,4 +1,4 @@
--- Searching beside serving: one search step a turn, of the query of one connection.
+-- Searching beside serving: one search step a round, of the query of one connection.
 use Rattle.std.specs.Prelude.{◌≡◌, ◌≢◌, ◌⊎◌, ◌<◌, ◌-◌, ℕ, Bool, true, Some, None, IsSome, Vec}
 use Rattle.std.specs.declared.alloc.Global.{Global}
 use Rattle.std.specs.declared.time.Instant.{Instant}

@@ -64,7 +64,7 @@ asks_message (faulty f) = false
 asks_message (asking route text) = is_message route
 
 -- What was served: the bytes that came of a connection, what was done, and the bytes that were made of it.
-pub record Turn : Type 0 where
+pub record ServedRequest : Type 0 where
   pub input : List ℕ
   pub handling : Handling
   pub answer : List ℕ
@@ -83,8 +83,8 @@ IsHandling site input answer (copied body outcome) =
     HasRuling site.guard input Routed × ParsesTo input (asking Backup body) × (answer ≡ answer_bytes (backup_answer outcome))
 
 -- some bytes came, and this is what was done with them
-abbrev pub IsTurn : Site → Turn → Type 0
-IsTurn site t = (0 < length t.input) × IsHandling site t.input t.answer t.handling
+abbrev pub IsServedRequest : Site → ServedRequest → Type 0
+IsServedRequest site t = (0 < length t.input) × IsHandling site t.input t.answer t.handling
 
 -- so many entries are in a content, where a number is reported
 abbrev pub IsCount : Content → Option ℕ → Type 0
@@ -106,7 +106,7 @@ exchange_of (begun body query instance) = []
 exchange_of (copied body outcome) = []
 
 -- the messages among them, each with its reply
-abbrev pub exchanges : List Turn → List (ShopMessage × Reply)
+abbrev pub exchanges : List ServedRequest → List (ShopMessage × Reply)
 exchanges = flat_map (λ t. exchange_of t.handling)
 
 -- a failed store is reported; a backup that wasn't made reports nothing of the store
@@ -127,23 +127,23 @@ pub record IsServedOnce {B : Type 0} (book : Ghosts B) (before after : B) (old :
   pub blame : ReportsFailure handling → StoreFailed (book.failed before) (book.failed after)
 
 -- one after another, each of which came as some bytes, over the book that the one before it left
-abbrev pub InTurn : Site → {B : Type 0} → Ghosts B → B → Content → List Turn → B → Content → Type 0
-InTurn site book before old [] after new = (after ≡ before) × (new ≡ old)
-InTurn site {B} book before old (t ∷ ts) after new =
-    (mid : B) × (m : Content) × IsTurn site t × IsServedOnce book before mid old t.handling m × InTurn site book mid m ts after new
+abbrev pub ServedInOrder : Site → {B : Type 0} → Ghosts B → B → Content → List ServedRequest → B → Content → Type 0
+ServedInOrder site book before old [] after new = (after ≡ before) × (new ≡ old)
+ServedInOrder site {B} book before old (t ∷ ts) after new =
+    (mid : B) × (m : Content) × IsServedRequest site t × IsServedOnce book before mid old t.handling m × ServedInOrder site book mid m ts after new
 
 -- a failed store is reported only where it failed meanwhile
-abbrev pub ReportOfFailures : List Turn → ℕ → ℕ → Type 0
-ReportOfFailures served before after = (t : Turn) → IsIn t served → ReportsFailure t.handling → StoreFailed before after
+abbrev pub ReportOfFailures : List ServedRequest → ℕ → ℕ → Type 0
+ReportOfFailures served before after = (t : ServedRequest) → IsIn t served → ReportsFailure t.handling → StoreFailed before after
 
 -- The book held old and holds next, and at most so many requests led from one to the other, over a chain of books. A crash leaves
 -- what it may leave after the messages among them. A failed store was reported about only where it failed. Where a history gives old, one
 -- with each message that was accepted, once, gives next, and this is its account.
-pub record HasServedTurns (site : Site) {B : Type 0} (book : Ghosts B) (before after : B) (old : Content) (count : ℕ) : Type 0 where
-  pub served : List Turn
+pub record HasServedRequests (site : Site) {B : Type 0} (book : Ghosts B) (before after : B) (old : Content) (count : ℕ) : Type 0 where
+  pub served : List ServedRequest
   pub few : length served ≤ count
   pub next : Content
-  pub run : InTurn site book before old served after next
+  pub run : ServedInOrder site book before old served after next
   pub held : book.holds after next
   pub sound : IsSound json_texts next
   pub crash : ExchangesLead book before after old (exchanges served) next
@@ -154,7 +154,7 @@ pub record HasServedTurns (site : Site) {B : Type 0} (book : Ghosts B) (before a
 -- at most so many requests were served by a book: each sound content that one with a clean disk held led to one that it holds
 -- now
 abbrev pub HasServed : Site → {B : Type 0} → Ghosts B → B → B → ℕ → Type 0
-HasServed site book before after count = OnContent book before after (λ m. IsSound json_texts m → HasServedTurns site book before after m count)
+HasServed site book before after count = OnContent book before after (λ m. IsSound json_texts m → HasServedRequests site book before after m count)
 
 -- a number fell from one to another, and at most as many requests were served as it fell by
 abbrev pub Advances : Site → {B : Type 0} → Ghosts B → B → B → ℕ → ℕ → Type 0

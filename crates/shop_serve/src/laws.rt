@@ -16,12 +16,12 @@ pub(crate) fn whole_is_answered<C: Connection, B: Book>()
     ensures { (site : SiteGhost) → WholeIsAnswered C.Connection site B.Book }
 {}
 
-/// Turn after turn, from none open on, at most 256 connections are open.
+/// Round after round, from none open on, at most 256 connections are open.
 pub(crate) fn few_are_open<C: Connection, P: Port<C>, B: Book>()
     ensures { (site : SiteGhost) → FewAreOpen C.Connection site B.Book P.Port }
 {}
 
-/// Turn after turn, from none open on, each open connection has its own: what is searched for it is what its own bytes ask
+/// Round after round, from none open on, each open connection has its own: what is searched for it is what its own bytes ask
 /// of the content that the book had when they were read, and its answer is the one to its own bytes.
 pub(crate) fn each_has_its_own<C: Connection, P: Port<C>, B: Book>()
     ensures { (site : SiteGhost) → EachHasItsOwn C.Connection site B.Book P.Port }

@@ -1,4 +1,4 @@
-//! Queries that are searched beside serving: one of them, once a turn.
+//! Queries that are searched beside serving: one of them, once a round.
 
 ghost use Rattle.std.specs.Prelude.{◌≡◌, ◌≢◌, ◌≤◌, ℕ, None, true, false, IfOk, IfSome, IsSome, string_bytes};
 ghost use Rattle.std.specs.Duration.{as_nanos};

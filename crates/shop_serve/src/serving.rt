@@ -1,4 +1,4 @@
-//! The turns of a server: it waits, services connections, closes late ones, takes one search step of a query and accepts those that
+//! The rounds of a server: it waits, services connections, closes late ones, takes one search step of a query and accepts those that
 //! wait.
 
 ghost use Rattle.std.specs.Prelude.{◌≡◌, ◌≤◌, ◌+◌, ◌⊎◌, ℕ, List, length, IfErr, IfSome, OnOk};
@@ -31,12 +31,12 @@ use std::time::{Clock, Duration};
 const MAX_ACCEPTED: u32 = 64;
 
 // How many seconds are waited at most before it is looked which connections have had their time.
-const TURN: u64 = 1;
+const MAX_WAIT: u64 = 1;
 
 /// How many connections are served without a limit.
 pub const MAX_SERVED: u64 = u64::MAX;
 
-// Opens a connection. The next turn services it, behind its own look at the store's names.
+// Opens a connection. The next round services it, behind its own look at the store's names.
 fn receive<C: Drop, P: Port<C>, K: Watch>(
     alloc: Global,
     port: &mut P,
@@ -55,7 +55,7 @@ fn receive<C: Drop, P: Port<C>, K: Watch>(
     let _ = open_client(alloc, port, stream, now, clients);
 }
 
-// Accepts the connections that wait, up to a limit, and gives how long the next turn may wait. None can be accepted for good
+// Accepts the connections that wait, up to a limit, and gives how long the next round may wait. None can be accepted for good
 // where it is `None`.
 fn accept_waiting<C: Drop, P: Port<C>, K: Watch>(
     alloc: Global,
@@ -75,14 +75,14 @@ fn accept_waiting<C: Drop, P: Port<C>, K: Watch>(
 {
     for _ in 0..MAX_ACCEPTED {
         if *accepted >= limit {
-            return Some(Duration::from_secs(TURN));
+            return Some(Duration::from_secs(MAX_WAIT));
         }
         if !can_open_one(clients) {
-            return Some(Duration::from_secs(TURN));
+            return Some(Duration::from_secs(MAX_WAIT));
         }
         let stream = match port.accept() {
             Ok(Some(stream)) => stream,
-            Ok(None) => return Some(Duration::from_secs(TURN)),
+            Ok(None) => return Some(Duration::from_secs(MAX_WAIT)),
             Err(_) => return None,
         };
         *accepted += 1;
@@ -111,9 +111,9 @@ fn service_reported<C: Connection + Drop, K: Watch, B: Book>(
     }
 }
 
-// One turn: services what is reported, closes what had its time, takes one search step of a query, and accepts what waits, to which
-// the next turn services. Gives how long that one may wait, or `None` where none can be accepted for good.
-fn turn<C: Connection + Drop, P: Port<C>, K: Watch, B: Book>(
+// One round: services what is reported, closes what had its time, takes one search step of a query, and accepts what waits, to which
+// the next round services. Gives how long that one may wait, or `None` where none can be accepted for good.
+fn serve_round<C: Connection + Drop, P: Port<C>, K: Watch, B: Book>(
     alloc: Global,
     site: &Site,
     port: &mut P,
@@ -165,7 +165,7 @@ fn serve_port<C: Connection + Drop, P: Port<C>, K: Watch, B: Book>(
 {
     let mut clients = Slab::new(alloc);
     let mut accepted = 0u64;
-    let mut wait = Duration::from_secs(TURN);
+    let mut wait = Duration::from_secs(MAX_WAIT);
     for _ in 0..u64::MAX {
         if accepted >= limit && clients.is_empty() {
             return Ok(());
@@ -177,7 +177,7 @@ fn serve_port<C: Connection + Drop, P: Port<C>, K: Watch, B: Book>(
         if !watch.is_in_place() {
             return Err(ServeFault::Moved);
         }
-        match turn(
+        match serve_round(
             alloc,
             site,
             port,
@@ -213,7 +213,7 @@ fn most_served(limit: Option<u32>) -> u64
 ///
 /// `NoMemory` before the first connection; `Port` where none can be accepted for good, or waited for, and `Moved` where the names
 /// of the store lead to other files than at first, and then the rest isn't served.
-#[tactic(auto, using(crate::proofs::Turns::none_served))]
+#[tactic(auto, using(crate::proofs::ServedRequests::none_served))]
 pub fn serve_on<R: Net + Clock + Eprint + Files, B: Book>(
     rt: &R,
     alloc: Global,

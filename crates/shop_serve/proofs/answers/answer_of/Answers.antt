@@ -1,5 +1,5 @@
 use Rattle.std.proofs.Common.{◌∙◌, inr, refl, sym}
-use Rattle.shop_serve.proofs.Turns.{no_route, one_ruled}
+use Rattle.shop_serve.proofs.ServedRequests.{no_route, one_ruled}
 use Rattle.shop_serve.proofs.Dated.{unrouted_timed}
 use Rattle.shop_serve.proofs.answers.answer_of.Goals as goal
 

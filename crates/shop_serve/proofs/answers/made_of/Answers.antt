@@ -1,7 +1,7 @@
 use Rattle.std.proofs.Common.{subst, sym}
 use Rattle.shop_serve.specs.Making.{IsMadeMeanwhile, IsNext}
 use Rattle.shop_serve.proofs.Dated.{read_timed}
-use Rattle.shop_serve.proofs.Turns.{made-alone}
+use Rattle.shop_serve.proofs.ServedRequests.{made-alone}
 use Rattle.shop_serve.proofs.answers.made_of.Goals as goal
 
 pub returns-in-Made-clause-made : goal.returns-in-Made-clause-made

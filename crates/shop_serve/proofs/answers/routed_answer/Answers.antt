@@ -1,7 +1,7 @@
 use Rattle.std.proofs.Common.{◌∙◌, ap, sym, refl, Some, Ok, []}
 use Rattle.shop_planning.specs.PlanTasks.{instance_in}
 use Rattle.shop_request.specs.Requests.{parse_of}
-use Rattle.shop_serve.proofs.Turns.{backup_asked, none_served, one_begun, one_served}
+use Rattle.shop_serve.proofs.ServedRequests.{backup_asked, none_served, one_begun, one_served}
 use Rattle.shop_serve.proofs.Dated.{backup_timed, routed_timed}
 use Rattle.shop_serve.proofs.answers.routed_answer.Goals as goal
 

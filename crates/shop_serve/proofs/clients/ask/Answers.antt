@@ -9,7 +9,7 @@ use Rattle.shop_serve.specs.Making.{IsAsked, IsMadeMeanwhile}
 use Rattle.shop_serve.specs.Serving.{IsAnsweredThen}
 use Rattle.shop_serve.specs.Times.{StandsUntil}
 use Rattle.shop_serve.proofs.Servicing.{made-asked, made-own, made-timed, made-whole}
-use Rattle.shop_serve.proofs.Turns.{none_served}
+use Rattle.shop_serve.proofs.ServedRequests.{none_served}
 use Rattle.shop_serve.proofs.clients.ask.Goals as goal
 
 pub made_of-requires-clause-head : goal.made_of-requires-clause-head

@@ -1,7 +1,7 @@
 use Rattle.std.proofs.Common.{◌≡◌, None, rules}
 use Rattle.std.specs.Prelude.{IsSome}
 use Rattle.shop_serve.proofs.Servicing.{serviced-first, spoiled-first, spoiled-on}
-use Rattle.shop_serve.proofs.Turns.{none_served}
+use Rattle.shop_serve.proofs.ServedRequests.{none_served}
 use Rattle.shop_serve.proofs.clients.service.Goals as goal
 
 pub returns-then-is_some-clause-one : goal.returns-then-is_some-clause-one

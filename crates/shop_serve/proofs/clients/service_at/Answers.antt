@@ -2,7 +2,7 @@ use Rattle.std.proofs.Common.{◌≡◌, None, inl, refl, sym, rules, arith}
 use Rattle.slab.specs.Slab.{get}
 use Rattle.shop_serve.specs.Clients.{unanswered}
 use Rattle.shop_serve.specs.declared.clients.ConnectionStatus.TheVariants as status
-use Rattle.shop_serve.proofs.Turns.{none_served, stays}
+use Rattle.shop_serve.proofs.ServedRequests.{none_served, stays}
 use Rattle.shop_serve.proofs.Servicing.{advances-stays, advances-closed, serviced-closed, serviced-stays}
 use Rattle.shop_serve.proofs.clients.service_at.Goals as goal
 

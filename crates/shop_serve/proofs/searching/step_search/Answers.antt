@@ -1,6 +1,6 @@
 use Rattle.std.proofs.Common.{inl, refl, arith}
 use Rattle.shop_serve.specs.Clients.{unanswered}
-use Rattle.shop_serve.proofs.Turns.{stays}
+use Rattle.shop_serve.proofs.ServedRequests.{stays}
 use Rattle.shop_serve.proofs.searching.step_search.Goals as goal
 
 pub returns-in_default-clause-steps_search : goal.returns-in_default-clause-steps_search

@@ -4,7 +4,7 @@ use Rattle.shop_serve.specs.Clients.{unanswered}
 use Rattle.shop_serve.specs.Times.{Adds, Looks}
 use Rattle.shop_serve.proofs.Gathered.{rounds-none, rounds-all, rounds-one}
 use Rattle.shop_serve.proofs.Slots.{none-open, unanswered-empty}
-use Rattle.shop_serve.proofs.Turns.{stays, advances_more, advanced}
+use Rattle.shop_serve.proofs.ServedRequests.{stays, advances_more, advanced}
 use Rattle.shop_serve.proofs.serving.serve_port.Goals as goal
 
 pub loop-init : goal.loop-init
@@ -19,16 +19,16 @@ loop-init g c =
 pub loop-preserved : goal.loop-preserved
 loop-preserved g c =
     let so_far = c.loop.invariant in
-    let more = c.turn.ensures in
+    let more = c.serve_round.ensures in
     record {
-      all = rounds-one g.C.Connection c.args.site.now g.B.Book _ (g.P.Port.all_reported c.args.port.now) (g.P.Port.all_reported c.loop.port) (g.P.Port.all_reported c.turn.new.port) (g.P.Port.given c.args.port.now) (g.P.Port.given c.loop.port) (g.P.Port.given c.turn.new.port)
-          c.loop.accepted c.turn.new.accepted c.new-clients.result c.loop.clients c.turn.new.clients c.args.book.now c.loop.book c.turn.new.book
-          (g.K.Watch.times c.args.watch.now) (g.K.Watch.times c.loop.watch) (g.K.Watch.times c.is_in_place.new.self) (g.K.Watch.times c.turn.new.watch) more.round.3.0 (g.P.Port.reported c.wait.new.self) more.round.0
+      all = rounds-one g.C.Connection c.args.site.now g.B.Book _ (g.P.Port.all_reported c.args.port.now) (g.P.Port.all_reported c.loop.port) (g.P.Port.all_reported c.serve_round.new.port) (g.P.Port.given c.args.port.now) (g.P.Port.given c.loop.port) (g.P.Port.given c.serve_round.new.port)
+          c.loop.accepted c.serve_round.new.accepted c.new-clients.result c.loop.clients c.serve_round.new.clients c.args.book.now c.loop.book c.serve_round.new.book
+          (g.K.Watch.times c.args.watch.now) (g.K.Watch.times c.loop.watch) (g.K.Watch.times c.is_in_place.new.self) (g.K.Watch.times c.serve_round.new.watch) more.round.3.0 (g.P.Port.reported c.wait.new.self) more.round.0
           (subst (λ t. Adds (g.P.Port.all_reported c.loop.port) t (g.P.Port.reported c.wait.new.self)) (sym more.reported) c.in-Ok.ensures.reported)
-          (subst (λ t. Adds t (g.P.Port.given c.turn.new.port) more.round.0) c.wait.ensures.given more.round.2)
+          (subst (λ t. Adds t (g.P.Port.given c.serve_round.new.port) more.round.0) c.wait.ensures.given more.round.2)
           more.round.1 (subst (Looks (g.K.Watch.times c.loop.watch) (g.K.Watch.times c.is_in_place.new.self)) c.if-not-is_in_place.false c.is_in_place.ensures) more.round.3.1 so_far.all;
-      run = advances_more c.args.site.now g.B.Book c.args.book.now c.loop.book c.turn.new.book c.loop.accepted (unanswered c.loop.clients)
-          (unanswered c.loop.clients + c.turn.new.accepted) (unanswered c.turn.new.clients + c.loop.accepted) c.turn.new.accepted (unanswered c.turn.new.clients) (omega arith) more.clean_disk so_far.run more.run;
+      run = advances_more c.args.site.now g.B.Book c.args.book.now c.loop.book c.serve_round.new.book c.loop.accepted (unanswered c.loop.clients)
+          (unanswered c.loop.clients + c.serve_round.new.accepted) (unanswered c.serve_round.new.clients + c.loop.accepted) c.serve_round.new.accepted (unanswered c.serve_round.new.clients) (omega arith) more.clean_disk so_far.run more.run;
       bound = more.bound;
       clean_disk = λ clean_disk. so_far.clean_disk (more.clean_disk clean_disk);
     }
@@ -63,13 +63,13 @@ returns-clause-served g c =
 pub returns-in-None-clause-served : goal.returns-in-None-clause-served
 returns-in-None-clause-served g c =
     let so_far = c.loop.invariant in
-    let more = c.turn.ensures in
-    advanced c.args.site.now g.B.Book c.args.book.now c.turn.new.book c.turn.new.accepted (unanswered c.turn.new.clients) c.args.limit more.bound
-    (advances_more c.args.site.now g.B.Book c.args.book.now c.loop.book c.turn.new.book c.loop.accepted (unanswered c.loop.clients)
-    (unanswered c.loop.clients + c.turn.new.accepted) (unanswered c.turn.new.clients + c.loop.accepted) c.turn.new.accepted (unanswered c.turn.new.clients) (omega arith) more.clean_disk so_far.run more.run)
+    let more = c.serve_round.ensures in
+    advanced c.args.site.now g.B.Book c.args.book.now c.serve_round.new.book c.serve_round.new.accepted (unanswered c.serve_round.new.clients) c.args.limit more.bound
+    (advances_more c.args.site.now g.B.Book c.args.book.now c.loop.book c.serve_round.new.book c.loop.accepted (unanswered c.loop.clients)
+    (unanswered c.loop.clients + c.serve_round.new.accepted) (unanswered c.serve_round.new.clients + c.loop.accepted) c.serve_round.new.accepted (unanswered c.serve_round.new.clients) (omega arith) more.clean_disk so_far.run more.run)
 
 pub returns-in-None-clause-clean_disk : goal.returns-in-None-clause-clean_disk
-returns-in-None-clause-clean_disk g c clean_disk = c.loop.invariant.clean_disk (c.turn.ensures.clean_disk clean_disk)
+returns-in-None-clause-clean_disk g c clean_disk = c.loop.invariant.clean_disk (c.serve_round.ensures.clean_disk clean_disk)
 
 pub returns-then-not-is_in_place-clause-served : goal.returns-then-not-is_in_place-clause-served
 returns-then-not-is_in_place-clause-served g c =

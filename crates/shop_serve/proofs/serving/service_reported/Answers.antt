@@ -1,7 +1,7 @@
 use Rattle.std.proofs.Common.{sym, subst, arith}
 use Rattle.std.proofs.lemmas.List.{drop_more}
 use Rattle.shop_serve.specs.Clients.{AreServiced, unanswered}
-use Rattle.shop_serve.proofs.Turns.{stays, advances_more}
+use Rattle.shop_serve.proofs.ServedRequests.{stays, advances_more}
 use Rattle.shop_serve.proofs.serving.service_reported.Goals as goal
 
 pub loop-key-init : goal.loop-key-init

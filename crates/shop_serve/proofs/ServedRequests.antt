@@ -28,7 +28,7 @@ use Rattle.shop_serve.specs.declared.answers.Made.TheVariants.{Answer, PlanTask}
 use Rattle.shop_serve.specs.Making.{IsMadeOf, IsMadeMeanwhile}
 use Rattle.shop_serve.specs.declared.sites.Site.{Site}
 use Rattle.shop_serve.specs.Sites.{is_routed, own_bytes}
-use Rattle.shop_serve.specs.Serving.{Turn, Handling, HandlingStep, IsCounted, IsServedOnce, routed, ruled, begun, copied, InTurn, asks_backup, is_backup, IsAnswered, IsAnsweredThen, IsBackupAnswer, exchange_of, exchanges, ReportsFailure, ReportOfFailures, HasServed, Advances}
+use Rattle.shop_serve.specs.Serving.{ServedRequest, Handling, HandlingStep, IsCounted, IsServedOnce, routed, ruled, begun, copied, ServedInOrder, asks_backup, is_backup, IsAnswered, IsAnsweredThen, IsBackupAnswer, exchange_of, exchanges, ReportsFailure, ReportOfFailures, HasServed, Advances}
 
 -- what goes to its route, and what doesn't
 pub is_route : (r : Ruling) → is_routed r ≡ true → r ≡ Routed
@@ -85,15 +85,15 @@ backup_asked received silent e has = absurd (cc e)
 backup_asked received (faulty f) e has = absurd (cc e)
 backup_asked received (asking route text) e has = (text, subst (λ r. ParsesTo received (asking r text)) (is_for_backup route e) has)
 
-turns-append : (site : Site) {B : Type 0} (book : Ghosts B) (before mid after : B) (old m new : Content) (ss ts : List Turn)
-    → InTurn site book before old ss mid m → InTurn site book mid m ts after new → InTurn site book before old (ss ++ ts) after new
-turns-append site book before mid after old m new [] ts run more =
-    subst (λ b. InTurn site book b old ts after new) run.0 (subst (λ (c : Content). InTurn site book mid c ts after new) run.1 more)
-turns-append site book before mid after old m new (s ∷ ss) ts run more =
-    (run.0, run.1, run.2, run.3, turns-append site book run.0 mid after run.1 m new ss ts run.4 more)
+served-append : (site : Site) {B : Type 0} (book : Ghosts B) (before mid after : B) (old m new : Content) (ss ts : List ServedRequest)
+    → ServedInOrder site book before old ss mid m → ServedInOrder site book mid m ts after new → ServedInOrder site book before old (ss ++ ts) after new
+served-append site book before mid after old m new [] ts run more =
+    subst (λ b. ServedInOrder site book b old ts after new) run.0 (subst (λ (c : Content). ServedInOrder site book mid c ts after new) run.1 more)
+served-append site book before mid after old m new (s ∷ ss) ts run more =
+    (run.0, run.1, run.2, run.3, served-append site book run.0 mid after run.1 m new ss ts run.4 more)
 
--- turns, and then more of them
-blame-append : (a b c : ℕ) (ss ts : List Turn) → CountsUp a b → CountsUp b c → ReportOfFailures ss a b → ReportOfFailures ts b c → ReportOfFailures (ss ++ ts) a c
+-- rounds, and then more of them
+blame-append : (a b c : ℕ) (ss ts : List ServedRequest) → CountsUp a b → CountsUp b c → ReportOfFailures ss a b → ReportOfFailures ts b c → ReportOfFailures (ss ++ ts) a c
 blame-append a b c [] ts up next first second t i e = failed_last a b c up (second t i e) next
 blame-append a b c (s ∷ ss) ts up next first second t (inl is) e = failed_first a b c (first t (inl is) e) next
 blame-append a b c (s ∷ ss) ts up next first second t (inr i) e = blame-append a b c ss ts up next (λ t i. first t (inr i)) second t i e
@@ -131,11 +131,11 @@ module _ (site : Site) {B : Type 0} (book : Ghosts B) where
   served_once before after input old new unwritten some goes up s clean_disk m held sound =
       let response = s.2.response in
       let done = s.2.run.run clean_disk m held sound in
-      let turn : Turn = record { input = input; handling = routed s.0 response; answer = s.2.bytes } in
+      let served_one : ServedRequest = record { input = input; handling = routed s.0 response; answer = s.2.bytes } in
       let once : IsServedOnce book before after m (routed s.0 response) done.next =
       record { step = done.step; clean_disk = clean_disk; held = done.held; crash = done.crash; failures = up; blame = done.blame } in
       record {
-        served = turn ∷ [];
+        served = served_one ∷ [];
         few = omega arith;
         next = done.next;
         run = (after, done.next, (some, (goes, s.1, (unwritten, s.2.reported))), once, (refl, refl));
@@ -143,7 +143,7 @@ module _ (site : Site) {B : Type 0} (book : Ghosts B) where
         sound = done.sound;
         crash = subst (λ es. ExchangesLead book before after m es done.next) (sym (append-nil (exchanged s.0 response))) done.crash;
         failures = up;
-        blame = λ t i e. elim i [ inl is ↦ done.blame (subst (λ (t : Turn). ReportsFailure t.handling) is e) | inr none ↦ absurd none ];
+        blame = λ t i e. elim i [ inl is ↦ done.blame (subst (λ (t : ServedRequest). ReportsFailure t.handling) is e) | inr none ↦ absurd none ];
         account = subst (λ es. HasAccount json_texts m (map (λ e. e.0) es) (map (λ e. e.1) es) done.next) (sym (append-nil (exchanged s.0 response))) done.account;
       }
 
@@ -163,11 +163,11 @@ module _ (site : Site) {B : Type 0} (book : Ghosts B) where
       → IsBegun book before after (Some input) instance → HasServed site book before after 1
   begun_once before after input instance some goes up b clean_disk m held sound =
       let done = b.run clean_disk m held sound in
-      let turn : Turn = record { input = input; handling = begun b.body b.query instance; answer = [] } in
+      let served_one : ServedRequest = record { input = input; handling = begun b.body b.query instance; answer = [] } in
       let once : IsServedOnce book before after m (begun b.body b.query instance) m =
       record { step = (refl, done.1); clean_disk = clean_disk; held = done.0; crash = (refl, b.keeps.crash clean_disk m held); failures = up; blame = λ none. absurd none } in
       record {
-        served = turn ∷ [];
+        served = served_one ∷ [];
         few = omega arith;
         next = m;
         run = (after, m, (some, (goes, b.parsed, b.asks, refl)), once, (refl, refl));
@@ -175,7 +175,7 @@ module _ (site : Site) {B : Type 0} (book : Ghosts B) where
         sound = sound;
         crash = (refl, b.keeps.crash clean_disk m held);
         failures = up;
-        blame = λ t i e. elim i [ inl is ↦ absurd (subst (λ (t : Turn). ReportsFailure t.handling) is e) | inr none ↦ absurd none ];
+        blame = λ t i e. elim i [ inl is ↦ absurd (subst (λ (t : ServedRequest). ReportsFailure t.handling) is e) | inr none ↦ absurd none ];
         account = account_same json_texts m m refl;
       }
 
@@ -186,17 +186,17 @@ module _ (site : Site) {B : Type 0} (book : Ghosts B) where
   -- a backup was made or not, and this came of it
   pub one_copied : (here : B) (input answer : List ℕ) (outcome : Result ℕ Refusal) → 0 < length input → IsBackupAnswer site input answer outcome → HasServed site book here here 1
   one_copied here input answer outcome some is clean_disk m held sound =
-      let turn : Turn = record { input = input; handling = copied is.0.1.0 outcome; answer = answer } in
+      let served_one : ServedRequest = record { input = input; handling = copied is.0.1.0 outcome; answer = answer } in
       record {
-        served = turn ∷ [];
+        served = served_one ∷ [];
         few = omega arith;
         next = m;
-        run = (here, m, (some, (is.0.0, is.0.1.1, is.1)), once_same here m turn.handling refl clean_disk held refl (λ none. none), (refl, refl));
+        run = (here, m, (some, (is.0.0, is.0.1.1, is.1)), once_same here m served_one.handling refl clean_disk held refl (λ none. none), (refl, refl));
         held = held;
         sound = sound;
         crash = (refl, λ left it. it);
         failures = inl refl;
-        blame = λ t i e. elim i [ inl is ↦ absurd (subst (λ (t : Turn). ReportsFailure t.handling) is e) | inr none ↦ absurd none ];
+        blame = λ t i e. elim i [ inl is ↦ absurd (subst (λ (t : ServedRequest). ReportsFailure t.handling) is e) | inr none ↦ absurd none ];
         account = account_same json_texts m m refl;
       }
 
@@ -220,7 +220,7 @@ module _ (site : Site) {B : Type 0} (book : Ghosts B) where
       → IsCounted book before after entries → HasServed site book before after 1
   one_ruled before after input r entries some rules other counted clean_disk m held sound =
       let holds : book.holds after m = counted.0.stays clean_disk m held in
-      let turn : Turn = record { input = input; handling = ruled r entries; answer = own_bytes site entries r } in
+      let served_one : ServedRequest = record { input = input; handling = ruled r entries; answer = own_bytes site entries r } in
       let once : IsServedOnce book before after m (ruled r entries) m =
       record {
         step = (refl, counted.1 clean_disk m held);
@@ -231,7 +231,7 @@ module _ (site : Site) {B : Type 0} (book : Ghosts B) where
         blame = λ none. absurd none;
       } in
       record {
-        served = turn ∷ [];
+        served = served_one ∷ [];
         few = omega arith;
         next = m;
         run = (after, m, (some, (rules, other, refl)), once, (refl, refl));
@@ -239,7 +239,7 @@ module _ (site : Site) {B : Type 0} (book : Ghosts B) where
         sound = sound;
         crash = (refl, counted.0.crash clean_disk m held);
         failures = counted.0.failures;
-        blame = λ t i e. elim i [ inl is ↦ absurd (subst (λ (t : Turn). ReportsFailure t.handling) is e) | inr none ↦ absurd none ];
+        blame = λ t i e. elim i [ inl is ↦ absurd (subst (λ (t : ServedRequest). ReportsFailure t.handling) is e) | inr none ↦ absurd none ];
         account = account_same json_texts m m refl;
       }
 
@@ -252,14 +252,14 @@ module _ (site : Site) {B : Type 0} (book : Ghosts B) where
         served = first.served ++ second.served;
         few = omega (arith, length-append first.served second.served, first.few, second.few);
         next = second.next;
-        run = turns-append site book before mid after m first.next second.next first.served second.served first.run second.run;
+        run = served-append site book before mid after m first.next second.next first.served second.served first.run second.run;
         held = second.held;
         sound = second.sound;
-        crash = subst (λ es. ExchangesLead book before after m es second.next) (sym (flat_map-append (λ (t : Turn). exchange_of t.handling) first.served second.served))
+        crash = subst (λ es. ExchangesLead book before after m es second.next) (sym (flat_map-append (λ (t : ServedRequest). exchange_of t.handling) first.served second.served))
             (leads_join json_texts book.stands (book.may_leave before) (book.may_leave mid) (book.may_leave after) m first.next second.next (exchanges first.served) (exchanges second.served) first.crash second.crash);
         failures = up_more (book.failed before) (book.failed mid) (book.failed after) first.failures second.failures;
         blame = blame-append (book.failed before) (book.failed mid) (book.failed after) first.served second.served first.failures second.failures first.blame second.blame;
-        account = subst (λ es. HasAccount json_texts m (map (λ e. e.0) es) (map (λ e. e.1) es) second.next) (sym (flat_map-append (λ (t : Turn). exchange_of t.handling) first.served second.served))
+        account = subst (λ es. HasAccount json_texts m (map (λ e. e.0) es) (map (λ e. e.1) es) second.next) (sym (flat_map-append (λ (t : ServedRequest). exchange_of t.handling) first.served second.served))
             (account_more json_texts m first.next second.next (exchanges first.served) (exchanges second.served) first.account second.account);
       }
 

@@ -1,7 +1,7 @@
 use Rattle.std.proofs.Common.{◌+◌, subst, arith}
 use Rattle.shop_serve.specs.Clients.{AreServiced, unanswered}
-use Rattle.shop_serve.proofs.Turns.{advances_more, advances_within}
-use Rattle.shop_serve.proofs.serving.turn.Goals as goal
+use Rattle.shop_serve.proofs.ServedRequests.{advances_more, advances_within}
+use Rattle.shop_serve.proofs.serving.serve_round.Goals as goal
 
 pub returns-clause-round : goal.returns-clause-round
 returns-clause-round g c =
