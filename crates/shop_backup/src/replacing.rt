@@ -11,7 +11,7 @@ use shop_advice::{StoreCause, kind_cause};
 use shop_streams::Counted;
 use std::alloc::{AllocError, Global};
 use std::fs::{self, File, Files, Metadata, OpenFile, OpenOptions, Permissions};
-use std::io::{self, ErrorKind};
+use std::io::{self, ErrorKind, Write};
 use std::os::unix::fs::{MetadataExt, OpenOptionsExt, PermissionsExt};
 
 /// What a book reports about its entries.
@@ -269,6 +269,25 @@ fn copy_file<R: Files>(
     }
 }
 
+// Writes a byte to a file, and has it on the disk.
+fn write_byte<R: Files>(rt: &R, path: &str) -> io::Result<()> {
+    let mut file = OpenOptions::new().write(true).open(rt, path)?;
+    file.write_all(&[0])?;
+    file.sync_all()
+}
+
+// Gives a log without a byte one, which is part of no commit. A start takes a log without a byte and without a store for nothing.
+fn mark_log<R: Files>(rt: &R, path: &str) -> Result<(), RestoreFault> {
+    match found_at(rt, path)? {
+        Some(found) if found.len() == 0 => (),
+        _ => return Ok(()),
+    }
+    match write_byte(rt, path) {
+        Ok(()) => Ok(()),
+        Err(error) => Err(failed(&error)),
+    }
+}
+
 // The place of a store among files; the backup's store, once it was judged; the files that were there, held so that no program
 // opens them; and whether the store's own file has the log's name, since no log was there.
 #[derive(Drop)]
@@ -350,7 +369,11 @@ impl<'a, R: Files, J: Judges> Replacing<'a, R, J> {
         let to = self.paths.new_name(which);
         free_name(self.rt, to)?;
         let access = self.access(store)?;
-        copy_file(self.rt, from, to, access.as_ref())
+        copy_file(self.rt, from, to, access.as_ref())?;
+        match which {
+            StoreFile::Store => Ok(()),
+            StoreFile::Log => mark_log(self.rt, to),
+        }
     }
 
     // Renames a file, and has that on the disk.

@@ -1,5 +1,5 @@
 -- Advice that fits a refusal.
-use Rattle.std.proofs.Common.{◌≡◌, subst, sym, Option, Some, None}
+use Rattle.std.proofs.Common.{◌≡◌, refl, subst, sym, Option, Some, None}
 use Rattle.std.specs.Prelude.{IfSome}
 use Rattle.shop_records.specs.declared.refusals.Refusal.{Refusal}
 use Rattle.shop_records.specs.declared.refusals.Refusal.TheVariants as refusal
@@ -38,12 +38,16 @@ step_help : (r : Refusal) (found : Option Advice) → IsOfStep r → IfSome foun
 step_help r None of is = tt
 step_help r (Some a) of is = record { fits = helps r a.cause of is.helps; about = is.about; word = is.word }
 
-pub large_help : (r : Refusal) (found : Option Advice) → r ≡ refusal.TableTooLarge → IfSome found IsStepHelp
-    → IfSome found (IsAdviceOf (Refused r))
-large_help r found is = step_help r found (subst IsOfStep (sym is) tt)
+pub of_help : (r : Refusal) (found : Option Advice) → IfSome found IsStepHelp → IsOfStep r → IfSome found (IsAdviceOf (Refused r))
+of_help r found is of = step_help r found of is
 
-pub bad_help : (r : Refusal) (found : Option Advice) → r ≡ refusal.BadStep → IfSome found IsStepHelp → IfSome found (IsAdviceOf (Refused r))
-bad_help r found is = step_help r found (subst IsOfStep (sym is) tt)
+pub large_help : (r : Refusal) (found : Option Advice) → r ≡ refusal.TableTooLarge → (IsOfStep r → IfSome found (IsAdviceOf (Refused r)))
+    → IfSome found (IsAdviceOf (Refused r))
+large_help r found is fits = fits (subst IsOfStep (sym is) tt)
+
+pub bad_help : (r : Refusal) (found : Option Advice) → r ≡ refusal.BadStep → (IsOfStep r → IfSome found (IsAdviceOf (Refused r)))
+    → IfSome found (IsAdviceOf (Refused r))
+bad_help r found is fits = fits (subst IsOfStep (sym is) tt)
 
 -- an advice of a cause that fits
 pub fitting : (fault : Fault) (c : Cause) (found : Option Advice) → FitsFault fault c → IfSome found (IsOf c) → IfSome found (IsAdviceOf fault)
@@ -54,3 +58,7 @@ fitting fault c (Some a) fits of = record { fits = subst (FitsFault fault) (sym 
 pub of_step : (c : Cause) (found : Option Advice) → HelpsStep c → IfSome found (IsOf c) → IfSome found IsStepHelp
 of_step c None is of = tt
 of_step c (Some a) is of = record { helps = subst HelpsStep (sym of.cause) is; about = of.about; word = of.word }
+
+-- an advice of the refusal alone
+pub of_refused : (r : Refusal) (found : Option Advice) → IfSome found (IsOf (cause.Refused r)) → IfSome found (IsAdviceOf (Refused r))
+of_refused r found of = fitting (Refused r) (cause.Refused r) found refl of

@@ -116,6 +116,9 @@ fn refused_text(refusal: Refusal) -> &'static str
         Refusal::BadWant => {
             "it has too many kinds of pieces; write at most 40, and 100 with --whole"
         }
+        Refusal::TableTooLarge | Refusal::BadStep => {
+            "it can't be read again; write it to a file to be told what helps"
+        }
         Refusal::NoMemory => "memory ran out",
         Refusal::StoreFault => {
             "the store failed, or its rows contradict each other; look at its disk"
@@ -414,8 +417,8 @@ fn refused_advice<R: Reads>(
 {
     let name = first_name(request);
     match refusal {
-        Refusal::TableTooLarge => step_advice(rt, alloc, request, name),
-        Refusal::BadStep => step_advice(rt, alloc, request, name),
+        Refusal::TableTooLarge => step_advice(rt, alloc, request, name, refusal),
+        Refusal::BadStep => step_advice(rt, alloc, request, name, refusal),
         other => plain_advice(alloc, request, is_new, other),
     }
 }

@@ -1,7 +1,7 @@
 //! What helps where a plan is refused.
 
 ghost use Rattle.std.specs.Prelude.{◌≡◌, IfSome};
-ghost use Rattle.shop_commands.specs.Advice.{IsStepHelp};
+ghost use Rattle.shop_commands.specs.Advice.{IsAdviceOf, IsOfStep, IsStepHelp};
 ghost use Rattle.shop_commands.specs.Advice as spec;
 ghost use Rattle.shop_commands.specs.declared.faults.Fault.TheVariants as fault;
 
@@ -13,9 +13,13 @@ use shop_problems::{StepHelp, Steps, help_of_all, help_of_one};
 use shop_records::Refusal;
 use shop_words::Request;
 use std::alloc::Global;
+use std::fs;
 
-// The problem of a file, as it is now.
+// The problem of a file, as it is now. None where it can't be read again: what came through a pipe is gone.
 fn problem_of<R: Reads>(rt: &R, alloc: Global, file: &str) -> Option<Problem> {
+    if !fs::metadata(rt, file).ok()?.is_file() {
+        return None;
+    }
     let bytes = read_file(rt, alloc, file).ok()?;
     read_cgcut(alloc, &bytes).ok()
 }
@@ -49,21 +53,33 @@ fn steps_advice(alloc: Global, file: &str, steps: Steps) -> Option<Advice>
     advice_of(alloc, file, Cause::Steps, word.as_str())
 }
 
-/// What helps where a plan of a file is refused for its step, or as it is too large: the steps that serve it, `--whole`, or a
-/// shorter bar. None because memory ran out, and where the file can't be read any more.
+// An advice of what helps.
 #[tactic(auto, using(crate::proofs::StepAdvice::of_step))]
+fn help_advice(alloc: Global, file: &str, help: StepHelp) -> Option<Advice>
+    ensures { IfSome result IsStepHelp }
+{
+    match help {
+        StepHelp::Whole => advice_of(alloc, file, Cause::Whole, ""),
+        StepHelp::ShorterBar => advice_of(alloc, file, Cause::LongBar, ""),
+        StepHelp::Steps(steps) => steps_advice(alloc, file, steps),
+    }
+}
+
+/// What helps where a plan of a file is refused for its step, or as it is too large: the steps that serve it, `--whole`, or a
+/// shorter bar; or to write the problem to a file, if it can't be read again. None because memory ran out.
+#[tactic(auto, using(crate::proofs::StepAdvice::of_help, crate::proofs::StepAdvice::of_refused))]
 pub(crate) fn step_advice<R: Reads>(
     rt: &R,
     alloc: Global,
     request: &Request<'_>,
     file: &str,
+    refusal: Refusal,
 ) -> Option<Advice>
-    ensures { IfSome result IsStepHelp }
+    ensures { IsOfStep refusal → IfSome result (IsAdviceOf (fault.Refused refusal)) }
 {
-    match step_help(rt, alloc, request)? {
-        StepHelp::Whole => advice_of(alloc, file, Cause::Whole, ""),
-        StepHelp::ShorterBar => advice_of(alloc, file, Cause::LongBar, ""),
-        StepHelp::Steps(steps) => steps_advice(alloc, file, steps),
+    match step_help(rt, alloc, request) {
+        Some(help) => help_advice(alloc, file, help),
+        None => advice_of(alloc, file, Cause::Refused(refusal), ""),
     }
 }
 

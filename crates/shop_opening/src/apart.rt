@@ -1,13 +1,13 @@
 //! The book of a store that is read into memory and opened there, so that neither file changes by a byte.
 
-ghost use Rattle.std.specs.Prelude.{◌≡◌, IfOk, IfSome, IsTrue};
+ghost use Rattle.std.specs.Prelude.{◌≡◌, IfOk, IsTrue};
 ghost use Rattle.sqlite.specs.Files.{image_of};
 ghost use Rattle.sqlite_disk.specs.Memory.{memory_bytes, memory_is_usable};
 ghost use Rattle.shop_opening.specs.Openings.{IsBookApart, IsOpenedOn, pair_image};
 
 use crate::before::{
-    Head, LookFault, head_of, is_bound_in, is_hot, kind_fault, lock_alone, look_at_log,
-    look_before_apart, look_without_log, open_alone, refused, rows_in,
+    Head, LookFault, content_of, head_of, if_there, is_bound_in, is_hot, lock_alone, look_at_log,
+    look_before_apart, look_without_log, looked, memory_of, open_alone, refused, rows_in,
 };
 use crate::made::Made;
 use crate::stores::{OpenAs, OpenFault, Opens, adopt_fault, look_fault};
@@ -17,9 +17,8 @@ use shop_book::{Book, Ledger};
 use shop_store::SqlBook;
 use sqlite::{Connection, Error, ErrorCode, FileStore, Files, Options};
 use sqlite_disk::{Disk, Memory};
-use std::alloc::Global;
+use std::alloc::{AllocError, Global};
 use std::fs::{self, File};
-use std::io::ErrorKind;
 
 /// A book over copies of a store's files in memory.
 pub type ApartBook = SqlBook<FileStore<Memory>>;
@@ -31,29 +30,20 @@ pub struct Pair {
     pub log: Vec<u8>,
 }
 
-// What a file holds.
-fn content_of(rt: &HostRuntime, path: &str) -> Result<Vec<u8>, LookFault> {
-    match fs::read(rt, path) {
-        Ok(bytes) => Ok(bytes),
-        Err(error) => Err(kind_fault(error.kind())),
-    }
-}
-
 // What the log of a store with this head holds: nothing, where there is none, and the store has no byte.
 fn log_of(rt: &HostRuntime, alloc: Global, path: &str, head: &Head) -> Result<Vec<u8>, LookFault> {
     let name = format!(in alloc; "{path}-wal")?;
-    match fs::symlink_metadata(rt, name.as_str()) {
-        Ok(found) if found.is_file() => {
+    match if_there(fs::symlink_metadata(rt, name.as_str()))? {
+        Some(it) if it.is_file() => {
             let log = content_of(rt, name.as_str())?;
             look_at_log(head, &log)?;
             Ok(log)
         }
-        Ok(_) => refused(StoreCause::NotPlain),
-        Err(error) if error.kind() == ErrorKind::NotFound => {
+        Some(_) => refused(StoreCause::NotPlain),
+        None => {
             look_without_log(head)?;
             Ok(Vec::new(alloc))
         }
-        Err(error) => Err(kind_fault(error.kind())),
     }
 }
 
@@ -65,15 +55,13 @@ fn read_locked(
     file: &mut File,
     length: u64,
 ) -> Result<Pair, LookFault> {
-    let Some(head) = head_of(file, length) else {
-        return refused(StoreCause::Failed);
-    };
+    let head = head_of(file, length)?;
     if head.is_other() {
         return refused(StoreCause::OtherForm);
     }
     let log = log_of(rt, alloc, path, &head)?;
     let store = content_of(rt, path)?;
-    if is_bound_in(alloc, &log, &store) {
+    if is_bound_in(alloc, &log, &store)? {
         return refused(StoreCause::Bound);
     }
     Ok(Pair { store, log })
@@ -81,16 +69,11 @@ fn read_locked(
 
 // Opens a store's file that no other program has open: where this account may write it, not even one that reads; nothing is written.
 fn open_quietly(rt: &HostRuntime, path: &str) -> Result<File, LookFault> {
-    if let Some(file) = open_alone(rt, path)? {
-        return Ok(file);
-    }
-    let file = match File::open(rt, path) {
-        Ok(file) => file,
-        Err(error) => return Err(kind_fault(error.kind())),
-    };
-    match lock_alone(file, RangeLock::Shared)? {
-        Some(file) => Ok(file),
-        None => refused(StoreCause::Failed),
+    match open_alone(rt, path) {
+        Err(LookFault::Store(StoreCause::NotAllowed | StoreCause::ReadOnly)) => {
+            lock_alone(looked(File::open(rt, path))?, RangeLock::Shared)
+        }
+        opened => opened,
     }
 }
 
@@ -106,11 +89,10 @@ fn read_plain(rt: &HostRuntime, alloc: Global, path: &str, length: u64) -> Resul
 
 // Reads both files of a store under the name to which no link leads any more.
 fn read_at(rt: &HostRuntime, alloc: Global, path: &str) -> Result<Pair, LookFault> {
-    match fs::metadata(rt, path) {
-        Ok(found) if found.is_file() => read_plain(rt, alloc, path, found.len()),
-        Ok(found) if found.is_dir() => refused(StoreCause::Folder),
-        Ok(_) => refused(StoreCause::NotPlain),
-        Err(error) => Err(kind_fault(error.kind())),
+    match looked(fs::metadata(rt, path))? {
+        it if it.is_file() => read_plain(rt, alloc, path, it.len()),
+        it if it.is_dir() => refused(StoreCause::Folder),
+        _ => refused(StoreCause::NotPlain),
     }
 }
 
@@ -168,26 +150,16 @@ fn open_over<D: Disk + Drop>(
     }
 }
 
-// A file in memory that holds these bytes. None because memory ran out.
-fn memory_of(alloc: Global, bytes: &[u8]) -> Option<Memory>
-    ensures usable { IfSome result (λ file. IsTrue (memory_is_usable file)) }
-    ensures bytes { IfSome result (λ file. memory_bytes file ≡ bytes.now) }
-{
-    let mut file = Memory::new(alloc);
-    file.write_at(0, bytes).ok()?;
-    Some(file)
-}
-
-// Files in memory that hold a pair. None because memory ran out.
-fn files_of(alloc: Global, pair: &Pair) -> Option<Files<Memory>>
-    ensures log { IfSome result (λ files. IsTrue (memory_is_usable files.log)) }
-    ensures db { IfSome result (λ files. IsTrue (memory_is_usable files.db)) }
-    ensures logged { IfSome result (λ files. memory_bytes files.log ≡ pair.now.log.items) }
-    ensures stored { IfSome result (λ files. memory_bytes files.db ≡ pair.now.store.items) }
+// Files in memory that hold a pair.
+fn files_of(alloc: Global, pair: &Pair) -> Result<Files<Memory>, AllocError>
+    ensures log { IfOk result (λ files. IsTrue (memory_is_usable files.log)) }
+    ensures db { IfOk result (λ files. IsTrue (memory_is_usable files.db)) }
+    ensures logged { IfOk result (λ files. memory_bytes files.log ≡ pair.now.log.items) }
+    ensures stored { IfOk result (λ files. memory_bytes files.db ≡ pair.now.store.items) }
 {
     let log = memory_of(alloc, &pair.log)?;
     let db = memory_of(alloc, &pair.store)?;
-    Some(Files { log, db })
+    Ok(Files { log, db })
 }
 
 /// Opens the book of a pair of files that were read, in memory, where tables of version 1 or 2 become tables of version 3.
@@ -200,23 +172,18 @@ pub fn open_pair(alloc: Global, pair: &Pair) -> Result<ApartBook, OpenFault>
 {
     let is_database = pair.store.starts_with(b"SQLite format 3\0");
     match files_of(alloc, pair) {
-        Some(files) => open_over(alloc, files, is_database),
-        None => Err(OpenFault::NoMemory),
+        Ok(files) => open_over(alloc, files, is_database),
+        Err(_) => Err(OpenFault::NoMemory),
     }
 }
 
 // Whether a database in memory has none of a shop's tables. Of one that can't be opened the open reports why.
-fn is_foreign(alloc: Global, pair: &Pair) -> bool {
-    let Some(files) = files_of(alloc, pair) else {
-        return false;
-    };
-    match rows_in(
-        alloc,
-        files,
-        "SELECT name FROM sqlite_master WHERE name = 'meta'",
-    ) {
-        Some(rows) => rows.is_empty(),
-        None => false,
+fn is_foreign(alloc: Global, pair: &Pair) -> Result<bool, AllocError> {
+    let files = files_of(alloc, pair)?;
+    let sql = "SELECT name FROM sqlite_master WHERE name = 'meta'";
+    match rows_in(alloc, files, sql)? {
+        Some(rows) => Ok(rows.is_empty()),
+        None => Ok(false),
     }
 }
 
@@ -235,10 +202,14 @@ fn open_shop(alloc: Global, pair: &Pair, existing: bool) -> Result<ApartBook, Op
         book.storage.conn book.storage.remembered book.ledger book.failures) }
 {
     let opened = open_pair(alloc, pair);
-    if existing && may_be_foreign(alloc, &opened) && is_foreign(alloc, pair) {
-        return Err(OpenFault::Version(VersionCause::Foreign));
+    if !existing || !may_be_foreign(alloc, &opened) {
+        return opened;
     }
-    opened
+    match is_foreign(alloc, pair) {
+        Ok(true) => Err(OpenFault::Version(VersionCause::Foreign)),
+        Ok(false) => opened,
+        Err(_) => Err(OpenFault::NoMemory),
+    }
 }
 
 /// Opens the book of a store in memory, and changes neither of its files: `read_pair`, and `open_pair`. With `existing` a database

@@ -1,12 +1,12 @@
 //! What is looked at before a store is opened. Its files are only read.
 
-ghost use Rattle.std.specs.Prelude.{IsTrue};
-ghost use Rattle.sqlite_disk.specs.Memory.{memory_is_usable};
+ghost use Rattle.std.specs.Prelude.{◌≡◌, IfOk, IsTrue};
+ghost use Rattle.sqlite_disk.specs.Memory.{memory_bytes, memory_is_usable};
 
 use crate::logs::{LogState, log_state};
 use os::RangeLock;
 use shop_advice::{StoreCause, kind_cause};
-use sqlite::{Connection, Files, Options, Row};
+use sqlite::{Connection, Error, ErrorCode, Files, Options, Row};
 use sqlite_disk::{Disk, Memory};
 use sqlite_schema::names::same_name;
 use std::alloc::{AllocError, Global};
@@ -104,47 +104,46 @@ pub(crate) fn refused<T>(cause: StoreCause) -> Result<T, LookFault> {
     Err(LookFault::Store(cause))
 }
 
-// What the system answered. Where memory ran out, that is handed on: no answer stands for it.
-fn answered<T>(answer: io::Result<T>) -> Result<io::Result<T>, LookFault> {
+/// What the system answered. A store that can't be looked at isn't opened, since it may be one that is refused.
+pub(crate) fn looked<T>(answer: io::Result<T>) -> Result<T, LookFault> {
     match answer {
-        Ok(found) => Ok(Ok(found)),
-        Err(error) => match error.kind() {
-            ErrorKind::OutOfMemory => Err(LookFault::NoMemory),
-            _ => Ok(Err(error)),
-        },
+        Ok(found) => Ok(found),
+        Err(error) => Err(kind_fault(error.kind())),
     }
 }
 
-/// Opens a store's file alone, as an open by the port does. None where that can't be, which the port reports then.
-pub(crate) fn open_alone(rt: &HostRuntime, path: &str) -> Result<Option<File>, LookFault> {
-    match answered(OpenOptions::new().read(true).write(true).open(rt, path))? {
-        Ok(file) => lock_alone(file, RangeLock::Exclusive),
-        Err(_) => Ok(None),
+/// What the system found under a name, if anything has it.
+pub(crate) fn if_there<T>(answer: io::Result<T>) -> Result<Option<T>, LookFault> {
+    match answer {
+        Ok(found) => Ok(Some(found)),
+        Err(error) if error.kind() == ErrorKind::NotFound => Ok(None),
+        Err(error) => Err(kind_fault(error.kind())),
     }
+}
+
+/// Opens a store's file alone, as an open by the port does.
+pub(crate) fn open_alone(rt: &HostRuntime, path: &str) -> Result<File, LookFault> {
+    let file = looked(OpenOptions::new().read(true).write(true).open(rt, path))?;
+    lock_alone(file, RangeLock::Exclusive)
 }
 
 // Locks a store's file as long as it is open, as SQLite and the port do. Another program that looks at it has it open, too: what it
 // refuses isn't to be opened behind its back.
-pub(crate) fn lock_alone(file: File, lock: RangeLock) -> Result<Option<File>, LookFault> {
+pub(crate) fn lock_alone(file: File, lock: RangeLock) -> Result<File, LookFault> {
     if os::try_lock_range(file.as_raw_fd(), lock, 1 << 30, 512) == 0 {
-        return Ok(Some(file));
+        return Ok(file);
     }
     match io::Error::from_raw_os_error(os::errno()).kind() {
         ErrorKind::WouldBlock => refused(StoreCause::InUse),
-        _ => Ok(None),
+        kind => Err(kind_fault(kind)),
     }
 }
 
 // The head of a file of this length.
-pub(crate) fn head_of(file: &mut File, length: u64) -> Option<Head> {
+pub(crate) fn head_of(file: &mut File, length: u64) -> Result<Head, LookFault> {
     let mut bytes = [0u8; HEAD];
-    let _count = file.read(&mut bytes).ok()?;
-    Some(Head { bytes, length })
-}
-
-// What a file holds. None where it can't be read, which the port reports then.
-fn bytes_of(rt: &HostRuntime, path: &str) -> Result<Option<Vec<u8>>, LookFault> {
-    Ok(answered(fs::read(rt, path))?.ok())
+    let _count = looked(file.read(&mut bytes))?;
+    Ok(Head { bytes, length })
 }
 
 // How many letters of a word were found, once this byte was read behind so many of them. No letter of it is its first again.
@@ -223,42 +222,79 @@ fn binds(kind: &str, table: &str, text: &str) -> bool {
         || (kind == "view" && names_table(text.as_bytes(), table))
 }
 
+/// A file in memory that holds these bytes.
+pub(crate) fn memory_of(alloc: Global, bytes: &[u8]) -> Result<Memory, AllocError>
+    ensures usable { IfOk result (λ file. IsTrue (memory_is_usable file)) }
+    ensures bytes { IfOk result (λ file. memory_bytes file ≡ bytes.now) }
+{
+    let mut file = Memory::new(alloc);
+    match file.write_at(0, bytes) {
+        Ok(()) => Ok(file),
+        Err(_) => Err(AllocError),
+    }
+}
+
+// What a database in memory gives. None where the port refuses it. A file in memory fails because memory ran out alone.
+fn given<T>(answer: Result<T, Error>) -> Result<Option<T>, AllocError> {
+    match answer {
+        Ok(found) => Ok(Some(found)),
+        Err(Error::SqliteFailure(ErrorCode::OutOfMemory | ErrorCode::SystemIoFailure)) => {
+            Err(AllocError)
+        }
+        Err(_) => Ok(None),
+    }
+}
+
 /// The rows that a statement finds in the database of files in memory. None where the port can't open it, or can't run the
 /// statement.
-pub(crate) fn rows_in(alloc: Global, files: Files<Memory>, sql: &str) -> Option<Vec<Row>>
+pub(crate) fn rows_in(
+    alloc: Global,
+    files: Files<Memory>,
+    sql: &str,
+) -> Result<Option<Vec<Row>>, AllocError>
     requires log { IsTrue (memory_is_usable files.log) }
     requires db { IsTrue (memory_is_usable files.db) }
 {
-    let mut conn = Connection::open_files(alloc, files, Options::new(1)).ok()?;
-    conn.query_all(sql, &[]).ok()
+    let mut conn = match Connection::open_files(alloc, files, Options::new(1)) {
+        Ok(conn) => conn,
+        Err((error, _left)) => return given(Err(error)),
+    };
+    given(conn.query_all(sql, &[]))
 }
 
-// Whether the database of a log and a store has a trigger or a view on a shop's tables. It is opened in memory, where the port can
-// do that.
-fn is_bound_open(alloc: Global, log: &[u8], store: &[u8]) -> Option<bool> {
-    let mut files = Files {
-        log: Memory::new(alloc),
-        db: Memory::new(alloc),
-    };
-    files.log.write_at(0, log).ok()?;
-    files.db.write_at(0, store).ok()?;
-    if !files.may_be_used() {
-        return None;
+// Whether a row is of a trigger or a view on a shop's tables. None where its values are of other types.
+fn row_binds(row: &Row) -> Result<Option<bool>, AllocError> {
+    let kind: Option<String> = given(row.get(0))?;
+    let table: Option<String> = given(row.get(1))?;
+    let text: Option<Option<String>> = given(row.get(2))?;
+    match (kind, table, text) {
+        (Some(kind), Some(table), Some(text)) => Ok(Some(binds(
+            kind.as_str(),
+            table.as_str(),
+            text.as_deref().unwrap_or(""),
+        ))),
+        _ => Ok(None),
     }
-    let rows = rows_in(
-        alloc,
-        files,
-        "SELECT type, tbl_name, sql FROM sqlite_master",
-    )?;
+}
+
+// Whether the database of a log and a store has a trigger or a view on a shop's tables. It is opened in memory; None where the port
+// can't do that.
+fn is_bound_open(alloc: Global, log: &[u8], store: &[u8]) -> Result<Option<bool>, AllocError> {
+    let files = Files {
+        log: memory_of(alloc, log)?,
+        db: memory_of(alloc, store)?,
+    };
+    let sql = "SELECT type, tbl_name, sql FROM sqlite_master";
+    let Some(rows) = rows_in(alloc, files, sql)? else {
+        return Ok(None);
+    };
     for row in &rows {
-        let kind: String = row.get(0).ok()?;
-        let table: String = row.get(1).ok()?;
-        let text: Option<String> = row.get(2).ok()?;
-        if binds(kind.as_str(), table.as_str(), text.as_deref().unwrap_or("")) {
-            return Some(true);
+        match row_binds(row)? {
+            Some(false) => (),
+            bound => return Ok(bound),
         }
     }
-    Some(false)
+    Ok(Some(false))
 }
 
 // The text that begins with these bytes, up to the first that no line of a statement has.
@@ -284,16 +320,25 @@ fn has_bound_view(bytes: &[u8]) -> bool {
 
 // Whether the database of a log and a store has a trigger or a view on a shop's tables. There are views that SQLite reads and the
 // port doesn't; for these the bytes are searched.
-fn is_bound(alloc: Global, log: &[u8], store: &[u8]) -> bool {
-    match is_bound_open(alloc, log, store) {
-        Some(bound) => bound,
-        None => has_bound_view(log) || has_bound_view(store),
+fn is_bound(alloc: Global, log: &[u8], store: &[u8]) -> Result<bool, AllocError> {
+    match is_bound_open(alloc, log, store)? {
+        Some(bound) => Ok(bound),
+        None => Ok(has_bound_view(log) || has_bound_view(store)),
     }
 }
 
 /// Whether the database of a log and a store, where it is one, has a trigger or a view on a shop's tables.
-pub(crate) fn is_bound_in(alloc: Global, log: &[u8], store: &[u8]) -> bool {
-    (may_bind(log) || may_bind(store)) && is_bound(alloc, log, store)
+pub(crate) fn is_bound_in(alloc: Global, log: &[u8], store: &[u8]) -> Result<bool, AllocError> {
+    if may_bind(log) || may_bind(store) {
+        is_bound(alloc, log, store)
+    } else {
+        Ok(false)
+    }
+}
+
+/// What a file holds.
+pub(crate) fn content_of(rt: &HostRuntime, path: &str) -> Result<Vec<u8>, LookFault> {
+    looked(fs::read(rt, path))
 }
 
 // Looks for triggers and views on a shop's tables, where the bytes may have some.
@@ -304,13 +349,11 @@ fn look_for_bonds(
     file: &mut File,
     log: &[u8],
 ) -> Result<(), LookFault> {
-    if !may_bind(log) && !rest_may_bind(file).unwrap_or(false) {
+    if !may_bind(log) && !looked(rest_may_bind(file))? {
         return Ok(());
     }
-    let Some(store) = bytes_of(rt, path)? else {
-        return Ok(());
-    };
-    if is_bound(alloc, log, &store) {
+    let store = content_of(rt, path)?;
+    if is_bound(alloc, log, &store)? {
         refused(StoreCause::Bound)
     } else {
         Ok(())
@@ -350,14 +393,12 @@ fn look_inside(
         return refused(StoreCause::OtherForm);
     }
     let log = format!(in alloc; "{path}-wal")?;
-    match answered(fs::symlink_metadata(rt, log.as_str()))? {
-        Ok(found) if found.is_file() => (),
-        Err(error) if error.kind() == ErrorKind::NotFound => return look_without_log(head),
-        _ => return Ok(Found::Files),
+    match if_there(fs::symlink_metadata(rt, log.as_str()))? {
+        Some(it) if it.is_file() => (),
+        Some(_) => return Ok(Found::Files),
+        None => return look_without_log(head),
     }
-    let Some(log) = bytes_of(rt, log.as_str())? else {
-        return Ok(Found::Files);
-    };
+    let log = content_of(rt, log.as_str())?;
     let found = look_at_log(head, &log)?;
     if head.is_database() {
         look_for_bonds(rt, alloc, path, file, &log)?;
@@ -365,52 +406,42 @@ fn look_inside(
     Ok(found)
 }
 
-// Whether a journal has something to play back. One that can't be read may have.
+// Whether a journal has something to play back.
 fn has_entries(rt: &HostRuntime, journal: &str) -> Result<bool, LookFault> {
     let mut first = [0u8];
-    let Ok(mut file) = answered(File::open(rt, journal))? else {
-        return Ok(true);
-    };
-    match file.read(&mut first) {
-        Ok(count) => Ok(count == 1 && first[0] != 0),
-        Err(_) => Ok(true),
-    }
+    let mut file = looked(File::open(rt, journal))?;
+    Ok(looked(file.read(&mut first))? == 1 && first[0] != 0)
 }
 
 // Whether something has the name of a rollback journal that the port doesn't pass over.
 pub(crate) fn is_hot(rt: &HostRuntime, journal: &str) -> Result<bool, LookFault> {
-    match answered(fs::symlink_metadata(rt, journal))? {
-        Ok(found) if found.is_file() => has_entries(rt, journal),
-        Ok(_) => Ok(true),
-        Err(_) => Ok(false),
+    match if_there(fs::symlink_metadata(rt, journal))? {
+        Some(it) if it.is_file() => has_entries(rt, journal),
+        Some(_) => Ok(true),
+        None => Ok(false),
     }
 }
 
 // Looks at a store under the name to which no link leads any more.
 fn look_at_files(rt: &HostRuntime, alloc: Global, path: &str) -> Result<Found, LookFault> {
-    let length = match answered(fs::metadata(rt, path))? {
-        Ok(found) if found.is_file() => found.len(),
+    let length = match looked(fs::metadata(rt, path))? {
+        it if it.is_file() => it.len(),
         _ => return Ok(Found::Files),
     };
     let journal = format!(in alloc; "{path}-journal")?;
     if is_hot(rt, journal.as_str())? {
         return Ok(Found::Files);
     }
-    let Some(mut file) = open_alone(rt, path)? else {
-        return Ok(Found::Files);
-    };
-    match head_of(&mut file, length) {
-        Some(head) => look_inside(rt, alloc, path, &mut file, &head),
-        None => Ok(Found::Files),
-    }
+    let mut file = open_alone(rt, path)?;
+    let head = head_of(&mut file, length)?;
+    look_inside(rt, alloc, path, &mut file, &head)
 }
 
-// Looks at what has a store's name.
-fn look_at_name(rt: &HostRuntime, alloc: Global, path: &str) -> Result<Found, LookFault> {
-    match answered(fs::canonicalize(rt, path))? {
-        Ok(real) => look_at_files(rt, alloc, real.as_str()),
-        Err(error) if error.kind() == ErrorKind::NotFound => refused(StoreCause::DanglingLink),
-        Err(_) => Ok(Found::Files),
+// The name to which no link leads any more, of what has a store's name.
+fn real_name(rt: &HostRuntime, path: &str) -> Result<PathBuf, LookFault> {
+    match if_there(fs::canonicalize(rt, path))? {
+        Some(real) => Ok(real),
+        None => refused(StoreCause::DanglingLink),
     }
 }
 
@@ -422,8 +453,8 @@ fn look_beside(
     existing: bool,
 ) -> Result<Found, LookFault> {
     let log = format!(in alloc; "{path}-wal")?;
-    match answered(fs::symlink_metadata(rt, log.as_str()))? {
-        Ok(found) if found.len() > 0 => refused(StoreCause::LoneLog),
+    match if_there(fs::symlink_metadata(rt, log.as_str()))? {
+        Some(it) if it.len() > 0 => refused(StoreCause::LoneLog),
         _ if existing => refused(StoreCause::Missing),
         _ => Ok(Found::Nothing),
     }
@@ -437,12 +468,12 @@ pub(crate) fn look_before(
     path: &str,
     existing: bool,
 ) -> Result<Found, LookFault> {
-    match answered(fs::symlink_metadata(rt, path))? {
-        Ok(_) => look_at_name(rt, alloc, path),
-        Err(error) if error.kind() == ErrorKind::NotFound => {
-            look_beside(rt, alloc, path, existing)
+    match if_there(fs::symlink_metadata(rt, path))? {
+        Some(_) => {
+            let real = real_name(rt, path)?;
+            look_at_files(rt, alloc, real.as_str())
         }
-        Err(_) => Ok(Found::Files),
+        None => look_beside(rt, alloc, path, existing),
     }
 }
 
@@ -452,17 +483,11 @@ pub(crate) fn look_before_apart(
     alloc: Global,
     path: &str,
 ) -> Result<PathBuf, LookFault> {
-    match fs::symlink_metadata(rt, path) {
-        Ok(_) => (),
-        Err(error) if error.kind() == ErrorKind::NotFound => {
+    match if_there(fs::symlink_metadata(rt, path))? {
+        Some(_) => real_name(rt, path),
+        None => {
             look_beside(rt, alloc, path, true)?;
-            return refused(StoreCause::Missing);
+            refused(StoreCause::Missing)
         }
-        Err(error) => return Err(kind_fault(error.kind())),
-    }
-    match fs::canonicalize(rt, path) {
-        Ok(real) => Ok(real),
-        Err(error) if error.kind() == ErrorKind::NotFound => refused(StoreCause::DanglingLink),
-        Err(error) => Err(kind_fault(error.kind())),
     }
 }
