@@ -3,6 +3,7 @@
 //
 //   FAULT_OF     memory (the program asks by malloc and realloc alone), read, write (of streams: all but standard error and
 //                the files below FAULT_UNDER), files (calls that change files there), looks (that open, lock or read them),
+//                glances (these, and calls that tell what has a name there, where its links lead, or read on in a file),
 //                port (that listen to one), accept, watch (that have a descriptor reported), wait (for a report), clock
 //                (that tell a time since some start), date (that tell the time since 1970) or disk (that tell what a file
 //                there is: it is told to be on another disk)
@@ -44,7 +45,7 @@ extern void *memset(void *, int, size_t);
 extern void *mmap(void *, size_t, int, int, int, long);
 extern void _exit(int) __attribute__((noreturn));
 
-enum { MEMORY = 1, READ, WRITE, FILES, LOOKS, PORT, ACCEPT, WATCH, WAIT, CLOCK, DATE, DISK };
+enum { MEMORY = 1, READ, WRITE, FILES, LOOKS, GLANCES, PORT, ACCEPT, WATCH, WAIT, CLOCK, DATE, DISK };
 enum { KEPT = 1, DROPPED, TORN, HALTED };
 enum { SECTOR = 512, MAX_PATHS = 64, MAX_NOTES = 1 << 16, MAX_NUMBERS = 1024, MAX_LENGTH = 512 };
 
@@ -81,11 +82,13 @@ static int places[MAX_NUMBERS];
 
 static void *(*real_malloc)(size_t);
 static void *(*real_realloc)(void *, size_t);
+static char *(*real_realpath)(const char *, char *);
 
 static void find_real(void) {
     void *next = (void *)-1L;
     real_malloc = dlsym(next, "malloc");
     real_realloc = dlsym(next, "realloc");
+    real_realpath = dlsym(next, "realpath");
 }
 
 static long number(const char *name, long other) {
@@ -102,7 +105,7 @@ static int word(const char *name, const char *const *words) {
 }
 
 __attribute__((constructor)) static void begin(void) {
-    static const char *const kinds[] = {"memory", "read", "write", "files", "looks", "port", "accept", "watch", "wait", "clock", "date", "disk", 0};
+    static const char *const kinds[] = {"memory", "read", "write", "files", "looks", "glances", "port", "accept", "watch", "wait", "clock", "date", "disk", 0};
     static const char *const stops[] = {"kept", "dropped", "torn", "halted", 0};
     static const char *const times[] = {"on", 0};
     find_real();
@@ -200,6 +203,8 @@ static int file_fails(void) {
 
 static int fails(int kind) { return is_hit(kind) && failed(error_number); }
 
+static int look_fails(void) { return fails(LOOKS) || fails(GLANCES); }
+
 static int is_below(int file) { return file >= 0 && file < MAX_NUMBERS && places[file]; }
 
 // Notes that a path is changed here, over so many bytes.
@@ -262,7 +267,7 @@ void *realloc(void *old, size_t size) {
 static size_t fewer(size_t count) { return most && count > (size_t)most ? (size_t)most : count; }
 
 long read(int file, void *to, size_t count) {
-    if (is_below(file)) return syscall(READ_CALL, file, to, count);
+    if (is_below(file)) return fails(GLANCES) ? -1 : syscall(READ_CALL, file, to, count);
     return fails(READ) ? -1 : syscall(READ_CALL, file, to, fewer(count));
 }
 
@@ -292,7 +297,7 @@ int open(const char *name, int flags, ...) {
     int mode = flags & O_CREAT ? __builtin_va_arg(rest, int) : 0;
     __builtin_va_end(rest);
     int is_there = is_under(name);
-    if (is_there && (flags & O_CREAT ? file_fails() : fails(LOOKS))) return -1;
+    if (is_there && (flags & O_CREAT ? file_fails() : look_fails())) return -1;
     int is_new = is_there && flags & O_CREAT && syscall(ACCESS_CALL, name, 0);
     int file = syscall(OPENAT_CALL, AT_FDCWD, name, flags, mode);
     if (file >= 0 && file < MAX_NUMBERS) {
@@ -309,7 +314,7 @@ int openat(int folder, const char *name, int flags, ...) {
     int mode = flags & O_CREAT ? __builtin_va_arg(rest, int) : 0;
     __builtin_va_end(rest);
     int is_there = folder == AT_FDCWD && is_under(name);
-    if (is_there && fails(LOOKS)) return -1;
+    if (is_there && look_fails()) return -1;
     int file = syscall(OPENAT_CALL, folder, name, flags, mode);
     if (file >= 0 && file < MAX_NUMBERS) places[file] = is_there ? place_of(name) + 1 : 0;
     return file;
@@ -325,11 +330,11 @@ int fcntl(int file, int what, ...) {
     __builtin_va_start(rest, what);
     long given = __builtin_va_arg(rest, long);
     __builtin_va_end(rest);
-    return is_below(file) && what == F_OFD_SETLK && fails(LOOKS) ? -1 : syscall(FCNTL_CALL, file, what, given);
+    return is_below(file) && what == F_OFD_SETLK && look_fails() ? -1 : syscall(FCNTL_CALL, file, what, given);
 }
 
 long pread(int file, void *to, size_t count, long place) {
-    if (is_below(file) && fails(LOOKS)) return -1;
+    if (is_below(file) && look_fails()) return -1;
     return syscall(PREAD_CALL, file, to, count, place);
 }
 
@@ -431,7 +436,10 @@ int clock_gettime(int which, void *to) {
     return result;
 }
 
+char *realpath(const char *name, char *to) { return is_under(name) && fails(GLANCES) ? 0 : real_realpath(name, to); }
+
 int statx(int folder, const char *name, int flags, unsigned mask, void *to) {
+    if (name && is_under(name) && fails(GLANCES)) return -1;
     int result = syscall(STATX_CALL, folder, name, flags, mask, to);
     if (!result && (is_below(folder) || (name && is_under(name))) && is_hit(DISK)) ((unsigned *)to)[STATX_DISK]++;
     return result;

@@ -43,7 +43,7 @@ def library():
 
 
 class Faults:
-    """Which calls fail: `of` memory, read, write, files, looks, port, accept, watch, wait, clock, date or disk, as faults.c says; the
+    """Which calls fail: `of` memory, read, write, files, looks, glances, port, accept, watch, wait, clock, date or disk, as faults.c says; the
     `at`-th, from 1 (0: none); once or from then `on`; with this error. Streams take at most `by` bytes a call. `stop`: the
     program ends there, with what wasn't synced kept, dropped or torn by a `seed`, or stands still there until it is told to go on
     (halted). `under` is the folder of the files, the case's own where none is given. `date`: the seconds since 1970 that the clock

@@ -152,18 +152,18 @@ def restores(trial):
     "refusal of such a log, and never a new store.",
 )
 def lone_logs(trial):
-    store = trial.path("shop.db")
-    tables.copy(stored(trial), store)
+    store = stored(trial)
     os.remove(store)
-    log = lies_there(store)
+    log = both(store)
     first = trial.run("audit", "--store", store)
     trial.equal((first.status, fault_in(first.err)), (1, b"fault store\n"), first)
 
     def run(faults):
-        shop = trial.shop("shop.db", environment=faults.environment)
+        shop = trial.shop(os.path.basename(store), environment=faults.environment)
         trial.equal((shop.is_open, shop.status), (False, 1), f"request {faults.at}")
-        trial.equal(fault_in(shop.errors) in (b"fault memory\n", b"fault store\n"), True, f"request {faults.at}: {shop.errors}")
-        trial.equal(lies_there(store) == log, True, f"request {faults.at}: the files")
+        # (memory for the second line may be what is refused)
+        trial.equal(shop.errors.startswith((b"fault memory\n", b"fault store\n")), True, f"request {faults.at}: {shop.errors}")
+        trial.equal(both(store), log, f"request {faults.at}: the files")
 
     sweep(trial, run, 1)
 

@@ -5,6 +5,8 @@ import os
 import re
 import shutil
 import subprocess
+import threading
+from pathlib import Path
 
 from kit import tables
 from kit.case import case
@@ -13,7 +15,7 @@ from kit.days import REFUSED
 from kit.earlier import made
 from kit.faults import Faults
 from kit.glass import GLASS as MATERIAL
-from kit.shop import answer, begin_line, end_line, request_of
+from kit.shop import SECONDS, answer, begin_line, end_line, request_of
 from kit.stores import numbers
 from kit.terminals import judged_by_modes
 from kit.whole_orders import yard_of
@@ -86,6 +88,30 @@ def problems(trial):
         for words in ((), ("--whole",)):
             ran = trial.run("plan", "p.txt", "--kerf", kerf, "--step", step, *words)
             trial.ended(ran, 1, err=f"{line}\n", why=why, sent=f"{text} {words}")
+
+
+@case(
+    "a problem that comes through a pipe",
+    "A problem through standard input or a named pipe is planned; if its step or its size is refused, the second line says to write it to a file, and "
+    "the program ends without a second look.",
+)
+def piped(trial):
+    good, why = "1 9 9 4 3 1 12", "it can't be read again; write it to a file to be told what helps"
+    pipe = trial.path("pipe.txt")
+    os.mkfifo(pipe)
+    for text, step, line in ((good, "1", ""), (good, "0", "refused 92 BadStep"), ("1 501 1 1 1 1 1", "1", "refused 91 TableTooLarge")):
+        for name in ("/dev/stdin", pipe):
+            # (the writer of the named pipe ends once the program has read it)
+            writer = threading.Thread(target=lambda text=text: Path(pipe).write_text(text), daemon=True)
+            if name == pipe:
+                writer.start()
+            ran = trial.run("plan", name, "--kerf", "0", "--step", step, given=b"" if name == pipe else text)
+            if line:
+                trial.ended(ran, 1, err=f"{line}\n", why=f"{name}: {why}", sent=(name, text))
+            else:
+                trial.equal((ran.status, ran.out != b"", ran.err), (0, True, b""), (name, text))
+            if name == pipe:
+                writer.join(SECONDS)
 
 
 SHOPS = [

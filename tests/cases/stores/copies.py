@@ -1,5 +1,6 @@
 """Copies of a store: what is refused of them, both files as they were, and what a start takes away or merges."""
 
+import errno
 import os
 import shutil
 import sqlite3
@@ -7,7 +8,7 @@ import subprocess
 from contextlib import closing
 
 from kit import tables
-from kit.case import case
+from kit.case import case, fault_in
 from kit.commands import STEEL, serving, taken_port
 from kit.copies import (
     BOUND,
@@ -27,6 +28,7 @@ from kit.copies import (
     plain,
     put,
 )
+from kit.faults import Faults, sweep
 from kit.shop import SECONDS, begin_line
 from kit.stores import DAY, filled, received
 
@@ -351,3 +353,38 @@ def words_of_starts(trial):
     output = b"error: '--keep <N>' may be given only with '--backup'\n\nFor more information, try '--help'.\n"
     ran = trial.run(*serve, "--keep", "5")
     trial.equal((ran.status, ran.out, ran.err), (2, b"", output))
+
+
+# ---- looks that fail
+
+# Errors of the system that pass: a disk that fails now and then, no memory, no descriptor left, no lock left.
+PASSING = (errno.EIO, errno.ENOMEM, errno.ENFILE, errno.ENOLCK)
+
+
+@case(
+    "a look that fails",
+    "Of a store with a damaged log, one without its log, a log without its store and a store with a trigger on a shop's table each look at a "
+    "start fails once, by each of four errors: it is refused all the same, both files as they were, and none is made.",
+)
+def failing_looks(trial):
+    store, log = killed(trial)
+    tables.change(filled(trial, "bound.db"), TRIGGER)
+    kinds = {"damaged": (store, flipped(log, 40)), "alone": (store, None), "lone": (None, log), "bound": both(trial.path("bound.db"))}
+
+    def looked(kind, at, **named):
+        place = trial.path(f"{kind}-{at}-{named.get('error')}")
+        os.mkdir(place)
+        put(f"{place}/shop.db", *kinds[kind])
+        lies_there = [sorted(os.listdir(place)), both(f"{place}/shop.db")]
+        faults = Faults(trial, "glances", at=at, under=os.path.realpath(place), **named)
+        # (the path is a whole one, so that each call names what lies below the folder)
+        ran = trial.run("yield", "--store", os.path.realpath(f"{place}/shop.db"), "STEEL", environment=faults.environment)
+        trial.equal((ran.status, ran.out, fault_in(ran.err) in (b"fault store\n", b"fault memory\n")), (1, b"", True), f"{kind}, {at}: {named}")
+        trial.equal([sorted(os.listdir(place)), both(f"{place}/shop.db")], lies_there, f"{kind}, {at}: {named}")
+        shutil.rmtree(place)
+        calls = faults.calls()
+        faults.end()
+        return calls
+
+    for kind in kinds:
+        sweep(trial, 1, lambda at, kind=kind, **named: looked(kind, at, **named), *({"error": it} for it in PASSING))

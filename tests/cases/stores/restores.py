@@ -5,6 +5,7 @@ import os
 import shutil
 import sqlite3
 import stat
+from contextlib import closing
 from functools import partial
 
 from kit import tables
@@ -286,3 +287,19 @@ def stopped(trial):
 )
 def fails(trial):
     sweep_restores(trial, error=errno.EIO)
+
+
+@case(
+    "stopped within a restore of an empty log",
+    "Stopped at each call that changes the files, of a backup whose log has no byte, as SQLite's merge and a new empty file leave it: the same is "
+    "there as with a log that has some, and never what a start takes for a new shop.",
+)
+def stopped_empty(trial):
+    terminal = two_states(trial)
+    kept = held(trial, STORE, LOG)
+    with closing(sqlite3.connect(trial.path(f"backups/1/{STORE}"))) as book:
+        book.execute("PRAGMA wal_checkpoint(TRUNCATE)")
+    trial.write(f"backups/1/{LOG}", b"")
+    new = {STORE: content(trial.path(f"backups/1/{STORE}")), LOG: b"\0"}
+    for lost in LOST:
+        sweep(trial, 1, partial(disturbed, trial, terminal, kept, new, lost), {"stop": "kept"}, more_than=10)
