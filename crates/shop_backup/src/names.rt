@@ -63,9 +63,13 @@ fn resolved<R: Files>(rt: &R, alloc: Global, path: &str) -> Result<String, Backu
     }
 }
 
-// Whether a path leads to a file.
+// Whether a path leads to a file. A look that fails is tried once more, so that one failure doesn't end an open shop.
 fn leads_to<R: Files>(rt: &R, path: &str, file: Identity) -> bool {
-    match fs::metadata(rt, path) {
+    let found = match fs::metadata(rt, path) {
+        Ok(found) => Ok(found),
+        Err(_) => fs::metadata(rt, path),
+    };
+    match found {
         Ok(found) => identity_of(&found) == file,
         Err(_) => false,
     }

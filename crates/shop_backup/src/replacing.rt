@@ -46,11 +46,16 @@ struct Paths {
     folder: String,
 }
 
-fn failed(error: &io::Error) -> RestoreFault {
-    match error.kind() {
+// Why a store's file can't be read, written or renamed, by the system's error.
+fn kind_failed(kind: ErrorKind) -> RestoreFault {
+    match kind {
         ErrorKind::OutOfMemory => RestoreFault::NoMemory,
         kind => RestoreFault::Store(kind_cause(kind)),
     }
+}
+
+fn failed(error: &io::Error) -> RestoreFault {
+    kind_failed(error.kind())
 }
 
 // Why a backup can't be read.
@@ -261,7 +266,7 @@ fn copy_file<R: Files>(
     match copy_all(&mut source, &mut sink) {
         Ok(()) => (),
         Err(CopyFault::Read) => return Err(RestoreFault::NoBackup),
-        Err(CopyFault::Write) => return Err(RestoreFault::Store(kind_cause(sink.kind()))),
+        Err(CopyFault::Write) => return Err(kind_failed(sink.kind())),
     }
     match sink.into_file().sync_all() {
         Ok(()) => Ok(()),
