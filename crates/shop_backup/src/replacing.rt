@@ -103,8 +103,16 @@ fn resolved<R: Files>(rt: &R, alloc: Global, path: &str) -> Result<String, Resto
     }
 }
 
+// Whether a path names no file of its own: an empty one, and those that SQLite gives another meaning.
+fn is_no_file(path: &str) -> bool {
+    path.is_empty() || path == ":memory:" || path.starts_with("file:")
+}
+
 impl Paths {
     fn new<R: Files>(rt: &R, alloc: Global, path: &str) -> Result<Paths, RestoreFault> {
+        if is_no_file(path) {
+            return Err(RestoreFault::Store(StoreCause::NotPlain));
+        }
         let store = resolved(rt, alloc, path)?;
         let path = store.as_str();
         let folder = folder_of(path);
@@ -190,6 +198,8 @@ fn store_in<R: Files>(rt: &R, alloc: Global, folder: &str) -> Result<String, Res
     for name in names {
         let name = match name {
             Ok(name) => name,
+            // (a name that is no text is no store's)
+            Err(error) if error.kind() == ErrorKind::InvalidFilename => continue,
             Err(error) => return Err(unread(&error)),
         };
         let name = name.file_name();
@@ -294,7 +304,8 @@ fn mark_log<R: Files>(rt: &R, path: &str) -> Result<(), RestoreFault> {
 }
 
 // The place of a store among files; the backup's store, once it was judged; the files that were there, held so that no program
-// opens them; and whether the store's own file has the log's name, since no log was there.
+// opens them; whether the store's own file has the log's name, since no log was there; whether copies were begun; and whether the old
+// files were begun to be put aside.
 #[derive(Drop)]
 struct Replacing<'a, R, J> {
     rt: &'a R,
@@ -306,6 +317,8 @@ struct Replacing<'a, R, J> {
     entries: BookEntries,
     held: [Option<HeldFile>; 2],
     is_shielded: bool,
+    has_copies: bool,
+    is_replacing: bool,
 }
 
 impl<'a, R: Files, J: Judges> Replacing<'a, R, J> {
@@ -361,7 +374,8 @@ impl<'a, R: Files, J: Judges> Replacing<'a, R, J> {
         Ok(None)
     }
 
-    fn copy(&self, which: StoreFile) -> Result<(), RestoreFault> {
+    fn copy(&mut self, which: StoreFile) -> Result<(), RestoreFault> {
+        self.has_copies = true;
         let Some(store) = &self.copy else {
             return Err(RestoreFault::NoBackup);
         };
@@ -415,6 +429,7 @@ impl<'a, R: Files, J: Judges> Replacing<'a, R, J> {
     }
 
     fn put_store_aside(&mut self) -> Result<(), RestoreFault> {
+        self.is_replacing = true;
         if !is_named(self.rt, self.paths.store.as_str())? {
             return Ok(());
         }
@@ -433,6 +448,14 @@ impl<'a, R: Files, J: Judges> Replacing<'a, R, J> {
 
     fn put_in(&self, which: StoreFile) -> Result<(), RestoreFault> {
         self.rename(self.paths.new_name(which), self.paths.name(which))
+    }
+
+    // Takes the copies away, unless the old files were begun to be put aside.
+    fn clear(&self) {
+        if self.has_copies && !self.is_replacing {
+            let _ = fs::remove_file(self.rt, self.paths.new_store.as_str());
+            let _ = fs::remove_file(self.rt, self.paths.new_log.as_str());
+        }
     }
 }
 
@@ -458,8 +481,8 @@ impl<'a, R: Files, J: Judges> Place for Replacing<'a, R, J> {
 ///
 /// `Store(InUse)` where a program has the store open; `NoBackup` where the folder has no store with its log, or they hold no book;
 /// `Before` where `FILE.before` or `FILE.before-wal` is there. At these nothing was changed. `NoMemory`, and `Store` with another
-/// cause, because memory ran out and for what the system refuses; then what was done stays, and the next start finds the old files, the new
-/// ones, or some that it refuses.
+/// cause, because memory ran out and for what the system refuses. Before the old files are renamed the copies are taken away then; behind
+/// that what was done stays, and the next start finds the old files, the new ones, or some that it refuses.
 pub fn put_back<R: Files, J: Judges + Drop>(
     rt: &R,
     alloc: Global,
@@ -481,7 +504,14 @@ pub fn put_back<R: Files, J: Judges + Drop>(
         },
         held: [None, None],
         is_shielded: false,
+        has_copies: false,
+        is_replacing: false,
     };
-    restore(&mut place)?;
-    Ok(place.entries)
+    match restore(&mut place) {
+        Ok(()) => Ok(place.entries),
+        Err(fault) => {
+            place.clear();
+            Err(fault)
+        }
+    }
 }
