@@ -374,8 +374,7 @@ impl<'a, R: Files, J: Judges> Replacing<'a, R, J> {
         Ok(None)
     }
 
-    fn copy(&mut self, which: StoreFile) -> Result<(), RestoreFault> {
-        self.has_copies = true;
+    fn copy(&self, which: StoreFile) -> Result<(), RestoreFault> {
         let Some(store) = &self.copy else {
             return Err(RestoreFault::NoBackup);
         };
@@ -467,7 +466,10 @@ impl<'a, R: Files, J: Judges> Place for Replacing<'a, R, J> {
             RestoreStep::Close => self.close(),
             RestoreStep::Judge => self.judge(),
             RestoreStep::Look => self.look(),
-            RestoreStep::Copy(which) => self.copy(which),
+            RestoreStep::Copy(which) => {
+                self.has_copies = true;
+                self.copy(which)
+            }
             RestoreStep::PutAside(StoreFile::Store) => self.put_store_aside(),
             RestoreStep::PutAside(StoreFile::Log) => self.put_log_aside(),
             RestoreStep::PutIn(which) => self.put_in(which),

@@ -211,6 +211,55 @@ def refused(trial):
     shop.kill()
 
 
+@case(
+    "a copy with other names beside it",
+    "A copy beside which lie a folder, a text, and a file whose name is no text is restored.",
+)
+def beside(trial):
+    terminal = two_states(trial)
+    os.mkdir(trial.path("backups/1/folder"))
+    trial.write("backups/1/README", "a copy\n")
+    with open(os.path.join(os.fsencode(trial.path("backups/1")), b"Notiz\xe4.txt"), "wb"):
+        pass
+    trial.ended(restore(trial), 0, out=RESTORED)
+    trial.equal(is_whole(trial, trial.path(STORE), [terminal]), [2])
+
+
+@case(
+    "names in which nothing is restored",
+    "An empty name, and those that SQLite gives another meaning, are refused as no store's, and no file is made.",
+)
+def no_names(trial):
+    two_states(trial)
+    before = tree(trial.folder)
+    for name in ("", ":memory:", "file:day.db"):
+        why = f"{name}: it is no plain file with one name; name one, and no hard link to it"
+        trial.ended(restore(trial, name), 1, err="fault store\n", why=why, sent=name)
+        trial.equal(tree(trial.folder), before, name)
+
+
+@case(
+    "a disk that is full at a restore",
+    "Where a copy can't be made, as the disk is full, both files stay as they were, and what was made of the copies is taken away.",
+)
+def full_disk(trial):
+    terminal = two_states(trial)
+    before = tree(trial.folder)
+
+    def full(at):
+        faults = Faults(trial, "files", at=at, error=errno.ENOSPC)
+        ran = restore(trial, environment=faults.environment)
+        faults.end()
+        return ran
+
+    # (the first calls are those that make the copies: a name freed, a file made, written and synced, of each of two)
+    for at in range(1, 9):
+        trial.ended(full(at), 1, err="fault store\n", why="shop.db: the disk is full; make room", sent=at)
+        trial.equal(tree(trial.folder), before, at)
+    trial.ended(restore(trial), 0, out=RESTORED)
+    trial.equal(is_whole(trial, trial.path(STORE), [terminal]), [2])
+
+
 # ---- each call in turn
 
 
