@@ -305,9 +305,8 @@ fn text_at(bytes: &[u8]) -> &[u8] {
     }
 }
 
-// Whether the bytes of a file have the text of a view that names a shop's table.
-fn has_bound_view(bytes: &[u8]) -> bool {
-    let words = b"CREATE VIEW ";
+// Whether the bytes of a file have a text that begins with these words and names a shop's table.
+fn has_text(bytes: &[u8], words: &[u8]) -> bool {
     let mut found = 0;
     for (at, byte) in bytes.iter().enumerate() {
         found = found_with(words, found, *byte);
@@ -318,12 +317,17 @@ fn has_bound_view(bytes: &[u8]) -> bool {
     false
 }
 
-// Whether the database of a log and a store has a trigger or a view on a shop's tables. There are views that SQLite reads and the
-// port doesn't; for these the bytes are searched.
+// Whether the bytes of a file have the text of a trigger or a view that names a shop's table.
+fn has_bound_text(bytes: &[u8]) -> bool {
+    has_text(bytes, b"CREATE TRIGGER ") || has_text(bytes, b"CREATE VIEW ")
+}
+
+// Whether the database of a log and a store has a trigger or a view on a shop's tables. SQLite opens some that the port doesn't, such
+// as a trigger on a table with foreign keys; in these the bytes are searched.
 fn is_bound(alloc: Global, log: &[u8], store: &[u8]) -> Result<bool, AllocError> {
     match is_bound_open(alloc, log, store)? {
         Some(bound) => Ok(bound),
-        None => Ok(has_bound_view(log) || has_bound_view(store)),
+        None => Ok(has_bound_text(log) || has_bound_text(store)),
     }
 }
 
