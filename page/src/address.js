@@ -54,13 +54,13 @@ function followAddress() {
   settle(text);
   if (word === "cut") toCut.isOne = Boolean(of);
   if (word === "cut" || word === "stock") followMaterial(of);
-  if (word === "stock") forgetTrace();
+  if (word === "stock") seek("");
   if (word === "saw") followJob(Number(of));
   if (word !== "happened") leaveHappened();
   if (word === "orders" && inOrders.found) forgetFound();
   if (word === "order" && of !== inOrders.found && of !== inOrders.sought) showOrder(of);
-  if (word === "part" && of !== traced.name) trace(of);
-  if (word === "batch" && of !== traced.batch) showBatch(of);
+  if (word === "part" && of !== traced.name) seek(of);
+  if (word === "batch" && of !== traced.batch) seek("", of);
 }
 
 // A material's address chooses it; one that the shop doesn't have is left.

@@ -2,12 +2,14 @@
 // for. An entry drops what it may have changed, so that a pass asks for what a view needs and what isn't known, and for nothing else.
 // What was dropped is shown until it is read anew. Views keep nothing of it.
 
-// by: what is known; old: what was known, and is shown where nothing is known in its place; lines: whose each demand is, which never changes;
-// orders: the row that was told last of each order, with what is said of it; last: the last entry that is known, as `lastOf` has it, null
-// where nothing of the shop is known; shops: how often all was dropped, as another shop answered; drops: how often something was dropped.
+// by: what is known; old: what was known, and is shown where nothing is known in its place; entries: entries by their numbers, and lines: whose
+// each demand is, which never change; orders: the row that was told last of each order, with what is said of it; last: the last entry that is
+// known, as `lastOf` has it, null where nothing of the shop is known; shops: how often all was dropped, as another shop answered; drops: how
+// often something was dropped.
 const facts = {
   by: new Map(),
   old: new Map(),
+  entries: new Map(),
   lines: new Map(),
   orders: new Map(),
   last: null,
@@ -15,11 +17,11 @@ const facts = {
   drops: 0
 };
 
-// So many answers are kept, the latest ones.
+// So many answers are kept, and so many entries, the latest ones; of others it is asked again where they are shown.
 const MAX_FACTS = 3000;
 
-const OF_ORDERS = ["demands", "demand", "orders", "order"], OF_STOCK = ["parts", "trace", "totals"], OF_ALL = ["history", "story"];
-const OF_ENDS = [...OF_ORDERS, ...OF_STOCK, "jobs", "job", "steps", "pieces"];
+const OF_ORDERS = ["demands", "demand", "orders", "order", "story"], OF_STOCK = ["parts", "totals"], OF_PART = [...OF_STOCK, "trace", "story"];
+const OF_ENDS = [...OF_ORDERS, ...OF_PART, "jobs", "job", "steps", "pieces"];
 
 // By what an entry did: the first words of the paths whose answers it may have changed.
 const STALE = {
@@ -28,30 +30,36 @@ const STALE = {
   order: OF_ORDERS,
   import: [...OF_ORDERS, ...OF_STOCK],
   extend: OF_ORDERS,
-  note: ["demands", "orders", "order", "jobs"],
+  note: ["demands", "orders", "order", "story", "jobs"],
   amend: OF_ORDERS,
-  reserve: [...OF_ORDERS, ...OF_STOCK, "jobs", "steps"],
-  begin: ["jobs", "job"],
+  reserve: [...OF_ORDERS, ...OF_PART, "jobs", "steps"],
+  begin: ["story", "jobs", "job"],
   done: OF_ENDS,
   break: OF_ENDS,
   release: OF_ENDS,
   undo: OF_ENDS,
-  scrap: [...OF_STOCK, "steps"],
-  return: [...OF_STOCK, "steps"]
+  scrap: [...OF_PART, "steps"],
+  return: [...OF_PART, "steps"]
 };
 
-const KEPT_FACTS = new Set([...OF_ENDS, ...OF_ALL, "materials"]);
+const KEPT_FACTS = new Set([...OF_ENDS, "materials"]);
 
 // Whether an entry may have changed an answer: a word that isn't known may have changed any. `of`: the orders and materials that it is
 // about, null where these aren't known.
-function isStaleBy({do: done, job}, of, path) {
-  const [, kind, name, last] = path.split("/"), kinds = Object.hasOwn(STALE, done) ? STALE[done] : null;
-  if (!kinds || OF_ALL.includes(kind)) return true;
-  if (!kinds.includes(kind)) return false;
-  if (kind === "job") return Number(name) === job;
-  if (kind === "order") return !of.orders || of.orders.includes(name);
-  const material = kind === "demands" ? last : ["parts", "totals"].includes(kind) ? name : "";
+function isStaleBy({do: done, job, part}, of, path) {
+  const [, kind] = path.split("/"), [, about, name, last] = path.replace("/story", "").split("/");
+  const kinds = Object.hasOwn(STALE, done) ? STALE[done] : null;
+  if (!kinds?.includes(kind)) return !kinds;
+  if (about === "job") return Number(name) === job;
+  if (about === "order") return !of.orders || of.orders.includes(name);
+  if (["part", "trace"].includes(about)) return Boolean(job) || path.includes(`/${part}`);
+  const material = kind === "demands" ? last : OF_STOCK.includes(kind) ? name : "";
   return !material || !of.materials || of.materials.includes(material);
+}
+
+// The same of an answer that is known: what was refused may be there behind any entry, and to a story that isn't told to its end no entry comes.
+function isFactStaleBy(message, of, path, {ok, more, refused}) {
+  return refused !== undefined || (!(ok === "story" && more) && isStaleBy(message, of, path));
 }
 
 function whatIsAbout({order, lines, material, demand, tree, job}) {
@@ -77,10 +85,10 @@ function keepFact(map, path, fact) {
   if (map.size > MAX_FACTS) map.delete(map.keys().next().value);
 }
 
-// What may have changed is shown until it is read anew. (Of entries nothing changes but which are the last.)
+// What may have changed is shown until it is read anew.
 function dropFact(path, fact) {
   facts.by.delete(path);
-  if (!OF_ALL.includes(path.split("/")[1])) keepFact(facts.old, path, fact);
+  keepFact(facts.old, path, fact);
 }
 
 function factOf(path) { return facts.by.get(path)?.reply; }
@@ -88,9 +96,10 @@ function factOf(path) { return facts.by.get(path)?.reply; }
 // What the shop told last of a path: nothing where that was never asked for.
 function toldOf(path) { return (facts.by.get(path) || facts.old.get(path))?.reply || {}; }
 
-// Learns whose the demands are that an answer tells.
+// Learns the entries that an answer tells, and whose the demands are.
 function learn({ok, demands, lines, steps, entries, ...row}) {
-  const made = OF_ALL.includes(ok) ? entries.flatMap(linesMade) : ok === "demand" ? [row] : [];
+  const told = ["history", "story"].includes(ok) ? entries : [], made = ok === "demand" ? [row] : told.flatMap(linesMade);
+  for (const it of told) keepFact(facts.entries, it.entry, it);
   learnLines(demands || lines || steps?.filter(step => step.demand).map(step => ({...step, material: row.material})) || made);
 }
 
@@ -103,6 +112,21 @@ function linesMade({message: {lines = []}, reply: {first, order}}) {
   return order ? lines.map(({line, material}, i) => ({demand: first + i, order, line, material})) : [];
 }
 
+function lastEntry() { return facts.last?.entry || 0; }
+
+// The first entry behind a number up to another that isn't known, or 0.
+function lackingEntry(after, last) {
+  let entry = Math.max(0, after) + 1;
+  while (facts.entries.has(entry)) entry++;
+  return entry <= last ? entry : 0;
+}
+
+// The entries behind a number up to another that are known, the newest first.
+function entriesKnown(after, last) {
+  const numbers = Array.from({length: last - Math.max(0, after)}, (_, i) => last - i);
+  return numbers.map(entry => facts.entries.get(entry)).filter(Boolean);
+}
+
 // Whose a demand is: its order, line and material, or nothing where that isn't known.
 function lineOfDemand(demand) { return facts.lines.get(demand) || {}; }
 
@@ -113,15 +137,16 @@ function dropStale(message, entry = Infinity, answer = null) {
   if (message.do === "note" && row) facts.orders.set(order, {...row, due, text});
   facts.drops++;
   for (const [path, fact] of facts.by)
-    if (fact.asOf < entry && isStaleBy(message, of, path)) dropFact(path, fact);
+    if (fact.asOf < entry && isFactStaleBy(message, of, path, fact.reply)) dropFact(path, fact);
   for (const [path, fact] of answer ? facts.old : [])
     if (isStaleBy(message, of, path)) fact.reply = withAnswer(fact.reply, message, answer);
 }
 
 // What was told, with what a message did that was answered since: its part is reserved or gone, its pieces are reserved, a line is changed, its
 // job is begun or over.
-function withAnswer(told, {do: done, part, tree = "", demand, wanted}, {job}) {
-  const counts = countPieces(tree), {parts = [], demands = [], lines = [], state, begun} = told;
+function withAnswer(told, message, {job}) {
+  const {do: done, part, tree = "", demand, wanted} = message;
+  const counts = countPieces(tree), {parts = [], demands = [], lines = [], begun} = told;
   const partOf = row => row.part !== part ? [row] : done === "reserve" ? [{...row, state: "reserved", of: job}] : [];
   const lineOf = row => ({
     ...row,
@@ -133,8 +158,8 @@ function withAnswer(told, {do: done, part, tree = "", demand, wanted}, {job}) {
     parts: parts.flatMap(partOf),
     demands: demands.map(lineOf),
     lines: lines.map(lineOf),
-    state: ENDS[done] || state,
-    begun: done === "begin" ? terminal.number : begun
+    begun: done === "begin" ? terminal.number : begun,
+    ...told.ok === "job" && ENDS[done] ? {state: ENDS[done], end: message} : {}
   };
 }
 
@@ -160,6 +185,7 @@ async function readNews(get, isSure) {
   if (known?.entry && !(rows[0] && isSameEntry(rows[0], known))) return false;
   const newest = more ? (await get(`/history/${entries - 1}`)).entries[0] : rows[rows.length - 1];
   if (shops !== facts.shops) return true;
+  learn({ok: "history", entries: newest ? [...rows, newest] : rows});
   const fresh = known ? rows.filter(({entry}) => entry > known.entry) : [];
   if (!known || more) forgetFacts();
   else for (const {entry, message} of fresh) dropStale(message, entry);

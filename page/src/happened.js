@@ -2,64 +2,41 @@
 
 const ENTRIES = 100, LOOKED = "cutshop.looked";
 
-// of: what the address named when entries were read, null where none were; entries: how many the shop had then; rows: what was
-// read; note: why nothing was; looked: the last entry that was seen before this visit.
+// looked: the last entry that was seen before this visit, null where none is under way.
 const happened = {
-  of: null,
-  entries: 0,
-  rows: [],
-  note: "",
-  looked: 0
+  looked: null
 };
 
-function leaveHappened() { happened.of = null; }
+function leaveHappened() { happened.looked = null; }
 
 function isStory(of) { return of.includes("/"); }
 
-// Reads the page of entries that the address names, where it or the shop has changed.
+function storyOf(of) { return `/story/${of}/0`; }
+
+// The entries that an address names, where it is no story: those behind a number up to another.
+function pageOf(of) {
+  const entries = lastEntry(), last = Math.min(Number(of) || entries, entries);
+  return [Math.max(0, last - ENTRIES), last];
+}
+
+// What is known of the entries that an address names, the newest first.
+function happenedTold(of) {
+  const page = pageOf(of), {entries, more, refused, name} = isStory(of) ? toldOf(storyOf(of)) : {};
+  if (isStory(of)) return {rows: entries && [...entries].reverse(), more, refused, name};
+  return facts.last && !lackingEntry(...page) ? {rows: entriesKnown(...page)} : {};
+}
+
 async function readHappened() {
-  const {of} = readAddress(), entries = facts.last?.entry ?? 0;
-  if (!facts.last || (happened.of === of && happened.entries === entries)) return;
-  const last = isStory(of) ? Infinity : Math.min(Number(of) || entries, entries), told = {of, entries, rows: [], note: ""};
-  try {
-    told.rows = await entriesTo(isStory(of) ? `/story/${of}` : "/history", isStory(of) ? 0 : Math.max(0, last - ENTRIES), last);
-  } catch (error) {
-    if (!(error instanceof Refused)) throw error;
-    told.note = await faultWords(error);
-  }
-  if (readAddress().of !== of || viewName() !== "happened") return;
-  noteLook(of, entries);
-  Object.assign(happened, told);
-}
-
-// Entries behind a number up to another, the newest first.
-async function entriesTo(path, after, last) {
-  const rows = [];
-  let more = true;
-  for (let page = 0; more && after < last && page < MAX_PAGES; page++) {
-    const told = await askCalmly(`${path}/${after}`), {entries} = told;
-    rows.push(...entries.filter(({entry}) => entry <= last));
-    more = told.more && entries.length > 0;
-    if (more) after = entries[entries.length - 1].entry;
-  }
-  markAgain(rows);
-  return Object.assign(rows.reverse(), {more: more && after < last});
-}
-
-// Which file came again, and so made nothing.
-function markAgain(rows) {
-  const made = new Set();
-  for (const row of rows) {
-    const {message: {do: done}, reply: {order}} = row;
-    row.isAgain = done === "import" && made.has(order);
-    if (order) made.add(order);
-  }
+  const {of} = readAddress();
+  if (!facts.last) return;
+  await (isStory(of) ? readPages(storyOf(of)) : readEntries(...pageOf(of)));
+  if (readAddress().of === of && viewName() === "happened") noteLook(of, lastEntry());
 }
 
 // What is new since the newest entries were shown the last time; of another store nothing is known.
 function noteLook(of, entries) {
   const looked = storage.read(LOOKED, 0);
-  if (happened.of === null) happened.looked = looked > entries ? 0 : looked;
+  happened.looked ??= looked > entries ? 0 : looked;
   if (of || looked === entries) return;
   try {
     storage.write(LOOKED, entries);
@@ -67,13 +44,28 @@ function noteLook(of, entries) {
 }
 
 function showHappened() {
-  const {of} = readAddress(), {rows, note} = happened, isRead = happened.of === of, [kind, ...name] = of.split("/");
+  const {of} = readAddress(), told = happenedTold(of), {rows = []} = told, [kind, ...name] = of.split("/");
   $("happenedTitle").textContent = isStory(of) ? storyWords(kind, name.join("/")) : tr`What happened`;
-  showNarrow();
-  const shown = isRead ? rows.filter(isNarrowed) : [];
-  fill($("happenedList"),
-    () => !isRead ? [quiet("…")] : note ? [el("p", {class: "fault", text: note})] : [andMore(rows.more), ...dayRows(shown)]);
-  fill($("happenedPages"), () => isRead ? pageLinks(of) : []);
+  showNarrow(rows);
+  fill($("happenedList"), () => happenedRows(of, told));
+  fill($("happenedPages"), () => told.rows ? pageLinks(of, rows) : []);
+}
+
+function happenedRows(of, {rows, more, ...reply}) {
+  if (reply.refused) return [el("p", {class: "fault", text: refusedWords(reply)})];
+  if (!rows) return [quiet("…")];
+  const shown = rows.filter(isNarrowed);
+  return [andMore(more), ...shown.length ? dayRows(of, shown, filesAgain(rows)) : [quiet(emptyWords(of, rows))]];
+}
+
+// Which entries are files that came again, and so made nothing.
+function filesAgain(rows) {
+  const made = new Set();
+  return rows.toReversed().filter(({message: {do: done}, reply: {order}}) => {
+    const isAgain = done === "import" && made.has(order);
+    if (order) made.add(order);
+    return isAgain;
+  });
 }
 
 function storyWords(kind, name) {
@@ -88,8 +80,8 @@ function isNarrowed({message}) {
   return (!terminal || message.terminal === Number(terminal)) && (!done || message.do === done);
 }
 
-function showNarrow() {
-  const [terminal] = chosenOf(), there = new Set(happened.rows.map(({message}) => message.terminal));
+function showNarrow(rows) {
+  const [terminal] = chosenOf(), there = new Set(rows.map(({message}) => message.terminal));
   if (terminal) there.add(Number(terminal));
   const numbers = [...there].sort((a, b) => a - b), option = ([value, text]) => el("option", {value, text});
   fill($("ofTerminal"), () => [["", tr`all`], ...numbers.map(number => [String(number), terminalWords(number)])].map(option));
@@ -117,18 +109,16 @@ const DONE_WORDS = {
 };
 
 // The entries by days, with a line above those that were seen before.
-function dayRows(rows) {
-  if (!rows.length) return [quiet(emptyWords())];
-  const isNew = ({entry}) => entry > happened.looked, marks = happened.of === "" && happened.looked && isNew(rows[0]);
-  const seen = marks ? rows.find(row => !isNew(row)) : null;
+function dayRows(of, rows, again) {
+  const isNew = ({entry}) => entry > happened.looked, marks = of === "" && happened.looked && isNew(rows[0]);
+  const seen = marks ? rows.find(row => !isNew(row)) : null, back = jobsBack(rows);
   return groupsOf(rows, ({at}) => dayText(at)).flatMap(same => [
     el("h3", {text: dayText(same[0].at)}),
-    el("ol", {class: "entries"}, ...same.flatMap(row => [row === seen ? el("li", {class: "looked", text: tr`since your last look ↑`}) : null, entryRow(row)]))
+    el("ol", {class: "entries"}, ...same.flatMap(row => [row === seen ? el("li", {class: "looked", text: tr`since your last look ↑`}) : null, entryRow(of, row, again, back)]))
   ]);
 }
 
-function emptyWords() {
-  const {of, rows} = happened;
+function emptyWords(of, rows) {
   if (rows.length) return tr`Nothing of it among entries ${rows[rows.length - 1].entry} to ${rows[0].entry}.`;
   return isStory(of) ? tr`Before records began.` : tr`Nothing yet.`;
 }
@@ -143,12 +133,13 @@ function clockText(at) {
   return at ? new Date(at * 1000).toLocaleTimeString(isGerman ? "de-DE" : navigator.language, {hour: "2-digit", minute: "2-digit"}) : "–";
 }
 
-function entryRow({at, entry, message, reply, isAgain}) {
-  return el("li", {class: String(entry) === happened.of ? "chosen" : ""},
+function entryRow(of, row, again, back) {
+  const {at, entry, message, reply} = row;
+  return el("li", {class: String(entry) === of ? "chosen" : ""},
     el("a", {class: "button small", href: `#happened/${entry}`, title: tr`entry ${entry}`, "aria-label": tr`entry ${entry}`}, el("time", {text: clockText(at)})),
     el("span", {class: "quiet", text: terminalWords(message.terminal)}),
-    el("span", {text: `${entryWords(message, reply)}${isAgain ? tr`, which was there: nothing done` : ""}`}),
-    el("span", {class: "links"}, ...linksOf(message, reply), takeBackButton(message, entry)));
+    el("span", {text: `${entryWords(message, reply)}${again.includes(row) ? tr`, which was there: nothing done` : ""}`}),
+    el("span", {class: "links"}, ...linksOf(message, reply), takeBackButton(message, entry, back)));
 }
 
 function entryWords(message, reply) {
@@ -181,10 +172,14 @@ function breakSentence(job, {made, lost, rest}) {
   return tr`job ${job} broken off, ${count(made.size, "cut")} made${wrong}${rest ? tr`, rest ${mm(rest)} mm` : ""}`;
 }
 
+// The jobs that were taken back, as far as entries tell it.
+function jobsBack(rows) {
+  return new Set([...rows, ...facts.entries.values()].filter(({message}) => message.do === "undo").map(({message}) => message.job));
+}
+
 // What a done or broken job's entry has, unless the job was taken back since or is being.
-function takeBackButton({do: done, job}, entry) {
-  const isBack = happened.rows.some(row => row.entry > entry && row.message.do === "undo" && row.message.job === job);
-  if (!["done", "break"].includes(done) || isBack || endSent(job)) return null;
+function takeBackButton({do: done, job}, entry, back) {
+  if (!["done", "break"].includes(done) || back.has(job) || endSent(job)) return null;
   return el("button", {class: "small", text: tr`Take back`, "data-key": `back${entry}`, "aria-label": tr`Take back job ${job}`, on: {click: () => undoJob(job)}});
 }
 
@@ -198,8 +193,8 @@ function linksOf({order, part, batch, demand, do: done, job}, reply) {
 }
 
 // The pages before and behind the one that is shown.
-function pageLinks(of) {
-  const {entries, rows} = happened, first = Number(of) || entries, links = [];
+function pageLinks(of, rows) {
+  const entries = lastEntry(), first = Number(of) || entries, links = [];
   if (isStory(of)) return [linkTo("happened", tr`All that happened`)];
   if (first < entries) links.push(linkTo(first + ENTRIES < entries ? `happened/${first + ENTRIES}` : "happened", tr`Newer`));
   if (rows.length && rows[rows.length - 1].entry > 1) links.push(linkTo(`happened/${rows[rows.length - 1].entry - 1}`, tr`Older`));

@@ -1,11 +1,8 @@
 // ---- One order: what is said of it, the lines that are added to it, its jobs, and where its pieces came from.
 
-// notes: of orders what was typed of their day and text and isn't sent; jobs: of the order that was looked for its jobs, each by the entry
-// that is about it last; also: a job that has the number that was looked for; extending: the order to which lines are added by hand.
+// notes: of orders what was typed of their day and text and isn't sent; extending: the order to which lines are added by hand.
 const oneOrder = {
   notes: new Map(),
-  jobs: [],
-  also: 0,
   extending: ""
 };
 
@@ -72,24 +69,23 @@ async function readFound() {
   const {found} = inOrders;
   if (!found) return;
   await readTexts([found]);
-  const entries = await entriesTo(`/story/order/${found}`, 0, Infinity);
-  if (inOrders.found === found) oneOrder.jobs = jobsOf(entries);
+  await readPages(storyOf(`order/${found}`));
   await readPages(`/pieces/order/${found}`);
 }
 
-// The jobs that entries are about, the newest first, each by its last entry that says how it stands.
-function jobsOf(entries) {
-  const jobs = new Map();
+// The jobs of an order, the newest first, each by the last entry of the order's story that says how it stands.
+function jobsOf(order) {
+  const jobs = new Map(), {entries = []} = toldOf(storyOf(`order/${order}`));
   for (const {at, message, reply} of entries) {
     const job = message.job || reply.job, state = message.do === "reserve" ? "waiting" : ENDS[message.do];
-    if (job && state && !jobs.has(job)) jobs.set(job, {job, at, state, by: message.terminal});
+    if (job && state) jobs.set(job, {job, at, state, by: message.terminal});
   }
   return [...jobs.values()].sort((a, b) => b.job - a.job);
 }
 
 function orderJobs() {
   const words = ({at, state, by}) => `${STATES[state]}, ${momentText(at)}, ${terminalWords(by)}`;
-  const rows = oneOrder.jobs.map(row => el("li", {}, linkTo(`saw/${row.job}`, tr`Job ${row.job}`), el("span", {class: "quiet", text: words(row)})));
+  const rows = jobsOf(inOrders.found).map(row => el("li", {}, linkTo(`saw/${row.job}`, tr`Job ${row.job}`), el("span", {class: "quiet", text: words(row)})));
   return rows.length ? [el("h3", {text: tr`Jobs`}), el("ul", {class: "links"}, ...rows)] : [];
 }
 

@@ -105,9 +105,14 @@ function foundRows() {
   if (!found) return note ? [el("p", {class: note === "…" ? "quiet" : "fault", text: note})] : [];
   if (!lines) return [quiet("…")];
   const card = orderCard(sumsOf(found, lines), true, tr`Order ${found}`, null, "f");
-  const also = oneOrder.also ? linkTo(`saw/${oneOrder.also}`, tr`Job ${oneOrder.also}`) : "";
-  card.append(orderActs(found, lines), also, ...orderJobs(), ...whereFrom().filter(Boolean));
+  card.append(orderActs(found, lines), alsoJob(), ...orderJobs(), ...whereFrom().filter(Boolean));
   return [card];
+}
+
+// The job that has the number by which an order was found.
+function alsoJob() {
+  const {found, sought} = inOrders, {ok, job} = found === sought ? {} : toldOf(`/job/${readWhole(sought, 1, 2147483647)}`);
+  return ok ? linkTo(`saw/${job}`, tr`Job ${job}`) : "";
 }
 
 function orderFold(order, isOpen) {
@@ -250,7 +255,6 @@ function findOrder(event) {
 
 function forgetFound() {
   Object.assign(inOrders, {found: "", sought: "", note: ""});
-  Object.assign(oneOrder, {jobs: [], also: 0});
   $("findOrder").value = "";
 }
 
@@ -261,7 +265,6 @@ async function showOrder(text) {
   let place = "";
   if ($("findOrder").value.trim().toUpperCase() !== text) $("findOrder").value = text;
   Object.assign(inOrders, {sought: text, found: "", note: "…"});
-  Object.assign(oneOrder, {jobs: [], also: 0});
   showOrders();
   try {
     told.found = PART_NAME.test(text) ? "" : await orderOf(text);
@@ -270,8 +273,7 @@ async function showOrder(text) {
   if (inOrders.sought !== text) return;
   Object.assign(inOrders, told);
   if (told.found && viewName() === "orders") go(`order/${told.found}`);
-  if (told.found && place.startsWith("saw/")) oneOrder.also = Number(place.slice(4));
-  else if (place) return go(place);
+  if (place && !(told.found && place.startsWith("saw/"))) return go(place);
   showOrders();
   refreshNow();
   if (!told.found && !told.note) markField($("findOrder"), tr`“${text}” is no code of an order or a batch, and no number of pieces wanted, a job or a part`);

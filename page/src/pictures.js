@@ -197,18 +197,18 @@ function swatch(fate) {
   return small.svg;
 }
 
-// A part in its unit, with the outlines of the parts that it was cut from, the unit last.
+// A part in its unit, with the outlines of the parts that it was cut from, the unit last, as wide as a holder.
 function drawTrace(holder, chain, kind) {
   const part = chain[0], unit = chain[chain.length - 1];
   const canvas = canvasFor(holder, unit.w, unit.h, kind === "bar", tr`Part ${part.part} in unit ${unit.part}`);
   addBox(canvas, {x: 0, y: 0, w: unit.w, h: unit.h}, "unit", tr`unit ${unit.part}`);
-  for (const other of chain.slice(1, -1).reverse())
-    addWords(canvas, {...addBox(canvas, other, "within", other.part), height: 18}, [other.part]);
+  const within = chain.slice(1, -1).reverse().map(other => [addBox(canvas, other, "within", other.part), other.part]);
   const fate = {piece: "piece", kerf: "kerf", scrap: "scrap"}[part.state] || "kept";
   const at = addBox(canvas, part, fate, part.part);
   if (fate !== "kerf") addWords(canvas, at, [part.part, sizeText(kind, part.w, part.h)]);
+  for (const [place, name] of within) addWords(canvas, {...place, height: 18}, [name]);
   addRuler(canvas, unit.w, unit.h);
-  holder.replaceChildren(canvas.svg);
+  return canvas.svg;
 }
 
 // A bar of shares, [[fate, number, words]].

@@ -39,12 +39,14 @@ const REFUSALS = {
 // What a refusal says, with its number; of 63 also which demand it is or what is the least, of 61 and 62 nothing that isn't
 // told.
 async function refusalWords(reply, command = {}, quicker = "") {
-  let words = quicker || REFUSALS[reply.refused] || tr`the shop refused it`;
+  let words = quicker || undefined;
   if (command.do === "amend") words = await amendFault(command, reply) || words;
   else if (reply.refused === 63) words = await overdrawnWords(countPieces(command.tree)) || words;
   else if (reply.refused === 74) words = await movedWords(command).catch(() => "") || words;
-  return `${words} (${reply.refused} ${reply.name})`;
+  return refusedWords(reply, words);
 }
+
+function refusedWords({refused, name}, words = REFUSALS[refused] || tr`the shop refused it`) { return `${words} (${refused} ${name})`; }
 
 // Which parts aren't as their job left them any more.
 async function movedWords({job}) {
@@ -62,9 +64,10 @@ const MOVED = {
 
 // What ended a job or took a part before, by whom and when, and whether that is what was wanted; nothing where no entry tells it.
 async function quickerOf({do: wanted, job, part}, {refused}) {
-  const ofJob = [71, 73].includes(refused), path = ofJob ? `/story/job/${job}` : refused === 51 && part ? `/story/part/${part}` : "";
-  const rows = path ? await entriesTo(path, 0, Infinity).catch(() => []) : [];
-  const entry = rows.find(({message}) => Object.hasOwn(BEFORE, message.do) && !(ofJob && message.do === "reserve"));
+  const ofJob = [71, 73].includes(refused), path = ofJob ? storyOf(`job/${job}`) : refused === 51 && part ? storyOf(`part/${part}`) : "";
+  facts.by.delete(path);  // (a refusal tells of an entry that may not be known)
+  const [rows] = path ? await readPages(path).catch(() => [[]]) : [[]];
+  const entry = rows.findLast(({message}) => Object.hasOwn(BEFORE, message.do) && !(ofJob && message.do === "reserve"));
   if (!entry || (refused === 73 && entry.message.do !== "undo")) return null;
   const {at, message} = entry, was = !ofJob && ["done", "break"].includes(message.do) ? tr`cut up` : BEFORE[message.do];
   const by = tr`${was} by terminal ${message.terminal}, ${momentText(at)}`;

@@ -68,12 +68,12 @@ function leaveRun() {
 // All that is known of the shop is dropped, as another may answer by now, with what was asked and typed about it. What is typed
 // into the forms stays, and so does what waits.
 function forgetShop() {
-  const {by, old, lines, orders} = facts;
-  for (const it of [by, old, lines, orders, halts, breaks, inStock.wanted, inOrders.typed]) it.clear();
+  const {by, old, entries, lines, orders} = facts;
+  for (const it of [by, old, entries, lines, orders, breaks, inStock.wanted, inOrders.typed]) it.clear();
   Object.assign(facts, {last: null, shops: facts.shops + 1});
   Object.assign(inOrders, {found: "", sought: "", note: ""});
-  Object.assign(atSaw, {ended: [], endedTo: 0, key: "", opening: 0, breaking: false, lost: null, canvas: null});
-  forgetTrace();
+  Object.assign(atSaw, {key: "", opening: 0, breaking: false, lost: null, canvas: null});
+  seek("");
   leaveHappened();
   owner.report = held.target = null;
   refresh.lost = true;

@@ -1,11 +1,8 @@
 // ---- At the saw.
 
 // job, told: the job that is shown, and what was told of it last; key: its key when it was opened; opening: the number that was asked for last;
-// ended: the entries that ended the last jobs, as of entry endedTo; isListed: whether the list of jobs is unfolded where it lies above the
-// ticket; deaf: until when *Done* takes no press.
+// isListed: whether the list of jobs is unfolded where it lies above the ticket; deaf: until when *Done* takes no press.
 const atSaw = {
-  ended: [],
-  endedTo: 0,
   job: 0,
   key: "",
   opening: 0,
@@ -29,9 +26,6 @@ function noteBreak() {
 
 // Behind *One done* the next job opens, and a second press of the same hand is none of it.
 const DEAF = 1000;
-
-// The halts of broken jobs: what this visit sent, and what entries or steps told.
-const halts = new Map();
 
 // A job with all that its plan hangs on: a store that was restored, or another one, has another job under the same number.
 function keyOf({job, material, part, w, h, kerf, tree}) { return [job, material, part, w, h, kerf, tree].join(" "); }
@@ -82,16 +76,17 @@ const MANY_PLANS = 3, MAX_BACK = 20;
 
 async function learnPlans(rows) {
   const lacking = new Map(rows.map(row => [row.job, row]));
-  let end = facts.last?.entry || 0;
-  for (let page = 0; page < MAX_BACK && end && lacking.size > MANY_PLANS; page++) {
-    const after = Math.max(0, end - ENTRIES);
-    for (const {message, reply} of (await askCalmly(`/history/${after}`)).entries) {
-      if (message.do !== "reserve" || !lacking.has(reply.job)) continue;
-      noteWaiting(lacking.get(reply.job), message.tree);
-      lacking.delete(reply.job);
-    }
-    end = after;
-  }
+  await readBack(() => lacking.size > MANY_PLANS, ({message, reply}) => {
+    if (message.do !== "reserve" || !lacking.has(reply.job)) return;
+    noteWaiting(lacking.get(reply.job), message.tree);
+    lacking.delete(reply.job);
+  });
+}
+
+// Reads entries page by page back from the last one, as long as some are lacking.
+async function readBack(isLacking, look) {
+  for (let page = 0, end = lastEntry(); page < MAX_BACK && end > 0 && isLacking(); page++, end -= ENTRIES)
+    (await readEntries(end - ENTRIES, end)).forEach(look);
 }
 
 // Waiting jobs of one plan: the same material, sides and cuts for the same demands.
@@ -104,7 +99,8 @@ function showSaw() {
   fill($("jobList"),
     () => [...kinds.map(jobRow), ...(kinds.length ? [] : [quiet(tr`No job waits.`), opener("tocut", tr`Plan`)]),
       moreButton(shop.moreJobs, "jobPages")]);
-  fill($("endedJobs"), () => atSaw.ended.length && [el("h3", {text: tr`Ended last`}), ...atSaw.ended.map(endedRow)]);
+  const ended = lastEnded();
+  fill($("endedJobs"), () => ended.length && [el("h3", {text: tr`Ended last`}), ...ended.map(endedRow)]);
   $("jobsWords").textContent = `${rows.length}${shop.moreJobs ? "+" : ""}`;
   for (const id of PRINT_WAITING) $(id).disabled = !kinds.length;
   foldJobs();
@@ -153,22 +149,19 @@ function endedRow({at, message: {job, do: done, terminal: by}}) {
   return rowButton(`e${job}`, job, job === atSaw.job, el("b", {text: tr`Job ${job}`}), el("div", {class: "quiet", text: words}));
 }
 
-// The last jobs that ended, each by the entry that ended it last: what happened since they were read goes before them.
+// The last jobs that ended, each by the entry that ended it last, as far back as no entry is lacking.
 const MAX_ENDED = 10;
 
-async function readEnded() {
-  const last = facts.last?.entry || 0, ended = new Map();
-  let end = last;
-  for (let page = 0; page < MAX_BACK && end > atSaw.endedTo && ended.size < MAX_ENDED; page++) {
-    const after = Math.max(0, end - ENTRIES), {entries} = await askCalmly(`/history/${after}`);
-    for (const row of entries.filter(({entry, message}) => entry <= end && Object.hasOwn(ENDS, message.do)).reverse())
-      if (!ended.has(row.message.job)) ended.set(row.message.job, row);
-    end = after;
+function lastEnded() {
+  const ended = new Map();
+  for (let entry = lastEntry(); facts.entries.has(entry) && ended.size < MAX_ENDED; entry--) {
+    const row = facts.entries.get(entry), {do: done, job} = row.message;
+    if (Object.hasOwn(ENDS, done) && !ended.has(job)) ended.set(job, row);
   }
-  for (const row of atSaw.ended)
-    if (!ended.has(row.message.job)) ended.set(row.message.job, row);
-  Object.assign(atSaw, {ended: [...ended.values()].slice(0, MAX_ENDED), endedTo: last});
+  return [...ended.values()];
 }
+
+function readEnded() { return readBack(() => lastEnded().length < MAX_ENDED, () => {}); }
 
 // Numbers that rise, those that follow one another as a range.
 function rangesOf(numbers) {
@@ -247,7 +240,7 @@ async function readShown() {
     if (readAddress().word === "saw") settle("saw");
   }
   if (!atSaw.told) return;
-  if (atSaw.told.state === "broken" && !halts.has(keyOf(atSaw.told))) {
+  if (atSaw.told.state === "broken" && !haltKnown(atSaw.told)) {
     showView();
     await readHalt(atSaw.told);
   }
@@ -260,7 +253,6 @@ function ordersOfJob({tree}) { return [...new Set([...countPieces(tree).keys()].
 async function readJob(job, by = askCalmly) {
   const told = withPlan(await by(`/job/${job}`));
   if ([...countPieces(told.tree).keys()].some(demand => !lineOfDemand(demand).order)) await by(`/steps/${job}`);
-  if (told.state !== "broken") halts.delete(keyOf(told));
   return told;
 }
 
@@ -272,10 +264,17 @@ function withPlan(told) {
   return {...told, kind: kindOf(told.material), root: roots.get(told)};
 }
 
-// Reads how a job halted: the entry tells it; of one that has no entry the steps do.
+// How a broken job halted: the message tells it that broke it off; of one that has no entry the steps do. Nothing where that isn't known.
+function haltKnown(told) {
+  const {job, end} = told, {ok, entries = []} = toldOf(storyOf(`job/${job}`)), {steps} = toldOf(`/steps/${job}`);
+  const messages = [...entries, ...facts.entries.values()].map(({message}) => message);
+  const message = end || messages.find(it => it.do === "break" && it.job === job);
+  return message ? haltOf(message) : ok && steps ? haltOfSteps(told, steps) : null;
+}
+
 async function readHalt(told) {
-  const row = (await entriesTo(`/story/job/${told.job}`, 0, Infinity)).find(({message}) => message.do === "break");
-  halts.set(keyOf(told), row ? haltOf(row.message) : haltOfSteps(told, (await askCalmly(`/steps/${told.job}`)).steps));
+  await readPages(storyOf(`job/${told.job}`));
+  if (!haltKnown(told)) await askCalmly(`/steps/${told.job}`);
 }
 
 // A cut that was made left its strip, or nothing where the saw takes nothing; of another its rectangle is one part.
@@ -312,7 +311,7 @@ function endSent(job) {
 function shownHalt(told, sent, state) {
   if (atSaw.breaking) return {made: ticks.of(told.job), lost: atSaw.lost, rest: restMeasured()};
   if (isUncut(state)) return {made: new Set(), lost: null};
-  if (state === "broken") return sent ? haltOf(sent) : halts.get(keyOf(told));
+  if (state === "broken") return sent ? haltOf(sent) : haltKnown(told);
   return null;
 }
 
@@ -681,7 +680,6 @@ function releaseWords({job, part, root}) {
 // Sends what ends a job. From then on nothing on the ticket ends it a second time, unless the shop refuses.
 function endJob(told, command, what, refused) {
   send(command, what, () => {
-    if (command.do === "break") halts.set(keyOf(told), haltOf(command));
     ticks.forget(told.job);
     if (!atSaw.told || keyOf(atSaw.told) !== keyOf(told)) return;
     setBreaking(false);

@@ -76,21 +76,27 @@ function isBare(path, status) {
   return status === 412 || (path === "/backup" && status === 405) || (["/backup", "/health"].includes(path) && status === 404);
 }
 
-// A reply's object; a refusal is thrown.
+// A reply's object.
 async function fetchReply(path, options) {
   const {status, reply} = await request(path, options);
   if (!reply) throw new NoAnswer(status === 412 ? tr`the program was started anew` : strangeWords(status));
+  return reply;
+}
+
+// The same; a refusal is thrown.
+function unlessRefused(reply) {
   if (reply.refused !== undefined) throw new Refused(reply);
   return reply;
 }
 
-// The same, which is known from then on.
+// A question, whose answer, or refusal, is known from then on; or what is no message and is sent.
 async function ask(path, options = {}) {
   const {last, shops} = facts, reply = await fetchReply(path, options);
-  if (options.body !== undefined || shops !== facts.shops) return reply;
-  learn(reply);
-  noteFact(path, {...reply}, last);
-  return reply;
+  if (options.body === undefined && shops === facts.shops) {
+    learn(reply);
+    noteFact(path, {...reply}, last);
+  }
+  return unlessRefused(reply);
 }
 
 // What is known still, or else what the shop says when nobody waits for another answer.
@@ -98,7 +104,7 @@ async function askCalmly(path) {
   const known = facts.by.get(path);
   if (!known) return ask(path, {calm: true});
   keepFact(facts.by, path, known);
-  return {...known.reply};
+  return unlessRefused({...known.reply});
 }
 
 // A list is read up to so many pages of so many rows.
@@ -107,20 +113,28 @@ const MAX_PAGES = 20, ROWS = 100;
 // A list, as many of its pages as are shown, and whether there are more: one answer, which is known by the path of the first page once all
 // of it was read and nothing was dropped meanwhile.
 async function readPages(start, pages = MAX_PAGES) {
-  const [, key] = start.split("/"), {last, shops} = facts, told = {...factOf(start) || await fetchReply(start, {calm: true})};
-  const {drops} = facts, rows = told[key] = [...told[key]];
+  const [, word] = start.split("/"), key = word === "story" ? "entries" : word, {last, shops} = facts;
+  const told = {...factOf(start) || await fetchReply(start, {calm: true})}, {drops} = facts, rows = told[key] = [...told[key] || []];
   while (told.more && rows.length < pages * ROWS) {
-    const next = await fetchReply(pathBehind(start, key, rows[rows.length - 1]), {calm: true});
+    const next = unlessRefused(await fetchReply(pathBehind(start, key, rows[rows.length - 1]), {calm: true}));
     rows.push(...next[key]);
     told.more = next.more && next[key].length > 0;
   }
   if (shops === facts.shops) learn(told);
   if (shops === facts.shops && drops === facts.drops && (pages < Infinity || rows.length <= ROWS)) noteFact(start, told, last);
-  return [rows, told.more];
+  return [rows, unlessRefused(told).more];
+}
+
+// Reads the entries behind a number up to another, as far as they aren't known, the newest first.
+async function readEntries(after, last) {
+  for (let page = 0, lacking; page < MAX_PAGES && (lacking = lackingEntry(after, last)); page++)
+    if (!(await ask(`/history/${lacking - 1}`, {calm: true})).entries.length) break;
+  return entriesKnown(after, last);
 }
 
 // The path of the page behind a row.
 function pathBehind(start, key, row) {
+  if (key === "entries") return start.replace(/0$/, row.entry);
   const last = key === "pieces" ? row.part : row[key.slice(0, -1)];
   return ["demands", "jobs"].includes(key) ? start.replace("0", last) : `${start}/${last}`;
 }

@@ -1,11 +1,10 @@
 // ---- Stock.
 
-// name: the part that is looked for; batch: the batch whose units are shown.
+// name: the part that is looked for; batch: the batch that is; isNew: whether it wasn't shown yet.
 const traced = {
-  chain: null,
   name: "",
   batch: "",
-  width: 0
+  isNew: false
 };
 
 // folds: which sizes a person opened or closed; wanted: how many of a row are to go.
@@ -18,7 +17,7 @@ function showStock() {
   notePromised();
   $("stockTitle").textContent = shop.material ? tr`${shop.material}: standing and reserved` : tr`Standing and reserved`;
   fill($("stockList"), stockRows);
-  if (traced.chain && traced.width !== $("tracePicture").clientWidth) drawChain();
+  showTraced();
   adaptReceive();
 }
 
@@ -198,51 +197,58 @@ function fillReceipt(texts) {
   adaptReceive();
 }
 
-function forgetTrace() {
-  Object.assign(traced, {chain: null, name: "", batch: ""});
-  for (const id of ["traceWords", "tracePicture"]) $(id).replaceChildren();
+// Looks for a part, for a batch, or for neither.
+function seek(name, batch = "") {
+  Object.assign(traced, {name, batch, isNew: Boolean(name || batch)});
+  if (name || batch) $("tracePart").value = name;
 }
 
-async function trace(name) {
-  forgetTrace();
-  $("tracePart").value = traced.name = name;
-  if (!PART_NAME.test(name))
-    return $("traceWords")
-      .replaceChildren(el("p", {class: "fault", text: tr`A part's name is a number, / and a number, like 2/4.`}));
-  try {
-    const chain = await chainOf(name);
-    if (traced.name !== name) return;
-    traced.chain = chain;
-    if (viewName() === "stock") go(`part/${name}`);
-    const [part] = traced.chain;
-    if (part.state === "piece" && !lineOfDemand(part.of).order) await ask(`/demand/${part.of}`);
-    $("traceWords").replaceChildren(...traceWords(traced.chain));
-    drawChain();
-    if (window.innerWidth < NARROW) $("tracePanel").scrollIntoView({block: "nearest"});
-    if (chain.length > 1) return;
-    const [pieces, more] = await readPages(`/pieces/unit/${name}`);
-    if (traced.name === name) $("traceWords").append(...pieceRows(tr`Pieces of orders`, pieces, "order", more).filter(Boolean));
-  } catch (error) {
-    const fault = el("p", {class: "fault", text: await faultWords(error)});
-    if (traced.chain) $("traceWords").append(fault);
-    else $("traceWords").replaceChildren(fault);
+function trace(name) {
+  seek(name);
+  if (PART_NAME.test(name)) go(`part/${name}`);
+  showStock();
+}
+
+const MAX_CHAIN = 50;
+
+// As `told` has it the part, then the part that its job cut, and so on, the unit last; lacks: the path of what isn't told of it. A job's
+// number is its act's.
+function chainOf(name, told) {
+  const chain = [];
+  for (let part = name; part !== chain[chain.length - 1]?.part;) {
+    const path = `/trace/${part}`, row = told(path), by = `/job/${part.split("/")[0]}`, isUnit = row?.root === part;
+    if (!row?.ok || !(isUnit || told(by)?.ok)) return {chain, lacks: row?.ok ? by : path};
+    chain.push(row);
+    if (!isUnit) part = chain.length < MAX_CHAIN ? told(by).part : row.root;
   }
+  const [{state, of}] = chain;
+  return {chain, lacks: state === "piece" && !lineOfDemand(of).order ? `/demand/${of}` : ""};
 }
 
-// The part, then the part that its job cut, and so on, the unit last. A job's number is its act's.
-async function chainOf(name) {
-  const chain = [await ask(`/trace/${name}`)];
-  for (let last = chain[0]; last.part !== last.root && chain.length < 50; last = chain[chain.length - 1]) {
-    const job = await ask(`/job/${last.part.split("/")[0]}`);
-    chain.push(await ask(`/trace/${job.part}`));
-  }
-  const last = chain[chain.length - 1];
-  return last.part === last.root ? chain : [...chain, await ask(`/trace/${last.root}`)];
+async function readTraced() {
+  const {name, batch} = traced;
+  if (batch) await partsOfBatch(batch);
+  if (batch) await piecesOfBatch(batch);
+  if (!PART_NAME.test(name)) return;
+  for (let lacks; lacks = chainOf(name, factOf).lacks;) await askCalmly(lacks);
+  if (chainOf(name, toldOf).chain.length === 1) await readPages(`/pieces/unit/${name}`);
 }
 
-function drawChain() {
-  traced.width = $("tracePicture").clientWidth;
-  drawTrace($("tracePicture"), traced.chain, chainKind(traced.chain));
+// What is looked for comes into sight where it lies below all else.
+function showTraced() {
+  const {name, batch} = traced, isPart = PART_NAME.test(name), {chain, lacks} = isPart ? chainOf(name, toldOf) : {lacks: "none"};
+  fill($("traceWords"), () => batch ? batchRows(batch) : isPart ? partRows(name, chain, lacks)
+    : name ? el("p", {class: "fault", text: tr`A part's name is a number, / and a number, like 2/4.`}) : []);
+  fill($("tracePicture"), () => lacks ? [] : drawTrace($("tracePicture"), chain, chainKind(chain)));
+  if (!traced.isNew || (lacks && !toldOf(`/pieces/batch/${batch}`).ok)) return;
+  traced.isNew = false;
+  if (window.innerWidth < NARROW) $("tracePanel").scrollIntoView({block: "nearest"});
+}
+
+function partRows(name, chain, lacks) {
+  const {refused, ...reply} = toldOf(lacks), {pieces = [], more} = chain.length === 1 ? toldOf(`/pieces/unit/${name}`) : {};
+  if (refused) return el("p", {class: "fault", text: refusedWords({refused, ...reply})});
+  return lacks ? quiet("…") : [...traceWords(chain), ...pieceRows(tr`Pieces of orders`, pieces, "order", more)];
 }
 
 // The trace doesn't tell the kind of the material: a unit that is a tenth high is a bar.
@@ -275,34 +281,20 @@ function traceWords(chain) {
   ];
 }
 
-// The units and remnants of a batch that stand or are reserved, of all materials.
-async function showBatch(batch) {
-  forgetTrace();
-  traced.batch = batch;
-  $("traceWords").replaceChildren(quiet("…"));
-  try {
-    await lookAtShop();
-    if (!shop.isKnown) await readMaterials();
-    const parts = await partsOfBatch(batch), [pieces, more] = await piecesOfBatch(batch);
-    const made = pieceRows(tr`Pieces of orders`, pieces, "order", more).filter(Boolean);
-    if (traced.batch === batch) $("traceWords").replaceChildren(...batchRows(batch, parts), ...made);
-  } catch (error) { $("traceWords").replaceChildren(el("p", {class: "fault", text: await faultWords(error)})); }
-}
+// The units and remnants of a batch that stand or are reserved, of all materials, as far as they are known.
+function partsKnown(batch) { return shop.materials.flatMap(({material}) => knownOf(material).parts).filter(part => part.batch === batch); }
 
 async function partsOfBatch(batch) {
-  const found = [];
-  for (const {material} of shop.materials) {
-    const [parts] = await readPages(`/parts/${material}`);
-    found.push(...parts.filter(part => part.batch === batch).map(part => ({...part, material})));
-  }
-  return found;
+  for (const {material} of shop.materials) await readParts(material);
+  return partsKnown(batch);
 }
 
 function piecesOfBatch(batch) { return readPages(`/pieces/batch/${batch}`); }
 
-function batchRows(batch, parts) {
+function batchRows(batch) {
+  const parts = partsKnown(batch), {ok, pieces = [], more} = toldOf(`/pieces/batch/${batch}`);
   const rows = groupsOf(parts, ({material, w, h, state, of, root, part}) => [material, w, h, state, of, root === part].join(" "));
-  return [
+  return !ok ? quiet("…") : [
     el("h3", {text: tr`Batch ${batch}`}), parts.length ? null : quiet(tr`Nothing of it stands or is reserved.`),
     ...rows.map(same => {
       const [part] = same, what = count(same.length, isRemnant(part) ? "remnant" : "unit");
@@ -311,6 +303,7 @@ function batchRows(batch, parts) {
           el("div", {text: `${what}, ${part.state === "standing" ? tr`standing` : tr`reserved, job ${part.of}`}`}),
           el("div", {class: "quiet", text: namesOf(same)})),
         el("div", {class: "buttons"}, linkTo(`part/${part.part}`, tr`Trace`, `${tr`Trace`} ${part.part}`)));
-    })
-  ].filter(Boolean);
+    }),
+    ...pieceRows(tr`Pieces of orders`, pieces, "order", more)
+  ];
 }

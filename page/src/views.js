@@ -5,7 +5,7 @@ const VIEWS = {
   tocut: {show: showToCut, read: [readCut, readWantedTexts, readOthers]},
   saw: {show: showSaw, read: [readShown, showView, readPlans, readEnded]},
   orders: {show: showOrders, read: [readOrders]},
-  stock: {show: showStock, read: [readParts, readDemands, readOthers]},
+  stock: {show: showStock, read: [readTraced, showView, readParts, readDemands, readOthers]},
   yield: {show: showYield, read: [readTotals, readBackups]},
   happened: {show: showHappened, read: [readHappened]},
 };

@@ -308,7 +308,7 @@ def unknown_shop(trial):
 @case(
     "another run of the program behind the page",
     "Where the program was started anew unseen, between two requests, the first answer of the other run is none: all that was shown "
-    "is dropped, told and read anew, with lines, jobs, halts, the job at the saw, plans and numbers that were typed; what is typed "
+    "is dropped, told and read anew, with lines, entries, jobs, the job at the saw, plans and numbers that were typed; what is typed "
     "into forms stays. What a program without runs showed is dropped where it was away.",
 )
 def other_run(trial):
@@ -318,8 +318,8 @@ def other_run(trial):
     begun_again(shop)
     order_and_job(shop, "MUELLER-1")
     known = (
-        "[facts.lines.size, facts.by.size, facts.old.size, facts.orders.size, halts.size, inOrders.typed.size, atSaw.told, "
-        "toCut.found, owner.report, traced.chain]"
+        "[facts.lines.size, facts.by.size, facts.old.size, facts.orders.size, facts.entries.size, inOrders.typed.size, atSaw.told, "
+        "toCut.found, owner.report]"
     )
     for run in (RUNS[0], ""):
         with Terminal(trial, shop) as it, gate_before(shop, run) as gate:
@@ -331,8 +331,7 @@ def other_run(trial):
             it.view("saw")
             it.until(f"{by_id('jobPieces')}.textContent.includes('MUELLER-1')")
             it.until("!refresh.running")
-            it.value("(clearTimeout(refresh.timer), halts.set('x', {made: new Set(), lost: null}), 0)")
-            it.value("(toCut.found = {plans: []}, owner.report = {}, traced.chain = [], 0)")
+            it.value("(clearTimeout(refresh.timer), toCut.found = {plans: []}, owner.report = {}, 0)")
             it.value("window.dropped = null, window.forgetBefore = forgetShop, forgetShop = () => { forgetBefore(); dropped = " + known + "; }, 0")
             shop.kill()
             if not run:
@@ -344,7 +343,7 @@ def other_run(trial):
             it.value("refreshNow()")
             it.says(AWAY)
             it.until("dropped")
-            trial.equal(it.value("dropped"), [0] * 6 + [None] * 4)
+            trial.equal(it.value("dropped"), [0] * 6 + [None] * 3)
             it.until(f"{by_id('jobPieces')}.textContent.includes('SCHMIDT-2')")
             trial.holds("MUELLER" not in it.value("document.body.innerText"), "another customer is shown")
             it.view("orders")

@@ -128,8 +128,8 @@ def happened(trial):
 
 @case(
     "pages of what happened",
-    "A hundred entries are a page, which takes one question beside `/shop`; older and newer ones have addresses. An entry's address shows "
-    "it first. What is new since the last look stands above a line. Seen and left alone nothing but `/shop` is asked.",
+    "A hundred entries are a page, which takes one question beside `/shop`, and none where each of them is known; older and newer ones have "
+    "addresses. An entry's address shows it first. What is new since the last look stands above a line. Seen and left alone nothing but `/shop` is asked.",
 )
 def pages(trial):
     shop = open_shop(trial)
@@ -163,10 +163,14 @@ def pages(trial):
         trial.equal((it.value(entries), it.value("document.querySelector('#happenedList .chosen time') !== null")), ([7, 6, 5, 4, 3, 2, 1], True))
         it.value("void (location.hash = 'yield')")
         it.until("!document.getElementById('yield').hidden")
+        it.until("!refresh.running")
+        it.requests.clear()
         for part in range(2):
             send(2, do="scrap", part=f"{part + 1}/0")
+        it.until("facts.last.entry === 107")
         it.value("void (location.hash = 'happened')")
         it.until(f"{entries}[0] === 107 && document.querySelector('#happenedList .looked')")
+        trial.holds(all(int(path.split("/")[1]) >= 104 for path in asked(it)), f"{asked(it)}: an entry is asked for that is known")
         seen = "[...document.querySelectorAll('#happenedList .entries li')].findIndex(e => e.textContent === 'since your last look ↑')"
         trial.equal(it.value(seen), 2)
         it.requests.clear()
@@ -201,7 +205,7 @@ def german(trial):
         is_german(it, "happened")
         for address in ("happened/order/A-1", "happened/12", "happened/order/NONE"):
             it.value(f"void (location.hash = {json.dumps(address)})")
-            it.until("!refresh.running && happened.of !== null")
+            it.until(f"!refresh.running && {LIST} !== '…'")
             is_german(it, address.replace("/", "-"))
         is_quiet(it)
     with Terminal(trial, open_shop(trial, "", "bare.db"), "de-DE") as it:

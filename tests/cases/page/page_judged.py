@@ -294,8 +294,8 @@ def lays_out(it, dice, send, stuff, job, part):
     came = traced_boxes(it, job, nodes, (root["x"], root["y"]))
     it.trial.equal(as_traced(drawn), came, f"what came of job {job}")
     if is_broken:
-        it.value("(halts.clear(), facts.old = new Map(facts.by), facts.by.clear(), readShown().then(showView))")
-        it.until("halts.has(keyOf(atSaw.told)) && document.querySelector('#jobPicture svg')")
+        it.value("(facts.entries.clear(), facts.old = new Map(facts.by), facts.by.clear(), readShown().then(showView))")
+        it.until(f"{by_id('jobWords')}.textContent.endsWith('what was left.') && document.querySelector('#jobPicture svg')")
         it.trial.equal(as_traced(drawn_boxes(it, told)), came, f"what the traces of job {job} tell")
 
 

@@ -31,7 +31,7 @@ def answered(it):
 @case(
     "another was quicker than the page",
     "A job that another terminal ended is told with who and when, and the same end is no fault; another end is one. So it is with a part "
-    "that another reserved or scrapped, also where it is one of several; in German too.",
+    "that another reserved or scrapped, also where it is one of several, and where its story was looked at before; in German too.",
 )
 def quicker(trial):
     shop = open_shop(trial)
@@ -41,6 +41,8 @@ def quicker(trial):
     jobs = [send(do="reserve", part=f"1/{place}", tree=BAR)["job"] for place in range(3)]
     with Terminal(trial, shop) as it:
         it.begin(7)
+        it.value(f"void (location.hash = 'happened/job/{jobs[0]}')")
+        it.until(f"happenedList.textContent.includes('1/0 reserved as job {jobs[0]}')")
         it.value(f"void (location.hash = 'saw/{jobs[0]}')")
         it.until(f"atSaw.told?.job === {jobs[0]}")
         alone(it)
@@ -75,6 +77,42 @@ def quicker(trial):
         it.value(f"void send({{do: 'done', job: {jobs[1]}}}, 'Fertig')")
         answered(it)
         trial.equal(notices(it, "successes"), [f"Job {jobs[1]}: erledigt von Terminal 8"])
+        is_quiet(it)
+
+
+@case(
+    "what is looked at closely at the page while others work",
+    "A part's trace, the parts of a batch, a job's story and the button that takes a job back, on an older page of what happened, follow "
+    "what other terminals do meanwhile. A part that isn't there yet is shown once it is.",
+)
+def followed(trial):
+    shop = open_shop(trial)
+    send = sender(shop)
+    send(**STOCK, count=3)
+    send(do="order", order="A-1", lines=LINES)
+    words = f"{by_id('traceWords')}.textContent"
+    with Terminal(trial, shop) as it:
+        it.begin(7)
+        it.value("void (location.hash = 'part/1/0')")
+        it.until(f"{words}.includes('1/0, 600.0\u00a0mm: stands.') && tracePicture.querySelector('svg')")
+        job = send(do="reserve", part="1/0", tree="x1000 p1 r")["job"]
+        it.until(f"{words}.includes('reserved for job {job}.') && {by_id('traceWords')}.querySelector('a[href=\"#saw/{job}\"]')")
+        send(do="done", job=job)
+        it.until(f"{words}.includes('cut by job {job}.') && {words}.includes('Pieces of orders')")
+        it.value("void (location.hash = 'batch/S-1')")
+        it.until(f"{words}.includes('2 units, standing') && {words}.includes('1 remnant, standing') && !tracePicture.firstChild")
+        send(do="scrap", part="1/1")
+        it.until(f"{words}.includes('1 unit, standing')")
+        it.value(f"void (location.hash = 'happened/6')")
+        back = "[...happenedList.querySelectorAll('button')].map(e => e.getAttribute('aria-label'))"
+        it.until(f"{back}.join() === 'Take back job {job}'")
+        send(do="undo", job=job)
+        it.until(f"!{back}.length && happenedList.textContent.includes('job {job} done')")
+        it.value("void (location.hash = 'part/4/0')")
+        it.until(f"{words} === 'there is no such part (50 NoPart)'")
+        for _ in range(2):
+            send(**STOCK, count=1)
+        it.until(f"{words}.includes('4/0, 600.0\u00a0mm: stands.')")
         is_quiet(it)
 
 

@@ -116,7 +116,7 @@ def outcome(trial):
             it.value("refreshNow()")
             it.until("!refresh.running && !queue.busy")
         again = len([address for address in it.requests if f"/story/job/{other}/" in address])
-        trial.equal((asked, again), (1, 1), "one question for how it broke off, once")
+        trial.equal((asked, again), (0, 0), "how it broke off is asked for, which is among the entries that were read")
         open_job(it, sheet)
         it.shot("saw-released")
         trial.equal(figures(it)[2:], ["0 of 2 cuts made", "given back state"])

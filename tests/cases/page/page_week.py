@@ -65,7 +65,7 @@ def shows_what_is(trial, pages, shop):
         trial.equal(it.value("shop.jobs.map(row => row.job)"), jobs, name)
         trial.equal(it.value("shop.parts.filter(isFree).length"), standing, name)
         it.value("void (location.hash = 'happened')")
-        it.until(f"happened.rows[0]?.entry === {told}")
+        it.until(f"happenedList.querySelector('.entries a')?.hash === '#happened/{told}'")
         it.until(f"{by_id('link')}.textContent === 'connected'")
 
 
