@@ -128,7 +128,8 @@ function whyLeft({fields}, cells, {heads}) {
   const [, material, length, width] = cells.map(cell => cell?.trim() || ""), full = fields.map(field => field.trim());
   const isAsHeads = () => full.every((field, i) => !field || field === heads[i]?.text) || isHeads(fields) || isSubHeads(fields);
   if (heads.length && !/\d/.test(length) && isAsHeads()) return "heads";
-  const isSum = SUM.test(full.find(Boolean)) ? !material && !width : !length && full.some(field => SUM.test(field));
+  const isUnnamed = !material || (SUM.test(material) && !length);
+  const isSum = SUM.test(full.find(Boolean)) ? isUnnamed && !width : !length && full.some(field => SUM.test(field));
   return isSum || cells.every((cell, i) => Boolean(cell?.trim()) === (i === 5)) ? "sum" : "";
 }
 

@@ -110,10 +110,14 @@ def titles(trial):
 def sums(trial):
     with Terminal(trial, open_shop(trial)) as it:
         begun(it)
-        for number, sum_row in enumerate(("Summe;;5", "Gesamt:;;5", "Total pieces;;5", ";;5", "Summe;3600 mm;5", "Gesamtsumme;;")):
-            picked(it, f"s-{number}.csv", f"Bezeichnung;Länge;Stück;Material\nTür;1200;3;STEEL\nFach;600;2;STEEL\n{sum_row}\n")
+        named = "Bezeichnung;Länge;Stück;Material\nTür;1200;3;STEEL\nFach;600;2;STEEL\n"
+        rows = [named + row for row in ("Summe;;5", "Gesamt:;;5", "Total pieces;;5", ";;5", "Summe;3600 mm;5", "Gesamtsumme;;")]
+        # (the word stands where the material does)
+        rows.append("Material;Länge;Stück\nSTEEL;1200;3\nSTEEL;600;2\nSumme;;5")
+        for number, text in enumerate(rows):
+            picked(it, f"s-{number}.csv", f"{text}\n")
             it.until(f"{SHOWN}.length === 2 && {by_id('fileCode')}.value === 'S-{number}'")
-            trial.equal((it.value(f"{LEFT}.length"), it.value(FAULTS)), (1, []), sum_row)
+            trial.equal((it.value(f"{LEFT}.length"), it.value(FAULTS)), (1, []), text)
             it.click(by_id("sendCsv"))
             it.says(f"Order S-{number} from a file: 2 lines ordered")
         is_quiet(it)
