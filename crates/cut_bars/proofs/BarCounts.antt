@@ -10,7 +10,7 @@ use Rattle.cut_tree.specs.Tree.{Tree, leaf_sum, count_of, Rest, Piece, Trim, Cut
 use Rattle.cut_measure.specs.declared.sizes.Axis.TheVariants.{X, Y}
 use Rattle.cut_wants.specs.Legal.{Legal, of_demand, worth_of, IsWithinCounts, HaveOwnDemands}
 use Rattle.cut_wants.specs.Best.{IsBestWithin}
-use Rattle.cut_bars.specs.Counts.{AreCounts, total_of, room_taken, worth_of_counts, AreBestCounts, AreUprightOfHeightOne, HaveLength}
+use Rattle.cut_bars.specs.Counts.{AreCounts, total_of, span_taken, worth_of_counts, AreBestCounts, AreUprightOfHeightOne, HaveLength}
 use Rattle.cut_wants.proofs.LeafSums.{of_demand_found, Contains-head, Contains-tail, weigh, weigh-count}
 
 -- a piece of a bar: of some length, flat, and not to be turned
@@ -25,19 +25,19 @@ AreBarWants wants = (x : Want) → Contains wants x → IsBarWant x
 pub bar_wants : (wants : List Want) → HaveLength wants → AreUprightOfHeightOne wants → AreBarWants wants
 bar_wants wants some flat = λ x has. record { some = some x has; flat = (flat x has).flat; upright = (flat x has).upright }
 
-leaf_room : (wants : List Want) (k d : ℕ) (w : ℕ) → HaveOwnDemands wants → (x : Want) → Contains wants x → x.demand ≡ d → x.size.w ≡ w → of_demand (λ x. x.size.w + k) wants d ≡ w + k
-leaf_room wants k d w own x has e side =
+leaf_span : (wants : List Want) (k d : ℕ) (w : ℕ) → HaveOwnDemands wants → (x : Want) → Contains wants x → x.demand ≡ d → x.size.w ≡ w → of_demand (λ x. x.size.w + k) wants d ≡ w + k
+leaf_span wants k d w own x has e side =
     ap (λ d. of_demand (λ x. x.size.w + k) wants d) (sym e) ∙ of_demand_found (λ x. x.size.w + k) wants x own has ∙ ap (λ n. n + k) side
 
 -- the pieces of a bar, each with a kerf, take at most the bar and a kerf
-pub bar_room : (wants : List Want) (k : ℕ) (t : Tree) (w : ℕ) → HaveOwnDemands wants → AreBarWants wants → Legal wants k t w 1 → leaf_sum (of_demand (λ x. x.size.w + k) wants) t ≤ w + k
-bar_room wants k Rest w own bar legal = omega arith
-bar_room wants k (Piece d false) w own bar p = omega (arith, leaf_room wants k d w own p.0 p.1 p.2 p.3.0)
-bar_room wants k (Piece d true) w own bar p = absurd (false≢true (sym (bar p.0 p.1).upright ∙ p.3.0))
-bar_room wants k (Trim X a t) w own bar l = omega (arith, bar_room wants k t a own bar l.3, l.1)
-bar_room wants k (Trim Y a t) w own bar l = absurd (omega (arith, l.0, l.1))
-bar_room wants k (Cut X a t u) w own bar l = omega (arith, bar_room wants k t a own bar l.2, bar_room wants k u (w - a - k) own bar l.3, l.1)
-bar_room wants k (Cut Y a t u) w own bar l = absurd (omega (arith, l.0, l.1))
+pub bar_span : (wants : List Want) (k : ℕ) (t : Tree) (w : ℕ) → HaveOwnDemands wants → AreBarWants wants → Legal wants k t w 1 → leaf_sum (of_demand (λ x. x.size.w + k) wants) t ≤ w + k
+bar_span wants k Rest w own bar legal = omega arith
+bar_span wants k (Piece d false) w own bar p = omega (arith, leaf_span wants k d w own p.0 p.1 p.2 p.3.0)
+bar_span wants k (Piece d true) w own bar p = absurd (false≢true (sym (bar p.0 p.1).upright ∙ p.3.0))
+bar_span wants k (Trim X a t) w own bar l = omega (arith, bar_span wants k t a own bar l.3, l.1)
+bar_span wants k (Trim Y a t) w own bar l = absurd (omega (arith, l.0, l.1))
+bar_span wants k (Cut X a t u) w own bar l = omega (arith, bar_span wants k t a own bar l.2, bar_span wants k u (w - a - k) own bar l.3, l.1)
+bar_span wants k (Cut Y a t u) w own bar l = absurd (omega (arith, l.0, l.1))
 
 abbrev pub tree_counts : List Want → Tree → List ℕ
 tree_counts [] t = []
@@ -60,9 +60,9 @@ tree_within wants (x ∷ xs) t own within sub = (
 pub tree_le_counts : (wants : List Want) (k w : ℕ) (ns : List ℕ) → HaveOwnDemands wants → AreBarWants wants → AreBestCounts k wants (w + k) ns
     → (t : Tree) → Legal wants k t w 1 → IsWithinCounts wants t → worth_of wants t ≤ worth_of_counts wants ns
 tree_le_counts wants k w ns own bar best t legal within =
-    let room = tree_total (λ x. x.size.w + k) wants t ∙ weigh-count (λ x. x.size.w + k) wants t own in
+    let span = tree_total (λ x. x.size.w + k) wants t ∙ weigh-count (λ x. x.size.w + k) wants t own in
     let value = tree_total (λ x. x.worth) wants t ∙ weigh-count (λ x. x.worth) wants t own in
-    let most = best.most (tree_counts wants t) (tree_within wants wants t own within (λ x h. h)) (omega (arith, room, bar_room wants k t w own bar legal)) in
+    let most = best.most (tree_counts wants t) (tree_within wants wants t own within (λ x h. h)) (omega (arith, span, bar_span wants k t w own bar legal)) in
     omega (arith, most, value)
 
 -- a tree of a bar, by what its leaves add up to
@@ -105,22 +105,22 @@ many wants k x has flat some r g after none (suc a) w fit =
           (Piece x.demand false, (x, has, refl, (e, flat)), λ f. sums ge f)
     ]
 
-room_none : (k : ℕ) (xs : List Want) (ns : List ℕ) → AreBarWants xs → room_taken k xs ns ≤ k → (g : Want → ℕ) → total_of g xs ns ≡ 0
-room_none k [] ns bar fit g = refl
-room_none k (x ∷ xs) [] bar fit g = refl
-room_none k (x ∷ xs) (zero ∷ ns) bar fit g = omega (arith, room_none k xs ns (λ y h. bar y (Contains-tail x xs y h)) (omega arith) g)
-room_none k (x ∷ xs) (suc a ∷ ns) bar fit g =
+span_none : (k : ℕ) (xs : List Want) (ns : List ℕ) → AreBarWants xs → span_taken k xs ns ≤ k → (g : Want → ℕ) → total_of g xs ns ≡ 0
+span_none k [] ns bar fit g = refl
+span_none k (x ∷ xs) [] bar fit g = refl
+span_none k (x ∷ xs) (zero ∷ ns) bar fit g = omega (arith, span_none k xs ns (λ y h. bar y (Contains-tail x xs y h)) (omega arith) g)
+span_none k (x ∷ xs) (suc a ∷ ns) bar fit g =
     absurd (omega (arith, mul-le (x.size.w + k) 1 (x.size.w + k) (suc a) (le_refl (x.size.w + k)) (omega arith), (bar x (Contains-head x xs)).some))
 
 pub counts_tree : (wants : List Want) (k : ℕ) → AreBarWants wants → (xs : List Want) (ns : List ℕ) → ((x : Want) → Contains xs x → Contains wants x)
-    → (w : ℕ) → room_taken k xs ns ≤ w + k → Piled wants k w (λ f. total_of (λ x. f x.demand) xs ns)
+    → (w : ℕ) → span_taken k xs ns ≤ w + k → Piled wants k w (λ f. total_of (λ x. f x.demand) xs ns)
 counts_tree wants k bar [] ns sub w fit = (Rest, tt, λ f. refl)
 counts_tree wants k bar (x ∷ xs) [] sub w fit = (Rest, tt, λ f. refl)
 counts_tree wants k bar (x ∷ xs) (a ∷ ns) sub w fit =
     let has = sub x (Contains-head x xs) in
-    many wants k x has (bar x has).flat (bar x has).some (room_taken k xs ns) (λ f. total_of (λ x. f x.demand) xs ns)
+    many wants k x has (bar x has).flat (bar x has).some (span_taken k xs ns) (λ f. total_of (λ x. f x.demand) xs ns)
     (λ v h. counts_tree wants k bar xs ns (λ y h. sub y (Contains-tail x xs y h)) v h)
-    (λ h f. room_none k xs ns (λ y h. bar y (sub y (Contains-tail x xs y h))) h (λ x. f x.demand)) a w fit
+    (λ h f. span_none k xs ns (λ y h. bar y (sub y (Contains-tail x xs y h))) h (λ x. f x.demand)) a w fit
 
 total_absent : (d : ℕ) (xs : List Want) (ns : List ℕ) → ((y : Want) → Contains xs y → y.demand ≢ d) → total_of (λ x. cond (eqb x.demand d) 1 0) xs ns ≡ 0
 total_absent d [] ns away = refl

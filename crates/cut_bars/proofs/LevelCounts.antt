@@ -52,7 +52,7 @@ none_reached k whole = (
   reached_none k whole (Contains (none ∷ [])) (λ e (i, lt, at). zero e i (omega arith) at) (0, omega arith, refl),
 )
   where
-    zero : (e : Entry) (i : ℕ) → i ≡ 0 → get_or (none ∷ []) i e ≡ e → (e.room ≡ 0) × (e.worth ≡ 0)
+    zero : (e : Entry) (i : ℕ) → i ≡ 0 → get_or (none ∷ []) i e ≡ e → (e.span ≡ 0) × (e.worth ≡ 0)
     zero e i z at =
         let here : none ≡ e = subst (λ i. get_or (none ∷ []) i e ≡ e) z at in
-        (omega (arith, ap (λ (e : Entry). e.room) here), omega (arith, ap (λ (e : Entry). e.worth) here))
+        (omega (arith, ap (λ (e : Entry). e.span) here), omega (arith, ap (λ (e : Entry). e.worth) here))

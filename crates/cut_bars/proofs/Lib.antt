@@ -4,4 +4,4 @@ pub mod JoinedEntries
 pub mod OfferedPieces
 pub mod RaisedCells
 pub mod LevelCounts
-pub mod DividedRooms
+pub mod DividedSpans

@@ -10,7 +10,7 @@ use Rattle.cut_wants.proofs.NumberRows.{same_length, value_at, value_set}
 use Rattle.std.proofs.Math.Seq.{take-append_seam}
 use Rattle.std.proofs.Math.Nat.{le_refl, le-max_left, le-max_right, max-eq_left, max-eq_right}
 use Rattle.cut_bars.specs.declared.reach.Entry.{Entry}
-use Rattle.cut_bars.specs.Reached.{AreOwn, AreOffered, HaveWorthsBoundedByRoom, AreRising, IsMoved, StayBelow}
+use Rattle.cut_bars.specs.Reached.{AreOwn, AreOffered, HaveWorthsBoundedBySpan, AreRising, IsMoved, StayBelow}
 use Rattle.cut_bars.specs.Levels.{AreCellsBelow, HasCell, IsRaised, gained}
 use Rattle.cut_wants.proofs.NumberRows.{set_here, set_other}
 use Rattle.cut_bars.proofs.JoinedEntries.{same_entry, rising_push}
@@ -31,8 +31,8 @@ pub cells_own : (cells : List ℕ) → AreOwn (HasCell cells)
 cells_own cells e f a b same = omega (arith, a, b, ap (λ n. get_or cells n 0) same)
 
 -- a cell of at least so much is an entry's
-cell_at : (cells : List ℕ) (c v : ℕ) → v + 1 ≤ get_or cells c 0 → (e : Entry) × HasCell cells e × (e.room ≡ c) × (v ≤ e.worth)
-cell_at cells c v least = (record { room = c; worth = get_or cells c 0 - 1 }, omega arith, refl, omega arith)
+cell_at : (cells : List ℕ) (c v : ℕ) → v + 1 ≤ get_or cells c 0 → (e : Entry) × HasCell cells e × (e.span ≡ c) × (v ≤ e.worth)
+cell_at cells c v least = (record { span = c; worth = get_or cells c 0 - 1 }, omega arith, refl, omega arith)
 
 led_from : (gain v w : ℕ) → gained gain v ≡ w + 1 → (u : ℕ) × (v ≡ u + 1) × (w ≡ u + gain)
 led_from gain zero w e = absurd (omega (arith, e))
@@ -76,52 +76,52 @@ module _ (step gain whole : ℕ) (from old new : List ℕ) (len : length old ≡
         led_some gain (get_or from (c + step - step) 0) u at,
       )
 
-  short : (e : Entry) → HasCell new e → e.room ≤ whole
-  short e has = cell_inside new whole e.room e.worth len' has
+  short : (e : Entry) → HasCell new e → e.span ≤ whole
+  short e has = cell_inside new whole e.span e.worth len' has
 
 -- a batch that was offered from the cells as they stood
 pub raised_once : (step gain whole : ℕ) (old new : List ℕ) → length old ≡ whole + 1 → length new ≡ whole + 1 → IsRaised step gain old old new → AreOffered step gain 1 whole (HasCell old) (HasCell new)
 raised_once step gain whole old new len len' r = record {
   own = cells_own new;
   short = short step gain whole old old new len len' r;
-  only = λ e has. elim (whence step gain whole old old new len len' r e.room e.worth has) [
-    | inl h ↦ (0, omega arith, e, h, record { room = omega arith; worth = omega arith })
-    | inr (ge, u, is, w) ↦ (1, omega arith, record { room = e.room - step; worth = u }, is, record { room = omega arith; worth = omega (arith, w) })
+  only = λ e has. elim (whence step gain whole old old new len len' r e.span e.worth has) [
+    | inl h ↦ (0, omega arith, e, h, record { span = omega arith; worth = omega arith })
+    | inr (ge, u, is, w) ↦ (1, omega arith, record { span = e.span - step; worth = u }, is, record { span = omega arith; worth = omega (arith, w) })
   ];
   most = λ b has times few fits. elim (cases_lt times 1) [
     | inl lt ↦
         let zero : times ≡ 0 = omega arith in
-        let e = cell_at new b.room b.worth (omega (arith, has, kept step gain whole old old new len len' r b.room (omega arith))) in
+        let e = cell_at new b.span b.worth (omega (arith, has, kept step gain whole old old new len len' r b.span (omega arith))) in
         rw zero (e.0, e.1, omega (arith, e.2), omega (arith, e.3))
     | inr ge ↦
         let one : times ≡ 1 = omega arith in
-        let room = ap (λ n. n * step) one in
-        let e = cell_at new (b.room + step) (b.worth + gain) (omega (arith, further step gain whole old old new len len' r b.room b.worth (omega (arith, room)) has)) in
+        let span = ap (λ n. n * step) one in
+        let e = cell_at new (b.span + step) (b.worth + gain) (omega (arith, further step gain whole old old new len len' r b.span b.worth (omega (arith, span)) has)) in
         rw one (e.0, e.1, omega (arith, e.2), omega (arith, e.3))
   ];
 }
 
 -- any number of pieces that were offered from the cells as they stand
 module _ (step gain whole : ℕ) (old new : List ℕ) (some : 1 ≤ step) (len : length old ≡ whole + 1) (len' : length new ≡ whole + 1) (r : IsRaised step gain new old new) where
-  led_to : (n c w : ℕ) → c < n → get_or new c 0 ≡ w + 1 → (times : ℕ) × (b : Entry) × HasCell old b × IsMoved step gain times b (record { room = c; worth = w })
+  led_to : (n c w : ℕ) → c < n → get_or new c 0 ≡ w + 1 → (times : ℕ) × (b : Entry) × HasCell old b × IsMoved step gain times b (record { span = c; worth = w })
   led_to zero c w le is = absurd (omega arith)
   led_to (suc n) c w le is = elim (whence step gain whole new old new len len' r c w is) [
-    | inl h ↦ (0, record { room = c; worth = w }, h, record { room = omega arith; worth = omega arith })
+    | inl h ↦ (0, record { span = c; worth = w }, h, record { span = omega arith; worth = omega arith })
     | inr (ge, u, at, e) ↦
         let f = led_to n (c - step) u (omega arith) at in
-        let room = f.3.room in
+        let span = f.3.span in
         let worth = f.3.worth in
-        (suc f.0, f.1, f.2, record { room = omega (arith, room); worth = omega (arith, worth, e) })
+        (suc f.0, f.1, f.2, record { span = omega (arith, span); worth = omega (arith, worth, e) })
   ]
 
-  up_to : (times : ℕ) (b : Entry) → HasCell old b → b.room + times * step ≤ whole → b.worth + times * gain + 1 ≤ get_or new (b.room + times * step) 0
+  up_to : (times : ℕ) (b : Entry) → HasCell old b → b.span + times * step ≤ whole → b.worth + times * gain + 1 ≤ get_or new (b.span + times * step) 0
   up_to zero b has fits =
-      let here : b.room + 0 * step ≡ b.room = omega arith in
-      omega (arith, has, kept step gain whole new old new len len' r b.room (omega arith), ap (λ n. get_or new n 0) here)
+      let here : b.span + 0 * step ≡ b.span = omega arith in
+      omega (arith, has, kept step gain whole new old new len len' r b.span (omega arith), ap (λ n. get_or new n 0) here)
   up_to (suc times) b has fits =
       let f = up_to times b has (omega arith) in
-      let g = further step gain whole new old new len len' r (b.room + times * step) (get_or new (b.room + times * step) 0 - 1) (omega arith) (omega arith) in
-      let here : b.room + times * step + step ≡ b.room + suc times * step = omega arith in
+      let g = further step gain whole new old new len len' r (b.span + times * step) (get_or new (b.span + times * step) 0 - 1) (omega arith) (omega arith) in
+      let here : b.span + times * step + step ≡ b.span + suc times * step = omega arith in
       omega (arith, f, g, ap (λ n. get_or new n 0) here)
 
   pub raised_freely : AreOffered step gain (whole / step) whole (HasCell old) (HasCell new)
@@ -129,28 +129,28 @@ module _ (step gain whole : ℕ) (old new : List ℕ) (some : 1 ≤ step) (len :
     own = cells_own new;
     short = short step gain whole new old new len len' r;
     only = λ e has.
-        let f = led_to (e.room + 1) e.room e.worth (omega arith) has in
-        let room = f.3.room in
-        (f.0, fit_within step f.0 whole some (omega (arith, room, short step gain whole new old new len len' r e has)), f.1, f.2, record { room = room; worth = f.3.worth });
+        let f = led_to (e.span + 1) e.span e.worth (omega arith) has in
+        let span = f.3.span in
+        (f.0, fit_within step f.0 whole some (omega (arith, span, short step gain whole new old new len len' r e has)), f.1, f.2, record { span = span; worth = f.3.worth });
     most = λ b has times few fits.
-        let e = cell_at new (b.room + times * step) (b.worth + times * gain) (up_to times b has fits) in
+        let e = cell_at new (b.span + times * step) (b.worth + times * gain) (up_to times b has fits) in
         (e.0, e.1, e.2, e.3);
   }
 
 -- a worth in a cell is low where the entries' are
-pub cell_low : (price : ℕ) (cells : List ℕ) (whole c : ℕ) → HaveWorthsBoundedByRoom price whole (HasCell cells) → get_or cells c 0 ≤ c * price + 1
+pub cell_low : (price : ℕ) (cells : List ℕ) (whole c : ℕ) → HaveWorthsBoundedBySpan price whole (HasCell cells) → get_or cells c 0 ≤ c * price + 1
 cell_low price cells whole c low = go (get_or cells c 0) refl
   where
     go : (v : ℕ) → get_or cells c 0 ≡ v → get_or cells c 0 ≤ c * price + 1
     go zero e = omega (arith, e)
-    go (suc v) e = omega (arith, e, (low (record { room = c; worth = v }) (omega (arith, e))).1)
+    go (suc v) e = omega (arith, e, (low (record { span = c; worth = v }) (omega (arith, e))).1)
 
 -- a cell that is set is the entry's, and the others are as they were
-pub cell_put : (cells : List ℕ) (here e : Entry) → here.room < length cells
-    → HasCell (slice_set cells here.room (here.worth + 1)) e ↔ ((e ≡ here) ⊎ ((e.room ≢ here.room) × HasCell cells e))
-cell_put cells here e lt = elim (eqb_tells e.room here.room) [
+pub cell_put : (cells : List ℕ) (here e : Entry) → here.span < length cells
+    → HasCell (slice_set cells here.span (here.worth + 1)) e ↔ ((e ≡ here) ⊎ ((e.span ≢ here.span) × HasCell cells e))
+cell_put cells here e lt = elim (eqb_tells e.span here.span) [
   | inl (t, same) ↦
-      let at = set_here cells here.room (here.worth + 1) e.room lt same in (
+      let at = set_here cells here.span (here.worth + 1) e.span lt same in (
         λ has. inl (same_entry e here same (omega (arith, at, has))),
         λ one. elim one [
           | inl q ↦ omega (arith, at, ap (λ (e : Entry). e.worth) q)
@@ -158,10 +158,10 @@ cell_put cells here e lt = elim (eqb_tells e.room here.room) [
         ],
       )
   | inr (t, other) ↦
-      let at = set_other cells here.room (here.worth + 1) e.room other in (
+      let at = set_other cells here.span (here.worth + 1) e.span other in (
         λ has. inr (other, omega (arith, at, has)),
         λ one. elim one [
-          | inl q ↦ absurd (other (ap (λ (e : Entry). e.room) q))
+          | inl q ↦ absurd (other (ap (λ (e : Entry). e.span) q))
           | inr (other', has) ↦ omega (arith, at, has)
         ],
       )
@@ -169,39 +169,39 @@ cell_put cells here e lt = elim (eqb_tells e.room here.room) [
 
 -- the entries of the first cells, in order
 abbrev pub AreListed : List ℕ → ℕ → List Entry → Type 0
-AreListed cells i entries = AreRising entries × ((e : Entry) → (HasCell cells e × (e.room < i)) ↔ Contains entries e)
+AreListed cells i entries = AreRising entries × ((e : Entry) → (HasCell cells e × (e.span < i)) ↔ Contains entries e)
 
-pub listed_more : (cells : List ℕ) (i v : ℕ) (entries : List Entry) → AreListed cells i entries → get_or cells i 0 ≡ v + 1 → AreListed cells (i + 1) (entries ++ (record { room = i; worth = v }) ∷ [])
+pub listed_more : (cells : List ℕ) (i v : ℕ) (entries : List Entry) → AreListed cells i entries → get_or cells i 0 ≡ v + 1 → AreListed cells (i + 1) (entries ++ (record { span = i; worth = v }) ∷ [])
 listed_more cells i v entries l is = (
   rising_push entries here l.0 (λ e has. ((l.1 e).1 has).1),
   λ e. (
-    λ (has, lt). elim (cases_lt e.room i) [
+    λ (has, lt). elim (cases_lt e.span i) [
       | inl before ↦ Contains-append_left entries (here ∷ []) e ((l.1 e).0 (has, before))
       | inr at ↦
-          let same : e.room ≡ i = omega arith in
+          let same : e.span ≡ i = omega arith in
           let e_is : here ≡ e = same_entry here e (sym same) (omega (arith, is, has, ap (λ n. get_or cells n 0) same)) in
           subst (λ e. Contains (entries ++ here ∷ []) e) e_is (Contains-push entries here)
     ],
     λ has. elim (Contains-push_cases entries here e has) [
       | inl old ↦ let h = (l.1 e).1 old in (h.0, omega (arith, h.1))
       | inr new ↦
-          let same : i ≡ e.room = ap (λ (e : Entry). e.room) new in
+          let same : i ≡ e.span = ap (λ (e : Entry). e.span) new in
           (omega (arith, is, ap (λ n. get_or cells n 0) same, ap (λ (e : Entry). e.worth) new), omega (arith, same))
     ],
   ),
 )
   where
     here : Entry
-    here = record { room = i; worth = v }
+    here = record { span = i; worth = v }
 
 pub listed_skip : (cells : List ℕ) (i : ℕ) (entries : List Entry) → AreListed cells i entries → get_or cells i 0 ≡ 0 → AreListed cells (i + 1) entries
 listed_skip cells i entries l is = (
   l.0,
   λ e. (
-    λ (has, lt). elim (cases_lt e.room i) [
+    λ (has, lt). elim (cases_lt e.span i) [
       | inl before ↦ (l.1 e).0 (has, before)
       | inr at ↦
-          let same : e.room ≡ i = omega arith in
+          let same : e.span ≡ i = omega arith in
           absurd (omega (arith, is, has, ap (λ n. get_or cells n 0) same))
     ],
     λ has. let h = (l.1 e).1 has in (h.0, omega (arith, h.1)),
@@ -281,9 +281,9 @@ module _ (step gain : ℕ) (old ys zs : List ℕ) (some : 1 ≤ step) where
 
 -- a table of nothing but zeros has no entry
 pub zeros_none : (cells : List ℕ) (e : Entry) → All (λ v. v ≡ 0) cells → HasCell cells e → ⊥
-zeros_none cells e zeros has = elim (cases_lt e.room (length cells)) [
-  | inl lt ↦ absurd (omega (arith, has, zeros e.room 0 lt))
-  | inr past ↦ absurd (omega (arith, has, get_or_past cells e.room 0 past))
+zeros_none cells e zeros has = elim (cases_lt e.span (length cells)) [
+  | inl lt ↦ absurd (omega (arith, has, zeros e.span 0 lt))
+  | inr past ↦ absurd (omega (arith, has, get_or_past cells e.span 0 past))
 ]
 
 -- cells that keep to a price
@@ -302,14 +302,14 @@ module _ {T : Type 0} (f : T → ℕ) where
       value_set f row i i (f x) x lt refl refl ∙ is ∙ ap (λ n. max n (gained gain (f source))) (value_at f row i cell lt cell_is)
       ∙ ap (λ n. max (get_or (map f row) i 0) (gained gain n)) (value_at f row from source (omega arith) source_is ∙ ap (λ j. get_or (map f row) j 0) e)
 
-  pub number_put : (cells : List T) (here e : Entry) (x : T) → here.room < length cells → f x ≡ here.worth + 1
-      → HasCell (map f (slice_set cells here.room x)) e ↔ ((e ≡ here) ⊎ ((e.room ≢ here.room) × HasCell (map f cells) e))
+  pub number_put : (cells : List T) (here e : Entry) (x : T) → here.span < length cells → f x ≡ here.worth + 1
+      → HasCell (map f (slice_set cells here.span x)) e ↔ ((e ≡ here) ⊎ ((e.span ≢ here.span) × HasCell (map f cells) e))
   number_put cells here e x lt is =
-      subst (λ ys. HasCell ys e ↔ ((e ≡ here) ⊎ ((e.room ≢ here.room) × HasCell (map f cells) e)))
-      (sym (map-set f cells here.room x ∙ ap (λ v. slice_set (map f cells) here.room v) is)) (cell_put (map f cells) here e (omega (arith, same_length f cells)))
+      subst (λ ys. HasCell ys e ↔ ((e ≡ here) ⊎ ((e.span ≢ here.span) × HasCell (map f cells) e)))
+      (sym (map-set f cells here.span x ∙ ap (λ v. slice_set (map f cells) here.span v) is)) (cell_put (map f cells) here e (omega (arith, same_length f cells)))
 
-pub cell_within : (cells : List ℕ) (e : Entry) → HasCell cells e → e.room < length cells
-cell_within cells e has = elim (cases_lt e.room (length cells)) [
+pub cell_within : (cells : List ℕ) (e : Entry) → HasCell cells e → e.span < length cells
+cell_within cells e has = elim (cases_lt e.span (length cells)) [
   | inl lt ↦ lt
-  | inr past ↦ absurd (omega (arith, has, get_or_past cells e.room 0 past))
+  | inr past ↦ absurd (omega (arith, has, get_or_past cells e.span 0 past))
 ]

@@ -5,44 +5,44 @@ use Rattle.std.proofs.Math.Nat.{le_refl}
 use Rattle.cut_wants.specs.declared.wants.Want.{Want}
 use Rattle.cut_bars.specs.declared.reach.Entry.{Entry}
 use Rattle.std.specs.Prelude.{Contains}
-use Rattle.cut_bars.specs.Counts.{AreCounts, room_taken, worth_of_counts}
-use Rattle.cut_bars.specs.Reached.{AreReached, AreOffered, HaveWorthsBoundedByRoom, IsLedTo, IsGreatestAt}
+use Rattle.cut_bars.specs.Counts.{AreCounts, span_taken, worth_of_counts}
+use Rattle.cut_bars.specs.Reached.{AreReached, AreOffered, HaveWorthsBoundedBySpan, IsLedTo, IsGreatestAt}
 use Rattle.cut_wants.proofs.LeafSums.{Contains-head, Contains-tail}
 
 -- no counts at all take no room
-pub reached_none : (k whole : ℕ) (has : Entry → Type 0) → ((e : Entry) → has e → (e.room ≡ 0) × (e.worth ≡ 0)) → has (record { room = 0; worth = 0 }) → AreReached k [] whole has
+pub reached_none : (k whole : ℕ) (has : Entry → Type 0) → ((e : Entry) → has e → (e.span ≡ 0) × (e.worth ≡ 0)) → has (record { span = 0; worth = 0 }) → AreReached k [] whole has
 reached_none k whole has only none = record {
   only = λ e there. let z = only e there in (omega (arith, z.0), record { counts = []; within = tt; takes = sym z.0; value = sym z.1; most = λ others is fit. omega arith });
-  each = λ counts is fit. (record { room = 0; worth = 0 }, none, refl);
+  each = λ counts is fit. (record { span = 0; worth = 0 }, none, refl);
 }
 
 module _ (k whole : ℕ) (x : Want) (xs : List Want) (base entries : Entry → Type 0) (r : AreReached k xs whole base) (o : AreOffered (x.size.w + k) x.worth x.left whole base entries) where
   -- counts lead to an entry of their room that is worth no less
-  led : (a : ℕ) (os : List ℕ) → a ≤ x.left → AreCounts xs os → room_taken k (x ∷ xs) (a ∷ os) ≤ whole
-      → (e : Entry) × entries e × (e.room ≡ room_taken k (x ∷ xs) (a ∷ os)) × (worth_of_counts (x ∷ xs) (a ∷ os) ≤ e.worth)
+  led : (a : ℕ) (os : List ℕ) → a ≤ x.left → AreCounts xs os → span_taken k (x ∷ xs) (a ∷ os) ≤ whole
+      → (e : Entry) × entries e × (e.span ≡ span_taken k (x ∷ xs) (a ∷ os)) × (worth_of_counts (x ∷ xs) (a ∷ os) ≤ e.worth)
   led a os few within fits =
       let b = r.each os within (omega arith) in
-      let room : b.0.room ≡ room_taken k xs os = b.2 in
-      let worth = (r.only b.0 b.1).1.most os within (sym room) in
-      let e = o.most b.0 b.1 a few (omega (arith, room)) in
-      (e.0, e.1, omega (arith, e.2, room), omega (arith, e.3, worth))
+      let span : b.0.span ≡ span_taken k xs os = b.2 in
+      let worth = (r.only b.0 b.1).1.most os within (sym span) in
+      let e = o.most b.0 b.1 a few (omega (arith, span)) in
+      (e.0, e.1, omega (arith, e.2, span), omega (arith, e.3, worth))
 
-  greatest : (e : Entry) → entries e → IsLedTo (x.size.w + k) x.worth x.left base e → IsGreatestAt k (x ∷ xs) e.room e.worth
+  greatest : (e : Entry) → entries e → IsLedTo (x.size.w + k) x.worth x.left base e → IsGreatestAt k (x ∷ xs) e.span e.worth
   greatest e has (times, few, b, there, moved) =
       let g = (r.only b there).1 in
       record {
         counts = times ∷ g.counts;
         within = (few, g.within);
-        takes = omega (arith, moved.room, g.takes);
+        takes = omega (arith, moved.span, g.takes);
         value = omega (arith, moved.worth, g.value);
         most = λ others is takes. most others is takes;
       }
     where
-      most : (others : List ℕ) → AreCounts (x ∷ xs) others → room_taken k (x ∷ xs) others ≡ e.room → worth_of_counts (x ∷ xs) others ≤ e.worth
+      most : (others : List ℕ) → AreCounts (x ∷ xs) others → span_taken k (x ∷ xs) others ≡ e.span → worth_of_counts (x ∷ xs) others ≤ e.worth
       most [] is takes = absurd is
       most (a ∷ os) is takes =
           let f = led a os is.0 is.1 (omega (arith, takes, o.short e has)) in
-          let same : e.room ≡ f.0.room = omega (arith, takes, f.2) in
+          let same : e.span ≡ f.0.span = omega (arith, takes, f.2) in
           omega (arith, f.3, o.own e f.0 has f.1 same)
 
   pub reached_want : AreReached k (x ∷ xs) whole entries
@@ -51,14 +51,14 @@ module _ (k whole : ℕ) (x : Want) (xs : List Want) (base entries : Entry → T
     each = λ counts is fits. each counts is fits;
   }
     where
-      each : (counts : List ℕ) → AreCounts (x ∷ xs) counts → room_taken k (x ∷ xs) counts ≤ whole → (e : Entry) × entries e × (e.room ≡ room_taken k (x ∷ xs) counts)
+      each : (counts : List ℕ) → AreCounts (x ∷ xs) counts → span_taken k (x ∷ xs) counts ≤ whole → (e : Entry) × entries e × (e.span ≡ span_taken k (x ∷ xs) counts)
       each [] is fits = absurd is
       each (a ∷ os) is fits =
           let e = led a os is.0 is.1 fits in
           (e.0, e.1, e.2)
 
 -- a worth of at most the price for each unit of room
-value_low : (price k : ℕ) (xs : List Want) (ns : List ℕ) → ((x : Want) → Contains xs x → x.worth ≤ (x.size.w + k) * price) → worth_of_counts xs ns ≤ room_taken k xs ns * price
+value_low : (price k : ℕ) (xs : List Want) (ns : List ℕ) → ((x : Want) → Contains xs x → x.worth ≤ (x.size.w + k) * price) → worth_of_counts xs ns ≤ span_taken k xs ns * price
 value_low price k [] ns each = omega arith
 value_low price k (x ∷ xs) [] each = omega arith
 value_low price k (x ∷ xs) (a ∷ ns) each =
@@ -67,7 +67,7 @@ value_low price k (x ∷ xs) (a ∷ ns) each =
     omega (arith, rest, here)
 
 pub reached_low : (price k whole : ℕ) (xs : List Want) (entries : Entry → Type 0) → AreReached k xs whole entries → ((x : Want) → Contains xs x → x.worth ≤ (x.size.w + k) * price)
-    → HaveWorthsBoundedByRoom price whole entries
+    → HaveWorthsBoundedBySpan price whole entries
 reached_low price k whole xs entries r each e has =
     let o = r.only e has in
     let low = value_low price k xs o.1.counts each in

@@ -15,17 +15,17 @@ total_of f (x ∷ xs) [] = 0
 total_of f (x ∷ xs) (a ∷ ns) = f x * a + total_of f xs ns
 
 -- what the pieces take, each with a kerf
-abbrev pub room_taken : ℕ → List Want → List ℕ → ℕ
-room_taken k wants counts = total_of (λ x. x.size.w + k) wants counts
+abbrev pub span_taken : ℕ → List Want → List ℕ → ℕ
+span_taken k wants counts = total_of (λ x. x.size.w + k) wants counts
 
 abbrev pub worth_of_counts : List Want → List ℕ → ℕ
 worth_of_counts wants counts = total_of (λ x. x.worth) wants counts
 
 -- no counts that fit are worth more
-pub record AreBestCounts (k : ℕ) (wants : List Want) (room : ℕ) (counts : List ℕ) : Type 0 where
+pub record AreBestCounts (k : ℕ) (wants : List Want) (span : ℕ) (counts : List ℕ) : Type 0 where
   pub within : AreCounts wants counts
-  pub fit : room_taken k wants counts ≤ room
-  pub most : (others : List ℕ) → AreCounts wants others → room_taken k wants others ≤ room → worth_of_counts wants others ≤ worth_of_counts wants counts
+  pub fit : span_taken k wants counts ≤ span
+  pub most : (others : List ℕ) → AreCounts wants others → span_taken k wants others ≤ span → worth_of_counts wants others ≤ worth_of_counts wants counts
 
 -- a worth and a number in the bounds of a bar's table
 pub record HasBoundedWorthAndLeft (x : Want) : Type 0 where

@@ -9,7 +9,7 @@ use Rattle.cut_bars.specs.Reached.{AreRising, IsLedTo}
 
 -- the cell of the entry's room, among cells with these numbers, is one more than its worth
 abbrev pub HasCell : List ℕ → Entry → Type 0
-HasCell cells e = slice_index cells e.room ≡ e.worth + 1
+HasCell cells e = slice_index cells e.span ≡ e.worth + 1
 
 -- the entries of a level whose cells have these values
 abbrev pub Has : {T : Type 0} → (T → ℕ) → Level T → Entry → Type 0
@@ -27,12 +27,12 @@ pub record IsBestDivision (whole at : ℕ) (prefix back : Entry → Type 0) : Ty
   pub other : Entry
   pub in_prefix : prefix one
   pub in_back : back other
-  pub fits : one.room ≤ at
-  pub rest : other.room + at ≤ whole
-  pub most : (e f : Entry) → prefix e → back f → e.room + f.room ≤ whole → e.worth + f.worth ≤ one.worth + other.worth
+  pub fits : one.span ≤ at
+  pub rest : other.span + at ≤ whole
+  pub most : (e f : Entry) → prefix e → back f → e.span + f.span ≤ whole → e.worth + f.worth ≤ one.worth + other.worth
 
 -- a room for the first wants: best counts of them within it, and of the others within the rest of the whole, are together best counts
-pub record IsBestRoomForFirst (k : ℕ) (first others : List Want) (whole at : ℕ) : Type 0 where
+pub record IsBestSpanForFirst (k : ℕ) (first others : List Want) (whole at : ℕ) : Type 0 where
   pub within : at ≤ whole
   pub best : (ns ms : List ℕ) → AreBestCounts k first at ns → AreBestCounts k others (whole - at) ms → AreBestCounts k (first ++ others) whole (ns ++ ms)
 
@@ -62,21 +62,21 @@ pub record IsRaised (step gain : ℕ) (from old new : List ℕ) : Type 0 where
 -- the entry of two that comes first, or at the same room the one worth more
 pub record IsFirstOf (a b first : Entry) : Type 0 where
   pub one : (first ≡ a) ⊎ (first ≡ b)
-  pub room_a : first.room ≤ a.room
-  pub room_b : first.room ≤ b.room
-  pub worth_a : a.room ≡ first.room → a.worth ≤ first.worth
-  pub worth_b : b.room ≡ first.room → b.worth ≤ first.worth
+  pub span_a : first.span ≤ a.span
+  pub span_b : first.span ≤ b.span
+  pub worth_a : a.span ≡ first.span → a.worth ≤ first.worth
+  pub worth_b : b.span ≡ first.span → b.worth ≤ first.worth
 
 -- the first `kept` entries of `base`, and the first `moved` with one piece more, joined in order
 pub record AreJoined (step gain : ℕ) (base : List Entry) (kept moved : ℕ) (joined : List Entry) : Type 0 where
   pub rising : AreRising joined
-  pub below_kept : (e d : Entry) → Contains joined e → kept < length base → e.room < (slice_index_or base kept d).room
-  pub below_moved : (e d : Entry) → Contains joined e → moved < length base → e.room < (slice_index_or base moved d).room + step
+  pub below_kept : (e d : Entry) → Contains joined e → kept < length base → e.span < (slice_index_or base kept d).span
+  pub below_moved : (e d : Entry) → Contains joined e → moved < length base → e.span < (slice_index_or base moved d).span + step
   pub only : (e : Entry) → Contains joined e → IsLedTo step gain 1 (Contains base) e
-  pub has_kept : (i : ℕ) (d : Entry) → i < kept → (e : Entry) × Contains joined e × (e.room ≡ (slice_index_or base i d).room) × ((slice_index_or base i d).worth ≤ e.worth)
+  pub has_kept : (i : ℕ) (d : Entry) → i < kept → (e : Entry) × Contains joined e × (e.span ≡ (slice_index_or base i d).span) × ((slice_index_or base i d).worth ≤ e.worth)
   pub has_moved : (i : ℕ) (d : Entry) → i < moved
-      → (e : Entry) × Contains joined e × (e.room ≡ (slice_index_or base i d).room + step) × ((slice_index_or base i d).worth + gain ≤ e.worth)
+      → (e : Entry) × Contains joined e × (e.span ≡ (slice_index_or base i d).span + step) × ((slice_index_or base i d).worth + gain ≤ e.worth)
 
 -- each room is at most one of `base`
 abbrev pub AreUpTo : List Entry → List Entry → Type 0
-AreUpTo base entries = (e : Entry) → Contains entries e → (b : Entry) × Contains base b × (e.room ≤ b.room)
+AreUpTo base entries = (e : Entry) → Contains entries e → (b : Entry) × Contains base b × (e.span ≤ b.span)

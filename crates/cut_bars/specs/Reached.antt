@@ -2,37 +2,37 @@
 use Rattle.std.specs.Prelude.{◌≡◌, ◌↔◌, ℕ, ◌+◌, ◌*◌, ◌^◌, ◌<◌, ◌≤◌, List, length, slice_index_or, Contains, Option, Some, IsSome}
 use Rattle.cut_wants.specs.declared.wants.Want.{Want}
 use Rattle.cut_bars.specs.declared.reach.Entry.{Entry}
-use Rattle.cut_bars.specs.Counts.{AreCounts, room_taken, worth_of_counts}
+use Rattle.cut_bars.specs.Counts.{AreCounts, span_taken, worth_of_counts}
 
 -- counts within what is left take this room and have this worth, and none that take it are worth more
-pub record IsGreatestAt (k : ℕ) (wants : List Want) (room worth : ℕ) : Type 0 where
+pub record IsGreatestAt (k : ℕ) (wants : List Want) (span worth : ℕ) : Type 0 where
   pub counts : List ℕ
   pub within : AreCounts wants counts
-  pub takes : room_taken k wants counts ≡ room
+  pub takes : span_taken k wants counts ≡ span
   pub value : worth_of_counts wants counts ≡ worth
-  pub most : (others : List ℕ) → AreCounts wants others → room_taken k wants others ≡ room → worth_of_counts wants others ≤ worth
+  pub most : (others : List ℕ) → AreCounts wants others → span_taken k wants others ≡ span → worth_of_counts wants others ≤ worth
 
 -- a map of each room within the whole that counts take to the greatest worth of such counts
 pub record IsReached (k : ℕ) (wants : List Want) (whole : ℕ) (found : ℕ → Option ℕ) : Type 0 where
   pub exactly : (n v : ℕ) → (found n ≡ Some v) ↔ ((n ≤ whole) × IsGreatestAt k wants n v)
-  pub each : (counts : List ℕ) → AreCounts wants counts → room_taken k wants counts ≤ whole → IsSome (found (room_taken k wants counts))
+  pub each : (counts : List ℕ) → AreCounts wants counts → span_taken k wants counts ≤ whole → IsSome (found (span_taken k wants counts))
 
 -- the entries of a set: one for each room within the whole that counts take, with the greatest worth of such counts
 pub record AreReached (k : ℕ) (wants : List Want) (whole : ℕ) (has : Entry → Type 0) : Type 0 where
-  pub only : (e : Entry) → has e → (e.room ≤ whole) × IsGreatestAt k wants e.room e.worth
-  pub each : (counts : List ℕ) → AreCounts wants counts → room_taken k wants counts ≤ whole → (e : Entry) × has e × (e.room ≡ room_taken k wants counts)
+  pub only : (e : Entry) → has e → (e.span ≤ whole) × IsGreatestAt k wants e.span e.worth
+  pub each : (counts : List ℕ) → AreCounts wants counts → span_taken k wants counts ≤ whole → (e : Entry) × has e × (e.span ≡ span_taken k wants counts)
 
 -- each room is less than those after it
 abbrev pub AreRising : List Entry → Type 0
-AreRising entries = (i j : ℕ) (d : Entry) → i < j → j < length entries → (slice_index_or entries i d).room < (slice_index_or entries j d).room
+AreRising entries = (i j : ℕ) (d : Entry) → i < j → j < length entries → (slice_index_or entries i d).span < (slice_index_or entries j d).span
 
 -- entries of one room are worth the same
 abbrev pub AreOwn : (Entry → Type 0) → Type 0
-AreOwn has = (e f : Entry) → has e → has f → e.room ≡ f.room → e.worth ≡ f.worth
+AreOwn has = (e f : Entry) → has e → has f → e.span ≡ f.span → e.worth ≡ f.worth
 
 -- e is b with so many pieces more, each of a step and a gain
 pub record IsMoved (step gain times : ℕ) (b e : Entry) : Type 0 where
-  pub room : e.room ≡ b.room + times * step
+  pub span : e.span ≡ b.span + times * step
   pub worth : e.worth ≡ b.worth + times * gain
 
 -- an entry that at most n pieces of a step and a gain lead to from those of `base`
@@ -42,20 +42,20 @@ IsLedTo step gain n base e = (times : ℕ) × (times ≤ n) × (b : Entry) × ba
 -- from the entries of `base`, with at most n pieces more: each such room within the whole, with its greatest worth
 pub record AreOffered (step gain n whole : ℕ) (base offered : Entry → Type 0) : Type 0 where
   pub own : AreOwn offered
-  pub short : (e : Entry) → offered e → e.room ≤ whole
+  pub short : (e : Entry) → offered e → e.span ≤ whole
   pub only : (e : Entry) → offered e → IsLedTo step gain n base e
-  pub most : (b : Entry) → base b → (times : ℕ) → times ≤ n → b.room + times * step ≤ whole
-      → (e : Entry) × offered e × (e.room ≡ b.room + times * step) × (b.worth + times * gain ≤ e.worth)
+  pub most : (b : Entry) → base b → (times : ℕ) → times ≤ n → b.span + times * step ≤ whole
+      → (e : Entry) × offered e × (e.span ≡ b.span + times * step) × (b.worth + times * gain ≤ e.worth)
 
 -- each room is within the whole, with a worth of at most the price for each unit of it
-abbrev pub HaveWorthsBoundedByRoom : ℕ → ℕ → (Entry → Type 0) → Type 0
-HaveWorthsBoundedByRoom price whole has = (e : Entry) → has e → (e.room ≤ whole) × (e.worth ≤ e.room * price)
+abbrev pub HaveWorthsBoundedBySpan : ℕ → ℕ → (Entry → Type 0) → Type 0
+HaveWorthsBoundedBySpan price whole has = (e : Entry) → has e → (e.span ≤ whole) × (e.worth ≤ e.span * price)
 
 -- a price for each unit of room that the entries and a piece keep to, at which one more than the whole's worth stays below the limit
 pub record StayBelow (limit whole : ℕ) (has : Entry → Type 0) (step gain : ℕ) : Type 0 where
   pub price : ℕ
   pub modest : price ≤ 2 ^ 30
-  pub low : HaveWorthsBoundedByRoom price whole has
+  pub low : HaveWorthsBoundedBySpan price whole has
   pub gains : gain ≤ step * price
   pub below : whole * price + 1 < limit
 
@@ -68,6 +68,6 @@ pub record ArePricedBelow (limit k whole : ℕ) (wants : List Want) : Type 0 whe
 
 -- an entry of no room and no worth among them, low worths, and cells below the limit
 pub record HaveSmallWorths (limit whole : ℕ) (has : Entry → Type 0) : Type 0 where
-  pub none : has (record { room = 0; worth = 0 })
-  pub low : HaveWorthsBoundedByRoom (2 ^ 30) whole has
+  pub none : has (record { span = 0; worth = 0 })
+  pub low : HaveWorthsBoundedBySpan (2 ^ 30) whole has
   pub below : (e : Entry) → has e → e.worth + 1 < limit

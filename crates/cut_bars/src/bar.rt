@@ -7,7 +7,7 @@ ghost use Rattle.cut_bars.specs.Counts.{AreBestCounts, HaveBoundedWorthsAndLefts
 ghost use Rattle.cut_wants.specs.Best.{IsBestWithin};
 ghost use Rattle.cut_wants.specs.Legal.{HaveOwnDemands};
 ghost use Rattle.cut_bars.specs.Reached.{AreRising, AreReached, ArePricedBelow};
-ghost use Rattle.cut_bars.specs.Levels.{Has, IsLevel, IsBestRoomForFirst};
+ghost use Rattle.cut_bars.specs.Levels.{Has, IsLevel, IsBestSpanForFirst};
 
 use crate::divide::divide;
 use crate::level::{Level, offer_want};
@@ -25,7 +25,7 @@ fn none_reached<T: Number>(alloc: Global) -> Result<Level<T>, AllocError>
     ensures { IfOk result (λ level. (k whole : ℕ) → IsLevel whole level
         × AreReached k [] whole (Has T.value level)) }
 {
-    let none = Vec::from_slice(alloc, &[Entry { room: 0, worth: 0 }])?;
+    let none = Vec::from_slice(alloc, &[Entry { span: 0, worth: 0 }])?;
     Ok(Level::Listed(none))
 }
 
@@ -103,7 +103,7 @@ fn is_narrow(wants: &[Want], kerf: u32, whole: u32) -> bool
 }
 
 /// The room for the first wants, by levels whose cells are of one width.
-fn room_by<T: Number>(
+fn span_by<T: Number>(
     alloc: Global,
     first: &[Want],
     others: &[Want],
@@ -114,7 +114,7 @@ fn room_by<T: Number>(
     requires below_others { ArePricedBelow T.limit kerf whole others.now }
     requires whole { whole ≤ 2 ^ 20 - 1 }
     requires kerf { kerf ≤ MAX_KERF }
-    ensures { IfOk result (IsBestRoomForFirst kerf first.now others.now whole) }
+    ensures { IfOk result (IsBestSpanForFirst kerf first.now others.now whole) }
 {
     let prefix: Level<T> = reached_level(alloc, first, kerf, whole)?;
     let back = reached_level(alloc, others, kerf, whole)?;
@@ -123,7 +123,7 @@ fn room_by<T: Number>(
 }
 
 /// The room for the first wants, so that they and the others are worth most within the whole.
-fn room_for_first(
+fn span_for_first(
     alloc: Global,
     first: &[Want],
     others: &[Want],
@@ -134,14 +134,14 @@ fn room_for_first(
     requires modest_others { HaveBoundedWorthsAndLefts others.now }
     requires whole { whole ≤ 2 ^ 20 - 1 }
     requires kerf { kerf ≤ MAX_KERF }
-    ensures { IfOk result (IsBestRoomForFirst kerf first.now others.now whole) }
+    ensures { IfOk result (IsBestSpanForFirst kerf first.now others.now whole) }
 {
     let first_narrow = is_narrow(first, kerf, whole);
     let others_narrow = is_narrow(others, kerf, whole);
     if first_narrow && others_narrow {
-        room_by::<u32>(alloc, first, others, kerf, whole)
+        span_by::<u32>(alloc, first, others, kerf, whole)
     } else {
-        room_by::<u64>(alloc, first, others, kerf, whole)
+        span_by::<u64>(alloc, first, others, kerf, whole)
     }
 }
 
@@ -178,7 +178,7 @@ fn fill_counts(
     }
     let half = wants.len() / 2;
     let (first, others) = wants.split_at(half);
-    let at = room_for_first(alloc, first, others, kerf, whole)?;
+    let at = span_for_first(alloc, first, others, kerf, whole)?;
     let (first_counts, other_counts) = counts.split_at_mut(half);
     fill_counts(alloc, first, kerf, at, first_counts)?;
     fill_counts(alloc, others, kerf, whole - at, other_counts)?;

@@ -2,7 +2,7 @@
 
 ghost use Rattle.std.specs.Prelude.{◌≡◌, ◌+◌, ◌-◌, ◌*◌, ◌^◌, ◌<◌, ◌≤◌, ◌↔◌, IfOk, Contains, length, map, max, vec_len};
 ghost use Rattle.cut_bars.specs.declared.reach.Entry.{Entry};
-ghost use Rattle.cut_bars.specs.Reached.{AreRising, HaveWorthsBoundedByRoom};
+ghost use Rattle.cut_bars.specs.Reached.{AreRising, HaveWorthsBoundedBySpan};
 ghost use Rattle.cut_bars.specs.Levels.{AreCellsBelow, HasCell, IsRaised, gained};
 
 use crate::reach::Entry;
@@ -52,7 +52,7 @@ pub fn table_of<T: Number>(
     whole: u32,
 ) -> Result<Vec<T>, AllocError>
     requires rising { AreRising entries.now }
-    requires low { HaveWorthsBoundedByRoom (2 ^ 30) whole (Contains entries.now) }
+    requires low { HaveWorthsBoundedBySpan (2 ^ 30) whole (Contains entries.now) }
     requires below { (e : Entry) → Contains entries.now e → e.worth + 1 < T.limit }
     requires whole { whole ≤ 2 ^ 20 }
     ensures len { IfOk result (λ cells. vec_len cells ≡ whole + 1) }
@@ -61,7 +61,7 @@ pub fn table_of<T: Number>(
 {
     let mut cells = T::zeros(alloc, whole as usize + 1)?;
     for entry in entries {
-        cells[entry.room as usize] = T::of(entry.worth + 1);
+        cells[entry.span as usize] = T::of(entry.worth + 1);
     }
     Ok(cells)
 }
@@ -78,7 +78,7 @@ pub fn list_of<T: Number>(alloc: Global, cells: &[T]) -> Result<Vec<Entry>, Allo
         let cell = cells[i].worth();
         if cell != 0 {
             entries.push(Entry {
-                room: i as u32,
+                span: i as u32,
                 worth: cell - 1,
             })?;
         }

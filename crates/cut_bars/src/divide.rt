@@ -30,22 +30,22 @@ fn divide_lists(prefix: &[Entry], back: &[Entry], whole: u32) -> u32
     let mut left = prefix.len();
     let mut next = 0;
     let mut after = 0;
-    let mut found = Entry { room: 0, worth: 0 };
+    let mut found = Entry { span: 0, worth: 0 };
     while left > 0 {
         let entry = prefix[left - 1];
-        if next < back.len() && back[next].room + entry.room <= whole {
+        if next < back.len() && back[next].span + entry.span <= whole {
             after = back[next].worth.max(after);
             next += 1;
         } else {
             let both = Entry {
-                room: entry.room,
+                span: entry.span,
                 worth: entry.worth + after,
             };
             found = worthier(found, both);
             left -= 1;
         }
     }
-    found.room
+    found.span
 }
 
 /// The room for the first of two tables of one length: the first from its end and the second from its start.
@@ -60,22 +60,22 @@ fn divide_tables<T: Number>(prefix: &[T], back: &[T], whole: u32) -> u32
 {
     let mut after = back[0].worth();
     let mut found = Entry {
-        room: 0,
+        span: 0,
         worth: prefix[0].worth() + after,
     };
-    for room in 0..back.len() {
-        let at = whole as usize - room;
+    for span in 0..back.len() {
+        let at = whole as usize - span;
         let cell = prefix[at].worth();
-        after = back[room].worth().max(after);
+        after = back[span].worth().max(after);
         if cell != 0 {
             let both = Entry {
-                room: at as u32,
+                span: at as u32,
                 worth: cell + after,
             };
             found = worthier(found, both);
         }
     }
-    found.room
+    found.span
 }
 
 /// The room within the whole for the first of two levels, so that both together are worth most; the other has the rest.

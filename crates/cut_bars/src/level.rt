@@ -2,7 +2,7 @@
 
 ghost use Rattle.std.specs.Prelude.{◌≡◌, ℕ, ◌+◌, ◌-◌, ◌*◌, ◌/◌, ◌^◌, ◌<◌, ◌≤◌, ◌↔◌, IfOk, Contains, length, map};
 ghost use Rattle.cut_bars.specs.declared.reach.Entry.{Entry};
-ghost use Rattle.cut_bars.specs.Reached.{AreRising, AreOffered, HaveSmallWorths, HaveWorthsBoundedByRoom, StayBelow};
+ghost use Rattle.cut_bars.specs.Reached.{AreRising, AreOffered, HaveSmallWorths, HaveWorthsBoundedBySpan, StayBelow};
 ghost use Rattle.cut_bars.specs.Levels.{Has, HasCell, IsLevel};
 
 use crate::cells::{list_of, raise, raise_freely, table_of};
@@ -53,13 +53,13 @@ impl<T: Number> Level<T> {
     /// The level with all that a batch of pieces leads to within the whole.
     fn offer(self, alloc: Global, batch: Entry, whole: u32) -> Result<Level<T>, AllocError>
         requires level { IsLevel whole self }
-        requires below { StayBelow T.limit whole (Has T.value self) batch.room batch.worth }
+        requires below { StayBelow T.limit whole (Has T.value self) batch.span batch.worth }
         requires whole { whole ≤ 2 ^ 20 - 1 }
-        requires some { 1 ≤ batch.room }
-        requires short { batch.room ≤ 2 ^ 20 }
+        requires some { 1 ≤ batch.span }
+        requires short { batch.span ≤ 2 ^ 20 }
         ensures level { IfOk result (IsLevel whole) }
         ensures offered { IfOk result
-            (λ offered. AreOffered batch.room batch.worth 1 whole (Has T.value self)
+            (λ offered. AreOffered batch.span batch.worth 1 whole (Has T.value self)
             (Has T.value offered)) }
     {
         match self {
@@ -68,7 +68,7 @@ impl<T: Number> Level<T> {
                 level_of(alloc, offered, whole)
             }
             Level::Tabled(mut cells) => {
-                raise(&mut cells, batch.room as usize, batch.worth);
+                raise(&mut cells, batch.span as usize, batch.worth);
                 Ok(Level::Tabled(cells))
             }
         }
@@ -82,7 +82,7 @@ pub fn level_of<T: Number>(
     whole: u32,
 ) -> Result<Level<T>, AllocError>
     requires rising { AreRising entries.items }
-    requires low { HaveWorthsBoundedByRoom (2 ^ 30) whole (Contains entries.items) }
+    requires low { HaveWorthsBoundedBySpan (2 ^ 30) whole (Contains entries.items) }
     requires below { (e : Entry) → Contains entries.items e → e.worth + 1 < T.limit }
     requires whole { whole ≤ 2 ^ 20 }
     ensures level { IfOk result (IsLevel whole) }
@@ -105,13 +105,13 @@ fn offer_batches<T: Number>(
     whole: u32,
 ) -> Result<Level<T>, AllocError>
     requires level { IsLevel whole base }
-    requires below { StayBelow T.limit whole (Has T.value base) piece.room piece.worth }
+    requires below { StayBelow T.limit whole (Has T.value base) piece.span piece.worth }
     requires whole { whole ≤ 2 ^ 20 - 1 }
-    requires some { 1 ≤ piece.room }
-    requires fit { most * piece.room ≤ whole }
+    requires some { 1 ≤ piece.span }
+    requires fit { most * piece.span ≤ whole }
     ensures level { IfOk result (IsLevel whole) }
     ensures offered { IfOk result
-        (λ offered. AreOffered piece.room piece.worth most whole (Has T.value base)
+        (λ offered. AreOffered piece.span piece.worth most whole (Has T.value base)
         (Has T.value offered)) }
 {
     let mut offered = base;
@@ -119,7 +119,7 @@ fn offer_batches<T: Number>(
     while taken < most {
         let more = (taken + 1).min(most - taken);
         let batch = Entry {
-            room: more * piece.room,
+            span: more * piece.span,
             worth: more as u64 * piece.worth,
         };
         offered = offered.offer(alloc, batch, whole)?;
@@ -132,14 +132,14 @@ fn offer_batches<T: Number>(
 fn offer_freely<T: Number>(mut cells: Vec<T>, piece: Entry, whole: u32) -> Vec<T>
     requires len { length cells.items ≡ whole + 1 }
     requires below { StayBelow T.limit whole
-        (HasCell (map T.value cells.items)) piece.room piece.worth }
+        (HasCell (map T.value cells.items)) piece.span piece.worth }
     requires whole { whole ≤ 2 ^ 20 - 1 }
-    requires some { 1 ≤ piece.room }
+    requires some { 1 ≤ piece.span }
     ensures len { length result.items ≡ whole + 1 }
-    ensures offered { AreOffered piece.room piece.worth (whole / piece.room) whole
+    ensures offered { AreOffered piece.span piece.worth (whole / piece.span) whole
         (HasCell (map T.value cells.items)) (HasCell (map T.value result.items)) }
 {
-    raise_freely(&mut cells, piece.room as usize, piece.worth);
+    raise_freely(&mut cells, piece.span as usize, piece.worth);
     cells
 }
 
@@ -151,19 +151,19 @@ fn offer_any<T: Number>(
     whole: u32,
 ) -> Result<Level<T>, AllocError>
     requires level { IsLevel whole base }
-    requires below { StayBelow T.limit whole (Has T.value base) piece.room piece.worth }
+    requires below { StayBelow T.limit whole (Has T.value base) piece.span piece.worth }
     requires whole { whole ≤ 2 ^ 20 - 1 }
-    requires some { 1 ≤ piece.room }
+    requires some { 1 ≤ piece.span }
     ensures level { IfOk result (IsLevel whole) }
     ensures offered { IfOk result
-        (λ offered. AreOffered piece.room piece.worth (whole / piece.room) whole (Has T.value base)
+        (λ offered. AreOffered piece.span piece.worth (whole / piece.span) whole (Has T.value base)
         (Has T.value offered)) }
 {
     match base {
         Level::Tabled(cells) => Ok(Level::Tabled(offer_freely(cells, piece, whole))),
         Level::Listed(entries) => {
             let base = Level::Listed(entries);
-            let offered = offer_batches(alloc, base, piece, whole / piece.room, whole)?;
+            let offered = offer_batches(alloc, base, piece, whole / piece.span, whole)?;
             Ok(offered)
         }
     }
@@ -188,10 +188,10 @@ pub fn offer_want<T: Number>(
         (Has T.value base) (Has T.value offered)) }
 {
     let piece = Entry {
-        room: want.size.w() + kerf,
+        span: want.size.w() + kerf,
         worth: want.worth as u64,
     };
-    if whole / piece.room <= want.left {
+    if whole / piece.span <= want.left {
         let offered = offer_any(alloc, base, piece, whole)?;
         return Ok(offered);
     }

@@ -1,7 +1,7 @@
 //! Lists of the rooms of a bar that counts of pieces take, each with the greatest worth of such counts.
 
 ghost use Rattle.std.specs.Prelude.{◌≡◌, ◌+◌, ◌*◌, ◌^◌, ◌≤◌, ◌↔◌, IfOk, Contains, length};
-ghost use Rattle.cut_bars.specs.Reached.{AreRising, AreOffered, HaveWorthsBoundedByRoom};
+ghost use Rattle.cut_bars.specs.Reached.{AreRising, AreOffered, HaveWorthsBoundedBySpan};
 ghost use Rattle.cut_bars.specs.Levels.{AreJoined, AreUpTo, IsFirstOf};
 
 use std::alloc::{AllocError, Global};
@@ -10,7 +10,7 @@ use std::alloc::{AllocError, Global};
 #[derive(Clone, Copy, Debug, PartialEq, Eq)]
 pub struct Entry {
     /// Tenths of a millimetre, a kerf after each piece: at most 150200.
-    pub room: u32,
+    pub span: u32,
     /// The sum of the pieces' worths, below 2^48.
     pub worth: u64,
 }
@@ -19,7 +19,7 @@ pub struct Entry {
 fn first_of(a: Entry, b: Entry) -> Entry
     ensures { IsFirstOf a b result }
 {
-    if a.room < b.room || a.room == b.room && b.worth <= a.worth {
+    if a.span < b.span || a.span == b.span && b.worth <= a.worth {
         a
     } else {
         b
@@ -29,12 +29,12 @@ fn first_of(a: Entry, b: Entry) -> Entry
 /// The entries, joined with those that a batch of pieces leads to from the first of them; how many these are.
 fn join(alloc: Global, entries: &[Entry], batch: Entry) -> Result<(Vec<Entry>, usize), AllocError>
     requires rising { AreRising entries.now }
-    requires low { HaveWorthsBoundedByRoom (2 ^ 30) (2 ^ 20) (Contains entries.now) }
-    requires some { 1 ≤ batch.room }
-    requires short { batch.room ≤ 2 ^ 20 }
-    requires gain { batch.worth ≤ batch.room * 2 ^ 30 }
+    requires low { HaveWorthsBoundedBySpan (2 ^ 30) (2 ^ 20) (Contains entries.now) }
+    requires some { 1 ≤ batch.span }
+    requires short { batch.span ≤ 2 ^ 20 }
+    requires gain { batch.worth ≤ batch.span * 2 ^ 30 }
     ensures joined { IfOk result
-        (λ r. AreJoined batch.room batch.worth entries.now (length entries.now) r.1 r.0.items) }
+        (λ r. AreJoined batch.span batch.worth entries.now (length entries.now) r.1 r.0.items) }
     ensures inside { IfOk result (λ r. r.1 ≤ length entries.now) }
     ensures up_to { IfOk result (λ r. AreUpTo entries.now r.0.items) }
 {
@@ -44,13 +44,13 @@ fn join(alloc: Global, entries: &[Entry], batch: Entry) -> Result<(Vec<Entry>, u
         let old = entries[kept];
         let from = entries[moved];
         let new = Entry {
-            room: from.room + batch.room,
+            span: from.span + batch.span,
             worth: from.worth + batch.worth,
         };
         let first = first_of(old, new);
         joined.push(first)?;
-        kept += (old.room <= new.room) as usize;
-        moved += (new.room <= old.room) as usize;
+        kept += (old.span <= new.span) as usize;
+        moved += (new.span <= old.span) as usize;
     }
     Ok((joined, moved))
 }
@@ -63,21 +63,21 @@ pub fn offer_entries(
     whole: u32,
 ) -> Result<Vec<Entry>, AllocError>
     requires rising { AreRising entries.now }
-    requires low { HaveWorthsBoundedByRoom (2 ^ 30) whole (Contains entries.now) }
+    requires low { HaveWorthsBoundedBySpan (2 ^ 30) whole (Contains entries.now) }
     requires whole { whole ≤ 2 ^ 20 }
-    requires some { 1 ≤ batch.room }
-    requires short { batch.room ≤ 2 ^ 20 }
-    requires gain { batch.worth ≤ batch.room * 2 ^ 30 }
+    requires some { 1 ≤ batch.span }
+    requires short { batch.span ≤ 2 ^ 20 }
+    requires gain { batch.worth ≤ batch.span * 2 ^ 30 }
     ensures rising { IfOk result (λ offered. AreRising offered.items) }
     ensures offered { IfOk result
-        (λ offered. AreOffered batch.room batch.worth 1 whole (Contains entries.now)
+        (λ offered. AreOffered batch.span batch.worth 1 whole (Contains entries.now)
         (Contains offered.items)) }
 {
     let (mut offered, mut moved) = join(alloc, entries, batch)?;
-    while moved < entries.len() && entries[moved].room + batch.room <= whole {
+    while moved < entries.len() && entries[moved].span + batch.span <= whole {
         let from = entries[moved];
         offered.push(Entry {
-            room: from.room + batch.room,
+            span: from.span + batch.span,
             worth: from.worth + batch.worth,
         })?;
         moved += 1;

@@ -106,7 +106,7 @@ unrated_classes k most size wide high = record {
   table = λ i j. 0;
   least = record {
     ceiling = record {
-      pieces = λ i j x turned il jl has room. absurd (omega (arith, has.1));
+      pieces = λ i j x turned il jl has span. absurd (omega (arith, has.1));
       across_cuts = λ i j a b il jl al bl parts. omega arith;
       down_cuts = λ i j a b il jl al bl parts. omega arith;
     };

@@ -35,12 +35,12 @@ fn longest(sizes: &[StockSize]) -> u32
 }
 
 // The greatest worth of an entry within a room.
-fn best_within(entries: &[Entry], room: u32) -> u64
-    ensures { IsGreatest (λ e. e.room ≤ room) (λ e. e.worth) entries.now result }
+fn best_within(entries: &[Entry], span: u32) -> u64
+    ensures { IsGreatest (λ e. e.span ≤ span) (λ e. e.worth) entries.now result }
 {
     let mut best = 0;
     for entry in entries {
-        if entry.room <= room {
+        if entry.span <= span {
             best = entry.worth.max(best);
         }
     }

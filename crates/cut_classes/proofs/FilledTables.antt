@@ -6,7 +6,7 @@ use Rattle.std.proofs.lemmas.Bool.{cases_lt}
 use Rattle.std.proofs.lemmas.List.{get_or_append_left, get_or_push, length_push, length-map, map-append}
 use Rattle.cut_measure.specs.declared.ranges.TheConstants.{MAX_WORTH}
 use Rattle.cut_wants.specs.declared.wants.Want.{Want}
-use Rattle.cut_classes.specs.Classes.{ArePartsOf, Classes, HasRoom, IsCeiling, IsInClass, IsLeastCeiling, count, high_of, low_of}
+use Rattle.cut_classes.specs.Classes.{ArePartsOf, Classes, FitsIn, IsCeiling, IsInClass, IsLeastCeiling, count, high_of, low_of}
 use Rattle.cut_classes.specs.Grids.{AreCounted, AreUsable}
 use Rattle.cut_classes.specs.Filling.{AreFilledRows, DontFall, HasAt, IsFilledRow, IsOverParts, rows_of, worth_at}
 use Rattle.cut_classes.specs.Rates.{width}
@@ -101,11 +101,11 @@ module _ (wants : List Want) (k : ℕ) (xs ys : Classes) (rows : List (List ℕ)
       let up = up_rows wants k xs ys rows i uy (omega (arith, len)) il r j' j below (omega (arith, len, jl)) in
       omega (arith, le, along, up)
 
-  piece : (j i : ℕ) (x : Want) (turned : Bool) → j < count ys → i < count xs → Contains wants x → HasRoom k x turned (high_of ys j) (high_of xs i) → x.worth ≤ worth_at rows i j
-  piece j i x false jl il has room =
-      raised_place (x.size.h + k) (x.size.w + k) i j x.worth room.1 room.0 il jl (λ j' jl' in_row wide. (r j' (omega (arith, len, jl'))).pieces.offered x false has in_row wide)
-  piece j i x true jl il has room =
-      raised_place (x.size.w + k) (x.size.h + k) i j x.worth room.2 room.1 il jl (λ j' jl' in_row wide. (r j' (omega (arith, len, jl'))).pieces.offered x true has room.0 in_row wide)
+  piece : (j i : ℕ) (x : Want) (turned : Bool) → j < count ys → i < count xs → Contains wants x → FitsIn k x turned (high_of ys j) (high_of xs i) → x.worth ≤ worth_at rows i j
+  piece j i x false jl il has span =
+      raised_place (x.size.h + k) (x.size.w + k) i j x.worth span.1 span.0 il jl (λ j' jl' in_row wide. (r j' (omega (arith, len, jl'))).pieces.offered x false has in_row wide)
+  piece j i x true jl il has span =
+      raised_place (x.size.w + k) (x.size.h + k) i j x.worth span.2 span.1 il jl (λ j' jl' in_row wide. (r j' (omega (arith, len, jl'))).pieces.offered x true has span.0 in_row wide)
 
   swapped : (a b n : ℕ) → a + b ≤ n → b + a ≤ n
   swapped a b n le = omega arith

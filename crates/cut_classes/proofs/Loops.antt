@@ -48,10 +48,10 @@ no_front cs i = record {
     none : (p : Pair) → Contains [] p → ⊥
     none p (i, lt, e) = absurd (omega (arith, lt))
 
-pub next_front : (cs : Classes) (i n first beaten beside room : ℕ) (pairs pushed : List Pair) → AreUsable cs → i < count cs → first + 1 + n ≡ i → room ≡ high_of cs i - low_of cs first
-    → beaten ≤ beside → (beside ≤ first + 1) ⊎ (beside ≤ beaten) → (beaten < beside → low_of cs (beside - 1) ≤ room) → (beside < first + 1 → room < low_of cs beside)
+pub next_front : (cs : Classes) (i n first beaten beside span : ℕ) (pairs pushed : List Pair) → AreUsable cs → i < count cs → first + 1 + n ≡ i → span ≡ high_of cs i - low_of cs first
+    → beaten ≤ beside → (beside ≤ first + 1) ⊎ (beside ≤ beaten) → (beaten < beside → low_of cs (beside - 1) ≤ span) → (beside < first + 1 → span < low_of cs beside)
     → pushed ≡ (if nat_lt beaten beside then pairs ++ record { first = first; second = beside - 1 } ∷ [] else pairs) → AreFront cs i n beaten pairs → AreFront cs i (n + 1) beside pushed
-next_front cs i n first beaten beside room pairs pushed u il at left more upto reached next push f = elim (cases_lt beaten beside) [
+next_front cs i n first beaten beside span pairs pushed u il at left more upto reached next push f = elim (cases_lt beaten beside) [
   | inr ge ↦
       let e : beside ≡ beaten = omega (arith, more, ge) in
       let t = le-ltb beaten beside ge in
@@ -85,7 +85,7 @@ next_front cs i n first beaten beside room pairs pushed u il at left more upto r
           | inl h ↦ f.parts p h
           | inr h ↦
               subst (λ (q : Pair). ArePartsOf cs q.first q.second i) (one_alone new p h)
-              (together (low_of cs first) (low_of cs 0) (high_of cs i) room (low_of cs (beside - 1)) (with_first cs u first i (omega (arith, at)) il) left (reached lt))
+              (together (low_of cs first) (low_of cs 0) (high_of cs i) span (low_of cs (beside - 1)) (with_first cs u first i (omega (arith, at)) il) left (reached lt))
         ];
         within = omega (arith, near, at);
         last = λ some. (new, there, omega (arith, at), omega (arith, lt));
@@ -101,18 +101,18 @@ next_front cs i n first beaten beside room pairs pushed u il at left more upto r
       })
 ]
   where
-    together : (low none high room low' : ℕ) → low + none ≤ high → room ≡ high - low → low' ≤ room → low + low' ≤ high
-    together low none high room low' le is le' = omega arith
+    together : (low none high span low' : ℕ) → low + none ≤ high → span ≡ high - low → low' ≤ span → low + low' ≤ high
+    together low none high span low' le is le' = omega arith
 
-    room_left : (low low' high room : ℕ) → low + low' ≤ high → room ≡ high - low → low' ≤ room
-    room_left low low' high room le is = omega arith
+    span_left : (low low' high span : ℕ) → low + low' ≤ high → span ≡ high - low → low' ≤ span
+    span_left low low' high span le is = omega arith
 
     shorter : (a b : ℕ) → b ≤ a → a ≡ first → ArePartsOf cs a b i → b < beside
     shorter a b le is parts = elim (cases_lt b beside) [
       | inl lt ↦ lt
       | inr ge ↦
           let parts' : low_of cs first + low_of cs b ≤ high_of cs i = subst (λ m. low_of cs m + low_of cs b ≤ high_of cs i) is parts in
-          let fits = room_left (low_of cs first) (low_of cs b) (high_of cs i) room parts' left in
+          let fits = span_left (low_of cs first) (low_of cs b) (high_of cs i) span parts' left in
           let past = next (omega (arith, ge, le, is)) in
           let rises = low_le cs u beside b ge (omega (arith, le, is, at, il)) in
           absurd (omega (arith, fits, past, rises))

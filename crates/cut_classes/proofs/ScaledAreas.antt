@@ -7,9 +7,9 @@ use Rattle.std.proofs.Math.Nat.{le_refl}
 use Rattle.cut_measure.specs.declared.ranges.TheConstants.{MAX_WORTH}
 use Rattle.cut_wants.specs.declared.wants.Want.{Want}
 use Rattle.cut_wants.proofs.LeafSums.{Contains-cases}
-use Rattle.cut_classes.specs.Classes.{ArePartsOf, Classes, HasRoom, IsCeiling, count, high_of, low_of}
+use Rattle.cut_classes.specs.Classes.{ArePartsOf, Classes, FitsIn, IsCeiling, count, high_of, low_of}
 use Rattle.cut_classes.specs.Grids.{AreCounted, AreUsable, counted, is_above, is_counted}
-use Rattle.cut_classes.specs.Rates.{IsRatedAt, IsRatedWant, IsRoomAt, IsSlack, width}
+use Rattle.cut_classes.specs.Rates.{IsRatedAt, IsRatedWant, IsSpanAt, IsSlack, width}
 use Rattle.cut_classes.specs.Filling.{HasCeilingBelow}
 use Rattle.cut_classes.proofs.Points.{high_most, low_le, not_above}
 
@@ -106,25 +106,25 @@ pub worths_small : (wants : List Want) (k : ℕ) (xs ys : Classes) → AreCounte
 worths_small wants k xs ys all x has = worth_small k xs ys x (all x has)
 
 -- a counted want has no side in a first class where it has room
-room_above : (k : ℕ) (xs ys : Classes) (x : Want) (turned : Bool) → IsTrue (is_counted k xs ys x) → HasRoom k x turned xs.most ys.most → (w h : ℕ) → HasRoom k x turned w h
+span_above : (k : ℕ) (xs ys : Classes) (x : Want) (turned : Bool) → IsTrue (is_counted k xs ys x) → FitsIn k x turned xs.most ys.most → (w h : ℕ) → FitsIn k x turned w h
     → (low_of xs 1 ≤ w) × (low_of ys 1 ≤ h)
-room_above k xs ys x false e room w h p =
+span_above k xs ys x false e span w h p =
     let a = both (nat_le x.worth MAX_WORTH && is_above xs ys (x.size.w + k) (x.size.h + k)) _ e in
     let b = both (nat_le x.worth MAX_WORTH) _ a.0 in
-    let n = no_side_below xs ys (x.size.w + k) (x.size.h + k) b.1 room.0 room.1 in
+    let n = no_side_below xs ys (x.size.w + k) (x.size.h + k) b.1 span.0 span.1 in
     (omega (arith, n.0, p.0), omega (arith, n.1, p.1))
-room_above k xs ys x true e room w h p =
+span_above k xs ys x true e span w h p =
     let a = both (nat_le x.worth MAX_WORTH && is_above xs ys (x.size.w + k) (x.size.h + k)) _ e in
-    let n = no_side_below xs ys (x.size.h + k) (x.size.w + k) (turns x.may_turn (is_above xs ys (x.size.h + k) (x.size.w + k)) room.0 a.1) room.1 room.2 in
+    let n = no_side_below xs ys (x.size.h + k) (x.size.w + k) (turns x.may_turn (is_above xs ys (x.size.h + k) (x.size.w + k)) span.0 a.1) span.1 span.2 in
     (omega (arith, n.0, p.1), omega (arith, n.1, p.2))
   where
     turns : (a b : Bool) → IsTrue a → IsTrue (not a || b) → IsTrue b
     turns true b t e = e
     turns false b t e = absurd (cc)
 
-room_in_most : (k : ℕ) (x : Want) (turned : Bool) (w h w' h' : ℕ) → w ≤ w' → h ≤ h' → HasRoom k x turned w h → HasRoom k x turned w' h'
-room_in_most k x false w h w' h' le le' p = (omega (arith, le, p.0), omega (arith, le', p.1))
-room_in_most k x true w h w' h' le le' p = (p.0, omega (arith, le, p.1), omega (arith, le', p.2))
+span_in_most : (k : ℕ) (x : Want) (turned : Bool) (w h w' h' : ℕ) → w ≤ w' → h ≤ h' → FitsIn k x turned w h → FitsIn k x turned w' h'
+span_in_most k x false w h w' h' le le' p = (omega (arith, le, p.0), omega (arith, le', p.1))
+span_in_most k x true w h w' h' le le' p = (p.0, omega (arith, le, p.1), omega (arith, le', p.2))
 
 some_width : (cs : Classes) → AreUsable cs → (i : ℕ) → i < count cs → low_of cs 1 ≤ high_of cs i → 1 ≤ width (low_of cs 1 - 1) cs i
 some_width cs u i within le =
@@ -137,12 +137,12 @@ some_width cs u i within le =
 -- a rate at which no want is worth more than the area where it has room
 abbrev IsRate : List Want → ℕ → (xs ys : Classes) → (rate slack slack' : ℕ) → Type 0
 IsRate wants k xs ys c s s' =
-    (x : Want) (turned : Bool) → Contains wants x → (i j : ℕ) → i < count xs → j < count ys → HasRoom k x turned (high_of xs i) (high_of ys j) → x.worth ≤ areas c s s' xs ys i j
+    (x : Want) (turned : Bool) → Contains wants x → (i j : ℕ) → i < count xs → j < count ys → FitsIn k x turned (high_of xs i) (high_of ys j) → x.worth ≤ areas c s s' xs ys i j
 
 areas_ceiling : (wants : List Want) (k : ℕ) (xs ys : Classes) (c s s' : ℕ) → AreUsable xs → AreUsable ys → IsSlack s xs → IsSlack s' ys → IsRate wants k xs ys c s s'
     → IsCeiling wants k xs ys (areas c s s' xs ys)
 areas_ceiling wants k xs ys c s s' ux uy slack slack' rated = record {
-  pieces = λ i j x turned il jl has room. rated x turned has i j il jl room;
+  pieces = λ i j x turned il jl has span. rated x turned has i j il jl span;
   across_cuts = λ i j a b il jl al bl parts. spread c (width s xs a) (width s xs b) (width s xs i) (width s' ys j) (parts_within s xs ux slack a b i il al bl parts);
   down_cuts = λ i j a b il jl al bl parts.
       let sum = spread c (width s' ys a) (width s' ys b) (width s' ys j) (width s xs i) (parts_within s' ys uy slack' a b j jl al bl parts) in
@@ -152,9 +152,9 @@ areas_ceiling wants k xs ys c s s' ux uy slack slack' rated = record {
 pub scaled_ceiling : (wants : List Want) (k : ℕ) (xs ys : Classes) → AreUsable xs → AreUsable ys → AreCounted wants k xs ys → (c : ℕ) → ((x : Want) → Contains wants x → x.worth ≤ c)
     → IsCeiling wants k xs ys (scaled c xs ys)
 scaled_ceiling wants k xs ys ux uy counted c small =
-    areas_ceiling wants k xs ys c (low_of xs 1 - 1) (low_of ys 1 - 1) ux uy (near_slack xs ux) (near_slack ys uy) (λ x turned has i j il jl room.
-    let most = room_in_most k x turned (high_of xs i) (high_of ys j) xs.most ys.most (high_most xs ux i il) (high_most ys uy j jl) room in
-    let above = room_above k xs ys x turned (counted x has) most (high_of xs i) (high_of ys j) room in
+    areas_ceiling wants k xs ys c (low_of xs 1 - 1) (low_of ys 1 - 1) ux uy (near_slack xs ux) (near_slack ys uy) (λ x turned has i j il jl span.
+    let most = span_in_most k x turned (high_of xs i) (high_of ys j) xs.most ys.most (high_most xs ux i il) (high_most ys uy j jl) span in
+    let above = span_above k xs ys x turned (counted x has) most (high_of xs i) (high_of ys j) span in
     holds_one c (width (low_of xs 1 - 1) xs i) (width (low_of ys 1 - 1) ys j) x.worth (small x has) (some_width xs ux i il above.0) (some_width ys uy j jl above.1))
 
 -- below the rate for each unit of the greatest area
@@ -182,11 +182,11 @@ rated_above s s' xs ys worth w h rate i j ux uy rated il jl wide high =
     omega (arith, le, all)
 
 is_rate : (wants : List Want) (k : ℕ) (xs ys : Classes) (c s s' : ℕ) → AreUsable xs → AreUsable ys → ((x : Want) (turned : Bool) → Contains wants x → IsRatedWant s s' xs ys k x turned c)
-    → (x : Want) (turned : Bool) → Contains wants x → (i j : ℕ) → i < count xs → j < count ys → HasRoom k x turned (high_of xs i) (high_of ys j) → x.worth ≤ areas c s s' xs ys i j
-is_rate wants k xs ys c s s' ux uy rated x false has i j il jl room =
-    rated_above s s' xs ys x.worth (x.size.w + k) (x.size.h + k) c i j ux uy (rated x false has) il jl room.0 room.1
-is_rate wants k xs ys c s s' ux uy rated x true has i j il jl room =
-    rated_above s s' xs ys x.worth (x.size.h + k) (x.size.w + k) c i j ux uy (rated x true has room.0) il jl room.1 room.2
+    → (x : Want) (turned : Bool) → Contains wants x → (i j : ℕ) → i < count xs → j < count ys → FitsIn k x turned (high_of xs i) (high_of ys j) → x.worth ≤ areas c s s' xs ys i j
+is_rate wants k xs ys c s s' ux uy rated x false has i j il jl span =
+    rated_above s s' xs ys x.worth (x.size.w + k) (x.size.h + k) c i j ux uy (rated x false has) il jl span.0 span.1
+is_rate wants k xs ys c s s' ux uy rated x true has i j il jl span =
+    rated_above s s' xs ys x.worth (x.size.h + k) (x.size.w + k) c i j ux uy (rated x true has span.0) il jl span.1 span.2
 
 pub rated_below : (limit : ℕ) (wants : List Want) (k : ℕ) (xs ys : Classes) (c s s' : ℕ) → AreUsable xs → AreUsable ys → IsSlack s xs → IsSlack s' ys
     → ((x : Want) (turned : Bool) → Contains wants x → IsRatedWant s s' xs ys k x turned c) → ((x : Want) → Contains wants x → x.worth < limit) → c * (xs.most * ys.most) < limit
@@ -217,11 +217,11 @@ rated_ways s s' xs ys k x w h rate e e' upright turned false = subst (λ n. IsRa
 rated_ways s s' xs ys k x w h rate e e' upright turned true = λ turns. subst (λ n. IsRatedAt s s' xs ys x.worth (x.size.h + k) (n + k) rate) e (subst (λ n. IsRatedAt s s' xs ys x.worth (n + k) (w + k) rate) e' turned)
 
 -- the rate of a piece with sides in these classes
-pub rated_by : (s s' : ℕ) (xs ys : Classes) (worth w h across down rate : ℕ) → (w ≤ xs.most → IsRoomAt s xs w across) → (h ≤ ys.most → IsRoomAt s' ys h down) → worth ≤ rate * (across * down)
+pub rated_by : (s s' : ℕ) (xs ys : Classes) (worth w h across down rate : ℕ) → (w ≤ xs.most → IsSpanAt s xs w across) → (h ≤ ys.most → IsSpanAt s' ys h down) → worth ≤ rate * (across * down)
     → IsRatedAt s s' xs ys worth w h rate
-rated_by s s' xs ys worth w h across down rate room room' le = λ wide high.
-    let (i, in_across, e) = room wide in
-    let (j, in_down, e') = room' high in
+rated_by s s' xs ys worth w h across down rate span span' le = λ wide high.
+    let (i, in_across, e) = span wide in
+    let (j, in_down, e') = span' high in
     (i, j, in_across, in_down, subst (λ n. worth ≤ rate * (n * width s' ys j)) e (subst (λ n. worth ≤ rate * (across * n)) e' le))
 
 pub rated_nowhere : (s s' : ℕ) (xs ys : Classes) (worth w h rate : ℕ) → (xs.most < w) ⊎ (ys.most < h) → IsRatedAt s s' xs ys worth w h rate

@@ -33,9 +33,9 @@ pub record IsInClass (cs : Classes) (l i : ℕ) : Type 0 where
   pub within : l ≤ cs.most
 
 -- the want and a kerf on each side have room in these lengths, turned where it may be
-abbrev pub HasRoom : (kerf : ℕ) → Want → Bool → (across down : ℕ) → Type 0
-HasRoom k x false w h = (x.size.w + k ≤ w) × (x.size.h + k ≤ h)
-HasRoom k x true w h = IsTrue x.may_turn × (x.size.h + k ≤ w) × (x.size.w + k ≤ h)
+abbrev pub FitsIn : (kerf : ℕ) → Want → Bool → (across down : ℕ) → Type 0
+FitsIn k x false w h = (x.size.w + k ≤ w) × (x.size.h + k ≤ h)
+FitsIn k x true w h = IsTrue x.may_turn × (x.size.h + k ≤ w) × (x.size.w + k ≤ h)
 
 -- two lengths of these classes are parts of one of the class i
 abbrev pub ArePartsOf : Classes → (a b i : ℕ) → Type 0
@@ -45,7 +45,7 @@ ArePartsOf cs a b i = low_of cs a + low_of cs b ≤ high_of cs i
 -- whose lengths are parts of one there, across or down.
 pub record IsCeiling (wants : List Want) (kerf : ℕ) (across down : Classes) (worth : ℕ → ℕ → ℕ) : Type 0 where
   pub pieces : (i j : ℕ) (x : Want) (turned : Bool) → i < count across → j < count down → Contains wants x
-      → HasRoom kerf x turned (high_of across i) (high_of down j) → x.worth ≤ worth i j
+      → FitsIn kerf x turned (high_of across i) (high_of down j) → x.worth ≤ worth i j
   pub across_cuts : (i j a b : ℕ) → i < count across → j < count down → a < count across → b < count across
       → ArePartsOf across a b i → worth a j + worth b j ≤ worth i j
   pub down_cuts : (i j a b : ℕ) → i < count across → j < count down → a < count down → b < count down

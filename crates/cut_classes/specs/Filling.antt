@@ -5,7 +5,7 @@ use Rattle.cut_wants.specs.declared.wants.Want.{Want}
 use Rattle.cut_classes.specs.declared.pairs.Pair.{Pair}
 use Rattle.cut_classes.specs.declared.ceiling.CeilingTable.{CeilingTable}
 use Rattle.cut_classes.specs.declared.ceiling.CeilingTable.TheVariants.{Narrow, Wide}
-use Rattle.cut_classes.specs.Classes.{ArePartsOf, Classes, HasRoom, IsCeiling, IsInClass, count, high_of}
+use Rattle.cut_classes.specs.Classes.{ArePartsOf, Classes, FitsIn, IsCeiling, IsInClass, count, high_of}
 
 -- any two lower classes with parts of the class are no higher than those of one of the pairs
 pub record CoversParts (cs : Classes) (i : ℕ) (pairs : List Pair) : Type 0 where
@@ -54,7 +54,7 @@ pub record IsOfferedTo (down across : Classes) (kerf : ℕ) (x : Want) (turned :
   pub kept : IsRaised old new
   pub offered : IsOffered down across kerf x turned new j
   pub found : (p : ℕ) → slice_index old p < slice_index new p
-      → (p < count down) × HasRoom kerf x turned (high_of across j) (high_of down p) × (slice_index new p ≡ x.worth)
+      → (p < count down) × FitsIn kerf x turned (high_of across j) (high_of down p) × (slice_index new p ≡ x.worth)
 
 -- at no place is the row above any ceiling
 abbrev pub IsBelowAll : List Want → (kerf : ℕ) → (down across : Classes) → List ℕ → ℕ → Type 0

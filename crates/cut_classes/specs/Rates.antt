@@ -12,8 +12,8 @@ abbrev pub width : (slack : ℕ) → Classes → ℕ → ℕ
 width slack cs i = low_of cs i - slack
 
 -- it is that of the class of a length
-abbrev pub IsRoomAt : (slack : ℕ) → Classes → (l room : ℕ) → Type 0
-IsRoomAt slack cs l room = (i : ℕ) × IsInClass cs l i × (room ≡ width slack cs i)
+abbrev pub IsSpanAt : (slack : ℕ) → Classes → (l span : ℕ) → Type 0
+IsSpanAt slack cs l span = (i : ℕ) × IsInClass cs l i × (span ≡ width slack cs i)
 
 -- at this rate a piece with these sides is worth no more than the area of its classes, less the slacks
 abbrev pub IsRatedAt : (slack slack' : ℕ) → (across down : Classes) → (worth w h rate : ℕ) → Type 0

@@ -27,7 +27,7 @@ fn other(axis: Axis) -> Axis {
 }
 
 // Whether some size has room for these sides along an axis and the other.
-fn has_room(sizes: &[Size], axis: Axis, kerf: u32, along: u32, beside: u32) -> bool {
+fn fits_some(sizes: &[Size], axis: Axis, kerf: u32, along: u32, beside: u32) -> bool {
     sizes.iter().any(|size| {
         along <= added_side(*size, axis, kerf) && beside <= added_side(*size, other(axis), kerf)
     })
@@ -45,10 +45,10 @@ fn sides_along(
     for want in wants {
         let along = added_side(want.size, axis, kerf);
         let beside = added_side(want.size, other(axis), kerf);
-        if has_room(sizes, axis, kerf, along, beside) {
+        if fits_some(sizes, axis, kerf, along, beside) {
             sides.push(along)?;
         }
-        if want.may_turn && has_room(sizes, axis, kerf, beside, along) {
+        if want.may_turn && fits_some(sizes, axis, kerf, beside, along) {
             sides.push(beside)?;
         }
     }

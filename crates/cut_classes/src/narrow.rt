@@ -4,7 +4,7 @@ ghost use Rattle.std.specs.Prelude.{ℕ, Bool, ◌+◌, ◌*◌, ◌^◌, ◌≤
 ghost use Rattle.cut_wants.specs.declared.wants.Want.{Want};
 ghost use Rattle.cut_classes.specs.Grids.{AreCounted, AreUsable, IsUsableGrid, across_of, classes, down_of};
 ghost use Rattle.cut_classes.specs.Filling.{HasCeilingBelow};
-ghost use Rattle.cut_classes.specs.Rates.{IsRatedAt, IsRatedWant, IsRoomAt, IsSlack};
+ghost use Rattle.cut_classes.specs.Rates.{IsRatedAt, IsRatedWant, IsSpanAt, IsSlack};
 
 use crate::grid::Grid;
 use crate::pairs::{class_of, high_of};
@@ -24,9 +24,9 @@ fn slack_of(points: &[u32], most: u32) -> u32
 }
 
 // The point of a length's class, less a slack.
-fn room_at(points: &[u32], slack: u32, length: u32) -> u32
+fn span_at(points: &[u32], slack: u32, length: u32) -> u32
     ensures { (most : ℕ) → AreUsable (classes points.now most) → length ≤ most
-        → IsRoomAt slack (classes points.now most) length result }
+        → IsSpanAt slack (classes points.now most) length result }
 {
     let class = class_of(points, length);
     if class < points.len() {
@@ -68,8 +68,8 @@ fn rate_at(
     if grid.most_down < h {
         return Some(0);
     }
-    let across = room_at(&grid.across, slack_across, w);
-    let down = room_at(&grid.down, slack_down, h);
+    let across = span_at(&grid.across, slack_across, w);
+    let down = span_at(&grid.down, slack_down, h);
     let rate = rate_of(worth, across, down)?;
     Some(rate)
 }

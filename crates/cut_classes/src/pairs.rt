@@ -33,16 +33,16 @@ pub fn high_of(points: &[u32], most: u32, class: usize) -> u32
 }
 
 // One more than the last place, from a place on, up to which no point is above a length.
-fn reach(points: &[u32], from: usize, count: usize, room: u32) -> usize
+fn reach(points: &[u32], from: usize, count: usize, span: u32) -> usize
     requires from { from ≤ count }
     requires count { count ≤ length points.now }
     ensures from { from ≤ result }
     ensures within { result ≤ count }
-    ensures reached { from < result → slice_index points.now (result - 1) ≤ room }
-    ensures next { result < count → room < slice_index points.now result }
+    ensures reached { from < result → slice_index points.now (result - 1) ≤ span }
+    ensures next { result < count → span < slice_index points.now result }
 {
     let mut reach = from;
-    while reach < count && points[reach] <= room {
+    while reach < count && points[reach] <= span {
         reach += 1;
     }
     reach
@@ -97,8 +97,8 @@ pub(crate) fn covering_pairs(
     let mut beaten: usize = 0;
     for handled in 0..class {
         let first = class - 1 - handled;
-        let room = high.saturating_sub(points[first]);
-        let beside = reach(points, beaten, (first + 1).max(beaten), room);
+        let span = high.saturating_sub(points[first]);
+        let beside = reach(points, beaten, (first + 1).max(beaten), span);
         add_pair(&mut pairs, first, beaten, beside)?;
         beaten = beside;
     }

@@ -166,19 +166,19 @@ pub fn alike_reported(alloc: Global, unit: Unit) -> Result<String> {
 }
 
 // What pieces are worth in each room up to 43 at most.
-type Rooms = [u64; 44];
+type Spans = [u64; 44];
 
 // Offers a piece to each room, so that it is taken once.
-fn offer_one(best: &mut Rooms, room: usize, worth: u64) {
+fn offer_one(best: &mut Spans, span: usize, worth: u64) {
     let before = *best;
-    for (whole, rest) in best.iter_mut().skip(room).zip(before) {
+    for (whole, rest) in best.iter_mut().skip(span).zip(before) {
         *whole = (*whole).max(rest.saturating_add(worth));
     }
 }
 
 // The best worths of bars by a plain table: for each room, a bar's and a kerf's, what some pieces in it are worth at
 // most, piece by piece.
-fn best_rooms(kerf: u32, wants: &[Want]) -> Rooms
+fn best_spans(kerf: u32, wants: &[Want]) -> Spans
     requires { kerf ≤ 200 }
 {
     let mut best = [0; 44];
@@ -199,7 +199,7 @@ fn count_differing(alloc: Global, kerf: u32, wants: &[Want]) -> Result<u32>
     requires few { kerf ≤ 3 }
     requires demands { AreDemands wants.now }
 {
-    let best = best_rooms(kerf, wants);
+    let best = best_spans(kerf, wants);
     let mut differing = 0u32;
     for w in 1..41u32 {
         let unit = Unit { w, h: 1, kerf };

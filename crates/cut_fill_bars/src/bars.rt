@@ -132,31 +132,31 @@ impl Bars {
     }
 
     /// The rooms of a length with a kerf.
-    fn rooms(&self, length: u32) -> u32 {
+    fn spans(&self, length: u32) -> u32 {
         let whole = length.saturating_add(self.kerf);
         whole.checked_div(self.unit).unwrap_or(0)
     }
 
     /// The rooms of a piece: more than any bar has where there is no such want.
-    fn piece_rooms(&self, want: usize) -> u32 {
+    fn piece_spans(&self, want: usize) -> u32 {
         self.lengths
             .get(want)
-            .map_or(u32::MAX, |length| self.rooms(*length))
+            .map_or(u32::MAX, |length| self.spans(*length))
     }
 
     /// The rooms of a bar.
-    fn bar_rooms(&self, size: usize) -> u32 {
-        self.bars.get(size).map_or(0, |length| self.rooms(*length))
+    fn bar_spans(&self, size: usize) -> u32 {
+        self.bars.get(size).map_or(0, |length| self.spans(*length))
     }
 
     /// Rooms that a unit has, with a kerf.
     pub fn unit_cells(&self, size: usize) -> u64 {
-        self.bar_rooms(size) as u64
+        self.bar_spans(size) as u64
     }
 
     /// Rooms that a piece takes, with a kerf.
     pub fn piece_cells(&self, want: usize) -> u64 {
-        self.piece_rooms(want) as u64
+        self.piece_spans(want) as u64
     }
 
     /// Asks for a table of bars of so many rooms.
@@ -185,7 +185,7 @@ impl Bars {
     ) -> Result<(), AllocError> {
         let mut whole = 0;
         for bar in &self.bars {
-            whole = self.rooms(*bar).max(whole);
+            whole = self.spans(*bar).max(whole);
         }
         self.begin(alloc, whole, worths, left)
     }
@@ -194,7 +194,7 @@ impl Bars {
     fn entries_of(&self, alloc: Global) -> Result<Vec<Entry>, AllocError> {
         let mut order = Vec::new(alloc);
         for (want, (worth, left)) in self.asked.worths.iter().zip(&self.asked.left).enumerate() {
-            let step = self.piece_rooms(want);
+            let step = self.piece_spans(want);
             if *worth > 0 && *left > 0 && step <= self.asked.whole {
                 order.push((u32::MAX - step, want))?;
             }
@@ -205,7 +205,7 @@ impl Bars {
             entries.push(Entry {
                 want: *want,
                 item: Item {
-                    step: self.piece_rooms(*want),
+                    step: self.piece_spans(*want),
                     gain: self.asked.worths.get(*want).copied().unwrap_or(0),
                     most: self.asked.left.get(*want).copied().unwrap_or(0),
                 },
@@ -261,15 +261,15 @@ impl Bars {
     }
 
     /// What bars of so many rooms are worth, where the last part is shown.
-    fn best(&self, rooms: u32) -> u32 {
-        self.table.best(self.shown_items(), rooms).unwrap_or(0)
+    fn best(&self, spans: u32) -> u32 {
+        self.table.best(self.shown_items(), spans).unwrap_or(0)
     }
 
     /// Takes the part that is shown from the rooms that are left, into counts.
-    fn take_part(&self, alloc: Global, rooms: u32, counts: &mut [u32]) -> Result<u32, AllocError> {
+    fn take_part(&self, alloc: Global, spans: u32, counts: &mut [u32]) -> Result<u32, AllocError> {
         let items = self.shown_items();
         let mut taken = no_counts(alloc, items)?;
-        let rest = self.table.take(items, rooms, &mut taken).unwrap_or(0);
+        let rest = self.table.take(items, spans, &mut taken).unwrap_or(0);
         let first = self.shown.saturating_mul(self.part);
         for (entry, count) in self.entries.iter().skip(first).zip(&taken) {
             if let Some(cell) = counts.get_mut(entry.want) {
@@ -284,7 +284,7 @@ impl Bars {
     fn take(
         &mut self,
         alloc: Global,
-        rooms: &mut [u32],
+        spans: &mut [u32],
         counts: &mut [Vec<u32>],
     ) -> Result<(), AllocError> {
         let parts = self.starts.len();
@@ -292,7 +292,7 @@ impl Bars {
             if self.shown != part {
                 self.show(alloc, part)?;
             }
-            for (rest, own) in rooms.iter_mut().zip(counts.iter_mut()) {
+            for (rest, own) in spans.iter_mut().zip(counts.iter_mut()) {
                 *rest = self.take_part(alloc, *rest, own)?;
             }
         }
@@ -301,16 +301,16 @@ impl Bars {
 
     /// The best of each length of bars.
     fn priced(&mut self, alloc: Global) -> Result<Vec<Priced>, AllocError> {
-        let mut rooms = Vec::new(alloc);
+        let mut spans = Vec::new(alloc);
         let mut bests = Vec::new(alloc);
         let mut counts = Vec::new(alloc);
         for size in 0..self.bars.len() {
-            let room = self.bar_rooms(size);
-            rooms.push(room)?;
-            bests.push(self.best(room) as u64)?;
+            let span = self.bar_spans(size);
+            spans.push(span)?;
+            bests.push(self.best(span) as u64)?;
             counts.push(no_counts(alloc, self.lengths.len())?)?;
         }
-        self.take(alloc, &mut rooms, &mut counts)?;
+        self.take(alloc, &mut spans, &mut counts)?;
         let mut priced = Vec::new(alloc);
         for (best, own) in bests.iter().zip(counts) {
             priced.push(Priced {
@@ -329,8 +329,8 @@ impl Bars {
     }
 
     /// A want, and what the best plan of a bar with one piece of it or more is worth.
-    fn offer(&self, entry: &Entry, rooms: u32) -> Option<(u32, usize)> {
-        let rest = rooms.checked_sub(entry.item.step)?;
+    fn offer(&self, entry: &Entry, spans: u32) -> Option<(u32, usize)> {
+        let rest = spans.checked_sub(entry.item.step)?;
         let worth = self.best(rest).checked_add(entry.item.gain)?;
         Some((worth, entry.want))
     }
@@ -348,17 +348,17 @@ impl Bars {
         if self.starts.len() != 1 {
             return Ok(columns);
         }
-        let rooms = self.bar_rooms(size);
+        let spans = self.bar_spans(size);
         let mut offers = Vec::new(alloc);
         for entry in self.entries.iter() {
-            if let Some(offer) = self.offer(entry, rooms) {
+            if let Some(offer) = self.offer(entry, spans) {
                 offers.push(offer)?;
             }
         }
         offers.sort()?;
         for (_, want) in offers.iter().rev().take(most) {
             let mut counts = no_counts(alloc, self.lengths.len())?;
-            let rest = rooms.saturating_sub(self.piece_rooms(*want));
+            let rest = spans.saturating_sub(self.piece_spans(*want));
             self.take_part(alloc, rest, &mut counts)?;
             if let Some(count) = counts.get_mut(*want) {
                 *count = count.saturating_add(1);
@@ -376,16 +376,16 @@ impl Bars {
         worths: &[u32],
         left: &[u32],
     ) -> Result<(), AllocError> {
-        let whole = self.bar_rooms(size);
+        let whole = self.bar_spans(size);
         self.begin(alloc, whole, worths, left)
     }
 
     /// The plan of one bar.
     pub fn go_on_unit(&mut self, alloc: Global) -> Result<Option<Filled>, AllocError> {
         self.make(alloc)?;
-        let mut rooms = vec![in alloc; self.asked.whole]?;
+        let mut spans = vec![in alloc; self.asked.whole]?;
         let mut counts = vec![in alloc; no_counts(alloc, self.lengths.len())?]?;
-        self.take(alloc, &mut rooms, &mut counts)?;
+        self.take(alloc, &mut spans, &mut counts)?;
         let counts = counts.pop().unwrap_or(Vec::new(alloc));
         Ok(Some(Filled {
             counts: few(counts),

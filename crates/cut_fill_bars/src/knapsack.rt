@@ -105,10 +105,10 @@ fn write_rows(rows: &mut [Vec<u32>], items: &[Item]) {
 
 /// How many of an item the best of a room has, the fewest where several do: the rest of it is the
 /// best before the item.
-fn count_of(item: &Item, before: &[u32], row: &[u32], room: usize) -> Option<u32> {
-    let worth = *row.get(room)?;
-    let most = most_within(item, room.saturating_add(1)).min(item.most);
-    let mut low = room;
+fn count_of(item: &Item, before: &[u32], row: &[u32], span: usize) -> Option<u32> {
+    let worth = *row.get(span)?;
+    let most = most_within(item, span.saturating_add(1)).min(item.most);
+    let mut low = span;
     let mut gain = 0u32;
     for count in 0..=most {
         if before.get(low)?.wrapping_add(gain) == worth {
@@ -178,14 +178,14 @@ impl Table {
     }
 
     /// The best worth of a room, by the first items, so many of them.
-    pub fn best(&self, items: usize, room: u32) -> Option<u32> {
-        self.rows.get(items)?.get(room as usize).copied()
+    pub fn best(&self, items: usize, span: u32) -> Option<u32> {
+        self.rows.get(items)?.get(span as usize).copied()
     }
 
     /// Adds to the counts how many of each the best of a room has, by the first items, so many of
     /// them. What is left of the room for what the table began with; None out of the table.
-    pub fn take(&self, items: usize, room: u32, counts: &mut [u32]) -> Option<u32> {
-        let mut rest = room;
+    pub fn take(&self, items: usize, span: u32, counts: &mut [u32]) -> Option<u32> {
+        let mut rest = span;
         for place in (0..items).rev() {
             let item = self.items.get(place)?;
             let before = self.rows.get(place)?;

@@ -6,7 +6,7 @@ ghost use Rattle.cut_bound.specs.Cuttings as cuttings;
 ghost use Rattle.cut_bound.specs.Planned.{cutting_of};
 ghost use Rattle.cut_order.specs.Places.{IsAddition, IsDoneAt, IsFewOrderPlan, IsFilledOrFull, IsGrown};
 
-use crate::places::{room_for, unit_count};
+use crate::places::{units_allowed, unit_count};
 use crate::question::Question;
 use crate::single::single_plan;
 use cut_bound::{PlannedUnit, StockSize, pieces_of, units_at};
@@ -32,8 +32,8 @@ fn added_at(question: &Question, place: usize, want: &Want, units: &[PlannedUnit
     if !is_fitting(stock.size, want) {
         return 0;
     }
-    let room = room_for(stock.limit, units_at(units, place), unit_count(units));
-    missing_of(want, units).min(room)
+    let allowed = units_allowed(stock.limit, units_at(units, place), unit_count(units));
+    missing_of(want, units).min(allowed)
 }
 
 // The sides of the size at a place.

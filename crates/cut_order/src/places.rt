@@ -33,7 +33,7 @@ fn unused(limit: Option<u32>, used: u128) -> u32
 
 /// How many units of a size may be added to so many, of which so many are of that size: as many as
 /// are at hand, and at most 100000 together.
-pub fn room_for(limit: Option<u32>, used: u128, count: u128) -> u32
+pub fn units_allowed(limit: Option<u32>, used: u128, count: u128) -> u32
     requires { count ≤ MAX_ORDER_UNITS }
     ensures few { count + result ≤ MAX_ORDER_UNITS }
     ensures within { IfSome limit (λ n. used ≤ n → used + result ≤ n) }

@@ -40,8 +40,8 @@ pub bar_pieces : (wants : List Want) (ns : List ℕ) (pieces : List (ℕ × ℕ)
 bar_pieces wants ns pieces list demands some =
     subst (λ ps. All IsBarPiece ps) (sym list) (all_pieces IsBarPiece wants ns (λ x has. (let d = All-contains HasDemandNumber wants x demands has in (d.0, d.1, some x has))))
 
-pub has_room : (wants : List Want) (k w : ℕ) (ns : List ℕ) → AreBestCounts k wants (w + k) ns → spent k (pieces_of wants ns) ≤ w + k
-has_room wants k w ns best = omega (arith, sum_pieces (λ p. p.1 + k) wants ns, best.fit)
+pub has_span : (wants : List Want) (k w : ℕ) (ns : List ℕ) → AreBestCounts k wants (w + k) ns → spent k (pieces_of wants ns) ≤ w + k
+has_span wants k w ns best = omega (arith, sum_pieces (λ p. p.1 + k) wants ns, best.fit)
 
 lengths : (wants : List Want) (ns : List ℕ) → HaveLength wants → All (λ q. 1 ≤ q.1) (pieces_of wants ns)
 lengths wants ns some = all_pieces (λ q. 1 ≤ q.1) wants ns some
@@ -51,14 +51,14 @@ pub best_tree : (size : Extent) (k : ℕ) (wants : List Want) (ns : List ℕ) �
     → IsBarPlan size k wants (bar_tree (pieces_of wants ns) size.w k) × (worth_of wants (bar_tree (pieces_of wants ns) size.w k) ≡ worth_of_counts wants ns)
 best_tree size k wants ns own flat high some best =
     let sums : (f : ℕ → ℕ) → leaf_sum f (bar_tree (pieces_of wants ns) size.w k) ≡ total_of (λ x. f x.demand) wants ns =
-    λ f. leaf_sum-bar_tree f (pieces_of wants ns) size.w k (lengths wants ns some) (has_room wants k size.w ns best) ∙ sum_pieces (λ p. f p.0) wants ns in
+    λ f. leaf_sum-bar_tree f (pieces_of wants ns) size.w k (lengths wants ns some) (has_span wants k size.w ns best) ∙ sum_pieces (λ p. f p.0) wants ns in
     let worth = counted_value wants ns (bar_tree (pieces_of wants ns) size.w k) own sums in (
       record {
         counts = ns;
         few = best.within;
         same = refl;
         legal = rw high (CutsInto-bar_tree (IsWantedPiece wants) (pieces_of wants ns) size.w 1 k (lengths wants ns some)
-            (all_pieces (λ q. IsWantedPiece wants q.0 false q.1 1) wants ns (λ x has. (x, has, refl, (refl, (flat x has).flat)))) (has_room wants k size.w ns best));
+            (all_pieces (λ q. IsWantedPiece wants q.0 false q.1 1) wants ns (λ x has. (x, has, refl, (refl, (flat x has).flat)))) (has_span wants k size.w ns best));
         within = counted_within wants ns (bar_tree (pieces_of wants ns) size.w k) own best.within sums;
         best = λ u legal within. rw worth ((counts_best wants k size.w ns own (bar_wants wants some flat) best).most u (subst (λ h. Legal wants k u size.w h) high legal, within));
       },
@@ -70,10 +70,10 @@ pub many_leaves : (wants : List Want) (k w : ℕ) (ns : List ℕ) → 1 ≤ w �
     → MAX_CUTS < leaf_count (bar_tree (pieces_of wants ns) w k)
 many_leaves wants k w ns one some best many =
     let all = lengths wants ns some in
-    let room = has_room wants k w ns best in
+    let span = has_span wants k w ns best in
     let leaves : leaf_count (bar_tree (pieces_of wants ns) w k) ≡ length (pieces_of wants ns) =
-    leaf_sum-bar_tree (λ _. 1) (pieces_of wants ns) w k all room ∙ length_sum (pieces_of wants ns) in
-    elim (cut_count-bar_tree (pieces_of wants ns) w k one all room) [
+    leaf_sum-bar_tree (λ _. 1) (pieces_of wants ns) w k all span ∙ length_sum (pieces_of wants ns) in
+    elim (cut_count-bar_tree (pieces_of wants ns) w k one all span) [
       | inl c ↦ omega (arith, c.1, leaves)
       | inr c ↦ omega (arith, c.1, leaves)
     ]
@@ -99,7 +99,7 @@ pub too_many : (size : Extent) (k : ℕ) (wants : List Want) (pieces : Pieces) �
     → MAX_CUTS < cut_count (bar_tree pieces.pieces.items size.w k) → HasManyPieces size k wants
 too_many size k wants pieces own flat high b cuts =
     let many = subst (λ ps. MAX_CUTS < cut_count (bar_tree ps size.w k)) b.list cuts in
-    let one = some_bar (pieces_of wants b.counts) size.w k (lengths wants b.counts b.some) (has_room wants k size.w b.counts b.best) many in
+    let one = some_bar (pieces_of wants b.counts) size.w k (lengths wants b.counts b.some) (has_span wants k size.w b.counts b.best) many in
     record {
       tree = bar_tree (pieces_of wants b.counts) size.w k;
       planned = (best_tree size k wants b.counts own flat high b.some b.best).0;
@@ -110,4 +110,4 @@ too_many size k wants pieces own flat high b cuts =
 -- the pieces of best counts aren't too long
 pub not_long : (size : Extent) (k : ℕ) (wants : List Want) (pieces : Pieces) → AreBestPieces size k wants pieces → bar_length pieces.pieces.items k ≤ size.w
 not_long size k wants pieces b =
-    subst (λ ps. bar_length ps k ≤ size.w) (sym b.list) (fits_bar (pieces_of wants b.counts) size.w k (has_room wants k size.w b.counts b.best))
+    subst (λ ps. bar_length ps k ≤ size.w) (sym b.list) (fits_bar (pieces_of wants b.counts) size.w k (has_span wants k size.w b.counts b.best))

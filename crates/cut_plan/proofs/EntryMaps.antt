@@ -6,7 +6,7 @@ use Rattle.std.proofs.lemmas.Bool.Decides.{nat_tests, eqb_tells}
 use Rattle.std.proofs.lemmas.Grind.{common_steps}
 use Rattle.cut_wants.specs.declared.wants.Want.{Want}
 use Rattle.cut_bars.specs.declared.reach.Entry.{Entry}
-use Rattle.cut_bars.specs.Counts.{room_taken}
+use Rattle.cut_bars.specs.Counts.{span_taken}
 use Rattle.cut_bars.specs.Reached.{AreRising, AreReached, IsGreatestAt, IsReached}
 use Rattle.cut_bars.proofs.JoinedEntries.{same_entry, taken_in}
 use Rattle.cut_plan.specs.Lengths.{IsMapOf}
@@ -25,17 +25,17 @@ map_none entries found empty n v = (λ e. absurd (none_is v (sym (empty n) ∙ e
 
 -- an entry more is put in
 pub map_more : (entries : List Entry) (i : ℕ) (d : Entry) → AreRising entries → i < length entries → (found found' : ℕ → Option ℕ) → IsMapOf (take i entries) found
-    → ((n : ℕ) → found' n ≡ cond (is_eq (nat_cmp (get_or entries i d).room n)) (Some (get_or entries i d).worth) (found n)) → IsMapOf (take (i + 1) entries) found'
+    → ((n : ℕ) → found' n ≡ cond (is_eq (nat_cmp (get_or entries i d).span n)) (Some (get_or entries i d).worth) (found n)) → IsMapOf (take (i + 1) entries) found'
 map_more entries i d rising inside found found' m updates n v =
-    taken_in entries i d rising inside (λ e. found e.room ≡ Some e.worth) (λ e. found' e.room ≡ Some e.worth) (λ e. m e.room e.worth) put (record { room = n; worth = v })
+    taken_in entries i d rising inside (λ e. found e.span ≡ Some e.worth) (λ e. found' e.span ≡ Some e.worth) (λ e. m e.span e.worth) put (record { span = n; worth = v })
   where
     here : Entry
     here = get_or entries i d
 
-    put : (e : Entry) → (found' e.room ≡ Some e.worth) ↔ ((e ≡ here) ⊎ ((e.room ≢ here.room) × (found e.room ≡ Some e.worth)))
-    put e = elim (eqb_tells here.room e.room) [
+    put : (e : Entry) → (found' e.span ≡ Some e.worth) ↔ ((e ≡ here) ⊎ ((e.span ≢ here.span) × (found e.span ≡ Some e.worth)))
+    put e = elim (eqb_tells here.span e.span) [
       | inl (t, same) ↦
-          let now : found' e.room ≡ Some here.worth = updates e.room ∙ ap (λ b. cond b (Some here.worth) (found e.room)) (equal_keys here.room e.room ∙ t) in (
+          let now : found' e.span ≡ Some here.worth = updates e.span ∙ ap (λ b. cond b (Some here.worth) (found e.span)) (equal_keys here.span e.span ∙ t) in (
             λ q. inl (same_entry e here (sym same) (some_is _ _ (sym q ∙ now))),
             λ one. elim one [
               | inl q ↦ now ∙ ap (λ (e : Entry). Some e.worth) (sym q)
@@ -43,10 +43,10 @@ map_more entries i d rising inside found found' m updates n v =
             ],
           )
       | inr (t, other) ↦
-          let still : found' e.room ≡ found e.room = updates e.room ∙ ap (λ b. cond b (Some here.worth) (found e.room)) (equal_keys here.room e.room ∙ t) in (
+          let still : found' e.span ≡ found e.span = updates e.span ∙ ap (λ b. cond b (Some here.worth) (found e.span)) (equal_keys here.span e.span ∙ t) in (
             λ q. inr (λ same. other (sym same), sym still ∙ q),
             λ one. elim one [
-              | inl q ↦ absurd (other (ap (λ (e : Entry). e.room) (sym q)))
+              | inl q ↦ absurd (other (ap (λ (e : Entry). e.span) (sym q)))
               | inr (other', q) ↦ still ∙ q
             ],
           )
@@ -58,11 +58,11 @@ map_whole entries i found past m = subst (λ es. IsMapOf es found) (take_all i e
 -- a map of all that counts reach
 pub map_reached : (k whole : ℕ) (wants : List Want) (entries : List Entry) (found : ℕ → Option ℕ) → AreReached k wants whole (Contains entries) → IsMapOf entries found → IsReached k wants whole found
 map_reached k whole wants entries found r m = record {
-  exactly = λ n v. (λ e. r.only (record { room = n; worth = v }) ((m n v).0 e), λ (fits, g). there n v fits g);
+  exactly = λ n v. (λ e. r.only (record { span = n; worth = v }) ((m n v).0 e), λ (fits, g). there n v fits g);
   each = λ counts is fits.
       let e = r.each counts is fits in
-      let room : e.0.room ≡ room_taken k wants counts = e.2 in
-      some (room_taken k wants counts) e.0.worth ((m (room_taken k wants counts) e.0.worth).1 (subst (λ e. Contains entries e) (same_entry e.0 (record { room = room_taken k wants counts; worth = e.0.worth }) room refl) e.1));
+      let span : e.0.span ≡ span_taken k wants counts = e.2 in
+      some (span_taken k wants counts) e.0.worth ((m (span_taken k wants counts) e.0.worth).1 (subst (λ e. Contains entries e) (same_entry e.0 (record { span = span_taken k wants counts; worth = e.0.worth }) span refl) e.1));
 }
   where
     some : (n v : ℕ) → found n ≡ Some v → IsSome (found n)
@@ -71,11 +71,11 @@ map_reached k whole wants entries found r m = record {
     there : (n v : ℕ) → n ≤ whole → IsGreatestAt k wants n v → found n ≡ Some v
     there n v fits g =
         let e = r.each g.counts g.within (omega (arith, fits, g.takes)) in
-        let room : e.0.room ≡ n = e.2 ∙ g.takes in
+        let span : e.0.span ≡ n = e.2 ∙ g.takes in
         let h = (r.only e.0 e.1).1 in
         let takes = h.takes in
         let value = h.value in
-        let least = h.most g.counts g.within (omega (arith, g.takes, room)) in
-        let most = g.most h.counts h.within (omega (arith, takes, room)) in
+        let least = h.most g.counts g.within (omega (arith, g.takes, span)) in
+        let most = g.most h.counts h.within (omega (arith, takes, span)) in
         let worth : e.0.worth ≡ v = omega (arith, g.value, value, least, most) in
-        (m n v).1 (subst (λ e. Contains entries e) (same_entry e.0 (record { room = n; worth = v }) room worth) e.1)
+        (m n v).1 (subst (λ e. Contains entries e) (same_entry e.0 (record { span = n; worth = v }) span worth) e.1)

@@ -4,4 +4,4 @@ use Rattle.cut_bars.specs.declared.reach.Entry.{Entry}
 
 -- the map finds at each room the worth of its entry, and nothing else
 abbrev pub IsMapOf : List Entry → (ℕ → Option ℕ) → Type 0
-IsMapOf entries found = (n v : ℕ) → (found n ≡ Some v) ↔ Contains entries (record { room = n; worth = v })
+IsMapOf entries found = (n v : ℕ) → (found n ≡ Some v) ↔ Contains entries (record { span = n; worth = v })

@@ -24,7 +24,7 @@ fn map_of(alloc: Global, entries: &[Entry]) -> Result<BTreeMap<u32, u64>, AllocE
 {
     let mut map = BTreeMap::new(alloc);
     for entry in entries {
-        map.insert(entry.room, entry.worth)?;
+        map.insert(entry.span, entry.worth)?;
     }
     Ok(map)
 }

@@ -153,12 +153,12 @@ pub fn values_of(alloc: Global, order: &Order, prices: &[u64]) -> Result<Vec<u64
 
 /// What all that is left costs at least.
 fn least_rest(order: &Order, rated: Option<&Rated>, draft: &Draft) -> u64 {
-    let by_room = order.least_by_room(&draft.left);
+    let by_cells = order.least_by_cells(&draft.left);
     match rated {
-        None => by_room,
+        None => by_cells,
         Some(rated) => order
             .least_cost(rated, &draft.left, &draft.free)
-            .max(by_room),
+            .max(by_cells),
     }
 }
 

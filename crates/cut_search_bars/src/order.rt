@@ -210,7 +210,7 @@ impl Order {
     }
 
     /// What all that is left costs at least by its room.
-    pub fn least_by_room(&self, left: &[u32]) -> u64 {
+    pub fn least_by_cells(&self, left: &[u32]) -> u64 {
         let mut cells = 0u128;
         for (piece, count) in self.piece_cells.iter().zip(left) {
             cells = cells.saturating_add(*piece as u128 * *count as u128);

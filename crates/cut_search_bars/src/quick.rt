@@ -10,7 +10,7 @@ use std::alloc::{AllocError, Global};
 #[derive(Drop)]
 struct Open {
     size: usize,
-    room: u64,
+    span: u64,
     counts: Vec<u32>,
     /// So many pieces more may go into a unit: each takes a cut.
     pieces: u32,
@@ -33,8 +33,8 @@ impl Open {
         }
         Ok(Open {
             size: self.size,
-            room: self
-                .room
+            span: self
+                .span
                 .saturating_sub(cells.saturating_mul(pieces as u64)),
             counts,
             pieces: self.pieces.saturating_sub(pieces),
@@ -44,8 +44,8 @@ impl Open {
 }
 
 /// How many pieces fit a room, of so many.
-fn pieces_within(room: u64, cells: u64, most: u32) -> u32 {
-    let fit = room.checked_div(cells).unwrap_or(0);
+fn pieces_within(span: u64, cells: u64, most: u32) -> u32 {
+    let fit = span.checked_div(cells).unwrap_or(0);
     u32::try_from(fit).unwrap_or(u32::MAX).min(most)
 }
 
@@ -59,7 +59,7 @@ fn fill(
     left: &mut u32,
     units: &mut Vec<Open>,
 ) -> Result<(), AllocError> {
-    let each = pieces_within(open.room, cells, open.pieces.min(*left));
+    let each = pieces_within(open.span, cells, open.pieces.min(*left));
     let full = left.checked_div(each).unwrap_or(0).min(open.times);
     let mut after = open.times - full;
     *left = left.saturating_sub(full.saturating_mul(each));
@@ -82,15 +82,15 @@ fn fill(
 fn cheapest(order: &Order, free: &[Option<u32>], cells: u64) -> Option<usize> {
     let mut found: Option<(usize, u64, u64)> = None;
     let sizes = order.unit_cells.iter().zip(&order.costs).zip(free);
-    for (size, ((room, cost), number)) in sizes.enumerate() {
-        if *number == Some(0) || *room < cells {
+    for (size, ((span, cost), number)) in sizes.enumerate() {
+        if *number == Some(0) || *span < cells {
             continue;
         }
-        let better = found.map_or(true, |(_, other_room, other_cost)| {
-            (*cost as u128 * other_room as u128) < other_cost as u128 * *room as u128
+        let better = found.map_or(true, |(_, other_span, other_cost)| {
+            (*cost as u128 * other_span as u128) < other_cost as u128 * *span as u128
         });
         if better {
-            found = Some((size, *room, *cost));
+            found = Some((size, *span, *cost));
         }
     }
     found.map(|(size, _, _)| size)
@@ -109,8 +109,8 @@ fn open_units(
     let Some(size) = cheapest(order, free, cells) else {
         return Ok(false);
     };
-    let room = order.unit_cells.get(size).copied().unwrap_or(0);
-    let each = pieces_within(room, cells, MAX_CUTS);
+    let span = order.unit_cells.get(size).copied().unwrap_or(0);
+    let each = pieces_within(span, cells, MAX_CUTS);
     let needed = left.div_ceil(each.max(1));
     let mut times = needed;
     if let Some(Some(number)) = free.get_mut(size) {
@@ -119,7 +119,7 @@ fn open_units(
     }
     let empty = Open {
         size,
-        room,
+        span,
         counts: vec![in alloc; 0u32; order.left.len()]?,
         pieces: MAX_CUTS,
         times,

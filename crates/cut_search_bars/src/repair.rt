@@ -14,8 +14,8 @@ fn loss_of(order: &Order, batch: &Batch) -> u64 {
     for (cells, count) in order.piece_cells.iter().zip(&batch.counts) {
         used = used.saturating_add(cells.saturating_mul(*count as u64));
     }
-    let room = order.unit_cells.get(batch.size).copied().unwrap_or(0);
-    let share = used.saturating_mul(1000).checked_div(room).unwrap_or(0);
+    let span = order.unit_cells.get(batch.size).copied().unwrap_or(0);
+    let share = used.saturating_mul(1000).checked_div(span).unwrap_or(0);
     1000u64.saturating_sub(share)
 }
 

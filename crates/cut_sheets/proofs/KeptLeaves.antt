@@ -104,9 +104,9 @@ keeps_y wants w h best a old mid new t u b c p q =
     (leaves_y wants w h best a old mid new b c p.leaves q.leaves) p q
     (c.some, omega (arith, c.inside), p.inside, subst (λ m. CutsInto (IsInside wants) u w m 0) there q.inside)
 
-room_of_sides : (x : Want) (turned : Bool) (w h : ℕ) → HasSides x turned w h → FitsInto x turned w h
-room_of_sides x false w h s = (omega (arith, s.0), omega (arith, s.1))
-room_of_sides x true w h s = (s.0, omega (arith, s.1), omega (arith, s.2))
+span_of_sides : (x : Want) (turned : Bool) (w h : ℕ) → HasSides x turned w h → FitsInto x turned w h
+span_of_sides x false w h s = (omega (arith, s.0), omega (arith, s.1))
+span_of_sides x true w h s = (s.0, omega (arith, s.1), omega (arith, s.2))
 
 -- a leaf that is kept, or not
 keeps_piece : (wants : List Want) (w h best i : ℕ) (turned : Bool) (old : List ℕ) (kept : Tree) → HaveOwnDemands wants → length old ≡ length wants → IsBestOf wants 0 w h best
@@ -127,7 +127,7 @@ keeps_piece wants w h best i turned old kept own len b p way =
               let grown = counts_one wants i p.want old own len p.here j y hj in
               rw t (omega (arith, rw t at grown))
         ];
-        inside = (p.want, contains_get wants i p.want p.here, refl, room_of_sides p.want turned w h p.sides);
+        inside = (p.want, contains_get wants i p.want p.here, refl, span_of_sides p.want turned w h p.sides);
         pruned = tt;
       })
       | inr k ↦ subst (λ t. KeepsLeaves wants w h old (slice_set old i (get_or old i 0 + 1)) t) (sym k.1) (record {

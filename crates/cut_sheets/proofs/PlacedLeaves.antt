@@ -51,7 +51,7 @@ wide wants k s (Cut Y a t u) p q pos sides l full =
 
 -- the side of a piece fits where the steps of it do
 side_in : (k s l p w : ℕ) → 1 ≤ s → steps_up k s l ≤ p → p * s ≤ w + k → l ≤ w
-side_in k s l p w pos le room = omega (arith, up_holds k s l pos, mul-le (steps_up k s l) s p s le (le_refl s))
+side_in k s l p w pos le span = omega (arith, up_holds k s l pos, mul-le (steps_up k s l) s p s le (le_refl s))
 
 parts : (a p s : ℕ) → a < p → a * s + (p - a - 0) * s ≡ p * s
 parts a p s lt = let e : a + (p - a - 0) ≡ p = omega arith in omega (arith, ap (λ n. n * s) e)

@@ -80,7 +80,7 @@ wider wants k l w h n g one le p =
       | inr ge ↦ let e : l ≡ w = omega arith in
           record { tree = p.tree; legal = subst (λ m. Legal wants k p.tree m h) e p.legal; sums = p.sums; few = omega (arith, p.few) }
       | inl lt ↦ elim (cases_lt (l + k) w) [
-        | inl room ↦ record { tree = Cut X l p.tree Rest; legal = (one, room, p.legal, tt); sums = λ f. omega (arith, p.sums f); few = omega (arith, p.few) }
+        | inl span ↦ record { tree = Cut X l p.tree Rest; legal = (one, span, p.legal, tt); sums = λ f. omega (arith, p.sums f); few = omega (arith, p.few) }
         | inr edge ↦ record { tree = Trim X l p.tree; legal = (one, lt, edge, p.legal); sums = p.sums; few = omega (arith, p.few) }
       ]
     ]
@@ -91,7 +91,7 @@ taller wants k w l h n g one le p =
       | inr ge ↦ let e : l ≡ h = omega arith in
           record { tree = p.tree; legal = subst (λ m. Legal wants k p.tree w m) e p.legal; sums = p.sums; few = omega (arith, p.few) }
       | inl lt ↦ elim (cases_lt (l + k) h) [
-        | inl room ↦ record { tree = Cut Y l p.tree Rest; legal = (one, room, p.legal, tt); sums = λ f. omega (arith, p.sums f); few = omega (arith, p.few) }
+        | inl span ↦ record { tree = Cut Y l p.tree Rest; legal = (one, span, p.legal, tt); sums = λ f. omega (arith, p.sums f); few = omega (arith, p.few) }
         | inr edge ↦ record { tree = Trim Y l p.tree; legal = (one, lt, edge, p.legal); sums = p.sums; few = omega (arith, p.few) }
       ]
     ]

@@ -295,7 +295,7 @@ tried_all wants w h n v half best = record {
 -- two best trees side by side in a width that has room for both
 beside : (price : ℕ) (wants : List Want) (w h a b : ℕ) (t u : Tree) → HaveOwnDemands wants → ArePriced price wants → a < w → b < w → a + b ≤ w
     → Legal wants 0 t a h → Legal wants 0 u b h → (s : Tree) × Legal wants 0 s w h × (worth_of wants s ≡ worth_of wants t + worth_of wants u)
-beside price wants w h a b t u own priced aw bw room tl ul = elim (cases_lt 0 a) [
+beside price wants w h a b t u own priced aw bw span tl ul = elim (cases_lt 0 a) [
   | inl some ↦
       let there : b ≤ w - a - 0 = omega arith in
       let v = wider price wants u b (w - a - 0) h own priced ul there in
@@ -371,8 +371,8 @@ piece_fits limit wants places h w x true fits has wp sides =
 -- two parts that the height has room for
 pub sum_fits : (limit : ℕ) (wants : List Want) (places w h n m low high : ℕ) → HaveOwnDemands wants → IsPricedBelow limit wants places h → w < places → n + m ≤ h
     → IsBestOf wants 0 w n low → IsBestOf wants 0 w m high → low + high < limit
-sum_fits limit wants places w h n m low high own fits wp room lows highs =
-    let area : w * (n + m) ≤ w * h = mul-le w (n + m) w h (omega arith) room in
+sum_fits limit wants places w h n m low high own fits wp span lows highs =
+    let area : w * (n + m) ≤ w * h = mul-le w (n + m) w h (omega arith) span in
     let whole : fits.price * (w * (n + m)) ≤ fits.price * (w * h) = mul-le fits.price (w * (n + m)) fits.price (w * h) (omega arith) area in
     omega (arith, best-le_price fits.price wants w n low own fits.priced lows, best-le_price fits.price wants w m high own fits.priced highs, whole, fits.below w wp)
 

@@ -123,10 +123,10 @@ HasDemands-bar_tree (p ∷ ps) w k all fits =
     (λ far more left. ((here.0, here.1), HasDemands-bar_tree ps (w - p.1 - k) k (rest_of_all IsBarPiece p ps all) left))
 
 -- The cuts are at most 255 exactly where the pieces are at most 255, or 256 that leave nothing of the room.
-pub cuts_by_room : (ps : List (ℕ × ℕ)) (w k room most : ℕ) → 1 ≤ w → All (λ q. 1 ≤ q.1) ps → spent k ps ≤ w + k → room ≡ w + k - spent k ps →
-    ((room ≡ 0) × (most ≡ 256)) ⊎ ((room ≡ 0 → ⊥) × (most ≡ MAX_CUTS)) →
+pub cuts_by_span : (ps : List (ℕ × ℕ)) (w k span most : ℕ) → 1 ≤ w → All (λ q. 1 ≤ q.1) ps → spent k ps ≤ w + k → span ≡ w + k - spent k ps →
+    ((span ≡ 0) × (most ≡ 256)) ⊎ ((span ≡ 0 → ⊥) × (most ≡ MAX_CUTS)) →
     (length ps ≤ most → cut_count (bar_tree ps w k) ≤ MAX_CUTS) × (most < length ps → MAX_CUTS < cut_count (bar_tree ps w k))
-cuts_by_room ps w k room most some all fits left limit =
+cuts_by_span ps w k span most some all fits left limit =
     elim (cut_count-bar_tree ps w k some all fits) [
       | inl c ↦
           elim limit [

@@ -42,15 +42,15 @@ impl fmt::Display for BarFault {
 impl Error for BarFault {}
 
 // What is left of a room once each piece has taken its length and a kerf, if the room is enough.
-fn room_after(pieces: &[(u32, u32)], room: u32, kerf: u32) -> Option<u32>
-    ensures { SomeIff result (sum_by (λ p. p.1 + kerf) pieces.now ≤ room)
-        (room - sum_by (λ p. p.1 + kerf) pieces.now) }
+fn span_after(pieces: &[(u32, u32)], span: u32, kerf: u32) -> Option<u32>
+    ensures { SomeIff result (sum_by (λ p. p.1 + kerf) pieces.now ≤ span)
+        (span - sum_by (λ p. p.1 + kerf) pieces.now) }
 {
-    let mut room = room;
+    let mut span = span;
     for piece in pieces {
-        room = room.checked_sub(piece.1)?.checked_sub(kerf)?;
+        span = span.checked_sub(piece.1)?.checked_sub(kerf)?;
     }
-    Some(room)
+    Some(span)
 }
 
 // The nodes of a bar's plan.
@@ -96,11 +96,11 @@ pub fn bar_root(
     ensures few_cuts { OnOk result (cut_count (bar_tree pieces.now length kerf) ≤ MAX_CUTS) }
     ensures fault { IfErr result (λ f. IsBarFault f pieces.now length kerf) }
 {
-    let Some(room) = room_after(pieces, length + kerf, kerf) else {
+    let Some(span) = span_after(pieces, length + kerf, kerf) else {
         return Err(BarFault::TooLong);
     };
     // A last piece that fills its part needs no cut.
-    let most = if room == 0 {
+    let most = if span == 0 {
         MAX_CUTS as usize + 1
     } else {
         MAX_CUTS as usize

@@ -33,9 +33,9 @@ module _ {T : Type 0} where
   all_reported rows h = sym (take_all MAX_LISTED rows h)
 
   -- the first rows where there are so many, and else all
-  pub told_by : (rows : Bor (List T)) (found : Option (Bor (List T)))
+  pub reported_by : (rows : Bor (List T)) (found : Option (Bor (List T)))
       → MatchOption found ((MAX_LISTED < 0) ⊎ (length rows.now < MAX_LISTED)) (λ x. (0 ≤ MAX_LISTED) × (MAX_LISTED ≤ length rows.now) × (x.now ≡ slice_range rows.now 0 MAX_LISTED) × (length x.now + 0 ≡ MAX_LISTED))
       → (unwrap_or found rows).now ≡ first_reported rows.now
-  told_by rows None (inl h) = absurd (omega (arith, h))
-  told_by rows None (inr h) = all_reported rows.now (omega (arith, h))
-  told_by rows (Some x) h = h.2
+  reported_by rows None (inl h) = absurd (omega (arith, h))
+  reported_by rows None (inr h) = all_reported rows.now (omega (arith, h))
+  reported_by rows (Some x) h = h.2

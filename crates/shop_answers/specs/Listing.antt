@@ -17,7 +17,7 @@ use Rattle.shop_records.specs.declared.records.OrderRow.{OrderRow}
 use Rattle.shop_records.specs.declared.pieces.PieceRow.{PieceRow}
 use Rattle.shop_records.specs.declared.pieces.PieceSource.{PieceSource}
 use Rattle.shop_records.specs.declared.pieces.PieceSource.TheVariants as source
-use Rattle.shop_records.specs.declared.journal.EntryTold.{EntryTold}
+use Rattle.shop_records.specs.declared.journal.ReportedEntry.{ReportedEntry}
 use Rattle.shop_records.specs.declared.journal.Subject.{Subject}
 use Rattle.shop_records.specs.declared.journal.Subject.TheVariants as subject
 use Rattle.shop_records.specs.declared.refusals.Refusal.{Refusal}
@@ -124,24 +124,24 @@ IsTerminalAnswer content terminal answer = (last : ℕ) × IsLastNumber content 
 -- ---- entries
 
 -- bytes of the texts that are kept of an entry's message
-abbrev pub entry_bytes : EntryTold → ℕ
+abbrev pub entry_bytes : ReportedEntry → ℕ
 entry_bytes entry = length entry.message + length entry.reply
 
 -- of entries that follow so many bytes those before which fewer are reached than end a list
-abbrev pub shown_from : (bytes : ℕ) → List EntryTold → List EntryTold
+abbrev pub shown_from : (bytes : ℕ) → List ReportedEntry → List ReportedEntry
 shown_from bytes [] = []
 shown_from bytes (entry ∷ entries) =
     if nat_le MAX_LISTED_BYTES bytes then [] else entry ∷ shown_from (bytes + entry_bytes entry) entries
 
 -- the first entries, as many as are reported
-abbrev pub shown_within : List EntryTold → List EntryTold
+abbrev pub shown_within : List ReportedEntry → List ReportedEntry
 shown_within entries = shown_from 0 (first_reported entries)
 
 -- others follow the last one reported
-abbrev pub are_hidden : List EntryTold → Bool
+abbrev pub are_hidden : List ReportedEntry → Bool
 are_hidden entries = nat_lt (length (shown_within entries)) (length entries)
 
-abbrev pub reported_history : List EntryTold → Reply
+abbrev pub reported_history : List ReportedEntry → Reply
 reported_history entries = reply.History (shown_within entries) (are_hidden entries)
 
 -- why nothing is reported about a subject, if nothing is
@@ -150,7 +150,7 @@ subject_refusal content (subject.Order code) = if has_order content code then No
 subject_refusal content (subject.Job number) = if is_some (job_at content number) then None else Some NoJob
 subject_refusal content (subject.Part name) = if is_some (part_at content name) then None else Some NoPart
 
-abbrev pub reported_story : Option Refusal → List EntryTold → Reply
+abbrev pub reported_story : Option Refusal → List ReportedEntry → Reply
 reported_story (Some refusal) entries = reply.Refused refusal
 reported_story None entries = reply.Story (shown_within entries) (are_hidden entries)
 

@@ -12,12 +12,12 @@ use Rattle.shop_records.specs.declared.messages.Reply.TheVariants as reply
 use Rattle.shop_records.specs.Columns.{state_word, state_of}
 use Rattle.shop_records.specs.Content.{Content, material_at, part_at, has_order, demand_at, entry_count, last_time, totals_of, parts_of, rack_rows, material_of}
 use Rattle.shop_answers.specs.Planning.{IsPlanAnswer, IsBoundAnswer}
-use Rattle.shop_records.specs.Lists.{materials_of, parts_after, open_demands, waiting_jobs, job_numbers, orders_after, first_time, entries_behind, entries_about, told_entries, pieces_after}
+use Rattle.shop_records.specs.Lists.{materials_of, parts_after, open_demands, waiting_jobs, job_numbers, orders_after, first_time, entries_behind, entries_about, reported_entries, pieces_after}
 use Rattle.shop_answers.specs.Listing.{is_known, job_with_part, reported_parts, reported_demands, reported_jobs, reported_job, IsOrdersAnswer, IsLinesAnswer, IsTerminalAnswer, reported_history, subject_refusal, reported_story, source_refusal, reported_pieces, IsStepsAnswer}
 
-abbrev pub told_totals : Option Material → List ℕ → Totals → Reply
-told_totals None material t = reply.Refused NoMaterial
-told_totals (Some m) material t = reply.Totals material t.received t.stock t.rack t.pieces t.kerf t.scrap t.returned
+abbrev pub totals_reply : Option Material → List ℕ → Totals → Reply
+totals_reply None material t = reply.Refused NoMaterial
+totals_reply (Some m) material t = reply.Totals material t.received t.stock t.rack t.pieces t.kerf t.scrap t.returned
 
 abbrev pub reported_rack : Option Material → List ℕ → List Part → Reply
 reported_rack None material parts = reply.Refused NoMaterial
@@ -34,7 +34,7 @@ reported_demand (Some d) = reply.Demand d.number d.line d.made d.material d.orde
 
 -- what may be answered to a query: to a plan and a bound any that the planners may give
 abbrev pub IsAnswer : Content → Query → Reply → Type 0
-IsAnswer content (query.Totals material) answer = answer ≡ told_totals (material_at content material) material (totals_of content material)
+IsAnswer content (query.Totals material) answer = answer ≡ totals_reply (material_at content material) material (totals_of content material)
 IsAnswer content (query.Rack material) answer = answer ≡ reported_rack (material_at content material) material (parts_of content material)
 IsAnswer content (query.Trace part) answer = answer ≡ reported_part (part_at content part)
 IsAnswer content (query.Demand demand) answer = answer ≡ reported_demand (demand_at content demand)
@@ -51,9 +51,9 @@ IsAnswer content (query.Terminal terminal) answer = IsTerminalAnswer content ter
 IsAnswer content (query.Orders after) answer = IsOrdersAnswer content (orders_after content after) answer
 IsAnswer content (query.Lines order) answer = IsLinesAnswer content order (has_order content order) answer
 IsAnswer content query.Shop answer = answer ≡ reply.Shop (first_time content) (entry_count content) (last_time content)
-IsAnswer content (query.History after) answer = answer ≡ reported_history (told_entries content (entries_behind content after))
+IsAnswer content (query.History after) answer = answer ≡ reported_history (reported_entries content (entries_behind content after))
 IsAnswer content (query.Story about after) answer =
-    answer ≡ reported_story (subject_refusal content about) (told_entries content (entries_about content about after))
+    answer ≡ reported_story (subject_refusal content about) (reported_entries content (entries_about content about after))
 IsAnswer content (query.Pieces from after) answer = answer ≡ reported_pieces content (source_refusal content from) (pieces_after content from after)
 IsAnswer content (query.Steps job) answer = IsStepsAnswer content (job_with_part content job) answer
 

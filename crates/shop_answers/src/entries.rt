@@ -5,7 +5,7 @@ ghost use Rattle.shop_answers.specs.declared.listing.TheConstants.{MAX_LISTED, M
 ghost use Rattle.shop_answers.specs.Listing.{entry_bytes};
 
 use crate::listing::{MAX_LISTED, MAX_LISTED_BYTES};
-use shop_records::{EntryTold, Text};
+use shop_records::{ReportedEntry, Text};
 
 // Bytes of a text.
 fn bytes_of(text: &Text) -> u64
@@ -16,7 +16,7 @@ fn bytes_of(text: &Text) -> u64
 
 /// Bytes of messages and replies with one entry more, or the greatest number of 64 bits where there are more. It is exact
 /// as long as another entry may follow.
-pub fn bytes_with(bytes: u64, reported: &EntryTold) -> u64
+pub fn bytes_with(bytes: u64, reported: &ReportedEntry) -> u64
     ensures reached { nat_le MAX_LISTED_BYTES result
         ≡ nat_le MAX_LISTED_BYTES (bytes + entry_bytes reported.now) }
     ensures exact { result < MAX_LISTED_BYTES → result ≡ bytes + entry_bytes reported.now }

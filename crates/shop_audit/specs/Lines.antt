@@ -2,9 +2,9 @@
 use Rattle.std.specs.Prelude.{◌≡◌, ◌+◌, ◌-◌, ℕ, zero, suc, List, [], ◌++◌, codes, Option, Some, None, option_and_then}
 use Rattle.std.specs.Io.KnownBytes.{Appends}
 use Rattle.serde_json.specs.Written.{compact_text}
-use Rattle.shop_records.specs.declared.journal.EntryTold.{EntryTold}
+use Rattle.shop_records.specs.declared.journal.ReportedEntry.{ReportedEntry}
 use Rattle.shop_records.specs.Content.{Content, entry_at, entry_count}
-use Rattle.shop_records.specs.Lists.{told_entry}
+use Rattle.shop_records.specs.Lists.{reported_entry}
 use Rattle.shop_forms.specs.Forms.{entry_data}
 use Rattle.shop_book.specs.declared.books.BookFault.{BookFault}
 use Rattle.shop_book.specs.declared.books.BookFault.TheVariants as book
@@ -18,11 +18,11 @@ lines_fault book.Store = Store
 lines_fault book.WrongVersion = Store
 
 -- the entry of a number as it is reported, where it is there and its message is kept
-abbrev pub reported_at : Content → (number : ℕ) → Option EntryTold
-reported_at m number = option_and_then (told_entry m) (entry_at m number)
+abbrev pub reported_at : Content → (number : ℕ) → Option ReportedEntry
+reported_at m number = option_and_then (reported_entry m) (entry_at m number)
 
 -- the object that an entry is reported as, and a line's end; nothing where there is none
-abbrev pub line_of : Option EntryTold → List ℕ
+abbrev pub line_of : Option ReportedEntry → List ℕ
 line_of None = []
 line_of (Some reported) = compact_text (entry_data reported) ++ codes "\n"
 

@@ -11,7 +11,7 @@ ghost use Rattle.shop_audit.specs.declared.lines.LinesFault.TheVariants.{Write};
 
 use crate::progress::Progress;
 use shop_book::{Book, BookFault};
-use shop_records::{EntryTold, Kept};
+use shop_records::{ReportedEntry, Kept};
 use shop_replies::entry_text;
 use shop_streams::{Sink, write_all};
 use std::alloc::{AllocError, Global};
@@ -57,7 +57,7 @@ fn reported_at<B: Book>(
     alloc: Global,
     book: &mut B,
     number: u64,
-) -> Result<Option<EntryTold>, BookFault>
+) -> Result<Option<ReportedEntry>, BookFault>
     ensures reported { OnContent B.Book book.old book.new
         (λ m. IfOk result (λ reported. reported ≡ reported_at m number)) }
     ensures keeps { Unchanged B.Book (CountsFailure result) book.old book.new }
@@ -66,7 +66,7 @@ fn reported_at<B: Book>(
         return Ok(None);
     };
     match book.kept(alloc, entry.pair.terminal, entry.pair.number)? {
-        Some(Kept { command, reply }) => Ok(Some(EntryTold {
+        Some(Kept { command, reply }) => Ok(Some(ReportedEntry {
             at: entry.at,
             entry: entry.number,
             message: command,
@@ -90,7 +90,7 @@ fn write_bytes<W: Sink>(bytes: &[u8], sink: &mut W) -> Result<(), LinesFault>
 }
 
 /// An entry as a line: the object that a reply has for it.
-pub fn entry_line(alloc: Global, reported: Option<EntryTold>) -> Result<String, AllocError>
+pub fn entry_line(alloc: Global, reported: Option<ReportedEntry>) -> Result<String, AllocError>
     ensures { IfOk result (λ line. string_bytes line ≡ line_of reported) }
 {
     let mut line = String::new(alloc);

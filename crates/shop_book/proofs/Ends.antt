@@ -71,11 +71,11 @@ module _ (job : ℕ) where
       by false = refl
 
   -- an entry that isn't the job's end tells nothing of it
-  untold : (entry : Entry) → is_end_of job entry ≡ false → end_time job (entry ∷ []) ≡ None
-  untold entry e = ap (option_map (λ (entry : Entry). entry.at)) (one_first entry ∙ ap (λ b. cond b (Some entry) None) e)
+  unreported : (entry : Entry) → is_end_of job entry ≡ false → end_time job (entry ∷ []) ≡ None
+  unreported entry e = ap (option_map (λ (entry : Entry). entry.at)) (one_first entry ∙ ap (λ b. cond b (Some entry) None) e)
 
-  told : (entry : Entry) → is_end_of job entry ≡ true → end_time job (entry ∷ []) ≡ Some entry.at
-  told entry e = ap (option_map (λ (entry : Entry). entry.at)) (one_first entry ∙ ap (λ b. cond b (Some entry) None) e)
+  reported : (entry : Entry) → is_end_of job entry ≡ true → end_time job (entry ∷ []) ≡ Some entry.at
+  reported entry e = ap (option_map (λ (entry : Entry). entry.at)) (one_first entry ∙ ap (λ b. cond b (Some entry) None) e)
 
   module _ (entries : List Entry) (i : ℕ) (entry : Entry) (next : take (i + 1) entries ≡ take i entries ++ entry ∷ []) (none : first_end job (take i entries) ≡ None) where
     so_far : first_end job (take (i + 1) entries) ≡ cond (is_end_of job entry) (Some entry) None
@@ -96,10 +96,10 @@ module _ (job : ℕ) where
 module _ (entry : Entry) (job : ℕ) where
   -- an entry that is no end changes nothing
   pub stays_unended : (rows : List JobEnd) → ends_job entry.word ≡ false → row_time job rows ≡ option_or (row_time job rows) (end_time job (entry ∷ []))
-  stays_unended rows e = sym (ap (option_or (row_time job rows)) (untold job entry (ap (λ b. b && eqb entry.job job) e)) ∙ or_none (row_time job rows))
+  stays_unended rows e = sym (ap (option_or (row_time job rows)) (unreported job entry (ap (λ b. b && eqb entry.job job) e)) ∙ or_none (row_time job rows))
 
   of_another : (rows : List JobEnd) → eqb entry.job job ≡ false → row_time job rows ≡ option_or (row_time job rows) (end_time job (entry ∷ []))
-  of_another rows e = sym (ap (option_or (row_time job rows)) (untold job entry (ap (λ b. ends_job entry.word && b) e ∙ no_and (ends_job entry.word))) ∙ or_none (row_time job rows))
+  of_another rows e = sym (ap (option_or (row_time job rows)) (unreported job entry (ap (λ b. ends_job entry.word && b) e ∙ no_and (ends_job entry.word))) ∙ or_none (row_time job rows))
 
   -- nor does one of a job that has ended
   pub stays_ended : (rows : List JobEnd) → is_some (row_at end_key nat_cmp entry.job rows) ≡ true → row_time job rows ≡ option_or (row_time job rows) (end_time job (entry ∷ []))
@@ -122,7 +122,7 @@ module _ (entry : Entry) (job : ℕ) where
       elim (key_cases nat_cmp_total nat_cmp-IsAntisymmetric job entry.job) [
         | inl same ↦
             ap (option_map at) (found ∙ ap (λ b. cond b (Some row) (row_at end_key nat_cmp job old)) same.1)
-            ∙ sym ((λ i. option_or (option_map at ((ap (λ n. row_at end_key nat_cmp n old) same.0 ∙ none) i)) (told job entry ((λ k. ends k && eq-eqb entry.job job (sym same.0) k)) i)))
+            ∙ sym ((λ i. option_or (option_map at ((ap (λ n. row_at end_key nat_cmp n old) same.0 ∙ none) i)) (reported job entry ((λ k. ends k && eq-eqb entry.job job (sym same.0) k)) i)))
         | inr apart ↦
             ap (option_map at) (found ∙ ap (λ b. cond b (Some row) (row_at end_key nat_cmp job old)) apart.1) ∙ of_another old (ne_eqb entry.job job (λ e. apart.0 (sym e)))
       ]

@@ -82,8 +82,8 @@ module _ {X K : Type 0} (key_of : X → K) (cmp : K → K → Ordering) (o : IsT
       ∙ ap (with_rows key_of cmp rows) (put_is_insert cmp o (key_of row) row entries (put cmp (key_of row) row entries) up refl)
 
   -- rows that were put one after another, after room that was made for them, were inserted so
-  pub map_after : (rows old roomy new : List X) → rise key_of cmp old ≡ true → roomy ≡ old → ArePut key_of cmp rows roomy new → map_of key_of cmp new ≡ with_rows key_of cmp rows (map_of key_of cmp old)
-  map_after rows old roomy new up same is =
+  pub map_after : (rows old grown new : List X) → rise key_of cmp old ≡ true → grown ≡ old → ArePut key_of cmp rows grown new → map_of key_of cmp new ≡ with_rows key_of cmp rows (map_of key_of cmp old)
+  map_after rows old grown new up same is =
       ap (from_sorted {R = cmp}) (is ∙ ap (λ (xs : List X). put_each key_of cmp rows (entries_of key_of cmp xs)) same) ∙ put_in_turn rows (entries_of key_of cmp old) up
 
 -- the map of no rows

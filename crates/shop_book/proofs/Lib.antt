@@ -9,12 +9,12 @@ pub mod Handed
 pub mod Lasts
 -- the pieces of an order, of a batch and of a unit
 pub mod Filed
-pub mod PiecesTold
+pub mod ReportedPieces
 -- jobs and entries in an index
 pub mod JobsFiled
 pub mod EntriesFiled
 -- the lines of an order
-pub mod LinesTold
+pub mod ReportedLines
 -- rows in a ledger, and what lasts beside it
 pub mod KnownRows
 pub mod Loaded

@@ -38,5 +38,5 @@ abbrev pub AddEnds : List Entry → (old new : JobEnds) → Type 0
 AddEnds entries old new = (job : ℕ) → kept_time job new ≡ option_or (kept_time job old) (end_time job entries)
 
 -- there is room for one more
-abbrev pub HasRoom : JobEnds → Type 0
-HasRoom ends = vec_len ends.rows < vec_capacity ends.rows
+abbrev pub HasSpareEnd : JobEnds → Type 0
+HasSpareEnd ends = vec_len ends.rows < vec_capacity ends.rows

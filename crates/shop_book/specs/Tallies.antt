@@ -5,7 +5,7 @@ use Rattle.cut_measure.specs.Codes.{code_cmp}
 use Rattle.cut_measure.specs.Names.{name_cmp}
 use Rattle.shop_records.specs.declared.records.Part.{Part}
 use Rattle.shop_rows.specs.Keys.{part_key}
-use Rattle.shop_rows.specs.Open.{AreInOrder, AreListed, HaveRoom}
+use Rattle.shop_rows.specs.Open.{AreInOrder, AreListed, HaveSpareNames}
 use Rattle.shop_rows.specs.PartRows.{HasCapacity}
 use Rattle.shop_rows.specs.Rows.{rise}
 use Rattle.shop_rows.specs.Sums.{sums_key, AreSumsOf, all_small}
@@ -23,7 +23,7 @@ pub record Tallies (rows : List Part) (totals : List Sums) (lists : List NameLis
   pub listed : AreListed rows lists
 
 -- there is room for so many more, which are of the materials of these parts
-pub record HaveRooms (count : ℕ) (rows : List Part) (parts : PartRows) (totals : Vec Sums Global) (lists : List NameList) : Type 0 where
-  pub room : HasCapacity count parts
+pub record HaveSpareCapacity (count : ℕ) (rows : List Part) (parts : PartRows) (totals : Vec Sums Global) (lists : List NameList) : Type 0 where
+  pub spare : HasCapacity count parts
   pub sums : vec_len totals + count ≤ vec_capacity totals
-  pub names : HaveRoom count rows lists
+  pub names : HaveSpareNames count rows lists

@@ -37,7 +37,7 @@ pub(crate) fn time_of_end(job: u32, entries: &[Entry]) -> u64
 // Puts when the job of an entry ended, if that ended it and no entry did before.
 fn put_end(rows: &mut Vec<JobEnd>, entry: &Entry)
     requires rising { IsTrue (rise end_key nat_cmp rows.old.items) }
-    requires room { vec_len rows.old < vec_capacity rows.old }
+    requires spare { vec_len rows.old < vec_capacity rows.old }
     ensures rising { IsTrue (rise end_key nat_cmp rows.new.items) }
     ensures times { (job : ℕ) → row_time job rows.new.items
         ≡ option_or (row_time job rows.old.items) (end_time job (entry.now ∷ [])) }
@@ -59,7 +59,7 @@ fn put_end(rows: &mut Vec<JobEnd>, entry: &Entry)
 
 impl JobEnds {
     ghost use Rattle.std.specs.Prelude.{◌≡◌, ◌∷◌, [], ℕ, OnOk, unwrap_or};
-    ghost use Rattle.shop_book.specs.Ends.{AddEnds, AreEnds, HasRoom, kept_time};
+    ghost use Rattle.shop_book.specs.Ends.{AddEnds, AreEnds, HasSpareEnd, kept_time};
 
     /// No job was done or broken.
     pub fn new(alloc: Global) -> JobEnds
@@ -83,14 +83,14 @@ impl JobEnds {
     /// Makes room for one more. Changes nothing else, even if memory runs out.
     pub fn reserve(&mut self) -> Result<(), AllocError>
         ensures same { (job : ℕ) → kept_time job self.new ≡ kept_time job self.old }
-        ensures room { OnOk result (HasRoom self.new) }
+        ensures spare { OnOk result (HasSpareEnd self.new) }
     {
         reserve_rows(&mut self.rows, 1)
     }
 
     /// Puts what an entry tells behind those before.
     pub fn put(&mut self, entry: &Entry)
-        requires { HasRoom self.old }
+        requires { HasSpareEnd self.old }
         ensures { AddEnds (entry.now ∷ []) self.old self.new }
     {
         put_end(&mut self.rows, entry);

@@ -111,7 +111,7 @@ pub(crate) fn reserve_both<A, B>(
 ) -> Result<(), AllocError>
     ensures rows { rows.new.items ≡ rows.old.items }
     ensures others { others.new.items ≡ others.old.items }
-    ensures room { OnOk result
+    ensures spare { OnOk result
         ((vec_len rows.new + count ≤ vec_capacity rows.new)
         × (vec_len others.new + count ≤ vec_capacity others.new)) }
 {
@@ -217,9 +217,9 @@ pub(crate) fn find_import(
 /// Puts a job, if there is one, and keeps the list of waiting jobs.
 pub(crate) fn put_job(jobs: &mut Vec<Job>, keys: &mut Vec<u32>, job: Option<Job>)
     requires jobs { IsTrue (rise job_key nat_cmp jobs.old.items) }
-    requires room { vec_len jobs.old < vec_capacity jobs.old }
+    requires spare { vec_len jobs.old < vec_capacity jobs.old }
     requires keys { IsTrue (rise own_key nat_cmp keys.old.items) }
-    requires keys_room { vec_len keys.old < vec_capacity keys.old }
+    requires keys_spare { vec_len keys.old < vec_capacity keys.old }
     requires listed { ListsNumbers waits
         (λ number. row_at job_key nat_cmp number jobs.old.items) keys.old.items }
     ensures put { ArePut job_key nat_cmp (option_to_list job) jobs.old.items jobs.new.items }
@@ -237,9 +237,9 @@ pub(crate) fn put_job(jobs: &mut Vec<Job>, keys: &mut Vec<u32>, job: Option<Job>
 /// Puts demands, as one after another, and keeps the list of open demands.
 pub(crate) fn put_demands(demands: &mut Vec<Demand>, keys: &mut Vec<u32>, rows: &[Demand])
     requires demands { IsTrue (rise demand_key nat_cmp demands.old.items) }
-    requires room { vec_len demands.old + length rows.now ≤ vec_capacity demands.old }
+    requires spare { vec_len demands.old + length rows.now ≤ vec_capacity demands.old }
     requires keys { IsTrue (rise own_key nat_cmp keys.old.items) }
-    requires keys_room { vec_len keys.old + length rows.now ≤ vec_capacity keys.old }
+    requires keys_spare { vec_len keys.old + length rows.now ≤ vec_capacity keys.old }
     requires listed { ListsNumbers is_open
         (λ number. row_at demand_key nat_cmp number demands.old.items) keys.old.items }
     ensures put { ArePut demand_key nat_cmp rows.now demands.old.items demands.new.items }

@@ -10,7 +10,7 @@ ghost use Rattle.shop_rows.specs.Keys.{part_key};
 ghost use Rattle.shop_rows.specs.Open.{parts_named};
 ghost use Rattle.shop_rows.specs.PartRows.{parts_in, AreKnown, HasCapacity};
 ghost use Rattle.shop_rows.specs.Rows.{rise, map_of, IsPut};
-ghost use Rattle.shop_book.specs.Tallies.{HaveRooms, Tallies};
+ghost use Rattle.shop_book.specs.Tallies.{HaveSpareCapacity, Tallies};
 ghost use Rattle.shop_book.specs.declared.books.BookFault.{BookFault as Fault};
 
 use cut_measure::PartName;
@@ -29,7 +29,7 @@ pub(crate) fn reserve_parts(
     ensures parts { parts_in parts.new ≡ parts_in parts.old }
     ensures known { AreKnown parts.old → AreKnown parts.new }
     ensures totals { totals.new.items ≡ totals.old.items }
-    ensures room { OnOk result
+    ensures spare { OnOk result
         (HasCapacity count parts.new × (vec_len totals.new + count ≤ vec_capacity totals.new)) }
 {
     parts.reserve(count)?;
@@ -92,13 +92,13 @@ pub(crate) fn visit<V: PartVisitor>(parts: &PartRows, names: &[PartName], visito
 fn put_part(parts: &mut PartRows, totals: &mut Vec<Sums>, lists: &mut Vec<NameList>, part: &Part)
     requires known { AreKnown parts.old }
     requires tally { Tallies (parts_in parts.old) totals.old.items lists.old.items }
-    requires rooms { HaveRooms 1 (part.now ∷ []) parts.old totals.old lists.old.items }
+    requires spares { HaveSpareCapacity 1 (part.now ∷ []) parts.old totals.old lists.old.items }
     ensures put { IsPut part_key name_cmp part.now (parts_in parts.old) (parts_in parts.new) }
     ensures known { AreKnown parts.new }
     ensures tally { Tallies (parts_in parts.new) totals.new.items lists.new.items }
-    ensures rooms { (count : ℕ) (rows : List PartOf)
-        → HaveRooms (count + 1) rows parts.old totals.old lists.old.items
-        → HaveRooms count rows parts.new totals.new lists.new.items }
+    ensures spares { (count : ℕ) (rows : List PartOf)
+        → HaveSpareCapacity (count + 1) rows parts.old totals.old lists.old.items
+        → HaveSpareCapacity count rows parts.new totals.new lists.new.items }
 {
     let _len = parts.rows.len();
     let _cells = part.size.cells();
@@ -118,14 +118,14 @@ fn put_one_by_one(
 )
     requires known { AreKnown parts.old }
     requires tally { Tallies (parts_in parts.old) totals.old.items lists.old.items }
-    requires rooms { HaveRooms (length rows.now) rows.now parts.old totals.old lists.old.items }
+    requires spares { HaveSpareCapacity (length rows.now) rows.now parts.old totals.old lists.old.items }
     ensures put { map_of part_key name_cmp (parts_in parts.new)
         ≡ with_parts rows.now (map_of part_key name_cmp (parts_in parts.old)) }
     ensures known { AreKnown parts.new }
     ensures tally { Tallies (parts_in parts.new) totals.new.items lists.new.items }
-    ensures rooms { (count : ℕ) (more : List PartOf)
-        → HaveRooms (length rows.now + count) more parts.old totals.old lists.old.items
-        → HaveRooms count more parts.new totals.new lists.new.items }
+    ensures spares { (count : ℕ) (more : List PartOf)
+        → HaveSpareCapacity (length rows.now + count) more parts.old totals.old lists.old.items
+        → HaveSpareCapacity count more parts.new totals.new lists.new.items }
 {
     for part in rows {
         put_part(parts, totals, lists, part);
@@ -142,7 +142,7 @@ fn insert_run(
 ) -> bool
     requires known { AreKnown parts.old }
     requires tally { Tallies (parts_in parts.old) totals.old.items lists.old.items }
-    requires rooms { HaveRooms (length rows.now) rows.now parts.old totals.old lists.old.items }
+    requires spares { HaveSpareCapacity (length rows.now) rows.now parts.old totals.old lists.old.items }
     ensures put { IsTrue result
         → map_of part_key name_cmp (parts_in parts.new)
         ≡ with_parts rows.now (map_of part_key name_cmp (parts_in parts.old)) }
@@ -156,7 +156,7 @@ fn insert_run(
         return false;
     };
     let _len = parts.rows.len();
-    let _room = parts.rows.capacity();
+    let _spare = parts.rows.capacity();
     let before = sums_of(totals, first.material);
     let Some(sums) = with_all(before, rows) else {
         return false;
@@ -173,7 +173,7 @@ fn insert_run(
 fn put_parts(parts: &mut PartRows, totals: &mut Vec<Sums>, lists: &mut Vec<NameList>, rows: &[Part])
     requires known { AreKnown parts.old }
     requires tally { Tallies (parts_in parts.old) totals.old.items lists.old.items }
-    requires rooms { HaveRooms (length rows.now) rows.now parts.old totals.old lists.old.items }
+    requires spares { HaveSpareCapacity (length rows.now) rows.now parts.old totals.old lists.old.items }
     ensures put { map_of part_key name_cmp (parts_in parts.new)
         ≡ with_parts rows.now (map_of part_key name_cmp (parts_in parts.old)) }
     ensures known { AreKnown parts.new }
@@ -194,14 +194,14 @@ fn put_moved(
 )
     requires known { AreKnown parts.old }
     requires tally { Tallies (parts_in parts.old) totals.old.items lists.old.items }
-    requires rooms { HaveRooms 1 (option_to_list row) parts.old totals.old lists.old.items }
+    requires spares { HaveSpareCapacity 1 (option_to_list row) parts.old totals.old lists.old.items }
     ensures put { map_of part_key name_cmp (parts_in parts.new)
         ≡ with_moved row (map_of part_key name_cmp (parts_in parts.old)) }
     ensures known { AreKnown parts.new }
     ensures tally { Tallies (parts_in parts.new) totals.new.items lists.new.items }
-    ensures rooms { (count : ℕ) (rows : List PartOf)
-        → HaveRooms (count + 1) rows parts.old totals.old lists.old.items
-        → HaveRooms count rows parts.new totals.new lists.new.items }
+    ensures spares { (count : ℕ) (rows : List PartOf)
+        → HaveSpareCapacity (count + 1) rows parts.old totals.old lists.old.items
+        → HaveSpareCapacity count rows parts.new totals.new lists.new.items }
 {
     if let Some(row) = row {
         put_part(parts, totals, lists, &row);
@@ -219,10 +219,10 @@ pub(crate) fn put_stock(
 )
     requires known { AreKnown parts.old }
     requires tally { Tallies (parts_in parts.old) totals.old.items lists.old.items }
-    requires moved { HaveRooms 1 (option_to_list moved) parts.old totals.old lists.old.items }
-    requires undone { HaveRooms (length undone.now + length rows.now + 1) undone.now
+    requires moved { HaveSpareCapacity 1 (option_to_list moved) parts.old totals.old lists.old.items }
+    requires undone { HaveSpareCapacity (length undone.now + length rows.now + 1) undone.now
         parts.old totals.old lists.old.items }
-    requires rooms { HaveRooms (length undone.now + length rows.now + 1) rows.now
+    requires spares { HaveSpareCapacity (length undone.now + length rows.now + 1) rows.now
         parts.old totals.old lists.old.items }
     ensures put { map_of part_key name_cmp (parts_in parts.new)
         ≡ with_parts rows.now (with_parts undone.now

@@ -4,7 +4,7 @@ ghost use Rattle.std.specs.Prelude.{OnOk};
 ghost use Rattle.std.specs.Option.{option_to_list};
 ghost use Rattle.shop_book.specs.FiledJobs.{AreJobsFiled};
 ghost use Rattle.shop_book.specs.Filing.{StaysFiled};
-ghost use Rattle.shop_book.specs.Ledgers.{bare, content_in, HasRoomFor};
+ghost use Rattle.shop_book.specs.Ledgers.{bare, content_in, HasSpareCapacityFor};
 ghost use Rattle.shop_book.specs.Pieces.{AreFiled};
 ghost use Rattle.shop_records.specs.Content.{changed, fresh};
 
@@ -64,9 +64,9 @@ impl Ledger {
     }
 
     /// Reserves capacity for every row of a change, and files the acts of its pieces and its job. Changes no row, even if memory runs out.
-    pub fn make_room(&mut self, change: &Change) -> Result<(), AllocError>
+    pub fn reserve_change(&mut self, change: &Change) -> Result<(), AllocError>
         ensures content { content_in self.new ≡ content_in self.old }
-        ensures room { OnOk result (HasRoomFor change.now self.new) }
+        ensures spare { OnOk result (HasSpareCapacityFor change.now self.new) }
     {
         let rows = change.parts.as_slice();
         let undone = change.undone.as_slice();
@@ -84,7 +84,7 @@ impl Ledger {
 
     /// Puts the rows of a change, once `make_room` has reserved their capacity.
     pub fn post(&mut self, change: Change)
-        requires { HasRoomFor change self.old }
+        requires { HasSpareCapacityFor change self.old }
         ensures { content_in self.new ≡ bare (changed (content_in self.old) change) }
     {
         let demands = change.demands;
@@ -115,7 +115,7 @@ impl Ledger {
         ensures ok { OnOk result (content_in self.new ≡ bare (changed (content_in self.old) rows)) }
         ensures err { OnErr result (content_in self.new ≡ content_in self.old) }
     {
-        self.make_room(&rows)?;
+        self.reserve_change(&rows)?;
         self.post(rows);
         Ok(())
     }

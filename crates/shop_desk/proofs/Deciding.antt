@@ -26,7 +26,7 @@ use Rattle.shop_records.specs.declared.imports.Form.{Form}
 use Rattle.shop_records.specs.declared.imports.Form.TheVariants.{Csv, Cgcut}
 use Rattle.shop_records.specs.declared.imports.ImportRow.{ImportRow}
 use Rattle.shop_machine.specs.Importing.{IsRepeat, IsImportReading, problem_lines, unread_refusal, again_refusal, problem_refusal, lines_change, problem_change}
-use Rattle.shop_records.specs.Keeping.{TellsKept}
+use Rattle.shop_records.specs.Keeping.{StoresReply}
 use Rattle.shop_machine.specs.Decisions.{Decides, no_change}
 use Rattle.shop_machine.specs.Machine.{Reads, refusal_of, Makes}
 use Rattle.shop_machine.specs.Ending.{IsWork, job_refusal, end_refusal}
@@ -206,11 +206,11 @@ module _ (texts : Texts) (m : Content) (order text : List ℕ) where
   Read form read = IsImportReading texts (import_at m order) form text read
 
   -- the same import again
-  again_read : (row : ImportRow) (form : Form) (answer : Reply) → import_at m order ≡ Some row → IsRepeat form text row → TellsKept texts row (Some answer) → Read form (Again (Some answer))
+  again_read : (row : ImportRow) (form : Form) (answer : Reply) → import_at m order ≡ Some row → IsRepeat form text row → StoresReply texts row (Some answer) → Read form (Again (Some answer))
   again_read row form answer is same reports = subst (λ o. IsImportReading texts o form text (Again (Some answer))) (sym is) (same, reports)
 
   pub again_decided : (row : ImportRow) (form : Form) (answer : Reply) (earlier : Option Reply) → earlier ≡ Some answer → import_at m order ≡ Some row → IsRepeat form text row
-      → TellsKept texts row (Some answer) → (before after : ℕ) (result : Result Change Refusal)
+      → StoresReply texts row (Some answer) → (before after : ℕ) (result : Result Change Refusal)
       → Decides (again_refusal earlier) (λ change. MatchOption earlier ⊥ (λ a. change ≡ no_change a)) result → IsJudged texts m (Import order form text) before result after
   again_decided row form answer earlier one is same reports before after result decides =
       decided_by texts m (Import order form text) (Again (Some answer)) (again_read row form answer is same reports) before after None refl (λ change. change ≡ no_change answer) (λ change it. it) result

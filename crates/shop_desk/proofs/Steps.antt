@@ -21,7 +21,7 @@ use Rattle.shop_records.specs.Content.{Content, entry_count, kept_at, last_time,
 use Rattle.shop_machine.specs.Machine.{Accepts, AcceptsAt, Reads, Makes, Refuses, StepNew, StepNewAt, StepAgain, StepAt, entering, refusal_of, keeping_at}
 use Rattle.shop_records.specs.Keeping.{KeepsReply}
 use Rattle.shop_records.specs.Soundness.{IsSound, Fits}
-use Rattle.shop_machine.proofs.Sound.{told_accepted, sound_entered, fits_entered, agrees}
+use Rattle.shop_machine.proofs.Sound.{reports_accepted, sound_entered, fits_entered, agrees}
 use Rattle.shop_machine.proofs.Timeless.{untimed}
 use Rattle.shop_desk.specs.Faults.{CountsRefusal, CountsReply, StoreFailed}
 use Rattle.shop_desk.specs.Decided.{BlamesStore, Contradicts, CountsOrDisagrees}
@@ -273,7 +273,7 @@ module _ (texts : Texts) where
       next = changed m (keeping_at texts at m message made)
 
       is_made : IsMade made.reply
-      is_made = told_accepted texts m message read made sound reads allowed makes is_message
+      is_made = reports_accepted texts m message read made sound reads allowed makes is_message
 
       abbrev accepted : Accepts texts m message read made.reply next
       accepted = record { reads = reads; allowed = allowed; change = made; makes = makes; answered = refl; at = at; becomes = refl }

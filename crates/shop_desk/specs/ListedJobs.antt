@@ -18,5 +18,5 @@ head_with_part m number =
     option_and_then (λ (head : JobHead). option_map (λ (part : Part). (head, part)) (part_at m head.part)) (option_map (head_of m) (job_at m number))
 
 -- the row of a job that was found with its part
-abbrev pub told_row : Option (JobHead × Part) → Option JobRow
-told_row found = option_map (λ (f : JobHead × Part). row_of f.0.begun f.0.due f.0.act f.0.part f.0.cuts f.1) found
+abbrev pub reported_row : Option (JobHead × Part) → Option JobRow
+reported_row found = option_map (λ (f : JobHead × Part). row_of f.0.begun f.0.due f.0.act f.0.part f.0.cuts f.1) found

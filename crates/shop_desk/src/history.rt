@@ -4,7 +4,7 @@ ghost use Rattle.std.specs.Prelude.{◌≡◌, ◌≢◌, IfOk, IfSome, None, So
 ghost use Rattle.shop_answers.specs.Listing.{reported_history, reported_story};
 ghost use Rattle.shop_answers.specs.Queries.{Answers};
 ghost use Rattle.shop_records.specs.Content.{entry_count, last_time};
-ghost use Rattle.shop_records.specs.Lists.{entries_about, first_time, told_entries, told_entry};
+ghost use Rattle.shop_records.specs.Lists.{entries_about, first_time, reported_entries, reported_entry};
 ghost use Rattle.shop_records.specs.declared.messages.Query.TheVariants as query;
 ghost use Rattle.shop_records.specs.declared.messages.Reply.TheVariants.{Refused};
 ghost use Rattle.shop_records.specs.declared.journal.Subject.TheVariants as subject;
@@ -17,7 +17,7 @@ ghost use Rattle.shop_desk.specs.ReportedEntries.{ShowsOrHides, Reports, Reports
 use cut_measure::{Code, PartName};
 use shop_book::{Book, BookFault};
 use shop_rules::{
-    Entry, EntryList, EntryRows, EntryTold, Kept, MAX_LISTED, Pair, Refusal, Reply, Subject,
+    Entry, EntryList, EntryRows, ReportedEntry, Kept, MAX_LISTED, Pair, Refusal, Reply, Subject,
     bytes_with, is_full,
 };
 use std::alloc::{AllocError, Global};
@@ -77,13 +77,13 @@ pub fn shop<B: Book>(book: &mut B) -> Reply
 }
 
 // An entry as a reply has it, if the book keeps its message.
-fn told_entry<B: Book>(
+fn reported_entry<B: Book>(
     alloc: Global,
     book: &mut B,
     entry: &Entry,
-) -> Result<Option<EntryTold>, BookFault>
+) -> Result<Option<ReportedEntry>, BookFault>
     ensures reported { OnContent B.Book book.old book.new
-        (λ m. IfOk result (λ reported. reported ≡ told_entry m entry.now)) }
+        (λ m. IfOk result (λ reported. reported ≡ reported_entry m entry.now)) }
     ensures keeps { Unchanged B.Book (CountsFailure result) book.old book.new }
 {
     let Entry {
@@ -97,7 +97,7 @@ fn told_entry<B: Book>(
         number: sent,
     } = pair;
     match book.kept(alloc, *terminal, *sent)? {
-        Some(Kept { command, reply }) => Ok(Some(EntryTold {
+        Some(Kept { command, reply }) => Ok(Some(ReportedEntry {
             at: *at,
             entry: *number,
             message: command,
@@ -117,7 +117,7 @@ struct Shown {
 impl Shown {
     // Reports an entry after others, if there is one. The answer is true where it isn't reported, since the others are all that
     // is reported at once.
-    fn hides(&mut self, found: Option<EntryTold>) -> Result<bool, AllocError>
+    fn hides(&mut self, found: Option<ReportedEntry>) -> Result<bool, AllocError>
         ensures { IfOk result (λ hidden. ShowsOrHides self.old found hidden self.new) }
     {
         let Some(entry) = found else {
@@ -147,7 +147,7 @@ fn reported_rows<B: Book>(
         bytes: 0,
     };
     for row in rows {
-        let found = told_entry(alloc, book, row)?;
+        let found = reported_entry(alloc, book, row)?;
         let hidden = shown.hides(found)?;
         if hidden {
             return Ok((shown.entries, true));
@@ -250,7 +250,7 @@ pub fn history<B: Book>(alloc: Global, book: &mut B, after: u32) -> Reply
 fn known_story<B: Book>(alloc: Global, book: &mut B, about: Subject, after: u32) -> Reply
     ensures answer { OnContent B.Book book.old book.new
         (λ m. result ≢ Refused NoMemory → result ≢ Refused StoreFault
-        → result ≡ reported_story None (told_entries m (entries_about m about after))) }
+        → result ≡ reported_story None (reported_entries m (entries_about m about after))) }
     ensures keeps { Unchanged B.Book (CountsReply result) book.old book.new }
 {
     match reported(alloc, book, &Some(about), u64::from(after)) {

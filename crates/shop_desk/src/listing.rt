@@ -12,7 +12,7 @@ ghost use Rattle.shop_records.specs.Lists.{AreLines, begun_by, demand_row, job_n
 ghost use Rattle.shop_book.specs.Failures.{CountsFailure};
 ghost use Rattle.shop_book.specs.Kept.{Unchanged, OnContent};
 ghost use Rattle.shop_desk.specs.Faults.{CountsReply};
-ghost use Rattle.shop_desk.specs.ListedJobs.{both, head_with_part, told_row};
+ghost use Rattle.shop_desk.specs.ListedJobs.{both, head_with_part, reported_row};
 
 use cut_measure::PartName;
 use shop_book::{Book, BookFault, JobHead};
@@ -199,14 +199,14 @@ fn head_with_part<B: Book>(
 
 // How a job is reported that lists report so, with its part.
 fn reported_head(head: &JobHead, part: &Part) -> JobRow
-    ensures { Some result ≡ told_row (Some (head.now, part.now)) }
+    ensures { Some result ≡ reported_row (Some (head.now, part.now)) }
 {
     job_row(head.begun, head.due, head.act, head.part, head.cuts, part)
 }
 
 // Puts a job's row after others, where the job is there with its part.
 fn push_job(rows: &mut JobList, found: Option<(JobHead, Part)>) -> Result<(), AllocError>
-    ensures { OnOk result (rows.new ≡ rows.old ++ filter_map told_row (found ∷ [])) }
+    ensures { OnOk result (rows.new ≡ rows.old ++ filter_map reported_row (found ∷ [])) }
 {
     match found {
         Some((head, part)) => rows.push(reported_head(&head, &part)),

@@ -13,7 +13,7 @@ use Rattle.shop_records.specs.declared.imports.Form.TheVariants.{Csv, Cgcut}
 use Rattle.shop_records.specs.declared.messages.Message.{Message}
 use Rattle.shop_files.specs.declared.orders.OrderLine.{OrderLine}
 use Rattle.shop_records.specs.declared.messages.Query.{Query}
-use Rattle.shop_records.specs.declared.journal.EntryTold.{EntryTold}
+use Rattle.shop_records.specs.declared.journal.ReportedEntry.{ReportedEntry}
 use Rattle.shop_records.specs.declared.journal.Subject.{Subject}
 use Rattle.shop_records.specs.declared.journal.Subject.TheVariants as subject
 use Rattle.shop_records.specs.declared.records.DemandRow.{DemandRow}
@@ -314,8 +314,8 @@ import_made d =
     option_and_then (λ act. option_and_then (λ count. option_and_then (λ first. option_map (λ order. reply.Import act count first order)
     (code_at (codes "order") d)) (number_at (codes "first") d)) (number_at (codes "count") d)) (number_at (codes "act") d)
 
-abbrev pub import_told : (act count first : ℕ) → List ℕ → Data
-import_told act count first order =
+abbrev pub import_reported : (act count first : ℕ) → List ℕ → Data
+import_reported act count first order =
     object (number_member (codes "act") act (number_member (codes "count") count (number_member (codes "first") first
     (text_member (codes "ok") (codes "import") (text_member (codes "order") order no_members)))))
 
@@ -772,7 +772,7 @@ made_data (reply.Break job kerf pieces rack scrap) = ended_reported (codes "brea
 made_data (reply.Release job) = release_reported job
 made_data (reply.Scrap part) = scrap_reported part
 made_data (reply.GiveBack part) = return_reported part
-made_data (reply.Import act count first order) = import_told act count first order
+made_data (reply.Import act count first order) = import_reported act count first order
 made_data (reply.Amend demand wanted) = amend_reported demand wanted
 made_data (reply.Undo job part) = undo_reported job part
 made_data (reply.Note order) = note_reported order
@@ -800,13 +800,13 @@ reply_reported None = null
 reply_reported (Some answer) = made_data answer
 
 -- an entry as an object, its keys in byte order
-abbrev pub entry_data : EntryTold → Data
+abbrev pub entry_data : ReportedEntry → Data
 entry_data e =
     object (number_member (codes "at") e.at (number_member (codes "entry") e.entry
     (member (codes "message") (message_reported (kept_message_of e.message)) (member (codes "reply") (reply_reported (kept_reply_of e.reply)) no_members))))
 
 -- what is reported about entries, by the word of the reply
-abbrev pub entries_reported : List ℕ → List EntryTold → Bool → Data
+abbrev pub entries_reported : List ℕ → List ReportedEntry → Bool → Data
 entries_reported word entries more =
     object (member (codes "entries") (rows_data entry_data entries) (flag_member (codes "more") more (text_member (codes "ok") word no_members)))
 
@@ -869,7 +869,7 @@ HasWideMade (reply.Begin before job) = IsWide before × IsWide job
 HasWideMade _ = Unit {0}
 
 -- the same of an entry, and its message is one
-abbrev pub HasWideEntry : EntryTold → Type 0
+abbrev pub HasWideEntry : ReportedEntry → Type 0
 HasWideEntry e =
     IsWide e.at × IsWide e.entry × IfSome (kept_message_of e.message) IsMessage × IfSome (kept_reply_of e.reply) HasWideMade
 
@@ -932,38 +932,38 @@ sent_text d = option_map json_texts.of_message (sent_of d)
 abbrev pub made_text : Data → Option (List ℕ)
 made_text d = option_map json_texts.of_reply (reply_of d)
 
-abbrev pub entry_fields : Data → Option EntryTold
+abbrev pub entry_fields : Data → Option ReportedEntry
 entry_fields d =
     option_and_then (λ at. option_and_then (λ entry. option_and_then (λ message. option_map (λ answer.
     record { at = at; entry = entry; message = message; reply = answer })
     (option_and_then made_text (get (codes "reply") d))) (option_and_then sent_text (get (codes "message") d))) (wide_at (codes "entry") d)) (wide_at (codes "at") d)
 
 -- an element of a list of entries
-abbrev pub entry_in_list : Data → Option EntryTold
+abbrev pub entry_in_list : Data → Option ReportedEntry
 entry_in_list d = row 4 entry_fields d
 
-abbrev pub entries_at : Data → Option (List EntryTold)
+abbrev pub entries_at : Data → Option (List ReportedEntry)
 entries_at d = option_and_then (all_of entry_in_list) (elements_at (codes "entries") d)
 
 -- entries, and whether others follow
-abbrev pub entries_read : Data → Option (List EntryTold × Bool)
+abbrev pub entries_read : Data → Option (List ReportedEntry × Bool)
 entries_read d = option_and_then (λ entries. option_map (λ more. (entries, more)) (flag_at (codes "more") d)) (entries_at d)
 
 -- of the replies to queries, the rows by the word of `ok` that are read
-abbrev pub told_by : List ℕ → Data → Option Reply
-told_by word d =
+abbrev pub reply_by : List ℕ → Data → Option Reply
+reply_by word d =
     if bytes_eq word (codes "history") then option_map (λ read. reply.History read.0 read.1) (row 3 entries_read d)
     else (if bytes_eq word (codes "story") then option_map (λ read. reply.Story read.0 read.1) (row 3 entries_read d) else None)
 
 abbrev pub reported_of : Data → Option Reply
-reported_of d = option_and_then (λ word. told_by word d) (text_at (codes "ok") d)
+reported_of d = option_and_then (λ word. reply_by word d) (text_at (codes "ok") d)
 
 -- a reply that an accepted message can get, or one about entries
 abbrev pub answer_of : Data → Option Reply
 answer_of d = option_or (reply_of d) (reported_of d)
 
 -- an entry has the texts of a message and of a reply that an accepted message can get
-pub record ReportsEntry (e : EntryTold) : Type 0 where
+pub record ReportsEntry (e : ReportedEntry) : Type 0 where
   pub sent : Message
   pub answer : Reply
   pub is_message : IsMessage sent

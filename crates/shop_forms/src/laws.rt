@@ -3,7 +3,7 @@
 ghost use Rattle.std.specs.Prelude.{◌≡◌, ◌≤◌, List, Bool, All, IsTrue, Some};
 ghost use Rattle.serde_json.specs.Data.{Data};
 ghost use Rattle.shop_records.specs.declared.messages.Message.{Message};
-ghost use Rattle.shop_records.specs.declared.journal.EntryTold.{EntryTold};
+ghost use Rattle.shop_records.specs.declared.journal.ReportedEntry.{ReportedEntry};
 ghost use Rattle.shop_records.specs.declared.messages.Query.{Query};
 ghost use Rattle.shop_records.specs.declared.messages.Reply.{Reply};
 ghost use Rattle.shop_records.specs.declared.messages.Reply.TheVariants.{History, Story};
@@ -22,9 +22,9 @@ pub fn read_back()
 pub fn entries_read_back()
     ensures message { (message : Message) → IsMessage message
         → kept_message_of (json_texts.of_message message) ≡ Some message }
-    ensures history { (entries : List EntryTold) (more : Bool) → All ReportsEntry entries
+    ensures history { (entries : List ReportedEntry) (more : Bool) → All ReportsEntry entries
         → answer_of (reply_data (History entries more)) ≡ Some (History entries more) }
-    ensures story { (entries : List EntryTold) (more : Bool) → All ReportsEntry entries
+    ensures story { (entries : List ReportedEntry) (more : Bool) → All ReportsEntry entries
         → answer_of (reply_data (Story entries more)) ≡ Some (Story entries more) }
 {}
 

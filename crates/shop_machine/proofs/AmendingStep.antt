@@ -32,18 +32,18 @@ use Rattle.shop_machine.proofs.Accounts.{Follows, row_later}
 use Rattle.shop_machine.proofs.Steps.{After, AfterAll}
 
 -- what is reserved and made is wanted
-pub amend_room : (found : Option Demand) (row : Demand) (wanted : ℕ) → found ≡ Some row → amend_refusal found wanted ≡ None → row.reserved + row.made ≤ wanted
-amend_room found row wanted is allowed =
+pub amend_in_limit : (found : Option Demand) (row : Demand) (wanted : ℕ) → found ≡ Some row → amend_refusal found wanted ≡ None → row.reserved + row.made ≤ wanted
+amend_in_limit found row wanted is allowed =
     let few = none_of (not (nat_le wanted MAX_COUNT)) BadLine _ (subst (λ o. amend_refusal o wanted ≡ None) is allowed) in
-    let room = none_of (nat_lt wanted (row.reserved + row.made)) TooMany _ few.1 in
-    ltb-false wanted (row.reserved + row.made) room.0
+    let in_limit = none_of (nat_lt wanted (row.reserved + row.made)) TooMany _ few.1 in
+    ltb-false wanted (row.reserved + row.made) in_limit.0
 
 pub amend_agrees : (found : Option Demand) (wanted : ℕ) → NoFault (amend_refusal found wanted)
 amend_agrees None wanted = λ e. cc
 amend_agrees (Some row) wanted =
     other (not (nat_le wanted MAX_COUNT)) _ _ (λ e. cc) (other (nat_lt wanted (row.reserved + row.made)) _ _ (λ e. cc) nothing)
 
-module _ (m : Content) (stock : IsStock m) (number : ℕ) (row : Demand) (found : demand_at m number ≡ Some row) (wanted : ℕ) (room : row.reserved + row.made ≤ wanted)
+module _ (m : Content) (stock : IsStock m) (number : ℕ) (row : Demand) (found : demand_at m number ≡ Some row) (wanted : ℕ) (in_limit : row.reserved + row.made ≤ wanted)
     (texts : Texts) (message : Message) where
   abbrev after : Content
   after = changed m (keeping texts message (amend_change row wanted))
@@ -74,7 +74,7 @@ module _ (m : Content) (stock : IsStock m) (number : ℕ) (row : Demand) (found 
         so_far = old.so_far;
         ordered = old.ordered;
         known = old.known;
-        counted = record { few = room; reserved = old.counted.reserved; made = old.counted.made };
+        counted = record { few = in_limit; reserved = old.counted.reserved; made = old.counted.made };
       }
 
   same_line : (n : ℕ) (d : Demand) → demand_at after n ≡ Some d → (before : Demand) × (demand_at m n ≡ Some before) × (d.order ≡ before.order) × (d.line ≡ before.line)
@@ -122,7 +122,7 @@ module _ (m : Content) (stock : IsStock m) (number : ℕ) (row : Demand) (found 
     order = tt;
     demands = all_from (IsMovedDemand m) (amended wanted row ∷ []) (put_row (IsMovedDemand m) (record { before = row; found = there; is = refl }));
     wanted = all_from (λ (d : Demand). IsSome (material_at m d.material) × (d.reserved + d.made ≤ d.wanted)) (amended wanted row ∷ [])
-        (put_row (λ (d : Demand). IsSome (material_at m d.material) × (d.reserved + d.made ≤ d.wanted)) ((stock.demands row.number row there).known, room));
+        (put_row (λ (d : Demand). IsSome (material_at m d.material) × (d.reserved + d.made ≤ d.wanted)) ((stock.demands row.number row there).known, in_limit));
     once = pairs_from (λ (a b : Demand). a.number ≡ b.number → ⊥) (amended wanted row ∷ []) ((λ y i. absurd i), tt);
     lines = tt;
     totals = tt;

@@ -64,10 +64,10 @@ pub end_made : (stop : Stop) (j : Job) (part : Part) (rule : Rule) (t : Totals) 
     } ≡ end_change stop j part rule t laid rows
 end_made stop j part rule t laid rows parts come moved answer state halt base e s h f c m g =
     let made = map (row_part part rule j.act) laid in
-    let told : answer ≡ ended_reply stop j.act (tally made) = g ∙ ap (ended_reply stop j.act) c in
+    let reported : answer ≡ ended_reply stop j.act (tally made) = g ∙ ap (ended_reply stop j.act) c in
     let sums : moved ≡ moved_totals part (tally made) t = m ∙ ap (λ (come : Totals). moved_totals part come t) c in
     λ i.
-    record (((e ∙ ap no_change told) i)) {
+    record (((e ∙ ap no_change reported) i)) {
       parts = f i;
       moved = Some (in_state (Cut j.act) part);
       job = Some (record j { state = s i });
@@ -77,9 +77,9 @@ end_made stop j part rule t laid rows parts come moved answer state halt base e 
     }
 
 -- where no more is laid than all pieces, what is laid can be made
-pub room_laid : (laid : List Row) (tree : Tree) (leaves : List FoundLeaf) → ((d : ℕ) → pieces_in d laid ≤ count_of tree d) → All (HasRow CanBeMade tree) leaves
+pub in_limit_laid : (laid : List Row) (tree : Tree) (leaves : List FoundLeaf) → ((d : ℕ) → pieces_in d laid ≤ count_of tree d) → All (HasRow CanBeMade tree) leaves
     → All (HasRow (λ n demand. (n ≤ demand.reserved) × (demand.made + pieces_in demand.number laid < 2 ^ 32)) tree) leaves
-room_laid laid tree leaves few all k d within = by (get_or leaves k d) (get_or leaves k d).demand (all k d within)
+in_limit_laid laid tree leaves few all k d within = by (get_or leaves k d) (get_or leaves k d).demand (all k d within)
   where
     by : (f : FoundLeaf) (o : Option Demand) → MatchOption o ⊥ (λ demand. (demand.number ≡ f.leaf.demand) × CanBeMade (count_of tree f.leaf.demand) demand)
         → MatchOption o ⊥ (λ demand. (demand.number ≡ f.leaf.demand) × ((count_of tree f.leaf.demand ≤ demand.reserved) × (demand.made + pieces_in demand.number laid < 2 ^ 32)))
@@ -87,12 +87,12 @@ room_laid laid tree leaves few all k d within = by (get_or leaves k d) (get_or l
     by f (Some demand) has =
         let own : count_of tree demand.number ≡ count_of tree f.leaf.demand = ap (count_of tree) has.0 in
         let less = few demand.number in
-        let room : demand.made + count_of tree f.leaf.demand < 2 ^ 32 = has.1.1 in
-        (has.0, (has.1.0, omega (arith, own, less, room)))
+        let in_limit : demand.made + count_of tree f.leaf.demand < 2 ^ 32 = has.1.1 in
+        (has.0, (has.1.0, omega (arith, own, less, in_limit)))
 
 -- what can be made can be freed
-pub room_freed : (tree : Tree) (leaves : List FoundLeaf) → All (HasRow CanBeMade tree) leaves → All (HasRow (λ n demand. n ≤ demand.reserved) tree) leaves
-room_freed tree leaves all k d within = by (get_or leaves k d) (get_or leaves k d).demand (all k d within)
+pub in_limit_freed : (tree : Tree) (leaves : List FoundLeaf) → All (HasRow CanBeMade tree) leaves → All (HasRow (λ n demand. n ≤ demand.reserved) tree) leaves
+in_limit_freed tree leaves all k d within = by (get_or leaves k d) (get_or leaves k d).demand (all k d within)
   where
     by : (f : FoundLeaf) (o : Option Demand) → MatchOption o ⊥ (λ demand. (demand.number ≡ f.leaf.demand) × CanBeMade (count_of tree f.leaf.demand) demand)
         → MatchOption o ⊥ (λ demand. (demand.number ≡ f.leaf.demand) × (count_of tree f.leaf.demand ≤ demand.reserved))

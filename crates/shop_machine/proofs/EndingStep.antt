@@ -423,8 +423,8 @@ module _ (m : Content) (stock : IsStock m) (number : ℕ) (j : Job) (part : Part
     abbrev answer : Reply
     answer = ended_reply stop j.act (tally made)
 
-    abbrev told_totals : Option MaterialTotals
-    told_totals = Some (record { material = part.material; totals = moved_totals part (tally made) (totals_of m part.material) })
+    abbrev totals_reply : Option MaterialTotals
+    totals_reply = Some (record { material = part.material; totals = moved_totals part (tally made) (totals_of m part.material) })
 
     is_over : is_waiting (ended_state stop) ≡ false
     is_over = no_wait stop
@@ -441,13 +441,13 @@ module _ (m : Content) (stock : IsStock m) (number : ℕ) (j : Job) (part : Part
         let few = old.few in
         let was = old.reserved in
         let less = reserved_less m stock number j part material work waits (ended_state stop) is_over d in
-        let more = made_after m stock part (state.Cut j.act) made None over end_step (with_laid laid) j.plan.tree others_left laid_keeps rows recounted told_totals (kept_halt stop j.act) texts message answer d in
+        let more = made_after m stock part (state.Cut j.act) made None over end_step (with_laid laid) j.plan.tree others_left laid_keeps rows recounted totals_reply (kept_halt stop j.act) texts message answer d in
         let pieces = pieces_made d in
         let of = old.made in
-        let room = enough m stock number j part material work waits d before is in
+        let in_limit = enough m stock number j part material work waits d before is in
         let own : pieces_in before.number laid ≡ pieces_in d laid = ap (λ n. pieces_in n laid) (stock.demands d before is).numbered in
         let laid_of = few_laid d in
-        record { few = omega (arith, few, room, own, laid_of); reserved = omega (arith, was, less); made = omega (arith, of, more, pieces, own) }
+        record { few = omega (arith, few, in_limit, own, laid_of); reserved = omega (arith, was, less); made = omega (arith, of, more, pieces, own) }
 
     -- no halt is kept of a waiting job
     none_kept : halt_at m j.act ≡ None
@@ -460,11 +460,11 @@ module _ (m : Content) (stock : IsStock m) (number : ℕ) (j : Job) (part : Part
 
     pub end_stock : IsStock after_end
     end_stock =
-        step_stock m stock part (state.Cut j.act) made None over end_step (with_laid laid) j.plan.tree others_left laid_keeps rows recounted told_totals (kept_halt stop j.act) texts message answer
+        step_stock m stock part (state.Cut j.act) made None over end_step (with_laid laid) j.plan.tree others_left laid_keeps rows recounted totals_reply (kept_halt stop j.act) texts message answer
         (job_over m stock number j part material work waits (ended_state stop) is_over after_end refl
-        (grows m stock part (state.Cut j.act) made None over end_step (with_laid laid) j.plan.tree others_left laid_keeps rows recounted told_totals (kept_halt stop j.act) texts message answer))
+        (grows m stock part (state.Cut j.act) made None over end_step (with_laid laid) j.plan.tree others_left laid_keeps rows recounted totals_reply (kept_halt stop j.act) texts message answer))
         (λ n other is apart w.
-        untouched m stock part (state.Cut j.act) made None over end_step (with_laid laid) j.plan.tree others_left laid_keeps rows recounted told_totals (kept_halt stop j.act) texts message answer
+        untouched m stock part (state.Cut j.act) made None over end_step (with_laid laid) j.plan.tree others_left laid_keeps rows recounted totals_reply (kept_halt stop j.act) texts message answer
         other w (not_other m stock number j part material work waits n other is apart)
         (λ x i e. other_act m stock number j part material work waits n other is apart (sym (ap (λ (p : Part). p.name.act) (made_of x i).2) ∙ e)))
         (halted_after m stock j stop is_over)
@@ -472,7 +472,7 @@ module _ (m : Content) (stock : IsStock m) (number : ℕ) (j : Job) (part : Part
 
     pub end_fits : kept_at m (pair_of message) ≡ None → Fits m (keeping texts message (end_change stop j part material.limits (totals_of m part.material) laid rows))
     end_fits =
-        step_fits m stock part (state.Cut j.act) made None over end_step (with_laid laid) j.plan.tree others_left laid_keeps rows recounted told_totals (kept_halt stop j.act) texts message answer
+        step_fits m stock part (state.Cut j.act) made None over end_step (with_laid laid) j.plan.tree others_left laid_keeps rows recounted totals_reply (kept_halt stop j.act) texts message answer
         (job_fits m stock number j part material work waits (ended_state stop) is_over) (unhalted m j none_kept stop) (placed m stock number j part material work waits).known
         (sums_move m.parts part (state.Cut j.act) made end_step.there end_step.new
         (pairs_more (λ (a b : Part). name_cmp a.name b.name ≡ Less) (λ (a b : Part). a.name ≡ b.name → ⊥) (λ a b. less_apart a.name b.name) made end_step.rising)
@@ -507,8 +507,8 @@ module _ (m : Content) (stock : IsStock m) (number : ℕ) (j : Job) (part : Part
       by true n = omega arith
       by false n = omega arith
 
-  pub end_told : IsMade (ended_reply stop j.act (tally parts))
-  end_told =
+  pub end_reported : IsMade (ended_reply stop j.act (tally parts))
+  end_reported =
       let le = so_far m stock number j part material work waits in
       let last = stock.in_range.last in
       reply_made stop j.act parts (omega (arith, le, last)) cells_few

@@ -58,7 +58,7 @@ sound_rest texts m halts entries halted sound are =
       demands = stock.demands;
       lines = stock.lines;
       kept = sound.kept;
-      imports = λ code row is. let i = sound.imports code row is in record { ordered = i.ordered; answer = i.answer; tells = i.tells };
+      imports = λ code row is. let i = sound.imports code row is in record { ordered = i.ordered; answer = i.answer; reports = i.reports };
       entries = are;
     }
 

@@ -46,15 +46,15 @@ pub none_both : (o p : Option Refusal) → o ≡ None → p ≡ None → option_
 none_both o p e f = ap (λ x. option_or x p) e ∙ f
 
 abbrev row_with : List ℕ → Form → List ℕ → List ℕ → ImportRow
-row_with order form text told = record { order = order; form = form; text = text; reply = told }
+row_with order form text reported = record { order = order; form = form; text = text; reply = reported }
 
 abbrev pub as_import : Change → ImportRow → (act count first : ℕ) → List ℕ → Change
 as_import change row act count first order = record change { import = Some row; reply = reply.Import act count first order }
 
-pub imported_as : (change base : Change) (order text told : List ℕ) (form : Form) (act count lines first : ℕ) → change ≡ base → told ≡ [] → count ≡ lines
-    → as_import change (row_with order form text told) act count first order ≡ as_import base (import_row order form text) act lines first order
-imported_as change base order text told form act count lines first same none counted =
-    ap (λ c. as_import c (row_with order form text told) act count first order) same
+pub imported_as : (change base : Change) (order text reported : List ℕ) (form : Form) (act count lines first : ℕ) → change ≡ base → reported ≡ [] → count ≡ lines
+    → as_import change (row_with order form text reported) act count first order ≡ as_import base (import_row order form text) act lines first order
+imported_as change base order text reported form act count lines first same none counted =
+    ap (λ c. as_import c (row_with order form text reported) act count first order) same
     ∙ ap (λ t. as_import base (row_with order form text t) act count first order) none
     ∙ ap (λ n. as_import base (import_row order form text) act n first order) counted
 

@@ -20,7 +20,7 @@ use Rattle.shop_machine.specs.Decisions.{first_of, no_change}
 use Rattle.shop_machine.specs.Receiving.{receive_refusal, receive_change}
 use Rattle.shop_machine.specs.Ordering.{lines_refusal}
 use Rattle.shop_machine.specs.Importing.{IsRepeat, IsImportReading, problem_lines, unit_refusal, problem_refusal, import_refusal, unread_refusal, lines_change, problem_change, ImportMakes}
-use Rattle.shop_records.specs.Keeping.{TellsKept}
+use Rattle.shop_records.specs.Keeping.{StoresReply}
 use Rattle.shop_machine.specs.Machine.{keeping, nothing, Orders, Receives, import_effects}
 use Rattle.shop_records.specs.Soundness.{Fits}
 use Rattle.shop_records.proofs.Basics.{none_at}
@@ -67,7 +67,7 @@ module _ (texts : Texts) (m : Content) (order : List ℕ) where
   Made form text read change = ImportMakes order form text (totals_of m) (m.last_act + 1) (m.last_demand + 1) read change
 
   made_before : (form : Form) (text : List ℕ) (answer : Reply) (found : Option ImportRow)
-      → MatchOption found ⊥ (λ row. IsRepeat form text row × TellsKept texts row (Some answer)) → IsMade answer
+      → MatchOption found ⊥ (λ row. IsRepeat form text row × StoresReply texts row (Some answer)) → IsMade answer
   made_before form text answer None h = absurd h
   made_before form text answer (Some row) h = h.1.0
 
@@ -187,14 +187,14 @@ module _ (texts : Texts) (m : Content) (order : List ℕ) where
   import_order form text read change (inr (inr a)) = subst (λ (c : Change). IfSome c.import (λ row. c.order ≡ Some row.order)) (sym a.is) refl
 
   -- its reply is one that an accepted message can get
-  pub import_told : (form : Form) (text : List ℕ) (read : Reading) (change : Change) → IsAccepted form text read change → IsTrue (is_code order) → IsMade change.reply
-  import_told form text read change (inl a) is = subst (λ (c : Change). IsMade c.reply) (sym a.is) a.made
-  import_told form text read change (inr (inl a)) is =
+  pub import_reported : (form : Form) (text : List ℕ) (read : Reading) (change : Change) → IsAccepted form text read change → IsTrue (is_code order) → IsMade change.reply
+  import_reported form text read change (inl a) is = subst (λ (c : Change). IsMade c.reply) (sym a.is) a.made
+  import_reported form text read change (inr (inl a)) is =
       let some = a.ordered.some in
       let few = a.ordered.few in
       let numbers = a.ordered.numbers in
       subst (λ (c : Change). IsMade c.reply) (sym a.is) (omega arith, omega (arith, few), omega (arith, some, numbers), is)
-  import_told form text read change (inr (inr a)) is =
+  import_reported form text read change (inr (inr a)) is =
       let some = a.ordered.some in
       let few = a.ordered.few in
       let numbers = a.ordered.numbers in
@@ -203,10 +203,10 @@ module _ (texts : Texts) (m : Content) (order : List ℕ) where
 
   -- ---- its refusals
 
-  tells_one : (form : Form) (text : List ℕ) (found : Option ImportRow) → ((row : ImportRow) → found ≡ Some row → (answer : Reply) × TellsKept texts row (Some answer))
-      → MatchOption found ⊥ (λ row. IsRepeat form text row × TellsKept texts row None) → ⊥
-  tells_one form text None one h = absurd h
-  tells_one form text (Some row) one h = let it = one row refl in h.1 it.0 it.1.0 it.1.1
+  reports_one : (form : Form) (text : List ℕ) (found : Option ImportRow) → ((row : ImportRow) → found ≡ Some row → (answer : Reply) × StoresReply texts row (Some answer))
+      → MatchOption found ⊥ (λ row. IsRepeat form text row × StoresReply texts row None) → ⊥
+  reports_one form text None one h = absurd h
+  reports_one form text (Some row) one h = let it = one row refl in h.1 it.0 it.1.0 it.1.1
 
   problem_agrees : (material : List ℕ) (size : Extent) (lines : List OrderLine) → IsStock m
       → NoFault (problem_refusal (has_order m order) (material_at m) (material_at m material) (totals_of m material) (m.last_act + 1) (m.last_demand + 1) size lines)
@@ -225,10 +225,10 @@ module _ (texts : Texts) (m : Content) (order : List ℕ) where
   unread_agrees true = λ e. cc
   unread_agrees false = λ e. cc
 
-  pub import_agrees : IsStock m → ((row : ImportRow) → import_at m order ≡ Some row → (answer : Reply) × TellsKept texts row (Some answer))
+  pub import_agrees : IsStock m → ((row : ImportRow) → import_at m order ≡ Some row → (answer : Reply) × StoresReply texts row (Some answer))
       → (form : Form) (text : List ℕ) (read : Reading) → IsImportReading texts (import_at m order) form text read
       → NoFault (import_refusal (has_order m order) (material_at m) (totals_of m) (m.last_act + 1) (m.last_demand + 1) form read)
-  import_agrees stock one form text (Again None) reads = absurd (tells_one form text (import_at m order) one reads)
+  import_agrees stock one form text (Again None) reads = absurd (reports_one form text (import_at m order) one reads)
   import_agrees stock one form text (Again (Some answer)) reads = none
   import_agrees stock one form text (Lines lines) reads = order_agrees (has_order m order) (material_at m) lines (m.last_demand + 1)
   import_agrees stock one (Cgcut material) text (Problem size pieces) reads = problem_agrees material size (problem_lines material pieces) stock

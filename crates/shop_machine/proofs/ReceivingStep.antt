@@ -52,7 +52,7 @@ pub record IsReceipt (known : Option Material) (totals : Totals) (act w h count 
   pub size : IsSized w h
   pub one_high : material.kind ≡ Bar → h ≡ 1
   pub few : count ≤ MAX_RECEIVED_UNITS
-  pub room : totals.received + w * h * count ≤ MAX_RECEIVED
+  pub in_limit : totals.received + w * h * count ≤ MAX_RECEIVED
   pub number : act ≤ MAX_NUMBERS
 
 pub receipt_of : (known : Option Material) (totals : Totals) (act w h count : ℕ) → receive_refusal known totals act w h count ≡ None → IsReceipt known totals act w h count
@@ -60,15 +60,15 @@ receipt_of None totals act w h count e = cc
 receipt_of (Some m) totals act w h count e =
     let size = none_of (not (is_size m.kind w h)) BadSize _ e in
     let number = none_of (not (nat_le 1 count && nat_le count MAX_RECEIVED_UNITS)) BadCount _ size.1 in
-    let room = none_of (nat_lt MAX_RECEIVED (totals.received + w * h * count)) TooMuch _ number.1 in
-    let last = none_of (nat_lt MAX_NUMBERS act) NumbersSpent _ room.1 in
+    let in_limit = none_of (nat_lt MAX_RECEIVED (totals.received + w * h * count)) TooMuch _ number.1 in
+    let last = none_of (nat_lt MAX_NUMBERS act) NumbersSpent _ in_limit.1 in
     record {
       material = m;
       is_known = refl;
       size = sized m.kind w h (not-false (is_size m.kind w h) size.0);
       one_high = flat m.kind w h (not-false (is_size m.kind w h) size.0);
       few = leb-true count MAX_RECEIVED_UNITS (and_parts (nat_le 1 count) (nat_le count MAX_RECEIVED_UNITS) (not-false (nat_le 1 count && nat_le count MAX_RECEIVED_UNITS) number.0)).1;
-      room = ltb-false MAX_RECEIVED (totals.received + w * h * count) room.0;
+      in_limit = ltb-false MAX_RECEIVED (totals.received + w * h * count) in_limit.0;
       number = ltb-false MAX_NUMBERS act last.0;
     }
 
@@ -196,7 +196,7 @@ module _ (m : Content) (stock : IsStock m) (material batch : List ℕ) (w h coun
         let before : (totals_of m code).received ≡ (totals_of m material).received = ap (λ c. (totals_of m c).received) (sym same) in
         let sum = sum_after (cells_as Received code) in
         let new = sum_units (cells_as Received code) (w * h) (unit_received code true e) in
-        within (cells_in Received code (values after.parts)) (totals_of m code).received (totals_of m material).received (sum_by (cells_as Received code) units) (w * h) count sum before new receipt.room
+        within (cells_in Received code (values after.parts)) (totals_of m code).received (totals_of m material).received (sum_by (cells_as Received code) units) (w * h) count sum before new receipt.in_limit
       where
         within : (n r s p q c : ℕ) → n ≡ r + p → r ≡ s → p ≡ c * q → s + q * c ≤ MAX_RECEIVED → n ≤ MAX_RECEIVED
         within n r s p q c a b d e = omega (arith, a, b, d, e)

@@ -287,10 +287,10 @@ all_added how plan leaves rows at taken same all added found =
     }
 
 -- the row that a leaf has
-pub row_of : (room : ℕ → Demand → Type 0) (tree : Tree) (found : FoundLeaf) (demand : Demand) → HasRow room tree found → found.demand ≡ Some demand
-    → (demand.number ≡ found.leaf.demand) × room (count_of tree found.leaf.demand) demand
-row_of room tree found demand has is =
-    subst (λ (o : Option Demand). MatchOption o ⊥ (λ (d : Demand). (d.number ≡ found.leaf.demand) × room (count_of tree found.leaf.demand) d)) is has
+pub row_of : (allows : ℕ → Demand → Type 0) (tree : Tree) (found : FoundLeaf) (demand : Demand) → HasRow allows tree found → found.demand ≡ Some demand
+    → (demand.number ≡ found.leaf.demand) × allows (count_of tree found.leaf.demand) demand
+row_of allows tree found demand has is =
+    subst (λ (o : Option Demand). MatchOption o ⊥ (λ (d : Demand). (d.number ≡ found.leaf.demand) × allows (count_of tree found.leaf.demand) d)) is has
 
 pub after_fewer : (leaves : List FoundLeaf) → 1 ≤ length leaves → length (take (length leaves - 1) (drop 1 leaves)) < length leaves
 after_fewer [] some = absurd (omega arith)

@@ -54,7 +54,7 @@ pub record HasOpenPieces (code : List ℕ) (n : ℕ) (o : Option Demand) : Type 
   pub demand : Demand
   pub found : o ≡ Some demand
   pub of : same_code demand.material code ≡ true
-  pub room : demand.reserved + demand.made + n ≤ demand.wanted
+  pub in_limit : demand.reserved + demand.made + n ≤ demand.wanted
 
 pub record IsFitting (row : Part) (material : Option Material) (plan : Pattern) (at : ℕ → Option Demand) (act : ℕ) : Type 0 where
   pub free : is_free row.state ≡ true
@@ -62,11 +62,11 @@ pub record IsFitting (row : Part) (material : Option Material) (plan : Pattern) 
   pub demands : (number : ℕ) → 1 ≤ count_of plan.tree number → HasOpenPieces row.material (count_of plan.tree number) (at number)
   pub number : act ≤ MAX_NUMBERS
 
-has_room : (code : List ℕ) (leaf : Leaf) (n : ℕ) (o : Option Demand) → leaf_refusal code leaf o ≡ None → is_over n o ≡ false → HasOpenPieces code n o
-has_room code leaf n None e f = cc
-has_room code leaf n (Some d) e f =
+stays_in_limit : (code : List ℕ) (leaf : Leaf) (n : ℕ) (o : Option Demand) → leaf_refusal code leaf o ≡ None → is_over n o ≡ false → HasOpenPieces code n o
+stays_in_limit code leaf n None e f = cc
+stays_in_limit code leaf n (Some d) e f =
     let head = none_of (not (same_code d.material code)) WrongMaterial _ e in
-    record { demand = d; found = refl; of = not-false (same_code d.material code) head.0; room = ltb-false d.wanted (d.reserved + d.made + n) f }
+    record { demand = d; found = refl; of = not-false (same_code d.material code) head.0; in_limit = ltb-false d.wanted (d.reserved + d.made + n) f }
 
 leaf_allowed : (at : ℕ → Option Demand) (code : List ℕ) (leaves : List Leaf) → leaves_refusal at code leaves ≡ None → (leaf : Leaf) → IsIn leaf leaves → leaf_refusal code leaf (at leaf.demand) ≡ None
 leaf_allowed at code [] e leaf i = absurd i
@@ -90,7 +90,7 @@ fitting_of row material plan at act e =
       demands = λ number h.
           let r = leaf_with plan number h in
           subst (λ n. HasOpenPieces row.material (count_of plan.tree n) (at n)) r.2
-          (has_room row.material r.0 (count_of plan.tree r.0.demand) (at r.0.demand) (leaf_allowed at row.material (plan_leaves plan) leaves.0 r.0 r.1)
+          (stays_in_limit row.material r.0 (count_of plan.tree r.0.demand) (at r.0.demand) (leaf_allowed at row.material (plan_leaves plan) leaves.0 r.0 r.1)
           (any_none (λ (leaf : Leaf). is_over (count_of plan.tree leaf.demand) (at leaf.demand)) (plan_leaves plan) few.0 r.0 r.1));
       number = ltb-false MAX_NUMBERS act last.0;
     }
@@ -195,9 +195,9 @@ module _ (m : Content) (stock : IsStock m) (name : Name) (text : List ℕ) (row 
   few_after number before is (suc c) e =
       let has = fitting.demands number (omega (arith, e)) in
       let same : has.demand ≡ before = same_some has.demand before (sym has.found ∙ is) in
-      let room : before.reserved + before.made + count_of plan.tree number ≤ before.wanted =
-      subst (λ (d : Demand). d.reserved + d.made + count_of plan.tree number ≤ d.wanted) same has.room in
-      omega (arith, room, e)
+      let in_limit : before.reserved + before.made + count_of plan.tree number ≤ before.wanted =
+      subst (λ (d : Demand). d.reserved + d.made + count_of plan.tree number ≤ d.wanted) same has.in_limit in
+      omega (arith, in_limit, e)
 
   counts : (number : ℕ) (before : Demand) → demand_at m number ≡ Some before → IsCounted after number (with_reserved (count_of plan.tree number) before)
   counts number before is =

@@ -37,15 +37,15 @@ use Rattle.shop_machine.specs.History.{Entry, Gives, MayForget}
 use Rattle.shop_records.specs.Notes.{is_note}
 use Rattle.shop_records.specs.Soundness.{IsSound, Fits, IsKept, IsImport, IsBegun, IsNoted}
 use Rattle.shop_records.proofs.Basics.{codes_total, codes_same, key_cases, get_same, get_other}
-use Rattle.shop_machine.proofs.ImportingStep.{IsAccepted, accepted, import_stock, import_fits, import_told, import_order, import_agrees}
+use Rattle.shop_machine.proofs.ImportingStep.{IsAccepted, accepted, import_stock, import_fits, import_reported, import_order, import_agrees}
 use Rattle.shop_records.proofs.LinesKept.{order_kept, order_there}
 use Rattle.shop_records.proofs.Puts.{not_both, found_one, still_there, is_known, pairs_total, pairs_exact}
 use Rattle.shop_machine.proofs.OrderingStep.{order_of, order_stock, order_fits, order_agrees, by_order}
-use Rattle.shop_machine.proofs.EndingStep.{job_waits, end_stock, end_fits, release_stock, release_fits, so_far, end_told, end_agrees}
+use Rattle.shop_machine.proofs.EndingStep.{job_waits, end_stock, end_fits, release_stock, release_fits, so_far, end_reported, end_agrees}
 use Rattle.shop_machine.proofs.ReceivingStep.{receive_stock, receive_fits, receipt, receive_agrees}
 use Rattle.shop_machine.proofs.ReservingStep.{reserve_stock, reserve_fits, reading, fitting, reserve_agrees}
 use Rattle.shop_machine.proofs.RetiringStep.{scrap_stands, returned_stands, turn_stock, turn_fits, scrap_agrees, return_agrees, held_for, scraps, gives_back}
-use Rattle.shop_machine.proofs.AmendingStep.{amend_room, amend_stock, amend_fits, amend_agrees, amends}
+use Rattle.shop_machine.proofs.AmendingStep.{amend_in_limit, amend_stock, amend_fits, amend_agrees, amends}
 use Rattle.shop_machine.proofs.ExtendingStep.{extended_of, extend_stock, extend_fits, extend_agrees, by_lines}
 use Rattle.shop_machine.proofs.SayingStep.{said_stock, may_be_said, is_there, note_fits, begin_fits, note_agrees, begin_agrees, by_note, by_begin}
 use Rattle.shop_machine.proofs.Undoable.{undoable}
@@ -98,7 +98,7 @@ fits_by texts message m stock used (Import order form text) read change reads al
     import_fits texts m order message form text read change stock (used order) (accepted texts m order form text read change reads allowed makes) new
 fits_by texts message m stock used (Amend demand wanted) read change reads allowed makes new =
     subst (λ (c : Change). Fits m (keeping texts message c)) (sym makes.2)
-    (amend_fits m stock demand makes.0 makes.1 wanted (amend_room (demand_at m demand) makes.0 wanted makes.1 allowed) texts message new)
+    (amend_fits m stock demand makes.0 makes.1 wanted (amend_in_limit (demand_at m demand) makes.0 wanted makes.1 allowed) texts message new)
 fits_by texts message m stock used (Undo number) read change reads allowed makes new =
     subst (λ (c : Change). Fits m (keeping texts message c)) (sym makes.4.is)
     (undo_fits m stock makes.0 makes.1 makes.2 makes.4.end (undoable m stock number makes.0 makes.1 makes.2 makes.3 makes.4.end makes.4.ended allowed) makes.4.rows makes.4.recounted texts message new)
@@ -147,7 +147,7 @@ stock_by texts message m stock (Import order form text) read change reads allowe
     import_stock texts m order message form text read change stock (accepted texts m order form text read change reads allowed makes)
 stock_by texts message m stock (Amend demand wanted) read change reads allowed makes is =
     subst (λ (c : Change). IsStock (changed m (keeping texts message c))) (sym makes.2)
-    (amend_stock m stock demand makes.0 makes.1 wanted (amend_room (demand_at m demand) makes.0 wanted makes.1 allowed) texts message)
+    (amend_stock m stock demand makes.0 makes.1 wanted (amend_in_limit (demand_at m demand) makes.0 wanted makes.1 allowed) texts message)
 stock_by texts message m stock (Undo number) read change reads allowed makes is =
     subst (λ (c : Change). IsStock (changed m (keeping texts message c))) (sym makes.4.is)
     (undo_stock m stock makes.0 makes.1 makes.2 makes.4.end (undoable m stock number makes.0 makes.1 makes.2 makes.3 makes.4.end makes.4.ended allowed) makes.4.rows makes.4.recounted texts message)
@@ -167,53 +167,53 @@ terminal_before None is = omega arith
 terminal_before (Some row) is = is row refl
 
 -- the reply to what is accepted is one that an accepted message can get
-told_by : (texts : Texts) (m : Content) (stock : IsStock m) (terminals : AreTerminals m) (command : Command) (read : Reading) (change : Change) → Reads texts m command read → refusal_of m command read ≡ None
+reported_by : (texts : Texts) (m : Content) (stock : IsStock m) (terminals : AreTerminals m) (command : Command) (read : Reading) (change : Change) → Reads texts m command read → refusal_of m command read ≡ None
     → Makes m command read change → IsCommand command → IsMade change.reply
-told_by texts m stock terminals (AddMaterial material kind kerf min_long min_short) read change reads allowed makes is =
+reported_by texts m stock terminals (AddMaterial material kind kerf min_long min_short) read change reads allowed makes is =
     subst (λ (c : Change). IsMade c.reply) (sym makes) (made_material (material_at m material) material kind _ is.0)
-told_by texts m stock terminals (Receive material batch w h count) read change reads allowed makes is =
+reported_by texts m stock terminals (Receive material batch w h count) read change reads allowed makes is =
     let number = (receipt m material batch w h count read allowed).number in
     subst (λ (c : Change). IsMade c.reply) (sym makes) (omega (arith, number), is.4)
-told_by texts m stock terminals (AddOrder order lines) read change reads allowed makes is =
+reported_by texts m stock terminals (AddOrder order lines) read change reads allowed makes is =
     let ordered = order_of (has_order m order) (material_at m) lines (m.last_demand + 1) allowed in
     let some = ordered.some in
     let few = ordered.few in
     let numbers = ordered.numbers in
     subst (λ (c : Change). IsMade c.reply) (sym makes) (omega (arith, few), omega (arith, some, numbers), is.0)
-told_by texts m stock terminals (Reserve part text) read change reads allowed makes is =
+reported_by texts m stock terminals (Reserve part text) read change reads allowed makes is =
     let few = (reading texts m part text read makes.1 makes.3 reads).few_cuts in
     let number = (fitting m part text read makes.0 makes.1 makes.2 makes.3 allowed).number in
     subst (λ (c : Change). IsMade c.reply) (sym makes.4.is) (omega (arith, few), omega (arith, number))
-told_by texts m stock terminals (Done number) read change reads allowed makes is =
+reported_by texts m stock terminals (Done number) read change reads allowed makes is =
     subst (λ (c : Change). IsMade c.reply) (sym makes.4.is)
-    (end_told m stock number makes.0 makes.1 makes.2 makes.3 (job_waits m stop.All number makes.0 makes.3.found allowed) stop.All makes.4.laid makes.4.is_laid)
-told_by texts m stock terminals (Break number halt rest) read change reads allowed makes is =
+    (end_reported m stock number makes.0 makes.1 makes.2 makes.3 (job_waits m stop.All number makes.0 makes.3.found allowed) stop.All makes.4.laid makes.4.is_laid)
+reported_by texts m stock terminals (Break number halt rest) read change reads allowed makes is =
     subst (λ (c : Change). IsMade c.reply) (sym makes.4.is)
-    (end_told m stock number makes.0 makes.1 makes.2 makes.3 (job_waits m (halted halt rest) number makes.0 makes.3.found allowed) (halted halt rest) makes.4.laid makes.4.is_laid)
-told_by texts m stock terminals (Release number) read change reads allowed makes is =
+    (end_reported m stock number makes.0 makes.1 makes.2 makes.3 (job_waits m (halted halt rest) number makes.0 makes.3.found allowed) (halted halt rest) makes.4.laid makes.4.is_laid)
+reported_by texts m stock terminals (Release number) read change reads allowed makes is =
     let waits = job_waits m stop.All number makes.0 makes.3.found allowed in
     let le = so_far m stock number makes.0 makes.1 makes.2 makes.3 waits in
     let last = stock.in_range.last in
     subst (λ (c : Change). IsMade c.reply) (sym makes.4.is) (omega (arith, le, last))
-told_by texts m stock terminals (Scrap part) read change reads allowed makes is =
+reported_by texts m stock terminals (Scrap part) read change reads allowed makes is =
     subst (λ (c : Change). IsMade c.reply) (sym makes.2) (subst IsName (sym (stock.parts part makes.0 makes.1).named) is)
-told_by texts m stock terminals (GiveBack part) read change reads allowed makes is =
+reported_by texts m stock terminals (GiveBack part) read change reads allowed makes is =
     subst (λ (c : Change). IsMade c.reply) (sym makes.2) (subst IsName (sym (stock.parts part makes.0 makes.1).named) is)
-told_by texts m stock terminals (Import order form text) read change reads allowed makes is =
-    import_told texts m order form text read change (accepted texts m order form text read change reads allowed makes) is.0
-told_by texts m stock terminals (Amend demand wanted) read change reads allowed makes is =
+reported_by texts m stock terminals (Import order form text) read change reads allowed makes is =
+    import_reported texts m order form text read change (accepted texts m order form text read change reads allowed makes) is.0
+reported_by texts m stock terminals (Amend demand wanted) read change reads allowed makes is =
     subst (λ (c : Change). IsMade c.reply) (sym makes.2) (subst IsNumber (sym (stock.demands demand makes.0 makes.1).numbered) is.0, is.1)
-told_by texts m stock terminals (Undo number) read change reads allowed makes is =
+reported_by texts m stock terminals (Undo number) read change reads allowed makes is =
     let j = stock.jobs number makes.0 makes.3.found in
     subst (λ (c : Change). IsMade c.reply) (sym makes.4.is) (subst IsNumber (sym j.numbered) is, j.called)
-told_by texts m stock terminals (Note order due text) read change reads allowed makes is = subst (λ (c : Change). IsMade c.reply) (sym makes) is.0
-told_by texts m stock terminals (Extend order lines) read change reads allowed makes is =
+reported_by texts m stock terminals (Note order due text) read change reads allowed makes is = subst (λ (c : Change). IsMade c.reply) (sym makes) is.0
+reported_by texts m stock terminals (Extend order lines) read change reads allowed makes is =
     let extended = extended_of m stock order lines allowed in
     let some = extended.more.some in
     let few = extended.few in
     let numbers = extended.more.numbers in
     subst (λ (c : Change). IsMade c.reply) (sym makes) (omega (arith, few), omega (arith, some, numbers), is.0)
-told_by texts m stock terminals (Begin number) read change reads allowed makes is =
+reported_by texts m stock terminals (Begin number) read change reads allowed makes is =
     subst (λ (c : Change). IsMade c.reply) (sym makes) (terminal_before (begun_at m number) (terminals number), is)
 
 -- an import is kept with the order that it makes
@@ -320,7 +320,7 @@ agrees_by texts m sound stock (Break number halt rest) read reads = end_agrees m
 agrees_by texts m sound stock (Release number) read reads = end_agrees m stock stop.All number
 agrees_by texts m sound stock (Scrap part) read reads = scrap_agrees (part_at m part) (totals_for m (part_at m part)) (held_for m stock part)
 agrees_by texts m sound stock (GiveBack part) read reads = return_agrees (part_at m part) (totals_for m (part_at m part)) (held_for m stock part)
-agrees_by texts m sound stock (Import order form text) read reads = import_agrees texts m order stock (λ row is. let i = sound.imports order row is in (i.answer, i.tells)) form text read reads
+agrees_by texts m sound stock (Import order form text) read reads = import_agrees texts m order stock (λ row is. let i = sound.imports order row is in (i.answer, i.reports)) form text read reads
 agrees_by texts m sound stock (Amend demand wanted) read reads = amend_agrees (demand_at m demand) wanted
 agrees_by texts m sound stock (Undo number) read reads = undo_agrees m stock number
 agrees_by texts m sound stock (Note order due text) read reads = note_agrees (has_order m order) due text
@@ -359,7 +359,7 @@ module _ (texts : Texts) (message : Message) (earlier : List Effect) (old : Cont
 pub kept_after : (texts : Texts) (m : Content) (message : Message) (change : Change) → IsMessage message → IsMade change.reply
     → ((pair : Pair) (row : Kept) → kept_at m pair ≡ Some row → IsKept texts pair row)
     → (pair : Pair) (row : Kept) → kept_at (changed m (keeping texts message change)) pair ≡ Some row → IsKept texts pair row
-kept_after texts m message change is_message told old pair row is =
+kept_after texts m message change is_message reported old pair row is =
     elim (found_one pairs_total pairs_exact m.kept (pair_of message) (record { command = texts.of_message message; reply = texts.of_reply change.reply }) pair row is) [
       | inl q ↦
           record {
@@ -367,7 +367,7 @@ kept_after texts m message change is_message told old pair row is =
             answer = change.reply;
             is_message = is_message;
             of_pair = sym q.0;
-            keeps = record { made = told; command = ap (λ (row : Kept). row.command) q.1; reply = ap (λ (row : Kept). row.reply) q.1 };
+            keeps = record { made = reported; command = ap (λ (row : Kept). row.command) q.1; reply = ap (λ (row : Kept). row.reply) q.1 };
           }
       | inr q ↦ old pair row q.1
     ]
@@ -375,29 +375,29 @@ kept_after texts m message change is_message told old pair row is =
 pub imports_after : (texts : Texts) (m : Content) (message : Message) (change : Change) → IsMade change.reply → IsOrdered change
     → ((code : List ℕ) (row : ImportRow) → import_at m code ≡ Some row → IsImport texts m code row)
     → (code : List ℕ) (row : ImportRow) → import_at (changed m (keeping texts message change)) code ≡ Some row → IsImport texts (changed m (keeping texts message change)) code row
-imports_after texts m message change told ordered old = by change.import refl ordered
+imports_after texts m message change reported ordered old = by change.import refl ordered
   where
     after : Content
     after = changed m (keeping texts message change)
 
-    told_row : ImportRow → ImportRow
-    told_row row = record row { reply = texts.of_reply change.reply }
+    reported_row : ImportRow → ImportRow
+    reported_row row = record row { reply = texts.of_reply change.reply }
 
     earlier : (code : List ℕ) (row : ImportRow) → import_at m code ≡ Some row → IsImport texts after code row
     earlier code row is =
         let i = old code row is in
-        record { ordered = order_kept m change.order code i.ordered; answer = i.answer; tells = i.tells }
+        record { ordered = order_kept m change.order code i.ordered; answer = i.answer; reports = i.reports }
 
     by : (o : Option ImportRow) → change.import ≡ o → IfSome o (λ row. change.order ≡ Some row.order)
-        → (code : List ℕ) (row : ImportRow) → get (with_import (option_map told_row o) m.imports) code ≡ Some row → IsImport texts after code row
+        → (code : List ℕ) (row : ImportRow) → get (with_import (option_map reported_row o) m.imports) code ≡ Some row → IsImport texts after code row
     by None e of code row is = earlier code row is
     by (Some new) e of code row is =
-        elim (found_one codes_total codes_same m.imports new.order (told_row new) code row is) [
+        elim (found_one codes_total codes_same m.imports new.order (reported_row new) code row is) [
           | inl q ↦
               record {
                 ordered = ap (λ o. set.contains (with_order o m.orders) code) (of ∙ ap Some (sym q.0)) ∙ order_there m code;
                 answer = change.reply;
-                tells = (told, ap (λ (r : ImportRow). r.reply) q.1);
+                reports = (reported, ap (λ (r : ImportRow). r.reply) q.1);
               }
           | inr q ↦ earlier code row q.1
         ]
@@ -491,10 +491,10 @@ fits_accepted texts m message read change sound reads allowed makes new =
     fits_by texts message m (stock_of texts m sound) (λ code row is. (sound.imports code row is).ordered) message.command read change reads allowed makes new
 
 -- its reply is one that an accepted message can get
-pub told_accepted : (texts : Texts) (m : Content) (message : Message) (read : Reading) (change : Change) → IsSound texts m → Reads texts m message.command read
+pub reports_accepted : (texts : Texts) (m : Content) (message : Message) (read : Reading) (change : Change) → IsSound texts m → Reads texts m message.command read
     → refusal_of m message.command read ≡ None → Makes m message.command read change → IsMessage message → IsMade change.reply
-told_accepted texts m message read change sound reads allowed makes is =
-    told_by texts m (stock_of texts m sound) (λ number row there. (sound.begun number row there).terminal) message.command read change reads allowed makes is.command
+reports_accepted texts m message read change sound reads allowed makes is =
+    reported_by texts m (stock_of texts m sound) (λ number row there. (sound.begun number row there).terminal) message.command read change reads allowed makes is.command
 
 -- what was kept of an import stays
 pub import_kept : (m : Content) (change : Change) → Fits m change → (code : List ℕ) (row : ImportRow) → import_at m code ≡ Some row → import_at (changed m change) code ≡ Some row
@@ -515,7 +515,7 @@ pub sound_after : (texts : Texts) (m : Content) (message : Message) (read : Read
     → refusal_of m message.command read ≡ None → Makes m message.command read change → IsMessage message → IsSound texts (changed m (keeping texts message change))
 sound_after texts m message read change sound reads allowed makes is =
     let stock = stock_by texts message m (stock_of texts m sound) message.command read change reads allowed makes is.command in
-    let told = told_accepted texts m message read change sound reads allowed makes is in
+    let reported = reports_accepted texts m message read change sound reads allowed makes is in
     let said = said_by texts m message.command read change reads allowed makes in
     record {
       in_range = stock.in_range;
@@ -527,8 +527,8 @@ sound_after texts m message read change sound reads allowed makes is =
       notes = notes_after texts m message change said.note sound.notes;
       demands = stock.demands;
       lines = stock.lines;
-      kept = kept_after texts m message change is told sound.kept;
-      imports = imports_after texts m message change told (ordered_by texts m message.command read change reads allowed makes) sound.imports;
+      kept = kept_after texts m message change is reported sound.kept;
+      imports = imports_after texts m message change reported (ordered_by texts m message.command read change reads allowed makes) sound.imports;
       entries = entries_stay m (changed m (keeping texts message change))
           (ap (λ (entry : Option EntryRow). with_entry entry m.entries) (unentered_by texts m message.command read change reads allowed makes))
           (kept_more texts m message change) sound.entries;

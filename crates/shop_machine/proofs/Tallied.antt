@@ -192,7 +192,7 @@ module _ (m : FinMap name_cmp Part) (part : Part) (s : State) (made : List Part)
 -- ---- the totals of a content hold its parts
 
 pub moves : (gone most n : ℕ) → gone ≤ n → n + most < 2 ^ 64 → can_move gone most n ≡ true
-moves gone most n held room = ap (λ b. b && nat_lt (n + most) (2 ^ 64)) (le-leb gone n held) ∙ lt-ltb (n + most) (2 ^ 64) room
+moves gone most n held in_limit = ap (λ b. b && nat_lt (n + most) (2 ^ 64)) (le-leb gone n held) ∙ lt-ltb (n + most) (2 ^ 64) in_limit
 
 pub six : (a b c d e f : Bool) → a ≡ true → b ≡ true → c ≡ true → d ≡ true → e ≡ true → f ≡ true → (a && b && c && d && e && f) ≡ true
 six a b c d e f p q r s t u =

@@ -103,8 +103,8 @@ module _ (texts : Texts) (a b : Content) (message : Message) (read : Reading) (o
   pub same_answer : one ≡ other
   same_answer = accepts.answered ∙ same.answer ∙ sym again.answered
 
-  abbrev told : Reply → ImportRow → ImportRow
-  told answer row = record row { reply = texts.of_reply answer }
+  abbrev reported : Reply → ImportRow → ImportRow
+  reported answer row = record row { reply = texts.of_reply answer }
 
   abbrev begun_row : JobBegin → JobBegin
   begun_row row = record row { terminal = message.terminal }
@@ -120,7 +120,7 @@ module _ (texts : Texts) (a b : Content) (message : Message) (read : Reading) (o
     notes = with_note accepts.change.note a.notes;
     demands = with_demands accepts.change.demands a.demands;
     kept = insert a.kept (pair_of message) (record { command = texts.of_message message; reply = texts.of_reply accepts.change.reply });
-    imports = with_import (option_map (told accepts.change.reply) accepts.change.import) a.imports;
+    imports = with_import (option_map (reported accepts.change.reply) accepts.change.import) a.imports;
     entries = empty;
     last_act = with_number accepts.change.act a.last_act;
     last_demand = with_number accepts.change.demand a.last_demand;
@@ -137,7 +137,7 @@ module _ (texts : Texts) (a b : Content) (message : Message) (read : Reading) (o
     notes = with_note again.change.note a.notes;
     demands = with_demands again.change.demands a.demands;
     kept = insert a.kept (pair_of message) (record { command = texts.of_message message; reply = texts.of_reply again.change.reply });
-    imports = with_import (option_map (told again.change.reply) again.change.import) a.imports;
+    imports = with_import (option_map (reported again.change.reply) again.change.import) a.imports;
     entries = empty;
     last_act = with_number again.change.act a.last_act;
     last_demand = with_number again.change.demand a.last_demand;
@@ -154,7 +154,7 @@ module _ (texts : Texts) (a b : Content) (message : Message) (read : Reading) (o
     notes = with_note (same.note i) a.notes;
     demands = same.demands a.demands i;
     kept = insert a.kept (pair_of message) (record { command = texts.of_message message; reply = texts.of_reply (same.answer i) });
-    imports = with_import (option_map (told (same.answer i)) (same.import i)) a.imports;
+    imports = with_import (option_map (reported (same.answer i)) (same.import i)) a.imports;
     entries = empty;
     last_act = with_number (same.act i) a.last_act;
     last_demand = with_number (same.demand i) a.last_demand;
@@ -172,7 +172,7 @@ module _ (texts : Texts) (a b : Content) (message : Message) (read : Reading) (o
     notes = with_note again.change.note c.notes;
     demands = with_demands again.change.demands c.demands;
     kept = insert c.kept (pair_of message) (record { command = texts.of_message message; reply = texts.of_reply again.change.reply });
-    imports = with_import (option_map (told again.change.reply) again.change.import) c.imports;
+    imports = with_import (option_map (reported again.change.reply) again.change.import) c.imports;
     entries = empty;
     last_act = with_number again.change.act c.last_act;
     last_demand = with_number again.change.demand c.last_demand;

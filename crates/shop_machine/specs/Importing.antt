@@ -18,7 +18,7 @@ use Rattle.shop_records.specs.declared.refusals.Refusal.{Refusal}
 use Rattle.shop_records.specs.declared.refusals.Refusal.TheVariants.{NoMaterial, BadSize, OrderExists, BadText, StoreFault}
 use Rattle.shop_records.specs.Messages.{Texts}
 use Rattle.shop_records.specs.Readings.{Reading, unread, Lines, Problem, Again}
-use Rattle.shop_records.specs.Keeping.{TellsKept}
+use Rattle.shop_records.specs.Keeping.{StoresReply}
 use Rattle.shop_machine.specs.Decisions.{first_of, no_change}
 use Rattle.shop_machine.specs.Ordering.{lines_refusal, order_refusal, order_change}
 use Rattle.shop_machine.specs.Receiving.{receive_refusal, receive_change}
@@ -39,7 +39,7 @@ Spells form text _ = ⊥
 
 -- what an import stands for, from the row that is kept of its order: the same again, or what its text spells
 abbrev pub IsImportReading : Texts → Option ImportRow → Form → List ℕ → Reading → Type 0
-IsImportReading texts found form text (Again answer) = MatchOption found ⊥ (λ row. IsRepeat form text row × TellsKept texts row answer)
+IsImportReading texts found form text (Again answer) = MatchOption found ⊥ (λ row. IsRepeat form text row × StoresReply texts row answer)
 IsImportReading texts found form text read = IfSome found (λ row. IsRepeat form text row → ⊥) × Spells form text read
 
 -- ---- a problem as an order

@@ -66,9 +66,9 @@ abbrev pub CanBeMade : ℕ → Demand → Type 0
 CanBeMade n demand = (n ≤ demand.reserved) × (demand.made + n < 2 ^ 32)
 
 -- The row of a leaf's demand is there, under its own number, with room for the tree's pieces.
-abbrev pub HasRow : (room : ℕ → Demand → Type 0) → Tree → FoundLeaf → Type 0
-HasRow room tree found =
-    MatchOption found.demand ⊥ (λ demand. (demand.number ≡ found.leaf.demand) × room (count_of tree found.leaf.demand) demand)
+abbrev pub HasRow : (allows : ℕ → Demand → Type 0) → Tree → FoundLeaf → Type 0
+HasRow allows tree found =
+    MatchOption found.demand ⊥ (λ demand. (demand.number ≡ found.leaf.demand) × allows (count_of tree found.leaf.demand) demand)
 
 -- where the row of a leaf's demand is there, it stands under its own number
 abbrev pub IsNumbered : FoundLeaf → Type 0

@@ -29,7 +29,7 @@ pub fn decide_material(
     } in
         Decides (material_refusal known kind rule)
         (λ change. change ≡ material_change known material kind rule) result }
-    ensures told { IfOk result (λ change. IsTrue (is_accepted change.reply)) }
+    ensures reported { IfOk result (λ change. IsTrue (is_accepted change.reply)) }
 {
     let Some(limits) = Limits::new(kind, kerf, min_long, min_short) else {
         return Err(Refusal::BadMaterial);

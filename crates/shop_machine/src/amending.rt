@@ -14,7 +14,7 @@ use std::alloc::{AllocError, Global};
 // The change of a demand of which so many pieces are wanted.
 fn amended(alloc: Global, demand: Demand, wanted: u32) -> Result<Change, AllocError>
     ensures change { IfOk result (λ change. change ≡ amend_change demand wanted) }
-    ensures told { IfOk result (λ change. IsTrue (is_accepted change.reply)) }
+    ensures reported { IfOk result (λ change. IsTrue (is_accepted change.reply)) }
 {
     let mut demands = DemandList::new(alloc);
     demands.push(Demand { wanted, ..demand })?;
@@ -33,7 +33,7 @@ fn amended(alloc: Global, demand: Demand, wanted: u32) -> Result<Change, AllocEr
 pub fn decide_amend(alloc: Global, demand: Option<Demand>, wanted: u32) -> Result<Change, Refusal>
     ensures decision { Decides (amend_refusal demand wanted)
         (λ change. MatchOption demand ⊥ (λ row. change ≡ amend_change row wanted)) result }
-    ensures told { IfOk result (λ change. IsTrue (is_accepted change.reply)) }
+    ensures reported { IfOk result (λ change. IsTrue (is_accepted change.reply)) }
 {
     let Some(demand) = demand else {
         return Err(Refusal::NoDemand);

@@ -19,7 +19,7 @@ pub fn decide_begin(
 ) -> Result<Change, Refusal>
     ensures decision { Decides (begin_refusal job)
         (λ change. change ≡ begin_change number before) result }
-    ensures told { IfOk result (λ change. IsTrue (is_accepted change.reply)) }
+    ensures reported { IfOk result (λ change. IsTrue (is_accepted change.reply)) }
 {
     let Some(job) = job else {
         return Err(Refusal::NoJob);

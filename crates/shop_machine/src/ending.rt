@@ -372,7 +372,7 @@ fn end(
     ensures change { IfOk result
         (λ change. (at : ℕ → Option DemandOf) → AreDemandsFound at leaves.now
         → IsEnd stop.now work.job work.part work.limits totals.now at change) }
-    ensures told { IfOk result (λ change. IsTrue (is_accepted change.reply)) }
+    ensures reported { IfOk result (λ change. IsTrue (is_accepted change.reply)) }
 {
     let Work { job, part, limits } = work;
     let rows = laid_rows(alloc, &job.plan, stop)?;
@@ -408,7 +408,7 @@ fn release(alloc: Global, work: Work, leaves: &[FoundLeaf]) -> Result<Change, Al
     ensures change { IfOk result
         (λ change. (at : ℕ → Option DemandOf) → AreDemandsFound at leaves.now
         → IsRelease work.job work.part at change) }
-    ensures told { IfOk result (λ change. IsTrue (is_accepted change.reply)) }
+    ensures reported { IfOk result (λ change. IsTrue (is_accepted change.reply)) }
 {
     let Work {
         job,
@@ -448,7 +448,7 @@ fn decide_end(
         (λ change. MatchOption job ⊥
         (λ j. MatchOption part ⊥ (λ p. MatchOption material ⊥
         (λ m. IsEnd stop.now j p m.limits totals.now at change)))) result }
-    ensures told { IfOk result (λ change. IsTrue (is_accepted change.reply)) }
+    ensures reported { IfOk result (λ change. IsTrue (is_accepted change.reply)) }
 {
     let work = work_of(job, part, material, totals, leaves, stop)?;
     let change = end(alloc, work, totals, leaves, stop)?;
@@ -473,7 +473,7 @@ pub fn decide_done(
         (λ change. MatchOption job ⊥
         (λ j. MatchOption part ⊥ (λ p. MatchOption material ⊥
         (λ m. IsDone j p m.limits totals at change)))) result }
-    ensures told { IfOk result (λ change. IsTrue (is_accepted change.reply)) }
+    ensures reported { IfOk result (λ change. IsTrue (is_accepted change.reply)) }
 {
     let stop = Stop::All;
     let change = decide_end(alloc, job, part, material, &totals, leaves, &stop)?;
@@ -499,7 +499,7 @@ pub fn decide_break(
         (λ change. MatchOption job ⊥
         (λ j. MatchOption part ⊥ (λ p. MatchOption material ⊥
         (λ m. IsBroken halt.now rest j p m.limits totals at change)))) result }
-    ensures told { IfOk result (λ change. IsTrue (is_accepted change.reply)) }
+    ensures reported { IfOk result (λ change. IsTrue (is_accepted change.reply)) }
 {
     let halt = halt.copy(alloc)?;
     let stop = halted(halt, rest);
@@ -523,7 +523,7 @@ pub fn decide_release(
         (λ change. MatchOption job ⊥
         (λ j. MatchOption part ⊥ (λ p. MatchOption material ⊥ (λ _. IsRelease j p at change))))
         result }
-    ensures told { IfOk result (λ change. IsTrue (is_accepted change.reply)) }
+    ensures reported { IfOk result (λ change. IsTrue (is_accepted change.reply)) }
 {
     let stop = Stop::All;
     let work = work_of(job, part, material, &totals, leaves, &stop)?;

@@ -34,7 +34,7 @@ pub fn decide_extend(
         → AreMaterialsFound at lines.now → length there ≡ has → last_line there ≡ last
         → Decides (extend_refusal known at there (lines_in lines.now) first)
         (λ change. change ≡ extend_change order (lines_in lines.now) first) result }
-    ensures told { IfOk result (λ change. IsTrue (is_accepted change.reply)) }
+    ensures reported { IfOk result (λ change. IsTrue (is_accepted change.reply)) }
     ensures few { IfOk result (λ _. length lines.now ≤ MAX_LINES) }
 {
     if !known {

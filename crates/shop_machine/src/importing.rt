@@ -71,7 +71,7 @@ pub fn decide_again(alloc: Global, earlier: Option<Reply>) -> Result<Change, Ref
     requires { IfSome earlier (λ answer. IsTrue (is_accepted answer)) }
     ensures decision { Decides (again_refusal earlier)
         (λ change. MatchOption earlier ⊥ (λ answer. change ≡ no_change answer)) result }
-    ensures told { IfOk result (λ change. IsTrue (is_accepted change.reply)) }
+    ensures reported { IfOk result (λ change. IsTrue (is_accepted change.reply)) }
 {
     match earlier {
         Some(reply) => Ok(no_change(alloc, reply)),
@@ -104,7 +104,7 @@ pub fn decide_lines(
     ensures decision { (at : List ℕ → Option MaterialOf) → AreMaterialsFound at lines.now
         → Decides (order_refusal used at (lines_in lines.now) first)
         (λ change. change ≡ lines_change order text (lines_in lines.now) first) result }
-    ensures told { IfOk result (λ change. IsTrue (is_accepted change.reply)) }
+    ensures reported { IfOk result (λ change. IsTrue (is_accepted change.reply)) }
 {
     let change = decide_order(alloc, used, order, lines, first)?;
     let count = lines.len() as u32;
@@ -181,7 +181,7 @@ pub fn decide_problem(
         → Decides (problem_refusal used at known totals act first size (lines_in lines.now))
         (λ change. change ≡ problem_change order material text size
         (lines_in lines.now) totals act first) result }
-    ensures told { IfOk result (λ change. IsTrue (is_accepted change.reply)) }
+    ensures reported { IfOk result (λ change. IsTrue (is_accepted change.reply)) }
 {
     if used {
         return Err(Refusal::OrderExists);

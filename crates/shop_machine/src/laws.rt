@@ -43,7 +43,7 @@ pub fn accepted_changes_fit()
         → IsSound texts m → Reads texts m message.command read
         → refusal_of m message.command read ≡ None → Makes m message.command read change
         → kept_at m (pair_of message) ≡ None → Fits m (keeping texts message change) }
-    ensures told { (texts : Texts) (m : Content) (message : Message) (read : Reading)
+    ensures reported { (texts : Texts) (m : Content) (message : Message) (read : Reading)
         (change : Change)
         → IsSound texts m → Reads texts m message.command read
         → refusal_of m message.command read ≡ None → Makes m message.command read change

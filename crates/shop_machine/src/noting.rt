@@ -21,7 +21,7 @@ pub fn decide_note(
 ) -> Result<Change, Refusal>
     ensures decision { Decides (note_refusal known due text)
         (λ change. change ≡ note_change order due text) result }
-    ensures told { IfOk result (λ change. IsTrue (is_accepted change.reply)) }
+    ensures reported { IfOk result (λ change. IsTrue (is_accepted change.reply)) }
 {
     if !known {
         return Err(Refusal::NoOrder);

@@ -124,7 +124,7 @@ pub fn decide_order(
     ensures decision { (at : List ℕ → Option MaterialOf) → AreMaterialsFound at lines.now
         → Decides (order_refusal used at (lines_in lines.now) first)
         (λ change. change ≡ order_change order (lines_in lines.now) first) result }
-    ensures told { IfOk result (λ change. IsTrue (is_accepted change.reply)) }
+    ensures reported { IfOk result (λ change. IsTrue (is_accepted change.reply)) }
     ensures few { IfOk result (λ _. length lines.now ≤ MAX_LINES) }
 {
     if used {

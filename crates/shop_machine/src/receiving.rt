@@ -63,7 +63,7 @@ pub fn decide_receive(
     ensures decision { Decides (receive_refusal known totals act w h count)
         (λ change. change ≡ receive_change material batch
         (record { w = w; h = h }) act count totals) result }
-    ensures told { IfOk result (λ change. IsTrue (is_accepted change.reply)) }
+    ensures reported { IfOk result (λ change. IsTrue (is_accepted change.reply)) }
 {
     let Some(known) = known else {
         return Err(Refusal::NoMaterial);

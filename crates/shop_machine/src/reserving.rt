@@ -64,7 +64,7 @@ fn leaves_refusal(material: &Code, leaves: &[FoundLeaf]) -> Option<Refusal>
 
 fn is_over(count: u32, demand: &Option<Demand>) -> bool
     ensures test { result ≡ is_over count demand.now }
-    ensures room { result ≡ false → IfSome demand.now (CanRecount Reserved count) }
+    ensures in_limit { result ≡ false → IfSome demand.now (CanRecount Reserved count) }
 {
     match demand {
         None => false,
@@ -79,7 +79,7 @@ fn is_too_many(plan: &Plan, leaves: &[FoundLeaf]) -> bool
     ensures test { (at : ℕ → Option DemandOf) → AreDemandsFound at leaves.now
         → result ≡ list_any (λ leaf. is_over (count_of plan.now.tree leaf.demand) (at leaf.demand))
         (leaves_in leaves.now) }
-    ensures room { result ≡ false
+    ensures in_limit { result ≡ false
         → All (λ f. IfSome f.demand (CanRecount Reserved (count_of plan.now.tree f.leaf.demand)))
         leaves.now }
 {
@@ -108,7 +108,7 @@ fn reservation(
     ensures change { IfOk result
         (λ change. (at : ℕ → Option DemandOf) → AreDemandsFound at leaves.now
         → IsReservation part plan at act change) }
-    ensures told { IfOk result (λ change. IsTrue (is_accepted change.reply)) }
+    ensures reported { IfOk result (λ change. IsTrue (is_accepted change.reply)) }
 {
     let demands = recounted_rows(alloc, Recount::Reserved, &plan, leaves)?;
     let cuts = plan.cuts();
@@ -137,7 +137,7 @@ fn plan_refusal(part: &Part, plan: &Plan, leaves: &[FoundLeaf], act: u32) -> Opt
     ensures refusal { (at : ℕ → Option DemandOf) → AreDemandsFound at leaves.now
         → result ≡ plan_refusal part.now (Some plan.now) at act }
     ensures found { IfNone result (All (λ f. IsTrue (is_some f.demand)) leaves.now) }
-    ensures room { IfNone result
+    ensures in_limit { IfNone result
         (All (λ f. IfSome f.demand (CanRecount Reserved (count_of plan.now.tree f.leaf.demand)))
         leaves.now) }
 {
@@ -174,7 +174,7 @@ pub fn decide_reserve(
         → Decides (reserve_refusal part material plan at act)
         (λ change. MatchOption part ⊥
         (λ row. MatchOption plan ⊥ (λ p. IsReservation row p at act change))) result }
-    ensures told { IfOk result (λ change. IsTrue (is_accepted change.reply)) }
+    ensures reported { IfOk result (λ change. IsTrue (is_accepted change.reply)) }
 {
     let Some(part) = part else {
         return Err(Refusal::NoPart);

@@ -36,7 +36,7 @@ pub fn decide_scrap(alloc: Global, part: Option<Part>, totals: Totals) -> Result
     ensures decision { Decides (scrap_refusal part totals)
         (λ change. MatchOption part ⊥
         (λ row. change ≡ turn_change state.Scrap row totals (reply.Scrap row.name))) result }
-    ensures told { IfOk result (λ change. IsTrue (is_accepted change.reply)) }
+    ensures reported { IfOk result (λ change. IsTrue (is_accepted change.reply)) }
 {
     let Some(part) = part else {
         return Err(Refusal::NoPart);
@@ -62,7 +62,7 @@ pub fn decide_give_back(
         (λ change. MatchOption part ⊥
         (λ row. change ≡ turn_change state.Returned row totals (reply.GiveBack row.name)))
         result }
-    ensures told { IfOk result (λ change. IsTrue (is_accepted change.reply)) }
+    ensures reported { IfOk result (λ change. IsTrue (is_accepted change.reply)) }
 {
     let Some(part) = part else {
         return Err(Refusal::NoPart);

@@ -302,7 +302,7 @@ fn undo(
         → (rows : List DemandOf)
         × AreRecounted at (with_unmade (laid_by over.end over.job)) over.job.plan.tree rows
         × (change ≡ undo_change over.end over.job over.part over.limits totals.now rows)) }
-    ensures told { IfOk result (λ change. IsTrue (is_accepted change.reply)) }
+    ensures reported { IfOk result (λ change. IsTrue (is_accepted change.reply)) }
 {
     let Over {
         end: _,
@@ -361,7 +361,7 @@ pub fn decide_undo(
         (λ change. MatchOption job ⊥
         (λ j. MatchOption part ⊥ (λ p. MatchOption material ⊥
         (λ m. IsUndo j halt p m.limits totals at change)))) result }
-    ensures told { IfOk result (λ change. IsTrue (is_accepted change.reply)) }
+    ensures reported { IfOk result (λ change. IsTrue (is_accepted change.reply)) }
 {
     let over = find_over(job, halt, part, material)?;
     let rows = laid_by(alloc, &over.end, &over.job)?;

@@ -195,7 +195,7 @@ fn sort_entries(list: &mut Vec<Entry>) -> Result<(), AllocError>
 }
 
 // The plans alone.
-fn told_entries(alloc: Global, list: Vec<Entry>) -> Result<Vec<ReportedPlan>, AllocError>
+fn reported_entries(alloc: Global, list: Vec<Entry>) -> Result<Vec<ReportedPlan>, AllocError>
     ensures { IfOk result (λ plans. plans.items ≡ map (λ e. e.reported) list.items) }
 {
     let mut plans = Vec::new(alloc);
@@ -218,7 +218,7 @@ fn reported_plans(
     let shares = shares_of(alloc, units)?;
     let mut list = entries_of(alloc, &instance.sizes, &ranked, &shares)?;
     sort_entries(&mut list)?;
-    let plans = told_entries(alloc, list)?;
+    let plans = reported_entries(alloc, list)?;
     Ok(plans)
 }
 

@@ -13,6 +13,6 @@ pub record KeepsReply (texts : Texts) (row : Kept) (message : Message) (answer :
   pub reply : row.reply ≡ texts.of_reply answer
 
 -- the reply that a kept import's row tells, or that it tells none
-abbrev pub TellsKept : Texts → ImportRow → Option Reply → Type 0
-TellsKept texts row (Some answer) = IsMade answer × (row.reply ≡ texts.of_reply answer)
-TellsKept texts row None = (answer : Reply) → IsMade answer → row.reply ≢ texts.of_reply answer
+abbrev pub StoresReply : Texts → ImportRow → Option Reply → Type 0
+StoresReply texts row (Some answer) = IsMade answer × (row.reply ≡ texts.of_reply answer)
+StoresReply texts row None = (answer : Reply) → IsMade answer → row.reply ≢ texts.of_reply answer

@@ -13,7 +13,7 @@ use Rattle.cut_tree.specs.declared.steps.Step.{Step}
 use Rattle.cut_tree.specs.declared.token.Token.{Token}
 use Rattle.cut_tree.specs.declared.token.Token.TheVariants as token
 use Rattle.shop_records.specs.declared.journal.Entry.{Entry}
-use Rattle.shop_records.specs.declared.journal.EntryTold.{EntryTold}
+use Rattle.shop_records.specs.declared.journal.ReportedEntry.{ReportedEntry}
 use Rattle.shop_records.specs.declared.journal.Subject.{Subject}
 use Rattle.shop_records.specs.declared.journal.Subject.TheVariants as subject
 use Rattle.shop_records.specs.declared.journal.Word.{Word}
@@ -223,12 +223,12 @@ entries_about content about after = filter (is_about content about) (entries_beh
 
 -- How an entry is told: with the texts that are kept of its message. An entry whose message isn't kept is none; in each
 -- content that a history gives every entry's message is kept.
-abbrev pub told_entry : Content → Entry → Option EntryTold
-told_entry content entry =
+abbrev pub reported_entry : Content → Entry → Option ReportedEntry
+reported_entry content entry =
     option_map (λ (row : Kept). record { at = entry.at; entry = entry.number; message = row.command; reply = row.reply }) (kept_at content entry.pair)
 
-abbrev pub told_entries : Content → List Entry → List EntryTold
-told_entries content entries = filter_map (told_entry content) entries
+abbrev pub reported_entries : Content → List Entry → List ReportedEntry
+reported_entries content entries = filter_map (reported_entry content) entries
 
 -- ---- days
 

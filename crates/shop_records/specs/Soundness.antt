@@ -35,7 +35,7 @@ use Rattle.shop_records.specs.Messages.{Texts, IsMessage, IsNumber, pair_of}
 use Rattle.shop_records.specs.Content.{Content, material_at, part_at, job_at, has_order, demand_at, kept_at, import_at, entry_at, entry_count, last_time, totals_of, AddsUp, in_state, changed, lines_for, halt_at, begun_at, note_at}
 use Rattle.shop_records.specs.Same.{same_code}
 use Rattle.shop_records.specs.Notes.{is_note}
-use Rattle.shop_records.specs.Keeping.{TellsKept, KeepsReply}
+use Rattle.shop_records.specs.Keeping.{StoresReply, KeepsReply}
 
 -- Each part is named after an act so far, the numbers aren't spent, and of each material no more was received than may be,
 -- all of which is accounted for.
@@ -58,7 +58,7 @@ pub record IsKept (texts : Texts) (pair : Pair) (row : Kept) : Type 0 where
 pub record IsImport (texts : Texts) (content : Content) (code : List ℕ) (row : ImportRow) : Type 0 where
   pub ordered : has_order content code ≡ true
   pub answer : Reply
-  pub tells : TellsKept texts row (Some answer)
+  pub reports : StoresReply texts row (Some answer)
 
 -- a material stands under its own code, and is cut by a rule that there may be
 pub record IsKnown (code : List ℕ) (material : Material) : Type 0 where

@@ -23,5 +23,5 @@ module _ {V : Type 0} (looks : V → Part → Bool → V → Type 0) where
     pub parts : List Part
     pub on : Bool
     pub visitor : HasSeen parts on old new
-    pub answer : IfOk result (λ told. told ≡ on)
-    pub begins : says (λ list. (rest : List Part) × (list ≡ parts ++ rest) × IfOk result (λ told. IsTrue told → rest ≡ []))
+    pub answer : IfOk result (λ reported. reported ≡ on)
+    pub begins : says (λ list. (rest : List Part) × (list ≡ parts ++ rest) × IfOk result (λ reported. IsTrue reported → rest ≡ []))

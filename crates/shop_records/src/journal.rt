@@ -107,7 +107,7 @@ pub enum Subject {
 
 /// An entry as it is told, with the texts that are kept of its message.
 #[derive(Debug, Drop)]
-pub struct EntryTold {
+pub struct ReportedEntry {
     /// In seconds since 1970-01-01 00:00 UTC.
     pub at: u64,
     /// Its number, from 1 on.

@@ -15,7 +15,7 @@ mod visits;
 pub use changes::{Change, DemandList, MaterialList, MaterialTotals, PartList};
 pub use cut_measure::RowList;
 pub use imports::{Form, ImportRow};
-pub use journal::{Entry, EntryTold, Subject, Word, word_of};
+pub use journal::{Entry, ReportedEntry, Subject, Word, word_of};
 pub use messages::{
     CodeList, Command, DemandRows, EntryList, EntryRows, JobList, LineList, Message, NumberList,
     OrderList, PieceList, Query, RackList, Reply, StepList,

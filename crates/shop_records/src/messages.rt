@@ -2,7 +2,7 @@
 
 use crate::changes::{MaterialList, PartList};
 use crate::imports::Form;
-use crate::journal::{Entry, EntryTold, Subject};
+use crate::journal::{Entry, ReportedEntry, Subject};
 use crate::pieces::{PieceRow, PieceSource, StepRow};
 use crate::records::{DemandRow, JobRow, JobState, OrderRow, RackRow, StateWord};
 use crate::refusals::Refusal;
@@ -36,7 +36,7 @@ pub type StepList = RowList<StepRow>;
 pub type CodeList = RowList<Code>;
 
 /// Entries as they are told, in order.
-pub type EntryList = RowList<EntryTold>;
+pub type EntryList = RowList<ReportedEntry>;
 
 /// Entries as they are written, in order.
 pub type EntryRows = RowList<Entry>;

@@ -5,7 +5,7 @@ use Rattle.json.specs.Print.{print}
 use Rattle.json.specs.Tree.{json_tokens}
 use Rattle.serde_json.specs.Written.{compact_text, outline}
 use Rattle.serde_json.proofs.Texts.{print-outline}
-use Rattle.shop_records.specs.declared.journal.EntryTold.{EntryTold}
+use Rattle.shop_records.specs.declared.journal.ReportedEntry.{ReportedEntry}
 use Rattle.shop_records.specs.declared.messages.Reply.{Reply}
 use Rattle.shop_records.specs.Messages.{IsMade}
 use Rattle.shop_forms.specs.Forms.{entry_data, reply_of, reply_data, json_texts, kept_reply_of}
@@ -15,7 +15,7 @@ pub reply_text_printed : (answer : Reply) → print (json_tokens (outline (reply
 unfolding json_texts
 reply_text_printed answer = print-outline (reply_data answer)
 
-pub entry_text_printed : (reported : EntryTold) → print (json_tokens (outline (entry_data reported))) ≡ compact_text (entry_data reported)
+pub entry_text_printed : (reported : ReportedEntry) → print (json_tokens (outline (entry_data reported))) ≡ compact_text (entry_data reported)
 entry_text_printed reported = print-outline (entry_data reported)
 
 pub kept_back : (answer : Reply) → IsMade answer → kept_reply_of (json_texts.of_reply answer) ≡ Some answer

@@ -13,7 +13,7 @@ use crate::replies::kept_reply;
 use json::Writer;
 use shop_forms::{Member, write_flag, write_number, write_object, write_text};
 use shop_messages::{kept_message, write_message};
-use shop_records::{EntryTold, Text};
+use shop_records::{ReportedEntry, Text};
 use std::alloc::{AllocError, Global};
 
 // Writes null.
@@ -74,12 +74,12 @@ fn write_kept_reply(alloc: Global, writer: &mut Writer, text: &Text) -> Result<(
 pub(crate) fn write_entry(
     alloc: Global,
     writer: &mut Writer,
-    reported: &EntryTold,
+    reported: &ReportedEntry,
 ) -> Result<(), AllocError>
     ensures value { OnOk result (AddsValue writer.old writer.new (entry_data reported.now)) }
     ensures wide { OnOk result (HasWideEntry reported.now) }
 {
-    let EntryTold {
+    let ReportedEntry {
         at,
         entry,
         message,
@@ -100,7 +100,7 @@ pub(crate) fn write_entry(
 fn write_entries(
     alloc: Global,
     writer: &mut Writer,
-    entries: &[EntryTold],
+    entries: &[ReportedEntry],
 ) -> Result<(), AllocError>
     ensures value { OnOk result
         (AddsValue writer.old writer.new (rows_data entry_data entries.now)) }
@@ -119,7 +119,7 @@ pub(crate) fn report_entries(
     alloc: Global,
     writer: &mut Writer,
     word: &str,
-    entries: &[EntryTold],
+    entries: &[ReportedEntry],
     more: bool,
 ) -> Result<(), AllocError>
     ensures value { OnOk result

@@ -1,7 +1,7 @@
 //! How a reply about entries is read.
 
 ghost use Rattle.std.specs.Prelude.{◌≡◌, Bool, List, IfOk, map, option_map};
-ghost use Rattle.shop_records.specs.declared.journal.EntryTold.{EntryTold as EntryOf};
+ghost use Rattle.shop_records.specs.declared.journal.ReportedEntry.{ReportedEntry as EntryOf};
 ghost use Rattle.shop_records.specs.declared.messages.Reply.TheVariants as answer;
 ghost use Rattle.serde_json.specs.View.{view};
 ghost use Rattle.shop_forms.specs.Fields.{all_of, row};
@@ -12,7 +12,7 @@ use crate::replies::reply_text;
 use serde_json::Value;
 use shop_forms::{elements_at, flag_at, has_keys, text_at, wide_at};
 use shop_messages::{message_text, sent_message};
-use shop_records::{EntryList, EntryTold, Reply, RowList, Text};
+use shop_records::{EntryList, ReportedEntry, Reply, RowList, Text};
 use std::alloc::{AllocError, Global};
 
 // The text of the message that a value stands for.
@@ -38,7 +38,7 @@ fn made_text(alloc: Global, value: &Value) -> Result<Option<Text>, AllocError>
 }
 
 // The entry at the keys of an object.
-fn entry_fields(alloc: Global, value: &Value) -> Result<Option<EntryTold>, AllocError>
+fn entry_fields(alloc: Global, value: &Value) -> Result<Option<ReportedEntry>, AllocError>
     ensures { IfOk result (λ entry. entry ≡ form.entry_fields (view value.now)) }
 {
     let (Some(at), Some(entry)) = (wide_at(value, "at"), wide_at(value, "entry")) else {
@@ -50,7 +50,7 @@ fn entry_fields(alloc: Global, value: &Value) -> Result<Option<EntryTold>, Alloc
     let (Some(message), Some(reply)) = (sent_text(alloc, sent)?, made_text(alloc, answer)?) else {
         return Ok(None);
     };
-    Ok(Some(EntryTold {
+    Ok(Some(ReportedEntry {
         at,
         entry,
         message,
@@ -59,7 +59,7 @@ fn entry_fields(alloc: Global, value: &Value) -> Result<Option<EntryTold>, Alloc
 }
 
 // The entry that a value stands for.
-fn read_entry(alloc: Global, value: &Value) -> Result<Option<EntryTold>, AllocError>
+fn read_entry(alloc: Global, value: &Value) -> Result<Option<ReportedEntry>, AllocError>
     ensures { IfOk result (λ entry. entry ≡ form.entry_in_list (view value.now)) }
 {
     if !has_keys(value, 4) {

@@ -14,7 +14,7 @@ use crate::history::write_entry;
 use crate::reading::reported;
 use serde_json::Value;
 use shop_forms::{new_writer, value_of, written_text};
-use shop_records::{EntryTold, Refusal, Reply, Text};
+use shop_records::{ReportedEntry, Refusal, Reply, Text};
 use std::alloc::{AllocError, Global};
 
 /// The reply of an accepted message, or the one about entries, that a value stands for; refused `BadMessage` where it stands
@@ -61,7 +61,7 @@ pub fn reply_text(alloc: Global, reply: &Reply) -> Result<Text, AllocError>
 
 #[tactic(auto, using(crate::proofs::Printed::entry_text_printed))]
 /// The text of an entry as it is reported: compact, with its keys in byte order.
-pub fn entry_text(alloc: Global, reported: &EntryTold) -> Result<Text, AllocError>
+pub fn entry_text(alloc: Global, reported: &ReportedEntry) -> Result<Text, AllocError>
     ensures { IfOk result (λ text. text ≡ compact_text (entry_data reported.now)) }
 {
     let mut out = new_writer(alloc);

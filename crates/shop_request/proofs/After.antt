@@ -59,7 +59,7 @@ bad_head (Some xs) f h = inr (h.0, Err f, h.1, refl)
 -- A whole head came, in these spans, and this is judged of it.
 pub record IsJudged (received : List ℕ) (headers : List HeaderSpan) (spans : RequestSpans) (answer : Result ParsedHead RequestFault) : Type 0 where
   pub some : 0 < length received
-  pub room : length headers ≡ 64
+  pub slots : length headers ≡ 64
   pub within : IsRequestWithin (prefix received) headers spans
   pub head : RequestHead
   pub at : IsRequestAt (prefix received) headers spans head
@@ -68,14 +68,14 @@ pub record IsJudged (received : List ℕ) (headers : List HeaderSpan) (spans : R
 -- it was found so
 pub found_judged : (received : List ℕ) (headers : List HeaderSpan) (spans : RequestSpans) (asks : Result Asked RequestFault) → 0 < length received → length headers ≡ 64 → (is : IsAsked (prefix received) headers spans asks)
     → IsJudged received headers spans (parsed_heads (path_of is.1.0.target) asks)
-found_judged received headers spans asks some room is = record { some = some; room = room; within = is.0; head = is.1.0; at = is.1.1; said = sym is.1.2 }
+found_judged received headers spans asks some slots is = record { some = some; slots = slots; within = is.0; head = is.1.0; at = is.1.1; said = sym is.1.2 }
 
 module _ {received : List ℕ} {headers : List HeaderSpan} {spans : RequestSpans} {answer : Result ParsedHead RequestFault} (j : IsJudged received headers spans answer) where
   pub few : length j.head.fields ≤ 64
   few =
       omega (
         arith,
-        j.room,
+        j.slots,
         ap length j.at.fields,
         length-map (take spans.headers headers) (header_bytes (prefix received)),
         length-map j.head.fields name_and_value,
@@ -123,8 +123,8 @@ module _ {received : List ℕ} {headers : List HeaderSpan} {spans : RequestSpans
     whole : (xs ys : List ℕ) → Consumes (Some xs) mid received → Consumes mid (Some ys) on.0 → xs ≡ received ++ (on.0 ++ ys)
     whole xs ys first second = Consumes-trans (Some xs) mid (Some ys) received on.0 first second ∙ append_assoc received on.0 ys
 
-    told : (ys : List ℕ) (s : ParseResult) → with_body parsed_head.route parsed_head.length (drop spans.len received' ++ ys) ≡ s → on_parsed_head answer (drop (length (print_request j.head)) received ++ (on.0 ++ ys)) ≡ s
-    told ys s is =
+    reported : (ys : List ℕ) (s : ParseResult) → with_body parsed_head.route parsed_head.length (drop spans.len received' ++ ys) ≡ s → on_parsed_head answer (drop (length (print_request j.head)) received ++ (on.0 ++ ys)) ≡ s
+    reported ys s is =
         let after = drop (length (print_request j.head)) received ++ (on.0 ++ ys) in
         ap (λ a. on_parsed_head a after) e ∙ ap (λ (b : Bool). if b then with_body parsed_head.route parsed_head.length after else asking parsed_head.route parsed_head.part) body ∙ ap (with_body parsed_head.route parsed_head.length) (after_is ys) ∙ is
 
@@ -147,7 +147,7 @@ module _ {received : List ℕ} {headers : List HeaderSpan} {spans : RequestSpans
   parse_of_body (Some xs) (Some zs) None taken parsed_head e b received' on long body is = absurd on.2
   parse_of_body (Some xs) (Some zs) (Some ys) taken parsed_head e b received' on long body is =
       core xs (on.0 ++ ys) (asking parsed_head.route body) (whole (Some xs) (Some zs) (Some ys) taken parsed_head e b received' on xs ys taken on.2)
-      (told (Some xs) (Some zs) (Some ys) taken parsed_head e b received' on ys (asking parsed_head.route body) (enough (Some xs) (Some zs) (Some ys) taken parsed_head e b received' on ys long ∙ ap (asking parsed_head.route) (sym is)))
+      (reported (Some xs) (Some zs) (Some ys) taken parsed_head e b received' on ys (asking parsed_head.route body) (enough (Some xs) (Some zs) (Some ys) taken parsed_head e b received' on ys long ∙ ap (asking parsed_head.route) (sym is)))
 
   pub parse_of_short : (old mid new : Option (List ℕ)) → Consumes old mid received → (parsed_head : ParsedHead) → answer ≡ Ok parsed_head → takes_body parsed_head.route ≡ true → (received' : List ℕ) → IsReadOn mid new received received'
       → length received' - spans.len < parsed_head.length → IsAtEnd new → IfSome old (λ input. ParsesTo input (faulty BadRequest))
@@ -156,4 +156,4 @@ module _ {received : List ℕ} {headers : List HeaderSpan} {spans : RequestSpans
   parse_of_short (Some xs) (Some zs) None taken parsed_head e b received' on short end = absurd on.2
   parse_of_short (Some xs) (Some zs) (Some ys) taken parsed_head e b received' on short end =
       core xs (on.0 ++ ys) (faulty BadRequest) (whole (Some xs) (Some zs) (Some ys) taken parsed_head e b received' on xs ys taken on.2)
-      (told (Some xs) (Some zs) (Some ys) taken parsed_head e b received' on ys (faulty BadRequest) (too_few (Some xs) (Some zs) (Some ys) taken parsed_head e b received' on ys end short))
+      (reported (Some xs) (Some zs) (Some ys) taken parsed_head e b received' on ys (faulty BadRequest) (too_few (Some xs) (Some zs) (Some ys) taken parsed_head e b received' on ys end short))

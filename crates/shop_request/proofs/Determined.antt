@@ -46,7 +46,7 @@ refused_later received some fault is more = bad_head (Some (received ++ more)) f
 -- a fault in a whole head, whatever follows
 pub fault_later : (received : List ℕ) (headers : List HeaderSpan) (spans : RequestSpans) (fault : RequestFault) → 0 < length received → length headers ≡ 64 → IsAsked (prefix received) headers spans (Err fault)
     → (more : List ℕ) → ParsesTo (received ++ more) (faulty fault)
-fault_later received headers spans fault some room is more = parse_of_fault (found_judged received headers spans (Err fault) some room is) (Some (received ++ more)) (Some more) refl fault refl
+fault_later received headers spans fault some slots is more = parse_of_fault (found_judged received headers spans (Err fault) some slots is) (Some (received ++ more)) (Some more) refl fault refl
 
 module _ (received : List ℕ) (fault : RequestFault) (long : 8192 ≤ length received → fault ≡ LargeHead) (short : length received < 8192 → fault ≡ BadRequest) (none : HasNoRequest (prefix received)) (may : MayBecomeRequest (prefix received)) where
   -- a full prefix with a part of a head

@@ -39,12 +39,12 @@ module _ (guard : Guard) (received : List ℕ) where
   pub unfinished_ruling : HasNoRequest (prefix received) → MayBecomeRequest (prefix received) → HasRuling guard received Routed
   unfinished_ruling = unfinished (nat_le 8192 (length received)) refl
 
-  module _ (headers : List HeaderSpan) (spans : RequestSpans) (h : RequestHead) (room : length headers ≡ 64) (at : IsRequestAt (prefix received) headers spans h) where
+  module _ (headers : List HeaderSpan) (spans : RequestSpans) (h : RequestHead) (slots : length headers ≡ 64) (at : IsRequestAt (prefix received) headers spans h) where
     few : length h.fields ≤ 64
     few =
         omega (
           arith,
-          room,
+          slots,
           ap length at.fields,
           length-map (take spans.headers headers) (header_bytes (prefix received)),
           length-map h.fields name_and_value,

@@ -45,9 +45,9 @@ abbrev OfInput : Option (List ℕ) → (List ℕ → Type 0) → Type 0
 OfInput old claim = IfSome old (λ input. (0 < length input) × claim input)
 
 received : (claim : List ℕ → Type 0) (old new : Option (List ℕ)) (p : List ℕ) → 0 < length p → Consumes old new p → ((m : List ℕ) → claim (p ++ m)) → OfInput old claim
-received claim None new p some is tells = tt
-received claim (Some xs) None p some is tells = absurd is
-received claim (Some xs) (Some ys) p some is tells = (omega (arith, ap length is, length-append p ys, some), subst claim (sym is) (tells ys))
+received claim None new p some is reports = tt
+received claim (Some xs) None p some is reports = absurd is
+received claim (Some xs) (Some ys) p some is reports = (omega (arith, ap length is, length-append p ys, some), subst claim (sym is) (reports ys))
 
 pub never_a_head : (old new : Option (List ℕ)) (p : List ℕ) → 0 < length p → Consumes old new p → NeverHasRequest (prefix p) → OfInput old (λ input. HasHead input (Err BadRequest))
 never_a_head old new p some is never =
@@ -100,10 +100,10 @@ refused old new p some taken fault (inl large) =
 refused old new p some taken fault (inr bad) = subst (λ f. OfInput old (λ input. HasHead input (Err f))) (sym bad.0) (never_a_head old new p some taken bad.1)
 
 -- what `httparse` says of an error, with room for so many fields
-pub refused_prefix : (p : List ℕ) (room : ℕ) → room ≡ 64 → (error : Error) (fault : RequestFault) → IsFaultOf error fault → (error ≢ TooManyHeaders → NeverHasRequest p) → (error ≡ TooManyHeaders → RequestExceeds room p) → RequestOverflows room p → IsRefused p fault
-refused_prefix p room is error fault (inl large) never exceeds overflows =
+pub refused_prefix : (p : List ℕ) (slots : ℕ) → slots ≡ 64 → (error : Error) (fault : RequestFault) → IsFaultOf error fault → (error ≢ TooManyHeaders → NeverHasRequest p) → (error ≡ TooManyHeaders → RequestExceeds slots p) → RequestOverflows slots p → IsRefused p fault
+refused_prefix p slots is error fault (inl large) never exceeds overflows =
     inl (large.1, subst (λ n. RequestExceeds n p) is (exceeds large.0), subst (λ n. RequestOverflows n p) is overflows)
-refused_prefix p room is error fault (inr bad) never exceeds overflows = inr (bad.1, never bad.0)
+refused_prefix p slots is error fault (inr bad) never exceeds overflows = inr (bad.1, never bad.0)
 
 -- ---- after a whole head
 

@@ -71,7 +71,7 @@ IsFound prefix headers (found.Refused fault) = IsRefused prefix fault
 
 -- what was read of the head of these bytes
 pub record IsHeadIn (received : List ℕ) (head : Head) : Type 0 where
-  pub room : length head.headers ≡ 64
+  pub slots : length head.headers ≡ 64
   pub found : IsFound (prefix received) head.headers head.found
 
 -- so many bytes are enough for what was found: no more make another request of it

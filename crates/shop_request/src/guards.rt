@@ -179,7 +179,7 @@ impl Guard {
 
     // What is done by a whole head.
     fn rule_whole(&self, headers: &[HeaderSpan], spans: &RequestSpans, received: &[u8]) -> Ruling
-        requires room { length headers.now ≡ 64 }
+        requires slots { length headers.now ≡ 64 }
         requires within { IsRequestWithin (prefix received.now) headers.now spans.now }
         requires head { IsRequestOf (prefix received.now) headers.now spans.now }
         ensures { HasRuling self.now received.now result }

@@ -50,7 +50,7 @@ fn asked_for<'b>(
     received: &'b [u8],
 ) -> Inbound<'b>
     requires some { 0 < length received.now }
-    requires room { length headers.now ≡ 64 }
+    requires slots { length headers.now ≡ 64 }
     requires head { IsAsked (prefix received.now) headers.now spans.now (Ok asked) }
     ensures parsed { ParsesTo received.now (parse_of result) }
     ensures determined { HasEnough (length received.now) (Asks spans.now asked)

@@ -12,7 +12,7 @@ use Rattle.std.proofs.Math.ListN.{set}
 use Rattle.cut_measure.specs.Codes.{code_cmp}
 use Rattle.cut_measure.specs.Names.{Name, name_cmp}
 use Rattle.shop_rows.specs.Keys.{codes_exact}
-use Rattle.shop_rows.specs.Open.{own_key, open_cmp, open_exact, list_key, listed_names, names_of, has, has_key, room_in, room_of, AreInOrder, SetsKey}
+use Rattle.shop_rows.specs.Open.{own_key, open_cmp, open_exact, list_key, listed_names, names_of, has, has_key, spare_in, spare_of, AreInOrder, SetsKey}
 use Rattle.shop_rows.specs.Rows.{entries_of, rise, row_at, IsPut, SetsRow}
 use Rattle.shop_rows.specs.declared.names.NameList.{NameList}
 use Rattle.shop_rows.specs.declared.names.OpenPart.{OpenPart}
@@ -57,11 +57,11 @@ module _ (list : NameList) (old new : List NameList) (is_put : IsPut list_key co
         by_code true e = same ∙ names_were code e
         by_code false e = refl
 
-    pub room_put : (n : ℕ) → room_in found ≤ room_in (Some list) + n → (code : List ℕ) → room_of code old ≤ room_of code new + n
-    room_put n more code = subst (λ row. room_of code old ≤ room_in row + n) (sym (row_new code)) (by_code (eq_by_cmp code_cmp code list.material) refl)
+    pub spare_put : (n : ℕ) → spare_in found ≤ spare_in (Some list) + n → (code : List ℕ) → spare_of code old ≤ spare_of code new + n
+    spare_put n more code = subst (λ row. spare_of code old ≤ spare_in row + n) (sym (row_new code)) (by_code (eq_by_cmp code_cmp code list.material) refl)
       where
-        by_code : (b : Bool) → eq_by_cmp code_cmp code list.material ≡ b → room_of code old ≤ room_in (cond b (Some list) (row_at list_key code_cmp code old)) + n
-        by_code true e = subst (λ r. r ≤ room_in (Some list) + n) (ap room_in (sym was) ∙ ap (λ q. room_of q old) (sym (own_code code e))) more
+        by_code : (b : Bool) → eq_by_cmp code_cmp code list.material ≡ b → spare_of code old ≤ spare_in (cond b (Some list) (row_at list_key code_cmp code old)) + n
+        by_code true e = subst (λ r. r ≤ spare_in (Some list) + n) (ap spare_in (sym was) ∙ ap (λ q. spare_of q old) (sym (own_code code e))) more
         by_code false e = omega arith
 
     pub settled_put : (name : Name) (is_there : Bool) → SetsRow own_key name_cmp name is_there (listed_names found) list.names.items
@@ -79,9 +79,9 @@ module _ (list : NameList) (old new : List NameList) (is_put : IsPut list_key co
         by_code false e = ap (λ b. cond b is_there (has_key other old)) (sym (far_material (code_cmp other.material list.material) (name_cmp other.name name) e))
 
 -- the list of the material has room now
-pub room_there : (list : NameList) (old new : List NameList) → IsPut list_key code_cmp list old new → room_of list.material new ≡ room_in (Some list)
-room_there list old new is_put =
-    ap room_in (row_new list old new is_put list.material) ∙ ap (λ r. room_in (cond (is_eq r) (Some list) (row_at list_key code_cmp list.material old))) (tied_itself nat_list_cmp_total list.material)
+pub spare_there : (list : NameList) (old new : List NameList) → IsPut list_key code_cmp list old new → spare_of list.material new ≡ spare_in (Some list)
+spare_there list old new is_put =
+    ap spare_in (row_new list old new is_put list.material) ∙ ap (λ r. spare_in (cond (is_eq r) (Some list) (row_at list_key code_cmp list.material old))) (tied_itself nat_list_cmp_total list.material)
 
 -- ---- the list of a material is changed in its place
 
@@ -104,7 +104,7 @@ is_place ls xs i x key same within holds here =
 pub record AreWider (old new : List NameList) : Type 0 where
   pub names : (code : List ℕ) → names_of code new ≡ names_of code old
   pub order : AreInOrder new
-  pub more : (code : List ℕ) → room_of code old ≤ room_of code new
+  pub more : (code : List ℕ) → spare_of code old ≤ spare_of code new
 
 module _ (xs : List NameList) (order : AreInOrder xs) (i : ℕ) (x : NameList) (key : List ℕ) (place : IsPlace xs i x key) where
   key_at : x.material ≡ key
@@ -116,8 +116,8 @@ module _ (xs : List NameList) (order : AreInOrder xs) (i : ℕ) (x : NameList) (
   pub rising_in : IsTrue (rise own_key name_cmp x.names.items)
   rising_in = subst (λ row. IsTrue (rise own_key name_cmp (listed_names row))) found_at (order.names key)
 
-  pub room_found : room_of key xs ≡ room_in (Some x)
-  room_found = ap room_in found_at
+  pub spare_found : spare_of key xs ≡ spare_in (Some x)
+  spare_found = ap spare_in found_at
 
   module _ (list : NameList) (same : list.material ≡ x.material) where
     own_key_at : list.material ≡ key
@@ -132,17 +132,17 @@ module _ (xs : List NameList) (order : AreInOrder xs) (i : ℕ) (x : NameList) (
     pub set_order : IsTrue (rise own_key name_cmp list.names.items) → AreInOrder (set xs i list)
     set_order = order_put list xs (set xs i list) put_at order
 
-    pub set_room : (n : ℕ) → room_in (Some x) ≤ room_in (Some list) + n → (code : List ℕ) → room_of code xs ≤ room_of code (set xs i list) + n
-    set_room = room_put list xs (set xs i list) put_at (Some x) was_at
+    pub set_spare : (n : ℕ) → spare_in (Some x) ≤ spare_in (Some list) + n → (code : List ℕ) → spare_of code xs ≤ spare_of code (set xs i list) + n
+    set_spare = spare_put list xs (set xs i list) put_at (Some x) was_at
 
-    pub set_own_room : room_of key (set xs i list) ≡ room_in (Some list)
-    set_own_room = ap (λ code. room_of code (set xs i list)) (sym own_key_at) ∙ room_there list xs (set xs i list) put_at
+    pub set_own_spare : spare_of key (set xs i list) ≡ spare_in (Some list)
+    set_own_spare = ap (λ code. spare_of code (set xs i list)) (sym own_key_at) ∙ spare_there list xs (set xs i list) put_at
 
-    pub set_wider : list.names.items ≡ x.names.items → room_in (Some x) ≤ room_in (Some list) → AreWider xs (set xs i list)
+    pub set_wider : list.names.items ≡ x.names.items → spare_in (Some x) ≤ spare_in (Some list) → AreWider xs (set xs i list)
     set_wider names wide = record {
       names = names_put list xs (set xs i list) put_at (Some x) was_at names;
       order = set_order (subst (λ (own : List Name). IsTrue (rise own_key name_cmp own)) (sym names) rising_in);
-      more = λ code. let more = set_room 0 (omega (arith, wide)) code in omega (arith, more);
+      more = λ code. let more = set_spare 0 (omega (arith, wide)) code in omega (arith, more);
     }
 
     pub set_settled : (name : Name) (is_there : Bool) → SetsRow own_key name_cmp name is_there x.names.items list.names.items
@@ -153,9 +153,9 @@ module _ (xs : List NameList) (order : AreInOrder xs) (i : ℕ) (x : NameList) (
 
 -- ---- a key of a material without a list
 
-pub unsettled : (key : OpenPart) (lists : List NameList) (is_there : Bool) → row_at list_key code_cmp key.material lists ≡ None → (is_there ≡ true → 1 ≤ room_of key.material lists) → SetsKey key is_there lists lists
-unsettled key lists true none room = absurd (let one = room refl in let zero = ap room_in none in omega (arith, one, zero))
-unsettled key lists false none room = λ other. by_key other (eq_by_cmp open_cmp other key) refl
+pub unsettled : (key : OpenPart) (lists : List NameList) (is_there : Bool) → row_at list_key code_cmp key.material lists ≡ None → (is_there ≡ true → 1 ≤ spare_of key.material lists) → SetsKey key is_there lists lists
+unsettled key lists true none spare = absurd (let one = spare refl in let zero = ap spare_in none in omega (arith, one, zero))
+unsettled key lists false none spare = λ other. by_key other (eq_by_cmp open_cmp other key) refl
   where
     by_key : (other : OpenPart) (b : Bool) → eq_by_cmp open_cmp other key ≡ b → has_key other lists ≡ cond b false (has_key other lists)
     by_key other true e = ap (λ (k : OpenPart). has_key k lists) (open_exact other key (tie _ e)) ∙ ap (λ row. has name_cmp key.name (listed_names row)) none

@@ -94,9 +94,9 @@ module _ (part : Part) (number : ℕ) (old mid : PartRows) (takes : TakesNumber 
 next_part : (parts : List Part) (i : ℕ) (part : Part) → i < length parts → part ≡ get_or parts i part → take (i + 1) parts ≡ take i parts ++ part ∷ []
 next_part parts i part within is = ap (λ n. take n parts) (add-one i) ∙ take-suc parts i part within ∙ ap (λ p. take i parts ++ p ∷ []) (sym is)
 
-pub room_less : (m n : ℕ) (parts : PartRows) → n ≤ m → HasCapacity m parts → HasCapacity n parts
-room_less m n parts le room =
-    record { rows = let h = room.rows in omega (arith, h, le); origins = let h = room.origins in omega (arith, h, le); numbers = let h = room.numbers in omega (arith, h, le) }
+pub spare_less : (m n : ℕ) (parts : PartRows) → n ≤ m → HasCapacity m parts → HasCapacity n parts
+spare_less m n parts le spare =
+    record { rows = let h = spare.rows in omega (arith, h, le); origins = let h = spare.origins in omega (arith, h, le); numbers = let h = spare.numbers in omega (arith, h, le) }
 
 pub none_appended : (parts : PartRows) → AreAppended [] parts parts
 none_appended parts = record {
@@ -106,7 +106,7 @@ none_appended parts = record {
   rows = sym (append-nil parts.rows.items);
   parts = refl;
   known = refl;
-  room = λ count room. subst (λ n. HasCapacity n parts) (no_more count) room;
+  spare = λ count spare. subst (λ n. HasCapacity n parts) (no_more count) spare;
 }
   where
     no_more : (n : ℕ) → 0 + n ≡ n
@@ -127,7 +127,7 @@ appended_then first second old mid new a b = record {
       let more = ap length b.origins ∙ length-append mid.origins.items b.more in
       list_all-append (λ r. nat_lt r.origin (length new.origins.items)) a.back b.back
       ∙ (λ i. below_more (length mid.origins.items) (length new.origins.items) a.back (omega (arith, more)) a.known i && b.known i);
-  room = λ count room. b.room count (a.room (length second + count) (subst (λ n. HasCapacity n old) (ap (λ n. n + count) (length-append first second) ∙ together (length first) (length second) count) room));
+  spare = λ count spare. b.spare count (a.spare (length second + count) (subst (λ n. HasCapacity n old) (ap (λ n. n + count) (length-append first second) ∙ together (length first) (length second) count) spare));
 }
   where
     together : (x y z : ℕ) → x + y + z ≡ x + (y + z)
@@ -141,11 +141,11 @@ appended_next added i part old mid new within is a b =
     (appended_then (take i added) (part ∷ []) old mid new a b)
 
 -- there is room for it
-pub room_next : (added : List Part) (i : ℕ) (old mid : PartRows) → i < length added → HasCapacity (length added) old → AreAppended (take i added) old mid → HasCapacity 1 mid
-room_next added i old mid within room a =
+pub spare_next : (added : List Part) (i : ℕ) (old mid : PartRows) → i < length added → HasCapacity (length added) old → AreAppended (take i added) old mid → HasCapacity 1 mid
+spare_next added i old mid within spare a =
     let len = length-take-le i added (omega arith) in
     let all : length added ≡ length (take i added) + (length added - i) = omega (arith, len, within) in
-    room_less (length added - i) 1 mid (omega arith) (a.room (length added - i) (subst (λ n. HasCapacity n old) all room))
+    spare_less (length added - i) 1 mid (omega arith) (a.spare (length added - i) (subst (λ n. HasCapacity n old) all spare))
 
 -- a row of the part after all others
 pub one_appended : (part : Part) (number : ℕ) (old mid new : PartRows) (row : PartRow) → TakesNumber part number old mid → row.origin ≡ number → part_of mid.origins.items row ≡ part
@@ -159,16 +159,16 @@ one_appended part number old mid new row takes numbered is same pushed len capac
   known =
       let less : row.origin < length mid.origins.items = subst (λ n. n < length mid.origins.items) (sym numbered) takes.origin.within in
       ap (λ os. nat_lt row.origin (length os.items) && true) same ∙ ap (λ b. b && true) (lt-ltb row.origin (length mid.origins.items) less);
-  room = λ count room.
+  spare = λ count spare.
       let rows_len = ap vec_len takes.rows in
       let rows_capacity = ap vec_capacity takes.rows in
       let origins_len = ap vec_len same in
       let origins_capacity = ap vec_capacity same in
       let more = takes.len in
       let kept = takes.capacity in
-      let r = room.rows in
-      let o = room.origins in
-      let n = room.numbers in
+      let r = spare.rows in
+      let o = spare.origins in
+      let n = spare.numbers in
       record {
         rows = omega (arith, rows_len, rows_capacity, len, capacity, r);
         origins = omega (arith, origins_len, origins_capacity, more, kept, o);

@@ -80,17 +80,17 @@ SetsKey key is_there old new = (other : OpenPart) → has_key other new ≡ cond
 abbrev pub ListsParts : (Name → Option Part) → List NameList → Type 0
 ListsParts find lists = (key : OpenPart) → has_key key lists ≡ is_found (is_listed key.material) (find key.name)
 
-abbrev pub room_in : Option NameList → ℕ
-room_in None = 0
-room_in (Some list) = vec_capacity list.names - vec_len list.names
+abbrev pub spare_in : Option NameList → ℕ
+spare_in None = 0
+spare_in (Some list) = vec_capacity list.names - vec_len list.names
 
 -- how many names more the list of a material has room for
-abbrev pub room_of : List ℕ → List NameList → ℕ
-room_of code lists = room_in (row_at list_key code_cmp code lists)
+abbrev pub spare_of : List ℕ → List NameList → ℕ
+spare_of code lists = spare_in (row_at list_key code_cmp code lists)
 
 -- there is room for so many names of the material of each of these parts
-abbrev pub HaveRoom : ℕ → List Part → List NameList → Type 0
-HaveRoom count parts lists = All (λ part. count ≤ room_of part.material lists) parts
+abbrev pub HaveSpareNames : ℕ → List Part → List NameList → Type 0
+HaveSpareNames count parts lists = All (λ part. count ≤ spare_of part.material lists) parts
 
 -- ---- numbers
 

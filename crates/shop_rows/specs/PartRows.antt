@@ -71,4 +71,4 @@ pub record AreAppended (added : List Part) (old new : PartRows) : Type 0 where
   pub rows : new.rows.items ≡ old.rows.items ++ back
   pub parts : map (part_of new.origins.items) back ≡ added
   pub known : AreBelow (length new.origins.items) back
-  pub room : (count : ℕ) → HasCapacity (length added + count) old → HasCapacity count new
+  pub spare : (count : ℕ) → HasCapacity (length added + count) old → HasCapacity count new

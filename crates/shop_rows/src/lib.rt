@@ -7,18 +7,18 @@ mod lines;
 mod names;
 mod open;
 mod part_rows;
-mod room;
+mod reserving;
 mod rows;
 mod sums;
 
 pub use laws::origin_limits;
 pub use lines::{Span, between, by_line};
 pub use names::{
-    NameList, OpenPart, list_all, list_in_place, list_part, make_room, names_after, reserve_names,
+    NameList, OpenPart, list_all, list_in_place, list_part, reserve_list, names_after, reserve_names,
 };
 pub use open::{OpenRows, entries_after, list_demands, list_job, numbers_after};
 pub use part_rows::{Origin, PartRow, PartRows};
-pub use room::reserve_rows;
+pub use reserving::reserve_rows;
 pub use rows::{
     KeyedRow, RowKey, at, copy_rows, find, first_rows, push_copy, put, put_all, put_copy, put_run,
     put_some, rises, settle, take_row,

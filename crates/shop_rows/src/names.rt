@@ -7,10 +7,10 @@ ghost use Rattle.shop_records.specs.Lists.{is_after};
 ghost use Rattle.shop_records.specs.declared.records.Part.{Part as PartOf};
 ghost use Rattle.cut_measure.specs.Codes.{code_cmp};
 ghost use Rattle.shop_rows.specs.Keys.{part_key};
-ghost use Rattle.shop_rows.specs.Open.{own_key, open_key, list_key, names_of, room_of, finds_with, finds_with_all, AreInOrder, HaveRoom, SetsKey, KeepsMaterial, KeepMaterials, ListsParts, ListsOthers};
+ghost use Rattle.shop_rows.specs.Open.{own_key, open_key, list_key, names_of, spare_of, finds_with, finds_with_all, AreInOrder, HaveSpareNames, SetsKey, KeepsMaterial, KeepMaterials, ListsParts, ListsOthers};
 ghost use Rattle.shop_rows.specs.Rows.{rise, row_at, SetsRow};
 
-use crate::room::reserve_rows;
+use crate::reserving::reserve_rows;
 use crate::rows::{KeyedRow, at, place_near, put, settle};
 use cut_measure::{Code, PartName};
 use shop_records::Part;
@@ -65,7 +65,7 @@ fn widen(list: &mut NameList, count: usize) -> Result<(), AllocError>
     ensures material { list.new.material ≡ list.old.material }
     ensures names { list.new.names.items ≡ list.old.names.items }
     ensures len { vec_len list.new.names ≡ vec_len list.old.names }
-    ensures room { OnOk result (vec_len list.new.names + count ≤ vec_capacity list.new.names) }
+    ensures spare { OnOk result (vec_len list.new.names + count ≤ vec_capacity list.new.names) }
     ensures capacity { vec_capacity list.old.names ≤ vec_capacity list.new.names }
 {
     reserve_rows(&mut list.names, count)
@@ -78,8 +78,8 @@ fn begin_list(lists: &mut Vec<NameList>, material: Code, count: usize) -> Result
     ensures names { (code : List ℕ)
         → names_of code lists.new.items ≡ names_of code lists.old.items }
     ensures order { AreInOrder lists.new.items }
-    ensures room { OnOk result (count ≤ room_of material lists.new.items) }
-    ensures more { (code : List ℕ) → room_of code lists.old.items ≤ room_of code lists.new.items }
+    ensures spare { OnOk result (count ≤ spare_of material lists.new.items) }
+    ensures more { (code : List ℕ) → spare_of code lists.old.items ≤ spare_of code lists.new.items }
 {
     let mut names = Vec::new(*lists.allocator());
     names.reserve(count)?;
@@ -90,7 +90,7 @@ fn begin_list(lists: &mut Vec<NameList>, material: Code, count: usize) -> Result
 
 /// Makes room for so many names of a material, and gives the place of its list, which is looked for first near this one. The
 /// names stay, also when memory runs out.
-pub fn make_room(
+pub fn reserve_list(
     lists: &mut Vec<NameList>,
     near: usize,
     material: Code,
@@ -100,8 +100,8 @@ pub fn make_room(
     ensures names { (code : List ℕ)
         → names_of code lists.new.items ≡ names_of code lists.old.items }
     ensures order { AreInOrder lists.new.items }
-    ensures room { OnOk result (count ≤ room_of material lists.new.items) }
-    ensures more { (code : List ℕ) → room_of code lists.old.items ≤ room_of code lists.new.items }
+    ensures spare { OnOk result (count ≤ spare_of material lists.new.items) }
+    ensures more { (code : List ℕ) → spare_of code lists.old.items ≤ spare_of code lists.new.items }
 {
     match place_near(lists, material, near) {
         Ok(i) => {
@@ -121,12 +121,12 @@ fn reserve_each(lists: &mut Vec<NameList>, parts: &[Part], count: usize) -> Resu
     ensures names { (code : List ℕ)
         → names_of code lists.new.items ≡ names_of code lists.old.items }
     ensures order { AreInOrder lists.new.items }
-    ensures room { OnOk result (HaveRoom count parts.now lists.new.items) }
-    ensures more { (code : List ℕ) → room_of code lists.old.items ≤ room_of code lists.new.items }
+    ensures spare { OnOk result (HaveSpareNames count parts.now lists.new.items) }
+    ensures more { (code : List ℕ) → spare_of code lists.old.items ≤ spare_of code lists.new.items }
 {
     let mut near = 0;
     for part in parts {
-        near = make_room(lists, near, part.material, count)?;
+        near = reserve_list(lists, near, part.material, count)?;
     }
     Ok(())
 }
@@ -141,10 +141,10 @@ fn reserve_some(
     ensures names { (code : List ℕ)
         → names_of code lists.new.items ≡ names_of code lists.old.items }
     ensures order { AreInOrder lists.new.items }
-    ensures room { OnOk result (HaveRoom count (option_to_list part.now) lists.new.items) }
+    ensures spare { OnOk result (HaveSpareNames count (option_to_list part.now) lists.new.items) }
 {
     if let Some(part) = part {
-        let _ = make_room(lists, 0, part.material, count)?;
+        let _ = reserve_list(lists, 0, part.material, count)?;
     }
     Ok(())
 }
@@ -162,12 +162,12 @@ pub fn reserve_names(
         → names_of code lists.new.items ≡ names_of code lists.old.items }
     ensures order { AreInOrder lists.new.items }
     ensures moved { OnOk result
-        (HaveRoom (length undone.now + length parts.now + 1) (option_to_list moved.now)
+        (HaveSpareNames (length undone.now + length parts.now + 1) (option_to_list moved.now)
         lists.new.items) }
     ensures undone { OnOk result
-        (HaveRoom (length undone.now + length parts.now + 1) undone.now lists.new.items) }
+        (HaveSpareNames (length undone.now + length parts.now + 1) undone.now lists.new.items) }
     ensures parts { OnOk result
-        (HaveRoom (length undone.now + length parts.now + 1) parts.now lists.new.items) }
+        (HaveSpareNames (length undone.now + length parts.now + 1) parts.now lists.new.items) }
 {
     let count = undone.len() + parts.len() + 1;
     reserve_some(lists, moved, count)?;
@@ -180,7 +180,7 @@ pub fn reserve_names(
 // Has a name in a list, or not.
 fn settle_name(list: &mut NameList, name: PartName, is_there: bool)
     requires rising { IsTrue (rise own_key name_cmp list.old.names.items) }
-    requires room { IsTrue is_there → vec_len list.old.names < vec_capacity list.old.names }
+    requires spare { IsTrue is_there → vec_len list.old.names < vec_capacity list.old.names }
     ensures material { list.new.material ≡ list.old.material }
     ensures settled { SetsRow own_key name_cmp name is_there list.old.names.items
         list.new.names.items }
@@ -195,13 +195,13 @@ fn settle_name(list: &mut NameList, name: PartName, is_there: bool)
 // Has a key listed, or not, and gives the place of its material's list, which is looked for first near this one.
 fn settle_key(lists: &mut Vec<NameList>, near: usize, key: OpenPart, is_there: bool) -> usize
     requires order { AreInOrder lists.old.items }
-    requires room { IsTrue is_there → 1 ≤ room_of key.material lists.old.items }
+    requires spare { IsTrue is_there → 1 ≤ spare_of key.material lists.old.items }
     ensures settled { SetsKey key is_there lists.old.items lists.new.items }
     ensures order { AreInOrder lists.new.items }
-    ensures room { (code : List ℕ)
-        → room_of code lists.old.items ≤ room_of code lists.new.items + 1 }
+    ensures spare { (code : List ℕ)
+        → spare_of code lists.old.items ≤ spare_of code lists.new.items + 1 }
     ensures less { is_there ≡ false → (code : List ℕ)
-        → room_of code lists.old.items ≤ room_of code lists.new.items }
+        → spare_of code lists.old.items ≤ spare_of code lists.new.items }
 {
     match place_near(lists, key.material, near) {
         Ok(i) => {
@@ -219,7 +219,7 @@ fn unlist(lists: &mut Vec<NameList>, replaced: Option<Part>, part: &Part)
         → find part.now.name ≡ replaced
         → ListsOthers part.now (finds_with name_cmp part.now.name part.now find) lists.new.items }
     ensures order { AreInOrder lists.new.items }
-    ensures room { (code : List ℕ) → room_of code lists.old.items ≤ room_of code lists.new.items }
+    ensures spare { (code : List ℕ) → spare_of code lists.old.items ≤ spare_of code lists.new.items }
 {
     let Some(old) = replaced else {
         return;
@@ -237,13 +237,13 @@ fn unlist(lists: &mut Vec<NameList>, replaced: Option<Part>, part: &Part)
 /// Lists a part where it stands, and not where it doesn't, in place of the one that it replaces, if there is one.
 pub fn list_part(lists: &mut Vec<NameList>, replaced: Option<Part>, part: &Part)
     requires order { AreInOrder lists.old.items }
-    requires room { 1 ≤ room_of part.now.material lists.old.items }
+    requires spare { 1 ≤ spare_of part.now.material lists.old.items }
     ensures lists { (find : Name → Option PartOf) → ListsParts find lists.old.items
         → find part.now.name ≡ replaced
         → ListsParts (finds_with name_cmp part.now.name part.now find) lists.new.items }
     ensures order { AreInOrder lists.new.items }
-    ensures room { (code : List ℕ)
-        → room_of code lists.old.items ≤ room_of code lists.new.items + 1 }
+    ensures spare { (code : List ℕ)
+        → spare_of code lists.old.items ≤ spare_of code lists.new.items + 1 }
 {
     unlist(lists, replaced, part);
     let is_there = part.is_listed(&part.material);
@@ -254,13 +254,13 @@ pub fn list_part(lists: &mut Vec<NameList>, replaced: Option<Part>, part: &Part)
 /// place of its material's list, which is looked for first near this one.
 pub fn list_in_place(lists: &mut Vec<NameList>, near: usize, part: &Part) -> usize
     requires order { AreInOrder lists.old.items }
-    requires room { 1 ≤ room_of part.now.material lists.old.items }
+    requires spare { 1 ≤ spare_of part.now.material lists.old.items }
     ensures lists { (find : Name → Option PartOf) → ListsParts find lists.old.items
         → KeepsMaterial find part.now
         → ListsParts (finds_with name_cmp part.now.name part.now find) lists.new.items }
     ensures order { AreInOrder lists.new.items }
-    ensures room { (code : List ℕ)
-        → room_of code lists.old.items ≤ room_of code lists.new.items + 1 }
+    ensures spare { (code : List ℕ)
+        → spare_of code lists.old.items ≤ spare_of code lists.new.items + 1 }
 {
     let stands = part.is_listed(&part.material);
     settle_key(lists, near, OpenPart::of(part), stands)
@@ -269,7 +269,7 @@ pub fn list_in_place(lists: &mut Vec<NameList>, near: usize, part: &Part) -> usi
 /// Lists parts one after another, each where it stands, in place of one of the same material, if there is one.
 pub fn list_all(lists: &mut Vec<NameList>, parts: &[Part])
     requires order { AreInOrder lists.old.items }
-    requires room { HaveRoom (length parts.now) parts.now lists.old.items }
+    requires spare { HaveSpareNames (length parts.now) parts.now lists.old.items }
     ensures lists { (find : Name → Option PartOf) → ListsParts find lists.old.items
         → KeepMaterials find parts.now
         → ListsParts (finds_with_all part_key name_cmp parts.now find) lists.new.items }

@@ -66,7 +66,7 @@ impl OpenRows {
 /// Lists a job where it waits, and not where it doesn't.
 pub fn list_job(keys: &mut Vec<u32>, job: &Job)
     requires rising { IsTrue (rise own_key nat_cmp keys.old.items) }
-    requires room { vec_len keys.old < vec_capacity keys.old }
+    requires spare { vec_len keys.old < vec_capacity keys.old }
     ensures lists { (find : ℕ → Option JobOf) → ListsNumbers waits find keys.old.items
         → ListsNumbers waits (finds_with nat_cmp job.now.act job.now find) keys.new.items }
     ensures rising { IsTrue (rise own_key nat_cmp keys.new.items) }
@@ -77,7 +77,7 @@ pub fn list_job(keys: &mut Vec<u32>, job: &Job)
 // Lists a demand where it is open, and not where it isn't.
 fn list_demand(keys: &mut Vec<u32>, demand: &Demand)
     requires rising { IsTrue (rise own_key nat_cmp keys.old.items) }
-    requires room { vec_len keys.old < vec_capacity keys.old }
+    requires spare { vec_len keys.old < vec_capacity keys.old }
     ensures lists { (find : ℕ → Option DemandOf) → ListsNumbers is_open find keys.old.items
         → ListsNumbers is_open (finds_with nat_cmp demand.now.number demand.now find)
         keys.new.items }
@@ -92,7 +92,7 @@ fn list_demand(keys: &mut Vec<u32>, demand: &Demand)
 /// Lists demands one after another, each where it is open, and not where it isn't.
 pub fn list_demands(keys: &mut Vec<u32>, demands: &[Demand])
     requires rising { IsTrue (rise own_key nat_cmp keys.old.items) }
-    requires room { vec_len keys.old + length demands.now ≤ vec_capacity keys.old }
+    requires spare { vec_len keys.old + length demands.now ≤ vec_capacity keys.old }
     ensures lists { (find : ℕ → Option DemandOf) → ListsNumbers is_open find keys.old.items
         → ListsNumbers is_open (finds_with_all demand_key nat_cmp demands.now find) keys.new.items }
     ensures rising { IsTrue (rise own_key nat_cmp keys.new.items) }

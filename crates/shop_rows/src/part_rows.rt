@@ -8,7 +8,7 @@ ghost use Rattle.shop_rows.specs.Keys.{part_key};
 ghost use Rattle.shop_rows.specs.PartRows.{part_of, row_key, IsNumbered};
 ghost use Rattle.shop_rows.specs.Rows.{rise};
 
-use crate::room::reserve_rows;
+use crate::reserving::reserve_rows;
 use crate::rows::{KeyedRow, ends, find, gap, move_back, put};
 use cut_measure::{Code, PartName, Size};
 use shop_records::{Part, PartList, State};
@@ -246,7 +246,7 @@ impl PartRows {
     pub fn reserve(&mut self, count: usize) -> Result<(), AllocError>
         ensures parts { parts_in self.new ≡ parts_in self.old }
         ensures known { AreKnown self.old → AreKnown self.new }
-        ensures room { OnOk result (HasCapacity count self.new) }
+        ensures spare { OnOk result (HasCapacity count self.new) }
     {
         if MAX_ORIGINS < self.origins.len().saturating_add(count) {
             return Err(AllocError);
@@ -288,7 +288,7 @@ impl PartRows {
     // The number of a part's origin, which is that of the part of its name where it is the same.
     fn number_of(&mut self, part: &Part) -> u32
         requires rising { IsTrue (rise row_key name_cmp self.old.rows.items) }
-        requires room { HasCapacity 1 self.old }
+        requires spare { HasCapacity 1 self.old }
         ensures { TakesNumber part.now result self.old self.new }
     {
         let Some(row) = find(&self.rows, part.name) else {
@@ -305,13 +305,13 @@ impl PartRows {
     pub fn put(&mut self, part: &Part) -> Option<Part>
         requires rising { IsTrue (rise part_key name_cmp (parts_in self.old)) }
         requires known { AreKnown self.old }
-        requires room { HasCapacity 1 self.old }
+        requires spare { HasCapacity 1 self.old }
         ensures put { IsPut part_key name_cmp part.now (parts_in self.old) (parts_in self.new) }
         ensures replaced { result
             ≡ row_at part_key name_cmp part.now.name (parts_in self.old) }
         ensures rising { IsTrue (rise part_key name_cmp (parts_in self.new)) }
         ensures known { AreKnown self.new }
-        ensures room { (count : ℕ) → HasCapacity (count + 1) self.old → HasCapacity count self.new }
+        ensures spare { (count : ℕ) → HasCapacity (count + 1) self.old → HasCapacity count self.new }
     {
         let number = self.number_of(part);
         let replaced = put(&mut self.rows, pack(part, number));
@@ -344,7 +344,7 @@ impl PartRows {
     pub fn put_run(&mut self, added: &[Part]) -> bool
         requires rising { IsTrue (rise part_key name_cmp (parts_in self.old)) }
         requires known { AreKnown self.old }
-        requires room { HasCapacity (length added.now) self.old }
+        requires spare { HasCapacity (length added.now) self.old }
         ensures put { IsTrue result
             → ArePut part_key name_cmp added.now (parts_in self.old) (parts_in self.new) }
         ensures new { IsTrue result

@@ -202,7 +202,7 @@ pub fn find<R: KeyedRow + Copy>(rows: &[R], key: R::Key) -> Option<R>
 /// Puts a row in its place, and gives the one that it replaced.
 pub fn put<R: KeyedRow>(rows: &mut Vec<R>, row: R) -> Option<R>
     requires rising { IsTrue (rise R.key_of R.Key.cmp rows.old.items) }
-    requires room { vec_len rows.old < vec_capacity rows.old }
+    requires spare { vec_len rows.old < vec_capacity rows.old }
     ensures put { IsPut R.key_of R.Key.cmp row rows.old.items rows.new.items }
     ensures replaced { result ≡ row_at R.key_of R.Key.cmp (R.key_of row) rows.old.items }
     ensures rising { IsTrue (rise R.key_of R.Key.cmp rows.new.items) }
@@ -243,7 +243,7 @@ pub fn take_row<R: KeyedRow>(rows: &mut Vec<R>, key: R::Key) -> Option<R>
 /// Has a row there, or none of its key.
 pub fn settle<R: KeyedRow>(rows: &mut Vec<R>, row: R, is_there: bool)
     requires rising { IsTrue (rise R.key_of R.Key.cmp rows.old.items) }
-    requires room { IsTrue is_there → vec_len rows.old < vec_capacity rows.old }
+    requires spare { IsTrue is_there → vec_len rows.old < vec_capacity rows.old }
     ensures settled { SetsRow R.key_of R.Key.cmp
         (R.key_of row) is_there rows.old.items rows.new.items }
     ensures rising { IsTrue (rise R.key_of R.Key.cmp rows.new.items) }
@@ -261,7 +261,7 @@ pub fn settle<R: KeyedRow>(rows: &mut Vec<R>, row: R, is_there: bool)
 /// Puts a row in its place, if there is one.
 pub fn put_some<R: KeyedRow>(rows: &mut Vec<R>, row: Option<R>)
     requires rising { IsTrue (rise R.key_of R.Key.cmp rows.old.items) }
-    requires room { vec_len rows.old < vec_capacity rows.old }
+    requires spare { vec_len rows.old < vec_capacity rows.old }
     ensures put { ArePut R.key_of R.Key.cmp (option_to_list row) rows.old.items rows.new.items }
     ensures rising { IsTrue (rise R.key_of R.Key.cmp rows.new.items) }
 {
@@ -273,7 +273,7 @@ pub fn put_some<R: KeyedRow>(rows: &mut Vec<R>, row: Option<R>)
 /// Puts a copy of a row in its place, if there is one.
 pub fn put_copy<R: KeyedRow + Copy>(rows: &mut Vec<R>, row: &Option<R>)
     requires rising { IsTrue (rise R.key_of R.Key.cmp rows.old.items) }
-    requires room { vec_len rows.old < vec_capacity rows.old }
+    requires spare { vec_len rows.old < vec_capacity rows.old }
     ensures put { ArePut R.key_of R.Key.cmp (option_to_list row.now) rows.old.items rows.new.items }
     ensures rising { IsTrue (rise R.key_of R.Key.cmp rows.new.items) }
 {
@@ -307,7 +307,7 @@ pub(crate) fn move_back<R: KeyedRow>(rows: &mut Vec<R>, from: usize, i: usize)
 /// Puts rows that stand together between two others, all by one move, and tells whether they do; else nothing changes.
 pub fn put_run<R: KeyedRow + Copy>(rows: &mut Vec<R>, added: &[R]) -> bool
     requires rising { IsTrue (rise R.key_of R.Key.cmp rows.old.items) }
-    requires room { vec_len rows.old + length added.now ≤ vec_capacity rows.old }
+    requires spare { vec_len rows.old + length added.now ≤ vec_capacity rows.old }
     ensures put { IsTrue result → ArePut R.key_of R.Key.cmp added.now rows.old.items rows.new.items }
     ensures new { IsTrue result
         → All (λ row. row_at R.key_of R.Key.cmp (R.key_of row) rows.old.items ≡ None) added.now }
@@ -334,7 +334,7 @@ pub fn put_run<R: KeyedRow + Copy>(rows: &mut Vec<R>, added: &[R]) -> bool
 // Puts rows in their places, one after another.
 fn put_each<R: KeyedRow + Copy>(rows: &mut Vec<R>, added: &[R])
     requires rising { IsTrue (rise R.key_of R.Key.cmp rows.old.items) }
-    requires room { vec_len rows.old + length added.now ≤ vec_capacity rows.old }
+    requires spare { vec_len rows.old + length added.now ≤ vec_capacity rows.old }
     ensures put { ArePut R.key_of R.Key.cmp added.now rows.old.items rows.new.items }
     ensures rising { IsTrue (rise R.key_of R.Key.cmp rows.new.items) }
 {
@@ -346,7 +346,7 @@ fn put_each<R: KeyedRow + Copy>(rows: &mut Vec<R>, added: &[R])
 /// Puts rows in their places, as one after another.
 pub fn put_all<R: KeyedRow + Copy>(rows: &mut Vec<R>, added: &[R])
     requires rising { IsTrue (rise R.key_of R.Key.cmp rows.old.items) }
-    requires room { vec_len rows.old + length added.now ≤ vec_capacity rows.old }
+    requires spare { vec_len rows.old + length added.now ≤ vec_capacity rows.old }
     ensures put { ArePut R.key_of R.Key.cmp added.now rows.old.items rows.new.items }
     ensures rising { IsTrue (rise R.key_of R.Key.cmp rows.new.items) }
 {

@@ -163,7 +163,7 @@ pub fn sums_of(rows: &[Sums], code: Code) -> Sums
 /// Adds a part's cells to the sums of its material.
 pub fn add_part(rows: &mut Vec<Sums>, part: &Part)
     requires rising { IsTrue (rise sums_key code_cmp rows.old.items) }
-    requires room { vec_len rows.old < vec_capacity rows.old }
+    requires spare { vec_len rows.old < vec_capacity rows.old }
     requires fits { (column : ColumnOf)
         → sum_at column part.now.material rows.old.items + part.now.size.w * part.now.size.h
         < 2 ^ 128 }
@@ -242,14 +242,14 @@ fn has_cells(part: &Part) -> bool
 /// have no cells that a column counts.
 pub fn count_part(rows: &mut Vec<Sums>, part: &Part) -> bool
     requires rising { IsTrue (rise sums_key code_cmp rows.old.items) }
-    requires room { vec_len rows.old < vec_capacity rows.old }
+    requires spare { vec_len rows.old < vec_capacity rows.old }
     requires small { (column : ColumnOf) (code : List ℕ)
         → sum_at column code rows.old.items < 2 ^ 64 }
     ensures small { (column : ColumnOf) (code : List ℕ)
         → sum_at column code rows.new.items < 2 ^ 64 }
     ensures adds { IsTrue result → IsAdded part.now rows.old.items rows.new.items }
     ensures rising { IsTrue (rise sums_key code_cmp rows.new.items) }
-    ensures room { vec_len rows.new < vec_capacity rows.new }
+    ensures spare { vec_len rows.new < vec_capacity rows.new }
     ensures stopped { result ≡ false → IsLost part.now rows.old.items
         ⊎ IsOver part.now rows.old.items }
 {
@@ -268,7 +268,7 @@ pub fn count_part(rows: &mut Vec<Sums>, part: &Part) -> bool
 // Takes a part's cells from the sums of its material.
 fn take_part(rows: &mut Vec<Sums>, part: &Part)
     requires rising { IsTrue (rise sums_key code_cmp rows.old.items) }
-    requires room { vec_len rows.old < vec_capacity rows.old }
+    requires spare { vec_len rows.old < vec_capacity rows.old }
     requires held { (column : ColumnOf)
         → counted_cells column part.now ≤ sum_at column part.now.material rows.old.items }
     ensures takes { (column : ColumnOf) (code : List ℕ)
@@ -287,7 +287,7 @@ fn take_part(rows: &mut Vec<Sums>, part: &Part)
 /// Takes the cells of a part that was replaced, if there is one.
 pub fn take_replaced(rows: &mut Vec<Sums>, replaced: Option<Part>)
     requires rising { IsTrue (rise sums_key code_cmp rows.old.items) }
-    requires room { vec_len rows.old < vec_capacity rows.old }
+    requires spare { vec_len rows.old < vec_capacity rows.old }
     requires held { ForSome replaced
         (λ part. (column : ColumnOf)
         → counted_cells column part ≤ sum_at column part.material rows.old.items) }

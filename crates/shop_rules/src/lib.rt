@@ -82,7 +82,7 @@ pub use shop_records::DemandRows;
 pub use shop_records::Entry;
 pub use shop_records::EntryList;
 pub use shop_records::EntryRows;
-pub use shop_records::EntryTold;
+pub use shop_records::ReportedEntry;
 pub use shop_records::Form;
 pub use shop_records::ImportRow;
 pub use shop_records::Job;

@@ -94,7 +94,7 @@ module _ {C : Type 0} (clients : Slab (Client C)) (full : slab_len clients < MAX
   cannot_open_one none (inr (key, oldest)) = none key oldest.client oldest.there oldest.goes
 
   -- there is room exactly where one was found
-  pub room_found : (found : Option ℕ) (some : Bool) → some ≡ is_some found → IfSome found (IsOldest clients) → (found ≡ None → NoneMayGo clients)
+  pub cleared_found : (found : Option ℕ) (some : Bool) → some ≡ is_some found → IfSome found (IsOldest clients) → (found ≡ None → NoneMayGo clients)
       → (some ≡ true → CanOpenOne clients) × (CanOpenOne clients → some ≡ true)
-  room_found None some is one none = (λ yes. absurd (cc (is, yes)), λ room. absurd (cannot_open_one (none refl) room))
-  room_found (Some key) some is one none = (λ yes. inr (key, one), λ room. is)
+  cleared_found None some is one none = (λ yes. absurd (cc (is, yes)), λ cleared. absurd (cannot_open_one (none refl) cleared))
+  cleared_found (Some key) some is one none = (λ yes. inr (key, one), λ cleared. is)

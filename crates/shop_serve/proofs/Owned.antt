@@ -14,7 +14,7 @@ use Rattle.shop_serve.specs.declared.sites.Site.{Site}
 use Rattle.shop_serve.specs.declared.searching.RunningTask.{RunningTask as RunningTaskOf}
 use Rattle.shop_serve.specs.declared.searching.Progress.{Progress}
 use Rattle.shop_serve.specs.declared.searching.Progress.TheVariants.{GoesOn, Answered, NoMemory}
-use Rattle.shop_serve.specs.Clients.{AreServiced, IsServiced, IsServicedAt, IsHandedOn, IsOpened, IsTurnedAway, MakesRoom, in_time, is_late}
+use Rattle.shop_serve.specs.Clients.{AreServiced, IsServiced, IsServicedAt, IsHandedOn, IsOpened, IsTurnedAway, EvictsOldest, in_time, is_late}
 use Rattle.shop_serve.specs.Own.{Leads, WasDone, WasAsked, WasAnswered, HasItsOwn, EachHasItsOwn}
 use Rattle.shop_serve.specs.Rounds.{AreReceived, AreRounds, IsReceived, IsRound, Round}
 use Rattle.shop_serve.specs.RunningTask.{IsSteppedAt, StepsSearch}
@@ -83,12 +83,12 @@ module _ (site : Site) {B : Type 0} (book : Ghosts B) where
         by_test true e = absurd (cc e)
         by_test false e = e
 
-    room-own : (old room : Slab (Client C)) → MakesRoom old room → (key : ℕ) (client : Client C) → get room key ≡ Some client → get old key ≡ Some client
-    room-own old room (inl (few, same)) key client is = ap (λ slots. get (record old { slots = slots }) key) (sym same) ∙ is
-    room-own old room (inr (full, gone, oldest, updates)) key client is = by_test (nat_eq key gone) refl
+    cleared-own : (old cleared : Slab (Client C)) → EvictsOldest old cleared → (key : ℕ) (client : Client C) → get cleared key ≡ Some client → get old key ≡ Some client
+    cleared-own old cleared (inl (few, same)) key client is = ap (λ slots. get (record old { slots = slots }) key) (sym same) ∙ is
+    cleared-own old cleared (inr (full, gone, oldest, updates)) key client is = by_test (nat_eq key gone) refl
       where
         by_test : (b : Bool) → nat_eq key gone ≡ b → get old key ≡ Some client
-        by_test true e = absurd (cc (updates.changed, subst (λ k. get room k ≡ Some client) (eqb-true key gone e) is))
+        by_test true e = absurd (cc (updates.changed, subst (λ k. get cleared k ≡ Some client) (eqb-true key gone e) is))
         by_test false e = sym (updates.others key (eqb-false key gone e)) ∙ is
 
 module _ {C : Type 0} (connection : ConnectionGhosts C) (site : Site) {B : Type 0} (book : Ghosts B) {P : Type 0} (port : PortGhosts P C) where
@@ -183,9 +183,9 @@ module _ {C : Type 0} (connection : ConnectionGhosts C) (site : Site) {B : Type 
   -- a connection came
   opened-own : (now : Instant) (stream : C) (key : ℕ) (old new : Slab (Client C)) (a b : B) → IsOpened port now stream key old new → Own site book a b old → Own site book a b new
   opened-own now stream key old new a b o own =
-      at-key site book a b b o.room new key (stays site book b) o.there.others
+      at-key site book a b b o.cleared new key (stays site book b) o.there.others
       (λ client is. let same : o.client ≡ client = cc (o.there.changed, is) in subst (HasItsOwn site book a b) same (nothing o.client o.fresh.asks o.fresh.waits))
-      (fewer-own site book a b b old o.room (stays site book b) (room-own site book old o.room o.made) own)
+      (fewer-own site book a b b old o.cleared (stays site book b) (cleared-own site book old o.cleared o.made) own)
     where
       nothing : (client : Client C) → client.task ≡ None → client.answer ≡ None → HasItsOwn site book a b client
       nothing client asks waits = (
@@ -196,7 +196,7 @@ module _ {C : Type 0} (connection : ConnectionGhosts C) (site : Site) {B : Type 
   turned-own : (old new : Slab (Client C)) (a b : B) → IsTurnedAway port old new → Own site book a b old → Own site book a b new
   turned-own old new a b t own =
       fewer-own site book a b b old new (stays site book b)
-      (λ key client is. room-own site book old t.room t.made key client (ap (λ slots. get (record t.room { slots = slots }) key) (sym t.same) ∙ is)) own
+      (λ key client is. cleared-own site book old t.cleared t.made key client (ap (λ slots. get (record t.cleared { slots = slots }) key) (sym t.same) ∙ is)) own
 
   received-own : (stream : C) (old new : Slab (Client C)) (a b : B) (seen seeing : Times) → IsReceived port stream old new seen seeing → Open a b old → Open a b new
   received-own stream old new a b seen seeing (now, reported, inl away) (so_far, own) = (so_far, turned-own old new a b away own)

@@ -10,7 +10,7 @@ use Rattle.shop_serve.specs.declared.clients.Client.{Client}
 use Rattle.shop_serve.specs.declared.ports.Port.{Ghosts as PortGhosts}
 use Rattle.std.specs.declared.time.Instant.{Instant}
 use Rattle.shop_serve.proofs.Counts.{count-but, count-fewer, one, one-most, one-none}
-use Rattle.shop_serve.specs.Clients.{ClosesLate, IsFresh, IsOpened, IsTurnedAway, MakesRoom, in_time, is_late, is_unanswered, unanswered}
+use Rattle.shop_serve.specs.Clients.{ClosesLate, IsFresh, IsOpened, IsTurnedAway, EvictsOldest, in_time, is_late, is_unanswered, unanswered}
 
 -- it is watched under the key that it was put under
 pub watched-at : {E : Type 0} (r : Result ℕ E) (reported free : ℕ) (Watched : ℕ → Type 0) → reported ≡ free → Watched reported → IfOk r (λ k. k ≡ free) → IfOk r Watched
@@ -65,20 +65,20 @@ module _ {C : Type 0} where
   pub unanswered-empty : (clients : Slab (Client C)) → clients.slots ≡ [] → unanswered clients ≡ 0
   unanswered-empty clients e = rw e refl
 
-  module _ {E P : Type 0} (port : PortGhosts P C) (now : Instant) (stream : C) (old room new : Slab (Client C)) (client : Client C) where
+  module _ {E P : Type 0} (port : PortGhosts P C) (now : Instant) (stream : C) (old cleared new : Slab (Client C)) (client : Client C) where
     -- it was put under a free key, under which it is watched
-    pub opened-so : (r : Result ℕ E) (key : Option ℕ) → key ≡ result_ok r → IfOk r (λ k. (p : P) × port.is_watched p stream k) → IfOk r (λ k. get room k ≡ None) → IfOk r (λ k. Updates room new k (Some client))
-        → MakesRoom old room → IsFresh now stream client → IfSome key (λ k. IsOpened port now stream k old new)
+    pub opened-so : (r : Result ℕ E) (key : Option ℕ) → key ≡ result_ok r → IfOk r (λ k. (p : P) × port.is_watched p stream k) → IfOk r (λ k. get cleared k ≡ None) → IfOk r (λ k. Updates cleared new k (Some client))
+        → EvictsOldest old cleared → IsFresh now stream client → IfSome key (λ k. IsOpened port now stream k old new)
     opened-so (Ok k) key e watched free there made fresh =
         subst (λ key. IfSome key (λ k. IsOpened port now stream k old new)) (sym e)
-        (record { room = room; made = made; client = client; fresh = fresh; free = free; there = there; watched = watched })
+        (record { cleared = cleared; made = made; client = client; fresh = fresh; free = free; there = there; watched = watched })
     opened-so (Err f) key e watched free there made fresh = subst (λ key. IfSome key (λ k. IsOpened port now stream k old new)) (sym e) tt
 
     -- or there was no memory for it
-    pub closed-so : (r : Result ℕ E) (key : Option ℕ) → key ≡ result_ok r → OnErr r (new ≡ record room { capacity = new.capacity })
-        → (HasRoomFor room 1 → IsOk r) → MakesRoom old room → key ≡ None → IsTurnedAway port old new
+    pub closed-so : (r : Result ℕ E) (key : Option ℕ) → key ≡ result_ok r → OnErr r (new ≡ record cleared { capacity = new.capacity })
+        → (HasRoomFor cleared 1 → IsOk r) → EvictsOldest old cleared → key ≡ None → IsTurnedAway port old new
     closed-so (Ok k) key e err fits made none = absurd (cc (e, none))
-    closed-so (Err f) key e err fits made none = record { room = room; made = made; same = ap (λ s. s.slots) err; why = inr (λ free. absurd (cc (fits free))) }
+    closed-so (Err f) key e err fits made none = record { cleared = cleared; made = made; same = ap (λ s. s.slots) err; why = inr (λ free. absurd (cc (fits free))) }
 
   -- one more is opened, or there was no memory for it
   pub unanswered-inserted : {E : Type 0} (old new : Slab (Client C)) (client : Client C) (key : Result ℕ E) → IfOk key (λ k. Updates old new k (Some client))

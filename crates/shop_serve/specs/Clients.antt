@@ -90,16 +90,16 @@ module _ {C : Type 0} where
   CanOpenOne clients = (slab_len clients < MAX_CLIENTS) ⊎ ((key : ℕ) × IsOldest clients key)
 
   -- none is closed while fewer than may be are open; else the oldest that may go is, and no other
-  abbrev pub MakesRoom : Slab (Client C) → Slab (Client C) → Type 0
-  MakesRoom old new =
+  abbrev pub EvictsOldest : Slab (Client C) → Slab (Client C) → Type 0
+  EvictsOldest old new =
       ((slab_len old < MAX_CLIENTS) × (new.slots ≡ old.slots)) ⊎ ((MAX_CLIENTS ≤ slab_len old) × (key : ℕ) × IsOldest old key × Updates old new key None)
 
   -- It isn't opened, though room was made: it can't be watched, or memory for one more runs out.
   pub record IsTurnedAway {P : Type 0} (port : PortGhosts P C) (old new : Slab (Client C)) : Type 0 where
-    pub room : Slab (Client C)
-    pub made : MakesRoom old room
-    pub same : new.slots ≡ room.slots
-    pub why : ((p : P) × port.is_deaf p) ⊎ (HasRoomFor room 1 → ⊥)
+    pub cleared : Slab (Client C)
+    pub made : EvictsOldest old cleared
+    pub same : new.slots ≡ cleared.slots
+    pub why : ((p : P) × port.is_deaf p) ⊎ (HasRoomFor cleared 1 → ⊥)
 
   -- it was accepted now: nothing came of it, and it has no query and no answer
   pub record IsFresh (now : Instant) (stream : C) (client : Client C) : Type 0 where
@@ -112,12 +112,12 @@ module _ {C : Type 0} where
 
   -- it is open under a key that was free, once room was made for it, and is watched under this key
   pub record IsOpened {P : Type 0} (port : PortGhosts P C) (now : Instant) (stream : C) (key : ℕ) (old new : Slab (Client C)) : Type 0 where
-    pub room : Slab (Client C)
-    pub made : MakesRoom old room
+    pub cleared : Slab (Client C)
+    pub made : EvictsOldest old cleared
     pub client : Client C
     pub fresh : IsFresh now stream client
-    pub free : get room key ≡ None
-    pub there : Updates room new key (Some client)
+    pub free : get cleared key ≡ None
+    pub there : Updates cleared new key (Some client)
     pub watched : (p : P) × port.is_watched p stream key
 
 -- a connection took the bytes of its answer from one place to another, and no others

@@ -6,7 +6,7 @@ ghost use Rattle.std.specs.Time.{instant_nanos};
 ghost use Rattle.std.specs.Io.KnownBytes.{IsAtEnd};
 ghost use Rattle.shop_request.specs.Reading.{IsReadOn};
 ghost use Rattle.shop_request.specs.Parses.{IsDetermined};
-ghost use Rattle.shop_serve.specs.Clients.{AwaitsMore, ClosesLate, IsServiced, IsServicedAt, CanOpenOne, IsClosedBy, IsMute, IsOldest, IsOpened, IsOver, IsSpoiled, IsTurnedAway, MakesRoom, MayGo, NoneMayGo, StopsAt, TakesAnswer, is_begun, is_late, is_unanswered, unanswered};
+ghost use Rattle.shop_serve.specs.Clients.{AwaitsMore, ClosesLate, IsServiced, IsServicedAt, CanOpenOne, IsClosedBy, IsMute, IsOldest, IsOpened, IsOver, IsSpoiled, IsTurnedAway, EvictsOldest, MayGo, NoneMayGo, StopsAt, TakesAnswer, is_begun, is_late, is_unanswered, unanswered};
 ghost use Rattle.shop_serve.specs.Making.{IsAsked, put_answer, put_made, put_task};
 ghost use Rattle.shop_planning.specs.PlanTasks.{instance_in};
 ghost use Rattle.shop_serve.specs.declared.clients.ConnectionStatus.TheVariants as status;
@@ -362,9 +362,9 @@ pub(crate) fn can_open_one<C>(clients: &Slab<Client<C>>) -> bool
 }
 
 /// Closes the oldest connection that may go, where there are as many as may be.
-fn make_room<C: Drop>(clients: &mut Slab<Client<C>>)
-    requires room { CanOpenOne clients.old }
-    ensures room { MakesRoom clients.old clients.new }
+fn evict_oldest<C: Drop>(clients: &mut Slab<Client<C>>)
+    requires cleared { CanOpenOne clients.old }
+    ensures cleared { EvictsOldest clients.old clients.new }
     ensures fewer { unanswered clients.new ≤ unanswered clients.old }
 {
     if clients.len() < MAX_CLIENTS {
@@ -383,7 +383,7 @@ pub(crate) fn open_client<C: Drop, P: Port<C>>(
     now: Instant,
     clients: &mut Slab<Client<C>>,
 ) -> Option<usize>
-    requires room { CanOpenOne clients.old }
+    requires cleared { CanOpenOne clients.old }
     ensures opened { IfSome result (λ key. IsOpened P.Port now stream key clients.old clients.new) }
     ensures watched { IfSome result (λ key. P.is_watched port.new stream key) }
     ensures closed { result ≡ None → IsTurnedAway P.Port clients.old clients.new }
@@ -391,7 +391,7 @@ pub(crate) fn open_client<C: Drop, P: Port<C>>(
     ensures reported { P.all_reported port.new ≡ P.all_reported port.old }
     ensures given { P.given port.new ≡ P.given port.old }
 {
-    make_room(clients);
+    evict_oldest(clients);
     let mut stream = stream;
     if !port.watch(&mut stream, clients.vacant_key()) {
         return None;

@@ -126,7 +126,7 @@ fn is_written<R: Eprint>(rt: &R, text: &str) -> bool {
 }
 
 // Forgets the first of the lines, where as many are known as may be.
-fn make_room(known: &mut Vec<Known>) {
+fn forget_oldest(known: &mut Vec<Known>) {
     if known.len() >= MAX_KNOWN {
         drop(known.remove(0));
     }
@@ -154,7 +154,7 @@ impl Lines {
     // Knows one that was written.
     fn know(&mut self, line: &str, now: Instant) {
         self.known.retain(|known| !is_line(known, line));
-        make_room(&mut self.known);
+        forget_oldest(&mut self.known);
         if let Ok(line) = String::from_str(self.alloc, line) {
             let _ = self.known.push(Known {
                 line,

@@ -44,7 +44,7 @@ fn receive<C: Drop, P: Port<C>, K: Watch>(
     watch: &mut K,
     clients: &mut Slab<Client<C>>,
 )
-    requires room { CanOpenOne clients.old }
+    requires cleared { CanOpenOne clients.old }
     ensures received { IsReceived P.Port stream clients.old clients.new (K.times watch.old)
         (K.times watch.new) }
     ensures reported { P.all_reported port.new ≡ P.all_reported port.old }

@@ -36,20 +36,20 @@ use Rattle.shop_statements.proofs.Lists.{filter-map, filter-same, map-map, map-s
 abbrev pub equal : Value → Value → Bool
 equal a b = is_true (binary (Compare Eq Binary) a b)
 
-pub told : (b : Bool) → is_true (from_truth (Rattle.std.proofs.Common.Some b)) ≡ b
-told true = refl
-told false = refl
+pub reported : (b : Bool) → is_true (from_truth (Rattle.std.proofs.Common.Some b)) ≡ b
+reported true = refl
+reported false = refl
 
 pub equal-Text : (s t : List ℕ) → equal (Text s) (Text t) ≡ is_eq (slice_cmp nat_cmp s t)
 unfolding binary
-equal-Text s t = told _ ∙ ap is_eq (value_cmp-Text s t)
+equal-Text s t = reported _ ∙ ap is_eq (value_cmp-Text s t)
 
 pub as_number : (m n : ℕ) → is_eq (int_cmp (pos m) (pos n)) ≡ is_eq (nat_cmp m n)
 as_number m n = grind (arith, ints, nat_tests)
 
 pub equal-Int : (m n : ℕ) → equal (Int (pos m)) (Int (pos n)) ≡ is_eq (nat_cmp m n)
 unfolding binary
-equal-Int m n = told _ ∙ ap is_eq (value_cmp-Int (pos m) (pos n)) ∙ as_number m n
+equal-Int m n = reported _ ∙ ap is_eq (value_cmp-Int (pos m) (pos n)) ∙ as_number m n
 
 either : (b : Bool) (x : Value) → cond b x x ≡ x
 either true x = refl

@@ -21,7 +21,7 @@ use Rattle.shop_statements.specs.Found.{IsNumberRow}
 use Rattle.shop_statements.specs.Earlier.{earlier_schema, second_schema, HasSomeTables}
 use Rattle.shop_statements.specs.Shown.{GivesRow}
 use Rattle.shop_statements.proofs.Finding.{code_same}
-use Rattle.shop_statements.proofs.Keys.{and_true, equal, told}
+use Rattle.shop_statements.proofs.Keys.{and_true, equal, reported}
 use Rattle.shop_statements.proofs.Selects.{selects, selected}
 use Rattle.shop_statements.proofs.Terms.{Reads, from_table}
 use Rattle.shop_statements.proofs.Texts.{by_one, get_meta_text, get_meta_terms, get_meta_is, shop, shop_is}
@@ -43,10 +43,10 @@ tied_word (Blob b) t h = absurd (omega (arith, class_tied (Blob b) (Text t) (tie
 pub equal_word : (v : Value) (t : List ℕ) → equal v (Text t) ≡ true → v ≡ Text t
 unfolding binary
 equal_word Null t h = absurd (cc)
-equal_word (Int n) t h = tied_word (Int n) t (sym (told _) ∙ h)
-equal_word (Real x) t h = tied_word (Real x) t (sym (told _) ∙ h)
-equal_word (Text s) t h = tied_word (Text s) t (sym (told _) ∙ h)
-equal_word (Blob b) t h = tied_word (Blob b) t (sym (told _) ∙ h)
+equal_word (Int n) t h = tied_word (Int n) t (sym (reported _) ∙ h)
+equal_word (Real x) t h = tied_word (Real x) t (sym (reported _) ∙ h)
+equal_word (Text s) t h = tied_word (Text s) t (sym (reported _) ∙ h)
+equal_word (Blob b) t h = tied_word (Blob b) t (sym (reported _) ∙ h)
 
 -- ---- what is shown stands
 

@@ -4,7 +4,7 @@ use Rattle.std.specs.Prelude.{IfErr, IsOk}
 use Rattle.shop_records.specs.Content.{Content}
 use Rattle.shop_book.specs.Storages.{IsRead}
 use Rattle.shop_book.specs.Ledgers.{content_in}
-use Rattle.shop_store.specs.LedgerBooks.{HoldsBoth, KeepsBoth, failed_of, fault_by, told_by}
+use Rattle.shop_store.specs.LedgerBooks.{HoldsBoth, KeepsBoth, failed_of, fault_by, result_by}
 use Rattle.shop_book.specs.declared.books.BookFault.{BookFault}
 use Rattle.shop_book.specs.declared.books.BookFault.TheVariants as book
 use Rattle.shop_book.specs.declared.storage.Storage.{Ghosts}
@@ -12,27 +12,27 @@ use Rattle.shop_book.specs.declared.storage.StorageFault.{StorageFault}
 use Rattle.shop_book.specs.declared.storage.StorageFault.TheVariants as storage
 use Rattle.shop_store.specs.declared.posted.LedgerBook.{LedgerBook}
 
-lift : {T : Type 0} (P : T → Type 0) (r : Result T StorageFault) → IfOk r P → IfOk (told_by r) P
+lift : {T : Type 0} (P : T → Type 0) (r : Result T StorageFault) → IfOk r P → IfOk (result_by r) P
 lift P (Ok x) h = h
 lift P (Err e) h = tt
 
 -- what is said of the storage's answer is said of the book's
-pub as_reported : {T : Type 0} (P : T → Type 0) (r : Result T StorageFault) (answer : Result T BookFault) → answer ≡ told_by r → IfOk r P → IfOk answer P
+pub as_reported : {T : Type 0} (P : T → Type 0) (r : Result T StorageFault) (answer : Result T BookFault) → answer ≡ result_by r → IfOk r P → IfOk answer P
 as_reported P r answer same h = subst (λ a. IfOk a P) (sym same) (lift P r h)
 
 -- so of one that only memory keeps from being reported
-only_memory : {T : Type 0} (r : Result T StorageFault) → IfErr r (λ fault. fault ≡ storage.NoMemory) → IfErr (told_by r) (λ fault. fault ≡ book.NoMemory)
+only_memory : {T : Type 0} (r : Result T StorageFault) → IfErr r (λ fault. fault ≡ storage.NoMemory) → IfErr (result_by r) (λ fault. fault ≡ book.NoMemory)
 only_memory (Ok x) h = tt
 only_memory (Err fault) h = ap fault_by h
 
-pub memory_reported : {T : Type 0} (r : Result T StorageFault) (answer : Result T BookFault) → answer ≡ told_by r → IfErr r (λ fault. fault ≡ storage.NoMemory) → IfErr answer (λ fault. fault ≡ book.NoMemory)
+pub memory_reported : {T : Type 0} (r : Result T StorageFault) (answer : Result T BookFault) → answer ≡ result_by r → IfErr r (λ fault. fault ≡ storage.NoMemory) → IfErr answer (λ fault. fault ≡ book.NoMemory)
 memory_reported r answer same h = subst (λ a. IfErr a (λ fault. fault ≡ book.NoMemory)) (sym same) (only_memory r h)
 
-sure : {T : Type 0} (r : Result T StorageFault) → IsOk r → IsOk (told_by r)
+sure : {T : Type 0} (r : Result T StorageFault) → IsOk r → IsOk (result_by r)
 sure (Ok x) h = h
 sure (Err fault) h = absurd (true≢false (sym h))
 
-pub sure_reported : {T : Type 0} (r : Result T StorageFault) (answer : Result T BookFault) → answer ≡ told_by r → IsOk r → IsOk answer
+pub sure_reported : {T : Type 0} (r : Result T StorageFault) (answer : Result T BookFault) → answer ≡ result_by r → IsOk r → IsOk answer
 sure_reported r answer same h = subst (λ a. IsOk a) (sym same) (sure r h)
 
 module _ {S : Type 0} (g : Ghosts S) where

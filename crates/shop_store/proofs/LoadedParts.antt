@@ -32,8 +32,8 @@ put_too (part ∷ parts) old new goes = put_too parts goes.0 new goes.2 ∙ ap (
 
 -- what the adder in it has seen
 seen_too : (parts : List Part) (on : Bool) (old new : PartLoader) → (on ≡ false → new.wanting ≡ false) → HasSeen LoadsPart parts on old new → HasSeen AddsPart parts on old.adder new.adder
-seen_too parts true old new room seen = added_too parts old new seen
-seen_too parts false old new room seen = (seen.0, seen.1, seen.2.adder, seen.3, added_too seen.0 old seen.2 seen.4, seen.5 (room refl))
+seen_too parts true old new spare seen = added_too parts old new seen
+seen_too parts false old new spare seen = (seen.0, seen.1, seen.2.adder, seen.3, added_too seen.0 old seen.2 seen.4, seen.5 (spare refl))
 
 abbrev pub IsVisitOf : List Part → PartLoader → Result Bool TableFault → PartLoader → Type 0
 IsVisitOf list old r new = IsVisit LoadsPart {Fault = TableFault} (λ what. what list) old r new
@@ -47,10 +47,10 @@ held_visit s t b old new r clean (inr (inl was)) v second earlier = record { par
 held_visit s t b old new r clean (inr (inr was)) v second earlier = record { parts = earlier.parts; on = earlier.on; visitor = earlier.visitor; answer = earlier.answer; begins = earlier.begins clean b was }
 
 pub adder_visit : (list : List Part) (old new : PartLoader) (r : Result Bool TableFault) (visit : IsVisitOf list old r new) → (visit.on ≡ false → new.wanting ≡ false) → IsVisit AddsPart {Fault = TableFault} (λ what. what list) old.adder r new.adder
-adder_visit list old new r visit room = record {
+adder_visit list old new r visit spare = record {
   parts = visit.parts;
   on = visit.on;
-  visitor = seen_too visit.parts visit.on old new room visit.visitor;
+  visitor = seen_too visit.parts visit.on old new spare visit.visitor;
   answer = visit.answer;
   begins = visit.begins;
 }

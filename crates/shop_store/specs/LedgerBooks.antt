@@ -32,9 +32,9 @@ fault_by storage.NoMemory = book.NoMemory
 fault_by storage.Store = book.Store
 
 -- the storage's answer as the book's
-abbrev pub told_by : {T : Type 0} → Result T StorageFault → Result T BookFault
-told_by (Ok x) = Ok x
-told_by (Err fault) = Err (fault_by fault)
+abbrev pub result_by : {T : Type 0} → Result T StorageFault → Result T BookFault
+result_by (Ok x) = Ok x
+result_by (Err fault) = Err (fault_by fault)
 
 -- a fault is counted as an answer with it is
 abbrev pub CountsFault : BookFault → ℕ → ℕ → Type 0

@@ -14,6 +14,6 @@ use shop_rows::Sums;
 pub struct PartAdder {
     pub sums: Vec<Sums>,
     ghost rising: { IsTrue (rise sums_key code_cmp sums.items) },
-    ghost room: { vec_len sums < vec_capacity sums },
+    ghost spare: { vec_len sums < vec_capacity sums },
     ghost small: { (column : Column) (code : List ℕ) → sum_at column code sums.items < 2 ^ 64 },
 }

@@ -9,7 +9,7 @@ ghost use Rattle.shop_records.specs.Visits.{IsVisit};
 ghost use Rattle.shop_records.specs.declared.records.Job.{Job as JobOf};
 ghost use Rattle.shop_book.specs.FoundJobs.{IsFoundJob, head_of};
 ghost use Rattle.shop_book.specs.Ledgers.{bare, content_in};
-ghost use Rattle.shop_store.specs.LedgerBooks.{CountsFault, failed_of, fault_by, told_by};
+ghost use Rattle.shop_store.specs.LedgerBooks.{CountsFault, failed_of, fault_by, result_by};
 
 use crate::posted::LedgerBook;
 use crate::stories::scan;
@@ -74,7 +74,7 @@ impl<S: Storage> LedgerBook<S> {
         requires { S.MAY_FAIL ≡ false → IfErr answer (λ fault. fault ≡ storage.NoMemory) }
         ensures ledger { self.new.ledger ≡ self.old.ledger }
         ensures storage { self.new.storage ≡ self.old.storage }
-        ensures answer { result ≡ told_by answer }
+        ensures answer { result ≡ result_by answer }
         ensures failures { CountsFailure result (failed_of S.Storage self.old)
             (failed_of S.Storage self.new) }
     {
@@ -579,7 +579,7 @@ impl<S: Storage> Book for LedgerBook<S> {
         ensures failures { CountsFailure result (failed_of S.Storage self.old)
             (failed_of S.Storage self.new) }
     {
-        self.ledger.make_room(&change)?;
+        self.ledger.reserve_change(&change)?;
         match self.storage.commit(&change) {
             Ok(()) => {
                 self.ledger.post(change);

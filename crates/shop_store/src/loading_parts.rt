@@ -19,7 +19,7 @@ use crate::loaded::Loaded;
 use crate::part_loader::PartLoader;
 use shop_book::{Ledger, ReadRows};
 use shop_records::{DemandList, MaterialTotals, Part, PartList, PartVisitor};
-use shop_tables::{Lent, TableFault, lend_all_parts, part_key_at};
+use shop_tables::{VisitEnd, TableFault, visit_all_parts, part_key_at};
 use sqlite::{Alter, Connection};
 use std::alloc::{AllocError, Global};
 
@@ -152,9 +152,9 @@ pub(crate) fn load_parts<S: Alter>(
     ensures mode { conn.old.in_transaction ≡ false → conn.new.in_transaction ≡ false }
 {
     let mut loader = loader_for(alloc, ledger, totals)?;
-    match lend_all_parts(conn, &mut loader)? {
-        Lent::All => conclude(loader, totals),
-        Lent::Stopped => stopped(loader.wanting),
-        Lent::Invalid => Ok(Loaded::NoRow(part_key_at(conn, loader.seen)?)),
+    match visit_all_parts(conn, &mut loader)? {
+        VisitEnd::All => conclude(loader, totals),
+        VisitEnd::Stopped => stopped(loader.wanting),
+        VisitEnd::Invalid => Ok(Loaded::NoRow(part_key_at(conn, loader.seen)?)),
     }
 }

@@ -30,11 +30,11 @@ impl<S: Alter> SqlStorage<S> {
     ghost use Rattle.std.specs.Prelude.{◌≡◌, option_map, unwrap_or};
     ghost use Rattle.std.specs.Option.{option_to_list};
     ghost use Rattle.shop_records.specs.declared.journal.Entry.{Entry as EntryOf};
-    ghost use Rattle.shop_book.specs.Ends.{AddEnds, HasRoom};
+    ghost use Rattle.shop_book.specs.Ends.{AddEnds, HasSpareEnd};
 
     // Remembers a new entry, if there is one, as the last one, and the end of which it reports.
     fn remember(&mut self, entry: &Option<Entry>)
-        requires { HasRoom self.old.remembered.ends }
+        requires { HasSpareEnd self.old.remembered.ends }
         ensures conn { self.new.conn ≡ self.old.conn }
         ensures number { self.new.remembered.number
             ≡ unwrap_or (option_map (λ (entry : EntryOf). entry.number) entry.now)

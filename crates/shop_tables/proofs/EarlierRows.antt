@@ -18,7 +18,7 @@ use Rattle.sqlite.specs.declared.rows.Row.{Row as Answered}
 use Rattle.sqlite.proofs.Callers.{reads_as}
 use Rattle.shop_records.specs.declared.records.Totals.{Totals}
 use Rattle.shop_statements.specs.Earlier.{HasNoneReturned, HoldsEarlier, ShowsEarlier, StandsEarlier, earlier_row, earlier_schema, HoldsSecond, ShowsSecond, StandsSecond}
-use Rattle.shop_tables.specs.Lending.{IsHeldAt}
+use Rattle.shop_tables.specs.Visiting.{IsHeldAt}
 use Rattle.shop_tables.specs.Listing.{listed_row}
 use Rattle.shop_statements.specs.Selecting.{is_select}
 use Rattle.shop_statements.specs.Shown.{Books, IsAsWas, Leaves}

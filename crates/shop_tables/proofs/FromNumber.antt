@@ -23,7 +23,7 @@ use Rattle.shop_records.specs.declared.records.JobBegin.{JobBegin}
 use Rattle.shop_records.specs.declared.journal.Entry.{Entry}
 use Rattle.shop_statements.specs.Rows.{AreRows, IsKeyed, begun_columns, begun_row, demand_row, entry_columns, job_columns, job_row, journal_row}
 use Rattle.shop_statements.specs.Shown.{Books, Shows}
-use Rattle.shop_statements.proofs.Keys.{and_true, told}
+use Rattle.shop_statements.proofs.Keys.{and_true, reported}
 use Rattle.shop_statements.proofs.Terms.{Reads, from_table}
 use Rattle.shop_statements.proofs.Texts.{shop, shop_is}
 use Rattle.shop_tables.specs.ListedRows.{listed_begun, listed_demand, listed_entry, listed_job, number_row}
@@ -44,7 +44,7 @@ is_at_least m n = grind (arith, nat_tests)
 
 at_least-Int : (m n : ℕ) → at_least (Int (pos m)) (Int (pos n)) ≡ nat_le n m
 unfolding binary
-at_least-Int m n = told _ ∙ ap is_ge (ranked m n) ∙ is_at_least m n
+at_least-Int m n = reported _ ∙ ap is_ge (ranked m n) ∙ is_at_least m n
 
 -- ---- the rows
 

@@ -13,10 +13,10 @@ use Rattle.sqlite.specs.Given.{HasGiven, HasBegun, Returns, Advances}
 use Rattle.sqlite.proofs.Callers.{given_begin, unchanged_then}
 use Rattle.shop_records.specs.declared.records.Part.{Part}
 use Rattle.shop_records.specs.Visits.{GoesOn}
-use Rattle.shop_tables.specs.Lending.{AreReadOf, IsReadOf, IsHeldAt, IsLent, Starts, Answers}
+use Rattle.shop_tables.specs.Visiting.{AreReadOf, IsReadOf, IsHeldAt, IsBorrowed, Starts, Answers}
 use Rattle.shop_statements.specs.declared.faults.TableFault.{TableFault}
-use Rattle.shop_tables.specs.declared.lending.Lent.{Lent}
-use Rattle.shop_tables.specs.declared.lending.Lent.TheVariants as lent
+use Rattle.shop_tables.specs.declared.visiting.VisitEnd.{VisitEnd}
+use Rattle.shop_tables.specs.declared.visiting.VisitEnd.TheVariants as borrowed
 use Rattle.shop_statements.specs.Selecting.{is_select}
 use Rattle.shop_statements.specs.Shown.{Leaves}
 use Rattle.shop_tables.specs.Invalid.{IsNoPart}
@@ -42,11 +42,11 @@ read_push [] (p ∷ parts) row part h one = absurd h
 read_push (r ∷ rows) [] row part h one = absurd h
 read_push (r ∷ rows) (p ∷ parts) row part h one = (h.0, read_push rows parts row part h.1 one)
 
-pub no_answer : (r : Result Lent TableFault) → IsErr r → IfOk r (λ how. ⊥)
+pub no_answer : (r : Result VisitEnd TableFault) → IsErr r → IfOk r (λ how. ⊥)
 no_answer (Ok how) is = absurd (true≢false (sym is))
 no_answer (Err e) is = tt
 
-failed : (P : Lent → Type 0) (r : Result Lent TableFault) → IfOk r (λ how. ⊥) → IfOk r P
+failed : (P : VisitEnd → Type 0) (r : Result VisitEnd TableFault) → IfOk r (λ how. ⊥) → IfOk r P
 failed P (Ok how) none = absurd none
 failed P (Err e) none = tt
 
@@ -123,29 +123,29 @@ module _ {S : Type 0} (g : Ghosts S) where
     -- ---- the ways to an end
 
     -- no query began
-    pub none_lent : (new : Held S) (r : Result Lent TableFault) → IfOk r (λ how. ⊥) → IsLent g sql params first looks new before r before
-    none_lent new r none = record {
+    pub none_borrowed : (new : Held S) (r : Result VisitEnd TableFault) → IfOk r (λ how. ⊥) → IsBorrowed g sql params first looks new before r before
+    none_borrowed new r none = record {
       given = [];
       parts = [];
       read = tt;
       on = true;
       visitor = refl;
-      told = failed _ r none;
+      reported = failed _ r none;
       begins = λ _. inl refl;
       whole = λ _. failed _ r none;
       invalid = λ _. failed _ r none;
     }
 
     -- a fault
-    pub broken_off : (now new : Held S) (after : V) (r : Result Lent TableFault) → IfOk r (λ how. ⊥) → Going now after → (HasCleanDisk (state g new) → HasCleanDisk (state g now))
-        → IsLent g sql params first looks new before r after
+    pub broken_off : (now new : Held S) (after : V) (r : Result VisitEnd TableFault) → IfOk r (λ how. ⊥) → Going now after → (HasCleanDisk (state g new) → HasCleanDisk (state g now))
+        → IsBorrowed g sql params first looks new before r after
     broken_off now new after r none it late = record {
       given = it.given;
       parts = it.parts;
       read = it.read;
       on = true;
       visitor = it.visitor;
-      told = failed _ r none;
+      reported = failed _ r none;
       begins = λ clean. starts now after it (late clean);
       whole = λ _. failed _ r none;
       invalid = λ _. failed _ r none;
@@ -153,14 +153,14 @@ module _ {S : Type 0} (g : Ghosts S) where
 
     -- a row that is no part's
     pub invalid_at : (now new : Held S) (after : V) (row : Row) → Going now after → Leaves (state g now) (state g new) → (HasCleanDisk (state g new) → Advances g now new (Some row)) → IsNoPart row
-        → IsLent g sql params first looks new before (Ok lent.Invalid) after
+        → IsBorrowed g sql params first looks new before (Ok borrowed.Invalid) after
     invalid_at now new after row it step on none = record {
       given = it.given;
       parts = it.parts;
       read = it.read;
       on = true;
       visitor = it.visitor;
-      told = refl;
+      reported = refl;
       begins = λ clean. starts now after it (omega (arith, step.survives.clean));
       whole = λ _ other. absurd (cc);
       invalid = λ clean _.
@@ -172,14 +172,14 @@ module _ {S : Type 0} (g : Ghosts S) where
     }
 
     -- the end of the rows
-    pub all_lent : (now new : Held S) (after : V) → Going now after → Leaves (state g now) (state g new) → (HasCleanDisk (state g new) → Advances g now new None) → IsLent g sql params first looks new before (Ok lent.All) after
-    all_lent now new after it step on = record {
+    pub all_borrowed : (now new : Held S) (after : V) → Going now after → Leaves (state g now) (state g new) → (HasCleanDisk (state g new) → Advances g now new None) → IsBorrowed g sql params first looks new before (Ok borrowed.All) after
+    all_borrowed now new after it step on = record {
       given = it.given;
       parts = it.parts;
       read = it.read;
       on = true;
       visitor = it.visitor;
-      told = refl;
+      reported = refl;
       begins = λ clean. starts now after it (omega (arith, step.survives.clean));
       whole = λ clean _. ended now new after it (omega (arith, step.survives.clean)) (on clean);
       invalid = λ _ other. absurd (cc);
@@ -187,14 +187,14 @@ module _ {S : Type 0} (g : Ghosts S) where
 
     -- the visitor stopped at a row
     pub stopped_at : (now new : Held S) (after last : V) (row : Row) (part : Part) → Going now after → Leaves (state g now) (state g new) → (HasCleanDisk (state g new) → Advances g now new (Some row))
-        → IsReadOf row part → looks after part false last → IsLent g sql params first looks new before (Ok lent.Stopped) last
+        → IsReadOf row part → looks after part false last → IsBorrowed g sql params first looks new before (Ok borrowed.Stopped) last
     stopped_at now new after last row part it step on read look = record {
       given = it.given ++ row ∷ [];
       parts = it.parts ++ part ∷ [];
       read = read_push it.given it.parts row part it.read read;
       on = false;
       visitor = (it.parts, part, after, refl, it.visitor, look);
-      told = refl;
+      reported = refl;
       begins = λ clean.
           let more = on clean sql params it.given (it.at (omega (arith, step.survives.clean))).0 in
           inr (new, seen_at now new after it step clean (given_open sql params new (it.given ++ row ∷ []) more), given_begin g sql params new (it.given ++ row ∷ []) more);

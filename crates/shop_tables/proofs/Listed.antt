@@ -23,10 +23,10 @@ use Rattle.shop_records.specs.Elements.{IsIn}
 use Rattle.shop_records.specs.Visits.{IsVisit}
 use Rattle.shop_records.specs.declared.records.Part.{Part}
 use Rattle.shop_records.proofs.Entries.{found_in}
-use Rattle.shop_tables.specs.Lending.{AreReadOf, IsHeldAt, IsLent, gone_through}
+use Rattle.shop_tables.specs.Visiting.{AreReadOf, IsHeldAt, IsBorrowed, gone_through}
 use Rattle.shop_statements.specs.declared.faults.TableFault.{TableFault}
-use Rattle.shop_tables.specs.declared.lending.Lent.{Lent}
-use Rattle.shop_tables.specs.declared.lending.Lent.TheVariants as lent
+use Rattle.shop_tables.specs.declared.visiting.VisitEnd.{VisitEnd}
+use Rattle.shop_tables.specs.declared.visiting.VisitEnd.TheVariants as borrowed
 use Rattle.shop_statements.specs.Rows.{AreRows, IsKeyed, part_row}
 use Rattle.shop_statements.specs.Shown.{Books, Shows, Holds, OnBooks}
 use Rattle.shop_tables.specs.Invalid.{IsNoPart}
@@ -159,44 +159,44 @@ module _ {S : Type 0} (g : Ghosts S) (sql : List ℕ) (params : Row) (list : Boo
     (first_of : (s : State) (b : Books) → Sees s b → (given : List Row) (parts : List Part) → Begins sql params s given → AreReadOf given parts → (rest : List Part) × (list b ≡ parts ++ rest))
     (old new : Held S) (Was : Books → Type 0) (sees : (b : Books) → Was b → (mid : Held S) → IsHeldAt g sql params old mid → Sees (state g mid) b)
     {V : Type 0} (looks : V → Part → Bool → V → Type 0) (before after : V) where
-  abbrev Handed : Result Lent TableFault → Type 0
-  Handed r = IsLent g sql params old looks new before r after
+  abbrev Handed : Result VisitEnd TableFault → Type 0
+  Handed r = IsBorrowed g sql params old looks new before r after
 
   abbrev Visited : Result Bool TableFault → Type 0
-  Visited told = IsVisit looks {Fault = TableFault} (λ what. HasCleanDisk (state g new) → (b : Books) → Was b → what (list b)) before told after
+  Visited reported = IsVisit looks {Fault = TableFault} (λ what. HasCleanDisk (state g new) → (b : Books) → Was b → what (list b)) before reported after
 
   -- the parts that were handed out begin the list
-  begin_listed : (r : Result Lent TableFault) (h : Handed r) → HasCleanDisk (state g new) → (b : Books) → Was b → (rest : List Part) × (list b ≡ h.parts ++ rest)
+  begin_listed : (r : Result VisitEnd TableFault) (h : Handed r) → HasCleanDisk (state g new) → (b : Books) → Was b → (rest : List Part) × (list b ≡ h.parts ++ rest)
   begin_listed r h clean b was = elim (h.begins clean) [
     | inl none ↦ (list b, ap (λ l. l ++ list b) (sym (none_read h.parts (rw none at h.read))))
     | inr some ↦ first_of (state g some.0) b (sees b was some.0 some.1) h.given h.parts some.2 h.read
   ]
 
-  pub visits_all : (r : Result Lent TableFault) → r ≡ Ok lent.All → Handed r → Visited (Ok true)
+  pub visits_all : (r : Result VisitEnd TableFault) → r ≡ Ok borrowed.All → Handed r → Visited (Ok true)
   visits_all r is h =
       let it = rw is at h in
       record {
         parts = it.parts;
         on = it.on;
         visitor = it.visitor;
-        answer = sym it.told;
+        answer = sym it.reported;
         begins = λ clean b was.
             let whole = it.whole clean refl in
             ([], whole_list (state g whole.0) (state g whole.1) b (sees b was whole.0 whole.2) it.given it.parts whole.3 it.read ∙ sym (append-nil it.parts), λ _. refl);
       }
 
-  pub visits_some : (r : Result Lent TableFault) → r ≡ Ok lent.Stopped → Handed r → Visited (Ok false)
+  pub visits_some : (r : Result VisitEnd TableFault) → r ≡ Ok borrowed.Stopped → Handed r → Visited (Ok false)
   visits_some r is h =
       let it = rw is at h in
       record {
         parts = it.parts;
         on = it.on;
         visitor = it.visitor;
-        answer = sym it.told;
-        begins = λ clean b was. let first = begin_listed (Ok lent.Stopped) it clean b was in (first.0, first.1, λ on. absurd (cc));
+        answer = sym it.reported;
+        begins = λ clean b was. let first = begin_listed (Ok borrowed.Stopped) it clean b was in (first.0, first.1, λ on. absurd (cc));
       }
 
-  pub visits_till : (r : Result Lent TableFault) (told : Result Bool TableFault) → IfOk told (λ on. ⊥) → Handed r → Visited told
+  pub visits_till : (r : Result VisitEnd TableFault) (reported : Result Bool TableFault) → IfOk reported (λ on. ⊥) → Handed r → Visited reported
   visits_till r (Ok on) none h = absurd none
   visits_till r (Err fault) none h = record {
     parts = h.parts;
@@ -207,15 +207,15 @@ module _ {S : Type 0} (g : Ghosts S) (sql : List ℕ) (params : Row) (list : Boo
   }
 
   -- as it is told of all parts
-  pub visited_by : (r : Result Lent TableFault) → Handed r → Visited (gone_through r)
-  visited_by (Ok lent.All) h = visits_all (Ok lent.All) refl h
-  visited_by (Ok lent.Stopped) h = visits_some (Ok lent.Stopped) refl h
-  visited_by (Ok lent.Invalid) h = visits_till (Ok lent.Invalid) (gone_through (Ok lent.Invalid)) tt h
+  pub visited_by : (r : Result VisitEnd TableFault) → Handed r → Visited (gone_through r)
+  visited_by (Ok borrowed.All) h = visits_all (Ok borrowed.All) refl h
+  visited_by (Ok borrowed.Stopped) h = visits_some (Ok borrowed.Stopped) refl h
+  visited_by (Ok borrowed.Invalid) h = visits_till (Ok borrowed.Invalid) (gone_through (Ok borrowed.Invalid)) tt h
   visited_by (Err e) h = visits_till (Err e) (gone_through (Err e)) tt h
 
   -- no row that can't be a part's is met
-  pub not_invalid_by : (r : Result Lent TableFault) → Handed r → ((s : State) (b : Books) → Sees s b → (given : List Row) (row : Row) → Begins sql params s (given ++ row ∷ []) → ¬ IsNoPart row)
-      → HasCleanDisk (state g new) → (b : Books) → Was b → IfOk r (λ how. ¬ (how ≡ lent.Invalid))
+  pub not_invalid_by : (r : Result VisitEnd TableFault) → Handed r → ((s : State) (b : Books) → Sees s b → (given : List Row) (row : Row) → Begins sql params s (given ++ row ∷ []) → ¬ IsNoPart row)
+      → HasCleanDisk (state g new) → (b : Books) → Was b → IfOk r (λ how. ¬ (how ≡ borrowed.Invalid))
   not_invalid_by (Err e) h all clean b was = tt
   not_invalid_by (Ok how) h all clean b was = λ is.
       let it = h.invalid clean is in
@@ -227,14 +227,14 @@ module _ {S : Type 0} (g : Ghosts S) (sql : List ℕ) (params : Row) (list : Boo
     (first_of : (s : State) (b : Books) → Shows s b → (given : List Row) (parts : List Part) → Begins sql params s given → AreReadOf given parts → (rest : List Part) × (list b ≡ parts ++ rest))
     (old new : Held S) {V : Type 0} (looks : V → Part → Bool → V → Type 0) (before after : V) where
   abbrev pub VisitedHeld : Result Bool TableFault → Type 0
-  VisitedHeld told = IsVisit looks {Fault = TableFault} (λ what. OnBooks (state g old) (state g new) (λ b. what (list b))) before told after
+  VisitedHeld reported = IsVisit looks {Fault = TableFault} (λ what. OnBooks (state g old) (state g new) (λ b. what (list b))) before reported after
 
   sees : (b : Books) → Holds (state g old) b → (mid : Held S) → IsHeldAt g sql params old mid → Shows (state g mid) b
   sees b was mid held = (held.stays b was held.clean held.is_open).shows
 
-  pub visited : (r : Result Lent TableFault) → IsLent g sql params old looks new before r after → VisitedHeld (gone_through r)
+  pub visited : (r : Result VisitEnd TableFault) → IsBorrowed g sql params old looks new before r after → VisitedHeld (gone_through r)
   visited = visited_by g sql params list Shows whole_list first_of old new (Holds (state g old)) sees looks before after
 
-  pub not_invalid : (r : Result Lent TableFault) → IsLent g sql params old looks new before r after → ((s : State) (b : Books) → Shows s b → (given : List Row) (row : Row) → Begins sql params s (given ++ row ∷ []) → ¬ IsNoPart row)
-      → OnBooks (state g old) (state g new) (λ b. IfOk r (λ how. ¬ (how ≡ lent.Invalid)))
+  pub not_invalid : (r : Result VisitEnd TableFault) → IsBorrowed g sql params old looks new before r after → ((s : State) (b : Books) → Shows s b → (given : List Row) (row : Row) → Begins sql params s (given ++ row ∷ []) → ¬ IsNoPart row)
+      → OnBooks (state g old) (state g new) (λ b. IfOk r (λ how. ¬ (how ≡ borrowed.Invalid)))
   not_invalid = not_invalid_by g sql params list Shows whole_list first_of old new (Holds (state g old)) sees looks before after

@@ -14,7 +14,7 @@ use Rattle.shop_statements.specs.Earlier.{HoldsSecond, ShowsSecond, second_schem
 use Rattle.shop_statements.specs.Selecting.{is_select}
 use Rattle.shop_statements.specs.Shown.{Books, Leaves}
 use Rattle.shop_statements.proofs.Terms.{Reads, from_table}
-use Rattle.shop_tables.specs.Lending.{IsHeldAt}
+use Rattle.shop_tables.specs.Visiting.{IsHeldAt}
 use Rattle.shop_tables.proofs.EarlierRows.{second_along}
 use Rattle.shop_tables.proofs.ListTexts.{by_code, by_rowid, first_of, all_codes_text, all_codes_terms, all_materials_text, all_materials_terms, all_parts_text, all_totals_text, all_totals_terms, parts_of_terms, parts_of_order, demands_from_text, from_tests, open_demands_terms, jobs_from_text, jobs_from_terms, first_orders_text}
 use Rattle.shop_tables.proofs.Ordered.{rows_seen}

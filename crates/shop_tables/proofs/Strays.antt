@@ -29,7 +29,7 @@ use Rattle.shop_statements.specs.Layout.{HasShopTables}
 use Rattle.shop_statements.specs.Rows.{AreRows, journal_row}
 use Rattle.shop_statements.specs.Selecting.{is_select}
 use Rattle.shop_statements.specs.Shown.{Books, Shows}
-use Rattle.shop_statements.proofs.Keys.{and_true, matched, told}
+use Rattle.shop_statements.proofs.Keys.{and_true, matched, reported}
 use Rattle.shop_statements.proofs.Selects.{selected, selects}
 use Rattle.shop_statements.proofs.Terms.{Reads, from_table}
 use Rattle.shop_statements.proofs.Texts.{shop, shop_is}
@@ -79,11 +79,11 @@ is_above m n = grind (arith, nat_tests)
 
 below-Int : (m n : ℕ) → is_true (binary (Compare Lt Binary) (Int (pos m)) (Int (pos n))) ≡ nat_lt m n
 unfolding binary
-below-Int m n = told _ ∙ ap is_lt (ranked m n) ∙ is_below m n
+below-Int m n = reported _ ∙ ap is_lt (ranked m n) ∙ is_below m n
 
 above-Int : (m n : ℕ) → is_true (binary (Compare Gt Binary) (Int (pos m)) (Int (pos n))) ≡ nat_lt n m
 unfolding binary
-above-Int m n = told _ ∙ ap is_gt (ranked m n) ∙ is_above m n
+above-Int m n = reported _ ∙ ap is_gt (ranked m n) ∙ is_above m n
 
 -- ---- what passes no test
 

@@ -2,7 +2,7 @@ pub mod Faults
 pub mod Changing
 pub mod Held
 pub mod Invalid
-pub mod Lending
+pub mod Visiting
 pub mod Listing
 pub mod Adopting
 pub mod ListedRows

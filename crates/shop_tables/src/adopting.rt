@@ -194,7 +194,7 @@ fn adopt_version<S: Alter>(
     how: Adopted,
 ) -> Result<Adopted, AdoptFault>
     ensures mode { conn.old.in_transaction ≡ false → conn.new.in_transaction ≡ false }
-    ensures only { IfOk result (λ told. told ≡ how) }
+    ensures only { IfOk result (λ reported. reported ≡ how) }
     ensures leaves { Leaves (state S.Store conn.old) (state S.Store conn.new) }
     ensures three { version ≡ 3 → result ≡ Err WrongVersion → HasCleanDisk (state S.Store conn.new)
         → (b : Books) → Holds (state S.Store conn.old) b → ⊥ }
@@ -220,7 +220,7 @@ fn adopt_version<S: Alter>(
 // Over tables with the names of version 3, in which version 1's totals have no row.
 fn adopt_found<S: Alter>(conn: &mut Connection<S>) -> Result<Adopted, AdoptFault>
     ensures mode { conn.old.in_transaction ≡ false → conn.new.in_transaction ≡ false }
-    ensures only { IfOk result (λ told. told ≡ Found) }
+    ensures only { IfOk result (λ reported. reported ≡ Found) }
     ensures leaves { Leaves (state S.Store conn.old) (state S.Store conn.new) }
     ensures neither { result ≡ Err WrongVersion → HasCleanDisk (state S.Store conn.new)
         → (b : Books) → Holds (state S.Store conn.old) b → ⊥ }
@@ -241,7 +241,7 @@ fn adopt_found<S: Alter>(conn: &mut Connection<S>) -> Result<Adopted, AdoptFault
 // Over tables with the names of version 2, in which version 1's totals have no row.
 fn adopt_totals<S: Alter>(conn: &mut Connection<S>) -> Result<Adopted, AdoptFault>
     ensures mode { conn.old.in_transaction ≡ false → conn.new.in_transaction ≡ false }
-    ensures only { IfOk result (λ told. told ≡ Second) }
+    ensures only { IfOk result (λ reported. reported ≡ Second) }
     ensures leaves { Leaves (state S.Store conn.old) (state S.Store conn.new) }
     ensures neither { result ≡ Err WrongVersion → HasCleanDisk (state S.Store conn.new)
         → (b : Books) → HoldsSecond (state S.Store conn.old) b → ⊥ }
@@ -262,7 +262,7 @@ fn adopt_totals<S: Alter>(conn: &mut Connection<S>) -> Result<Adopted, AdoptFaul
 // Over tables with the names of version 2 or 1, in which nothing is undone.
 fn adopt_early<S: Alter>(conn: &mut Connection<S>, how: Adopted) -> Result<Adopted, AdoptFault>
     ensures mode { conn.old.in_transaction ≡ false → conn.new.in_transaction ≡ false }
-    ensures only { IfOk result (λ told. told ≡ how) }
+    ensures only { IfOk result (λ reported. reported ≡ how) }
     ensures was_open { HasCleanDisk (state S.Store conn.new)
         → OnOk result (IsTrue (state S.Store conn.old).is_open) }
     ensures leaves { Leaves (state S.Store conn.old) (state S.Store conn.new) }
@@ -284,7 +284,7 @@ fn adopt_early<S: Alter>(conn: &mut Connection<S>, how: Adopted) -> Result<Adopt
 // Over tables with the names of version 1, in which nothing is undone.
 fn adopt_first<S: Alter>(conn: &mut Connection<S>) -> Result<Adopted, AdoptFault>
     ensures mode { conn.old.in_transaction ≡ false → conn.new.in_transaction ≡ false }
-    ensures only { IfOk result (λ told. told ≡ Earlier) }
+    ensures only { IfOk result (λ reported. reported ≡ Earlier) }
     ensures leaves { Leaves (state S.Store conn.old) (state S.Store conn.new) }
     ensures neither { result ≡ Err WrongVersion → HasCleanDisk (state S.Store conn.new)
         → (b : Books) → HoldsEarlier (state S.Store conn.old) b → ⊥ }
@@ -301,7 +301,7 @@ fn adopt_first<S: Alter>(conn: &mut Connection<S>) -> Result<Adopted, AdoptFault
 // Over tables with the names of version 2, in which version 1's totals have no row and nothing is undone.
 fn adopt_second<S: Alter>(conn: &mut Connection<S>) -> Result<Adopted, AdoptFault>
     ensures mode { conn.old.in_transaction ≡ false → conn.new.in_transaction ≡ false }
-    ensures only { IfOk result (λ told. told ≡ Second) }
+    ensures only { IfOk result (λ reported. reported ≡ Second) }
     ensures leaves { Leaves (state S.Store conn.old) (state S.Store conn.new) }
     ensures neither { result ≡ Err WrongVersion → HasCleanDisk (state S.Store conn.new)
         → (b : Books) → HoldsSecond (state S.Store conn.old) b → ⊥ }

@@ -5,5 +5,5 @@ ghost use Rattle.shop_wire.specs.declared.limits.TheConstants.{BUFFER_SIZE};
 
 /// How many bytes of lines a read brings at most.
 pub fn read_limits()
-    ensures room { BUFFER_SIZE ≡ 65536 }
+    ensures spare { BUFFER_SIZE ≡ 65536 }
 {}

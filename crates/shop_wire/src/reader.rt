@@ -32,11 +32,11 @@ fn append_kept(line: &mut Vec<u8>, part: &[u8]) -> Result<(), AllocError>
     ensures { OnOk result (line.new.items ≡ line.old.items
         ++ take (longest_line + 1 - length line.old.items) part.now) }
 {
-    let room = MAX_LINE_LEN + 1 - line.len();
-    if part.len() <= room {
+    let free = MAX_LINE_LEN + 1 - line.len();
+    if part.len() <= free {
         line.extend_from_slice(part)
     } else {
-        line.extend_from_slice(&part[..room])
+        line.extend_from_slice(&part[..free])
     }
 }
 

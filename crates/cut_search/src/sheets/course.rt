@@ -114,8 +114,8 @@ impl Course {
     /// A lower bound of the cost of its plans, as far as it knows one.
     pub fn least(&self) -> u64 {
         let job = &self.worker.job;
-        let by_room = self.flow.least(job).max(job.least_by_room(&job.order.left));
-        by_room.max(self.worker.hints.bound)
+        let by_cells = self.flow.least(job).max(job.least_by_cells(&job.order.left));
+        by_cells.max(self.worker.hints.bound)
     }
 
     /// Goes on until it reports something, by about so much work at most.

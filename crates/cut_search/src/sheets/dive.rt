@@ -150,7 +150,7 @@ impl Dive {
             return Ok(true);
         }
         worker.count_work(4);
-        let least = worker.job.least_by_room(&self.units.missing);
+        let least = worker.job.least_by_cells(&self.units.missing);
         if !have_some(&self.units.missing)
             || self.units.cost.saturating_add(least) > self.most_cost
         {

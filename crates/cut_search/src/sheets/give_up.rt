@@ -229,9 +229,9 @@ impl GiveUp {
     }
 
     /// Whether a unit of a size may be cut next.
-    fn is_able(job: &Job, size: usize, free: &[u32], room: u64, left: &[u32]) -> bool {
+    fn is_able(job: &Job, size: usize, free: &[u32], budget: u64, left: &[u32]) -> bool {
         free.get(size).copied().unwrap_or(0) > 0
-            && job.cost(size) <= room
+            && job.cost(size) <= budget
             && job.holds_some(size, left)
     }
 
@@ -240,7 +240,7 @@ impl GiveUp {
         alloc: Global,
         worker: &mut Worker,
         free: &[u32],
-        room: u64,
+        budget: u64,
         left: &[u32],
     ) -> Result<Vec<usize>, AllocError> {
         let mut sizes = Vec::new(alloc);
@@ -251,7 +251,7 @@ impl GiveUp {
             } else {
                 worker.dice.place(count)
             };
-            if GiveUp::is_able(&worker.job, size, free, room, left) {
+            if GiveUp::is_able(&worker.job, size, free, budget, left) {
                 sizes.push(size)?;
             }
         }
@@ -264,10 +264,10 @@ impl GiveUp {
         alloc: Global,
         worker: &mut Worker,
         free: &[u32],
-        room: u64,
+        budget: u64,
         left: &[u32],
     ) -> Result<Option<usize>, AllocError> {
-        let sizes = GiveUp::able_sizes(alloc, worker, free, room, left)?;
+        let sizes = GiveUp::able_sizes(alloc, worker, free, budget, left)?;
         let first = sizes.get(worker.dice.place(sizes.len())).copied();
         let second = sizes.get(worker.dice.place(sizes.len())).copied();
         let (Some(a), Some(b)) = (first, second) else {
@@ -289,26 +289,26 @@ impl GiveUp {
         worker: &mut Worker,
         old: &[usize],
         free: &mut [u32],
-        room: u64,
+        budget: u64,
         left: &[u32],
     ) -> Result<Vec<usize>, AllocError> {
-        let mut room = room;
+        let mut budget = budget;
         let mut list = Vec::new(alloc);
         for number in 0..old.len().saturating_add(1) {
             let again = old.get(number).copied();
             let is_again = worker.dice.below(100) < SAME_SIZE;
             let same = again.filter(|size| {
-                is_again && GiveUp::is_able(&worker.job, *size, free, room, left)
+                is_again && GiveUp::is_able(&worker.job, *size, free, budget, left)
             });
             let chosen = match same {
                 Some(size) => Some(size),
-                None => self.other_size(alloc, worker, free, room, left)?,
+                None => self.other_size(alloc, worker, free, budget, left)?,
             };
             let Some(size) = chosen else {
                 break;
             };
             let cost = worker.job.cost(size);
-            room = room.saturating_sub(cost);
+            budget = budget.saturating_sub(cost);
             if !worker.job.is_endless(size) {
                 if let Some(number) = free.get_mut(size) {
                     *number = number.saturating_sub(1);
@@ -329,13 +329,13 @@ impl GiveUp {
         let chosen = self.choose(alloc, worker)?;
         let mut left = Vec::from_slice(alloc, &self.units.missing)?;
         let mut free = Vec::from_slice(alloc, &self.units.free)?;
-        let mut room = self.most_cost.saturating_sub(self.units.cost);
+        let mut budget = self.most_cost.saturating_sub(self.units.cost);
         let mut old = Vec::new(alloc);
         for place in &chosen {
             if let Some(batch) = self.units.batches.get(*place) {
                 give(&mut left, &batch.plan.counts, 1);
                 let size = batch.plan.size;
-                room = room.saturating_add(worker.job.cost(size));
+                budget = budget.saturating_add(worker.job.cost(size));
                 old.push(size)?;
                 if !worker.job.is_endless(size) {
                     if let Some(number) = free.get_mut(size) {
@@ -347,7 +347,7 @@ impl GiveUp {
         let sizes = if self.same_sizes {
             old
         } else {
-            self.sizes_for(alloc, worker, &old, &mut free, room, &left)?
+            self.sizes_for(alloc, worker, &old, &mut free, budget, &left)?
         };
         Ok(Try {
             chosen,

@@ -72,9 +72,9 @@ fn most_value(job: &Job, size: usize, left: &[u32], values: &[u64]) -> u64 {
     let unit = job.unit_cells(size);
     let mut most = 0u128;
     let cells = job.order.piece_cells.iter();
-    for (want, ((count, value), room)) in left.iter().zip(values).zip(cells).enumerate() {
+    for (want, ((count, value), area)) in left.iter().zip(values).zip(cells).enumerate() {
         if *count > 0 && job.holds(size, want) {
-            let full = (*value as u128 * unit as u128).div_ceil((*room as u128).max(1));
+            let full = (*value as u128 * unit as u128).div_ceil((*area as u128).max(1));
             most = full.max(most);
         }
     }
@@ -223,10 +223,10 @@ impl Greedy {
 
     /// How often a plan is taken at once: as long as much more is left than one unit holds.
     fn times_of(&self, job: &Job, plan: &Plan) -> u32 {
-        let room = MAX_ORDER_UNITS.saturating_sub(self.units.count());
+        let area = MAX_ORDER_UNITS.saturating_sub(self.units.count());
         let fit = times_within(&plan.counts, &self.units.missing)
             .min(self.units.free_of(plan.size))
-            .min(u32::try_from(room).unwrap_or(0));
+            .min(u32::try_from(area).unwrap_or(0));
         if self.is_corrected {
             return fit;
         }
@@ -320,7 +320,7 @@ impl Greedy {
 
     /// Whether the plan must cost more than is worth it.
     fn is_hopeless(&self, job: &Job) -> bool {
-        let least = job.least_by_room(&self.units.missing);
+        let least = job.least_by_cells(&self.units.missing);
         self.units.cost.saturating_add(least) > self.most_cost
     }
 

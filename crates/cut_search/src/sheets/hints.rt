@@ -33,19 +33,19 @@ pub fn mixed(
 ) -> Result<Vec<u64>, AllocError> {
     let mut all_prices = 0u128;
     let mut all_cells = 0u128;
-    for ((price, room), left) in prices.iter().zip(cells).zip(&order.left) {
+    for ((price, area), left) in prices.iter().zip(cells).zip(&order.left) {
         all_prices = all_prices.saturating_add(*price as u128 * *left as u128);
-        all_cells = all_cells.saturating_add(*room as u128 * *left as u128);
+        all_cells = all_cells.saturating_add(*area as u128 * *left as u128);
     }
     let mut values = Vec::new(alloc);
-    for (price, room) in prices.iter().zip(cells) {
+    for (price, area) in prices.iter().zip(cells) {
         let by_price = (*price as u128)
             .saturating_mul(all_cells)
             .checked_div(all_prices)
-            .unwrap_or(*room as u128);
+            .unwrap_or(*area as u128);
         let value = by_price
             .saturating_mul(PRICE_SHARE)
-            .saturating_add((*room as u128).saturating_mul(1000 - PRICE_SHARE))
+            .saturating_add((*area as u128).saturating_mul(1000 - PRICE_SHARE))
             / 1000;
         values.push(u64::try_from(value).unwrap_or(u64::MAX).max(1))?;
     }
@@ -56,12 +56,12 @@ impl Hints {
     /// Hints by room alone.
     pub fn new(alloc: Global, job: &Job) -> Result<Hints, AllocError> {
         let mut cells = Vec::new(alloc);
-        for room in &job.order.piece_cells {
-            cells.push(room.saturating_mul(VALUE_PARTS).max(1))?;
+        for area in &job.order.piece_cells {
+            cells.push(area.saturating_mul(VALUE_PARTS).max(1))?;
         }
         let mut rates = Vec::new(alloc);
-        for (room, cost) in job.order.unit_cells.iter().zip(&job.order.costs) {
-            rates.push(rate_of(*room, *cost))?;
+        for (area, cost) in job.order.unit_cells.iter().zip(&job.order.costs) {
+            rates.push(rate_of(*area, *cost))?;
         }
         Ok(Hints {
             priced: Vec::from_slice(alloc, &cells)?,

@@ -208,7 +208,7 @@ impl Job {
     }
 
     /// What all that is left costs at least by its room, at the least cost of room.
-    pub fn least_by_room(&self, left: &[u32]) -> u64 {
-        self.order.least_by_room(left)
+    pub fn least_by_cells(&self, left: &[u32]) -> u64 {
+        self.order.least_by_cells(left)
     }
 }

@@ -1,17 +1,17 @@
 use Rattle.std.proofs.Common.{◌/◌, ◌++◌, length, subst, arith}
 use Rattle.cut_bars.specs.Counts.{AreBestCounts, HaveLength, HasBoundedWorthAndLeft}
-use Rattle.cut_bars.proofs.DividedRooms.{wants_one, taken, dropped, both_parts, lengths_append}
+use Rattle.cut_bars.proofs.DividedSpans.{wants_one, taken, dropped, both_parts, lengths_append}
 use Rattle.cut_bars.proofs.bar.+fill_counts.Goals as goal
 
 pub returns-then-wants-eq1-clause-best : goal.returns-then-wants-eq1-clause-best
 returns-then-wants-eq1-clause-best t c =
     (wants_one c.args.kerf c.args.whole c.args.wants.now c.index-wants-0.result c.args.counts.now c.count_one.result (omega arith) c.requires.len c.index-wants-0.is c.count_one.ensures.some c.count_one.ensures.best).1
 
-pub room_for_first-requires-clause-modest_first : goal.room_for_first-requires-clause-modest_first
-room_for_first-requires-clause-modest_first t c = rw c.split_at.ensures.front (taken HasBoundedWorthAndLeft (length c.args.wants.now / 2) c.args.wants.now c.requires.modest)
+pub span_for_first-requires-clause-modest_first : goal.span_for_first-requires-clause-modest_first
+span_for_first-requires-clause-modest_first t c = rw c.split_at.ensures.front (taken HasBoundedWorthAndLeft (length c.args.wants.now / 2) c.args.wants.now c.requires.modest)
 
-pub room_for_first-requires-clause-modest_others : goal.room_for_first-requires-clause-modest_others
-room_for_first-requires-clause-modest_others t c = rw c.split_at.ensures.back (dropped HasBoundedWorthAndLeft (length c.args.wants.now / 2) c.args.wants.now c.requires.modest)
+pub span_for_first-requires-clause-modest_others : goal.span_for_first-requires-clause-modest_others
+span_for_first-requires-clause-modest_others t c = rw c.split_at.ensures.back (dropped HasBoundedWorthAndLeft (length c.args.wants.now / 2) c.args.wants.now c.requires.modest)
 
 pub fill_counts-requires : goal.fill_counts-requires
 fill_counts-requires t c = (

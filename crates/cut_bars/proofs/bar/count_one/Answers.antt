@@ -1,5 +1,5 @@
 use Rattle.std.proofs.Common.{◌≡◌, ◌+◌, ◌/◌, ap, arith}
-use Rattle.cut_bars.proofs.DividedRooms.{best_one}
+use Rattle.cut_bars.proofs.DividedSpans.{best_one}
 use Rattle.cut_bars.proofs.bar.count_one.Goals as goal
 
 pub returns-clause-best : goal.returns-clause-best

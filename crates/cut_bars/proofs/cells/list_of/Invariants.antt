@@ -6,4 +6,4 @@ use Rattle.cut_bars.specs.Levels.{HasCell}
 use Rattle.cut_bars.proofs.cells.list_of.Given as goal
 
 abbrev pub invariant-loop-i : goal.invariant-loop-i
-invariant-loop-i g l = AreRising l.entries.items × ((e : Entry) → (HasCell (map g.T.Number.value l.cells) e × (e.room < l.i)) ↔ Contains l.entries.items e)
+invariant-loop-i g l = AreRising l.entries.items × ((e : Entry) → (HasCell (map g.T.Number.value l.cells) e × (e.span < l.i)) ↔ Contains l.entries.items e)

@@ -1,6 +1,6 @@
 use Rattle.std.proofs.Common.{map}
 use Rattle.cut_bars.specs.Levels.{Has, HasCell}
-use Rattle.cut_bars.proofs.DividedRooms.{division_same}
+use Rattle.cut_bars.proofs.DividedSpans.{division_same}
 use Rattle.cut_bars.proofs.divide.divide.Goals as goal
 
 pub divide_lists-requires-clause-small_prefix : goal.divide_lists-requires-clause-small_prefix

@@ -1,6 +1,6 @@
 use Rattle.std.proofs.Common.{◌-◌, arith}
 use Rattle.cut_bars.proofs.JoinedEntries.{low_at}
-use Rattle.cut_bars.proofs.DividedRooms.{after_next, lists_start, lists_more, lists_done}
+use Rattle.cut_bars.proofs.DividedSpans.{after_next, lists_start, lists_more, lists_done}
 use Rattle.cut_bars.proofs.divide.divide_lists.Goals.{else-next-back-via-then-next-back+else-back-next, else-next-back-via-else-next-back}
 use Rattle.cut_bars.proofs.divide.divide_lists.Goals as goal
 

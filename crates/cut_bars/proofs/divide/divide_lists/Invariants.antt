@@ -1,6 +1,6 @@
 use Rattle.std.proofs.Common.{◌+◌, ◌-◌, ◌≤◌, length}
 use Rattle.std.specs.Prelude.{Contains}
-use Rattle.cut_bars.proofs.DividedRooms.{IsAfter, IsDivided, IsFrom}
+use Rattle.cut_bars.proofs.DividedSpans.{IsAfter, IsDivided, IsFrom}
 use Rattle.cut_bars.proofs.divide.divide_lists.Given as goal
 
 abbrev pub invariant-loop-left : goal.invariant-loop-left

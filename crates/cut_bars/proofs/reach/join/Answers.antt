@@ -12,5 +12,5 @@ overflow_add-new-in-loop-kept c =
 
 pub loop-kept-preserved : goal.loop-kept-preserved
 loop-kept-preserved c =
-    join_step c.args.batch.room c.args.batch.worth c.args.entries.now c.loop-kept.kept c.loop-kept.moved c.loop-kept.joined.items _ c.first_of-first.result c.requires.rising c.requires.some
+    join_step c.args.batch.span c.args.batch.worth c.args.entries.now c.loop-kept.kept c.loop-kept.moved c.loop-kept.joined.items _ c.first_of-first.result c.requires.rising c.requires.some
     c.loop-kept.invariant.0 (omega arith) c.first_of-first.ensures c.in_ok-push.ensures.items c.loop-kept.invariant.2 c.loop-kept.invariant.3

@@ -17,15 +17,15 @@ overflow_add-from-in-loop-moved c =
 pub loop-moved-preserved : goal.loop-moved-preserved
 loop-moved-preserved c = (
   omega arith,
-  tail_joined c.args.batch.room c.args.batch.worth c.args.whole c.args.entries.now c.loop-moved.moved c.loop-moved.offered.items _ c.requires.rising (omega arith) c.in_ok-push.ensures.items
+  tail_joined c.args.batch.span c.args.batch.worth c.args.whole c.args.entries.now c.loop-moved.moved c.loop-moved.offered.items _ c.requires.rising (omega arith) c.in_ok-push.ensures.items
       c.loop-moved.invariant.1,
-  tail_short c.args.batch.room c.args.batch.worth c.args.whole c.args.entries.now c.loop-moved.moved c.loop-moved.offered.items _ c.requires.rising (omega arith) c.in_ok-push.ensures.items
+  tail_short c.args.batch.span c.args.batch.worth c.args.whole c.args.entries.now c.loop-moved.moved c.loop-moved.offered.items _ c.requires.rising (omega arith) c.in_ok-push.ensures.items
       c.loop-moved.invariant.1 (omega arith) c.loop-moved.invariant.2,
 )
 
 pub returns-clause-offered : goal.returns-clause-offered
 returns-clause-offered c =
-    all_offered c.args.batch.room c.args.batch.worth c.args.whole c.args.entries.now c.loop-moved.moved c.loop-moved.offered.items c.requires.rising c.loop-moved.invariant.1 c.loop-moved.invariant.2
+    all_offered c.args.batch.span c.args.batch.worth c.args.whole c.args.entries.now c.loop-moved.moved c.loop-moved.offered.items c.requires.rising c.loop-moved.invariant.1 c.loop-moved.invariant.2
     (elim c.loop-moved-test.branch [
       | then-loop-moved-test+else-entries-moved w ↦ inr (omega arith)
       | else-loop-moved-test w ↦ inl (omega arith)

@@ -3,4 +3,4 @@ use Rattle.cut_bound.proofs.GreatestCosts.{IsGreatestSoFar}
 use Rattle.cut_bound.proofs.ratings.best_within.Given as goal
 
 abbrev pub invariant-loop-entry : goal.invariant-loop-entry
-invariant-loop-entry l = IsGreatestSoFar (λ e. e.room ≤ l.room) (λ e. e.worth) l.entries l.entry-index l.best
+invariant-loop-entry l = IsGreatestSoFar (λ e. e.span ≤ l.span) (λ e. e.worth) l.entries l.entry-index l.best

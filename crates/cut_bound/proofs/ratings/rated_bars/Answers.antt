@@ -16,9 +16,9 @@ pub loop-stock-preserved : goal.loop-stock-preserved
 loop-stock-preserved c =
     let inside : c.stock-item.result.size.w ≤ c.longest-longest.result =
     each_size (λ (z : StockSize). z.size.w ≤ c.longest-longest.result) c.args.sizes.now c.loop-stock.stock-index c.stock-item.result (omega arith) c.stock-item.is c.longest-longest.ensures.most in
-    let greatest : IsGreatest (λ e. e.room ≤ c.stock-item.result.size.w + c.args.kerf) (λ e. e.worth) c.in_ok-entries.entries.items c.best_within-best.result =
-    subst (λ w. IsGreatest (λ (e : Entry). e.room ≤ w + c.args.kerf) (λ (e : Entry). e.worth) c.in_ok-entries.entries.items c.best_within-best.result) c.w.ensures.value
-    (subst (λ (es : List Entry). IsGreatest (λ e. e.room ≤ c.w.result + c.args.kerf) (λ e. e.worth) es c.best_within-best.result) c.deref.ensures.value c.best_within-best.ensures) in
+    let greatest : IsGreatest (λ e. e.span ≤ c.stock-item.result.size.w + c.args.kerf) (λ e. e.worth) c.in_ok-entries.entries.items c.best_within-best.result =
+    subst (λ w. IsGreatest (λ (e : Entry). e.span ≤ w + c.args.kerf) (λ (e : Entry). e.worth) c.in_ok-entries.entries.items c.best_within-best.result) c.w.ensures.value
+    (subst (λ (es : List Entry). IsGreatest (λ e. e.span ≤ c.w.result + c.args.kerf) (λ e. e.worth) es c.best_within-best.result) c.deref.ensures.value c.best_within-best.ensures) in
     let rate =
     bar_rating c.args.wants.now c.args.kerf (c.longest-longest.result + c.args.kerf) c.stock-item.result.size.w c.best_within-best.result c.in_ok-entries.entries.items c.in_ok-entries.ensures.reached (omega arith) greatest in
     let n =

@@ -7,7 +7,7 @@ use Rattle.cut_classes.proofs.pairs.covering_pairs.Goals as goal
 pub loop-handled-preserved : goal.loop-handled-preserved
 loop-handled-preserved c =
     let first = c.args.class - 1 - c.loop-handled.handled in
-    next_front (classes c.args.points.now c.args.most) c.args.class c.loop-handled.handled first c.loop-handled.beaten c.reach-beside.result c.saturating_sub-room.result
+    next_front (classes c.args.points.now c.args.most) c.args.class c.loop-handled.handled first c.loop-handled.beaten c.reach-beside.result c.saturating_sub-span.result
     c.loop-handled.pairs.items c.add_pair.new.pairs.items c.requires.usable c.requires.class (omega arith) (omega (arith, c.high_of-high.ensures)) c.reach-beside.ensures.from
     (elim (cases_lt first c.loop-handled.beaten) [
       | inl lt ↦ inr (omega (arith, lt, c.reach-beside.ensures.within))

@@ -6,7 +6,7 @@ use Rattle.cut_plan.proofs.lengths.map_of.Goals as goal
 
 pub loop-entry-preserved : goal.loop-entry-preserved
 loop-entry-preserved c =
-    map_more c.args.entries.now c.loop-entry.entry-index (record { room = 0; worth = 0 }) c.requires (omega arith) (get nat_cmp c.loop-entry.map) (get nat_cmp c.insert.new.self) c.loop-entry.invariant
+    map_more c.args.entries.now c.loop-entry.entry-index (record { span = 0; worth = 0 }) c.requires (omega arith) (get nat_cmp c.loop-entry.map) (get nat_cmp c.insert.new.self) c.loop-entry.invariant
     c.in_ok-insert.ensures.updates.0
 
 pub returns : goal.returns

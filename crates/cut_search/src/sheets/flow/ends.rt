@@ -238,9 +238,9 @@ impl Flow {
         }
         if given == Given::Less {
             let size = self.packed.first().copied().unwrap_or(0);
-            let room = worker.job.unit_cells(size);
+            let area = worker.job.unit_cells(size);
             let used = worker.job.cells_in(&next.units.missing);
-            if room.saturating_sub(used) > self.best.rest {
+            if area.saturating_sub(used) > self.best.rest {
                 self.pack_rest(alloc, worker, next, size)?;
                 return Ok(Reported::Nothing);
             }

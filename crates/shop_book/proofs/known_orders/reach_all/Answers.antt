@@ -15,7 +15,7 @@ loop-row-preserved c =
     let row = c.row-item.result in
     record {
       rising = c.reach_to-are_all.ensures.rising;
-      room = c.reach_to-are_all.ensures.room;
+      spare = c.reach_to-are_all.ensures.spare;
       same = c.reach_to-are_all.ensures.same ∙ c.loop-row.invariant.same;
       reach = reach_on c.args.orders.now.items before after c.loop-row.invariant.reach c.reach_to-are_all.ensures.reach;
       placed = λ yes.

@@ -12,7 +12,7 @@ abbrev pub invariant-loop-row : goal.invariant-loop-row
 invariant-loop-row l =
     record {
       rising : rise known_key code_cmp l.orders.items ≡ true;
-      room : vec_len l.orders < vec_capacity l.orders;
+      spare : vec_len l.orders < vec_capacity l.orders;
       same : orders_in (codes_in l.orders.items) ≡ orders_in (codes_in l.fn.orders.items);
       reach : ReachAsFar l.fn.orders.items l.orders.items;
       placed : l.are_all ≡ true → list_all (is_placed l.orders.items) (take l.row-index l.rows) ≡ true;

@@ -26,8 +26,8 @@ with_all-requires c = λ column.
     let before = c.sums_of-before.ensures.sums column ∙ ap (λ (rows : List Sums). sum_at column material rows) c.deref.ensures.value in
     let bound = cells_bounded column material (parts_in parts) c.requires.tally.small in
     let rows = length-map parts.rows.items (part_of parts.origins.items) in
-    let room = c.requires.rooms.room.rows in
-    omega (arith, before, c.requires.tally.sums column material, bound, rows, c.len-len.ensures, c.capacity-room.ensures, c.capacity-room.type_inv, room)
+    let spare = c.requires.spares.spare.rows in
+    omega (arith, before, c.requires.tally.sums column material, bound, rows, c.len-len.ensures, c.capacity-spare.ensures, c.capacity-spare.type_inv, spare)
 
 pub returns-clause-put : goal.returns-clause-put
 returns-clause-put c = λ _.

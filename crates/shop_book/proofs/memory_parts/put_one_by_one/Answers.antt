@@ -6,16 +6,16 @@ use Rattle.shop_records.specs.Content.{with_parts}
 use Rattle.shop_rows.specs.Rows.{entries_of, map_of}
 use Rattle.shop_rows.specs.Keys.{part_key, names_total}
 use Rattle.shop_rows.specs.PartRows.{parts_in}
-use Rattle.shop_book.specs.Tallies.{HaveRooms}
+use Rattle.shop_book.specs.Tallies.{HaveSpareCapacity}
 use Rattle.shop_book.proofs.Held.{put_is_insert}
-use Rattle.shop_book.proofs.Tallied.{rooms_one}
+use Rattle.shop_book.proofs.Tallied.{spares_one}
 use Rattle.shop_book.proofs.memory_parts.put_one_by_one.Goals as goal
 
-pub put_part-requires-clause-rooms : goal.put_part-requires-clause-rooms
-put_part-requires-clause-rooms c =
+pub put_part-requires-clause-spares : goal.put_part-requires-clause-spares
+put_part-requires-clause-spares c =
     let rows = c.args.rows.now in
-    rooms_one (length rows - c.loop-part.part-index) c.loop-part.part-index rows c.part-item.result c.loop-part.parts c.loop-part.totals c.loop-part.lists.items
-    (omega (arith, c.loop-part-test.true)) c.loop-part-test.true c.part-item.is c.loop-part.invariant.rooms
+    spares_one (length rows - c.loop-part.part-index) c.loop-part.part-index rows c.part-item.result c.loop-part.parts c.loop-part.totals c.loop-part.lists.items
+    (omega (arith, c.loop-part-test.true)) c.loop-part-test.true c.part-item.is c.loop-part.invariant.spares
 
 pub loop-part-preserved : goal.loop-part-preserved
 loop-part-preserved c =
@@ -29,10 +29,10 @@ loop-part-preserved c =
     record {
       known = c.put_part.ensures.known;
       tally = c.put_part.ensures.tally;
-      rooms = c.put_part.ensures.rooms (length rows - (at + 1)) rows (subst (λ n. HaveRooms n rows c.loop-part.parts c.loop-part.totals c.loop-part.lists.items) left c.loop-part.invariant.rooms);
-      further = λ count more rooms.
-          c.put_part.ensures.rooms (length rows - (at + 1) + count) more
-          (subst (λ n. HaveRooms n more c.loop-part.parts c.loop-part.totals c.loop-part.lists.items) (let e : length rows - at + count ≡ length rows - (at + 1) + count + 1 = omega (arith, within) in e) (c.loop-part.invariant.further count more rooms));
+      spares = c.put_part.ensures.spares (length rows - (at + 1)) rows (subst (λ n. HaveSpareCapacity n rows c.loop-part.parts c.loop-part.totals c.loop-part.lists.items) left c.loop-part.invariant.spares);
+      further = λ count more spares.
+          c.put_part.ensures.spares (length rows - (at + 1) + count) more
+          (subst (λ n. HaveSpareCapacity n more c.loop-part.parts c.loop-part.totals c.loop-part.lists.items) (let e : length rows - at + count ≡ length rows - (at + 1) + count + 1 = omega (arith, within) in e) (c.loop-part.invariant.further count more spares));
       rest = ap (with_parts (drop (at + 1) rows))
           (put_is_insert name_cmp names_total part.name part (entries_of part_key name_cmp (parts_in c.loop-part.parts)) (entries_of part_key name_cmp (parts_in c.put_part.new.parts)) c.loop-part.invariant.tally.rising c.put_part.ensures.put)
           ∙ ap (λ (ps : List Part). with_parts ps (map_of part_key name_cmp (parts_in c.loop-part.parts))) (sym next) ∙ c.loop-part.invariant.rest;
@@ -47,6 +47,6 @@ returns c =
       put = sym (ap (λ (ps : List Part). with_parts ps (map_of part_key name_cmp (parts_in c.loop-part.parts))) none) ∙ c.loop-part.invariant.rest;
       known = c.loop-part.invariant.known;
       tally = c.loop-part.invariant.tally;
-      rooms = λ count more rooms.
-          subst (λ n. HaveRooms n more c.loop-part.parts c.loop-part.totals c.loop-part.lists.items) (let e : length rows - c.loop-part.part-index + count ≡ count = omega (arith, end) in e) (c.loop-part.invariant.further count more rooms);
+      spares = λ count more spares.
+          subst (λ n. HaveSpareCapacity n more c.loop-part.parts c.loop-part.totals c.loop-part.lists.items) (let e : length rows - c.loop-part.part-index + count ≡ count = omega (arith, end) in e) (c.loop-part.invariant.further count more spares);
     }

@@ -12,8 +12,8 @@ use Rattle.shop_rows.specs.Rows.{row_at}
 use Rattle.shop_rows.proofs.Listed.{found_put, lists_same}
 use Rattle.shop_book.proofs.memory_parts.put_part.Goals as goal
 
-pub list_part-requires-clause-room : goal.list_part-requires-clause-room
-list_part-requires-clause-room c = c.requires.rooms.names 0 c.args.part.now (omega arith)
+pub list_part-requires-clause-spare : goal.list_part-requires-clause-spare
+list_part-requires-clause-spare c = c.requires.spares.names 0 c.args.part.now (omega arith)
 
 pub take_replaced-requires-clause-held : goal.take_replaced-requires-clause-held
 take_replaced-requires-clause-held c = λ old is column.
@@ -52,15 +52,15 @@ returns-clause-tally c =
           (c.list_part.ensures.lists (λ name. row_at part_key name_cmp name old) c.requires.tally.listed (sym c.put-replaced.ensures.replaced));
     }
 
-pub returns-clause-rooms : goal.returns-clause-rooms
-returns-clause-rooms c = λ count rows rooms.
+pub returns-clause-spares : goal.returns-clause-spares
+returns-clause-spares c = λ count rows spares.
     record {
-      room = c.put-replaced.ensures.room count rooms.room;
+      spare = c.put-replaced.ensures.spare count spares.spare;
       sums =
-          let before = rooms.sums in
+          let before = spares.sums in
           omega (arith, before, c.take_replaced.ensures.len, c.take_replaced.ensures.capacity, c.add_part.ensures.len, c.add_part.ensures.capacity);
       names = λ k d within.
-          let before = rooms.names k d within in
-          let step = c.list_part.ensures.room (get_or rows k d).material in
+          let before = spares.names k d within in
+          let step = c.list_part.ensures.spare (get_or rows k d).material in
           omega (arith, before, step);
     }

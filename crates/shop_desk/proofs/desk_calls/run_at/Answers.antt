@@ -12,7 +12,7 @@ pub loop-message-init : goal.loop-message-init
 loop-message-init g c =
     record {
       count = omega (arith, c.in_ok-replies.ensures.len);
-      room = omega (arith, c.in_ok-replies.ensures.capacity);
+      spare = omega (arith, c.in_ok-replies.ensures.capacity);
       handled = subst (λ (rs : List Reply). AreHandledAt json_texts c.args.at g.B.Book c.args.book.now [] rs c.args.book.now) (sym c.in_ok-replies.ensures.items) refl;
     }
 
@@ -26,7 +26,7 @@ loop-message-preserved g c =
     take_more messages at message within ∙ ap (λ x. take at messages ++ x ∷ []) (sym c.message-item.is) in
     record {
       count = omega (arith, c.in-Ok.ensures.len);
-      room = omega (arith, c.push.ensures.capacity);
+      spare = omega (arith, c.push.ensures.capacity);
       handled = subst (λ (ms : List Message). AreHandledAt json_texts c.args.at g.B.Book c.args.book.now ms c.push.new.self.items c.handle_at-reply.new.book) (sym taken)
           (subst (λ (rs : List Reply). AreHandledAt json_texts c.args.at g.B.Book c.args.book.now (take at messages ++ message ∷ []) rs c.handle_at-reply.new.book) (sym c.in-Ok.ensures.items)
           (handled_more json_texts c.args.at g.B.Book c.args.book.now c.loop-message.book c.handle_at-reply.new.book (take at messages) c.loop-message.replies.items message c.handle_at-reply.result

@@ -7,6 +7,6 @@ abbrev pub invariant-loop-message : goal.invariant-loop-message
 invariant-loop-message g l =
     record {
       count : vec_len l.replies ≡ l.message-index;
-      room : length l.messages ≤ vec_capacity l.replies;
+      spare : length l.messages ≤ vec_capacity l.replies;
       handled : AreHandledAt json_texts l.fn.at g.B.Book l.fn.book (take l.message-index l.messages) l.replies.items l.book;
     }

@@ -1,6 +1,6 @@
 use Rattle.std.proofs.Common.{◌≡◌, length, take, refl, sym, ap, subst, ◌∙◌, arith}
 use Rattle.std.proofs.Math.Seq.{take-length}
-use Rattle.shop_records.specs.Lists.{told_entries}
+use Rattle.shop_records.specs.Lists.{reported_entries}
 use Rattle.shop_desk.specs.ReportedEntries.{ShowsMore, ShowsOrHides, Hides}
 use Rattle.shop_desk.proofs.ReportedEntries.{IsSoFar, none_so_far, shown_so_far, reported_more, reports_over, reports_all}
 use Rattle.shop_desk.proofs.history.reported_rows.Goals as goal
@@ -55,4 +55,4 @@ returns-clause-reported g c =
     let at = c.loop-row.row-index in
     let end : at ≡ length rows = omega arith in
     let whole : take at rows ≡ rows = ap (λ n. take n rows) end ∙ take-length rows in
-    reports_all m rows c.loop-row.shown.entries c.loop-row.shown.bytes c.loop-row.invariant.so_far (c.loop-row.invariant.rows clean_disk m held ∙ ap (told_entries m) whole)
+    reports_all m rows c.loop-row.shown.entries c.loop-row.shown.bytes c.loop-row.invariant.so_far (c.loop-row.invariant.rows clean_disk m held ∙ ap (reported_entries m) whole)

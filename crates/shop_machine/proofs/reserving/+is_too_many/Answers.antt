@@ -30,8 +30,8 @@ returns-then-stands_again-clause-test c d =
     again_any (λ n. is_over (count_of d.args.plan.now.tree n) (at n)) d.args.leaves.now d.is_too_many.result d.found-item.result d.in-len1-up.len_at_least (again c d)
     (d.is_too_many.ensures.test at (found_after at d.args.leaves.now found))
 
-pub returns-then-stands_again-clause-room : goal.returns-then-stands_again-clause-room
-returns-then-stands_again-clause-room c d =
+pub returns-then-stands_again-clause-in_limit : goal.returns-then-stands_again-clause-in_limit
+returns-then-stands_again-clause-in_limit c d =
     λ free.
     again_holds (λ n o. IfSome o (CanRecount Reserved (count_of d.args.plan.now.tree n))) d.args.leaves.now d.found-item.result d.in-len1-up.len_at_least (again c d)
-    (d.is_too_many.ensures.room free)
+    (d.is_too_many.ensures.in_limit free)

@@ -17,7 +17,7 @@ pub returns-then-not-takes_body-clause-determined : goal.returns-then-not-takes_
 returns-then-not-takes_body-clause-determined c enough more =
     let received = c.args.received.now in
     let is = c.requires.head in
-    let j = found_judged received c.args.headers.now c.args.spans.now (Ok c.args.asked) c.requires.some c.requires.room is in
+    let j = found_judged received c.args.headers.now c.args.spans.now (Ok c.args.asked) c.requires.some c.requires.slots is in
     parse_of_part j (Some (received ++ more)) (Some more) refl (parsed_head_at (path_of is.1.0.target) c.args.asked) refl (sym c.takes_body.ensures ∙ c.if-not-takes_body.true) c.part_at.result.now
     (c.part_at.ensures is.1.0 (subst (λ b. IsRequestAt b c.args.headers.now c.args.spans.now is.1.0) (sym c.prefix_of.ensures) is.1.1))
 
@@ -25,7 +25,7 @@ pub returns-then-not-takes_body-clause-parsed : goal.returns-then-not-takes_body
 returns-then-not-takes_body-clause-parsed c =
     let received = c.args.received.now in
     let is = c.requires.head in
-    let j = found_judged received c.args.headers.now c.args.spans.now (Ok c.args.asked) c.requires.some c.requires.room is in
+    let j = found_judged received c.args.headers.now c.args.spans.now (Ok c.args.asked) c.requires.some c.requires.slots is in
     as_it_is received (asking c.args.asked.route c.part_at.result.now) (λ more. parse_of_part j (Some (received ++ more)) (Some more) refl (parsed_head_at (path_of is.1.0.target) c.args.asked) refl (sym c.takes_body.ensures ∙ c.if-not-takes_body.true) c.part_at.result.now
     (c.part_at.ensures is.1.0 (subst (λ b. IsRequestAt b c.args.headers.now c.args.spans.now is.1.0) (sym c.prefix_of.ensures) is.1.1)))
 
@@ -39,7 +39,7 @@ pub returns-in-Some-clause-determined : goal.returns-in-Some-clause-determined
 returns-in-Some-clause-determined c enough more =
     let received = c.args.received.now in
     let is = c.requires.head in
-    let j = found_judged received c.args.headers.now c.args.spans.now (Ok c.args.asked) c.requires.some c.requires.room is in
+    let j = found_judged received c.args.headers.now c.args.spans.now (Ok c.args.asked) c.requires.some c.requires.slots is in
     let body : takes_body c.args.asked.route ≡ true = sym c.takes_body.ensures ∙ c.if-not-takes_body.false in
     let spans = c.args.spans.now in
     let n = c.args.asked.length in
@@ -53,7 +53,7 @@ pub returns-in-Some-clause-parsed : goal.returns-in-Some-clause-parsed
 returns-in-Some-clause-parsed c =
     let received = c.args.received.now in
     let is = c.requires.head in
-    let j = found_judged received c.args.headers.now c.args.spans.now (Ok c.args.asked) c.requires.some c.requires.room is in
+    let j = found_judged received c.args.headers.now c.args.spans.now (Ok c.args.asked) c.requires.some c.requires.slots is in
     let body : takes_body c.args.asked.route ≡ true = sym c.takes_body.ensures ∙ c.if-not-takes_body.false in
     let spans = c.args.spans.now in
     let n = c.args.asked.length in
@@ -68,6 +68,6 @@ pub returns-in-None-clause-parsed : goal.returns-in-None-clause-parsed
 returns-in-None-clause-parsed c =
     let received = c.args.received.now in
     let is = c.requires.head in
-    let j = found_judged received c.args.headers.now c.args.spans.now (Ok c.args.asked) c.requires.some c.requires.room is in
+    let j = found_judged received c.args.headers.now c.args.spans.now (Ok c.args.asked) c.requires.some c.requires.slots is in
     let body : takes_body c.args.asked.route ≡ true = sym c.takes_body.ensures ∙ c.if-not-takes_body.false in
     parse_of_short j (Some received) (Some []) (Some []) (sym (append-nil received)) (parsed_head_at (path_of is.1.0.target) c.args.asked) refl body received (read_nothing (Some []) received) (omega (arith, c.in-None.ensures)) refl

@@ -13,14 +13,14 @@ pub returns-in-Faulty-clause-determined : goal.returns-in-Faulty-clause-determin
 returns-in-Faulty-clause-determined c some enough more =
     let received = c.args.received.now in
     let head = c.args.head.now in
-    fault_later received head.headers _ c.in-Faulty.fault some c.requires.room (subst (IsFound (prefix received) head.headers) c.in-Faulty.is c.requires.found) more
+    fault_later received head.headers _ c.in-Faulty.fault some c.requires.slots (subst (IsFound (prefix received) head.headers) c.in-Faulty.is c.requires.found) more
 
 pub returns-in-Faulty-clause-parsed : goal.returns-in-Faulty-clause-parsed
 returns-in-Faulty-clause-parsed c =
     let received = c.args.received.now in
     let head = c.args.head.now in
     let some : 0 < length received = some_of c.is_empty.result _ c.is_empty.ensures c.if-is_empty.false in
-    as_it_is received (faulty c.in-Faulty.fault) (fault_later received head.headers _ c.in-Faulty.fault some c.requires.room (subst (IsFound (prefix received) head.headers) c.in-Faulty.is c.requires.found))
+    as_it_is received (faulty c.in-Faulty.fault) (fault_later received head.headers _ c.in-Faulty.fault some c.requires.slots (subst (IsFound (prefix received) head.headers) c.in-Faulty.is c.requires.found))
 
 pub returns-in-Unfinished-clause-determined : goal.returns-in-Unfinished-clause-determined
 returns-in-Unfinished-clause-determined c some enough more =

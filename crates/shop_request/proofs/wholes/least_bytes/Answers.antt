@@ -19,7 +19,7 @@ returns-then-not-takes_body-clause-determined c whole =
     let received = c.args.received.now in
     let some : 0 < length received = some_of c.is_empty.result _ c.is_empty.ensures c.if-is_empty.false in
     let is = subst (IsFound (prefix received) c.args.head.now.headers) c.in-Asks.is c.requires.found in
-    let j = found_judged received c.args.head.now.headers c.in-Asks.spans (Ok c.in-Asks.asked) some c.requires.room is in
+    let j = found_judged received c.args.head.now.headers c.in-Asks.spans (Ok c.in-Asks.asked) some c.requires.slots is in
     let parsed_head = parsed_head_at (path_of is.1.0.target) c.in-Asks.asked in
     (asking parsed_head.route parsed_head.part, λ more. parse_of_part j (Some (received ++ more)) (Some more) refl parsed_head refl (sym c.takes_body.ensures ∙ c.if-not-takes_body.true) parsed_head.part refl)
 
@@ -28,7 +28,7 @@ overflow_add-result c =
     let received = c.args.received.now in
     let some : 0 < length received = some_of c.is_empty.result _ c.is_empty.ensures c.if-is_empty.false in
     let is = subst (IsFound (prefix received) c.args.head.now.headers) c.in-Asks.is c.requires.found in
-    let j = found_judged received c.args.head.now.headers c.in-Asks.spans (Ok c.in-Asks.asked) some c.requires.room is in
+    let j = found_judged received c.args.head.now.headers c.in-Asks.spans (Ok c.in-Asks.asked) some c.requires.slots is in
     omega (arith, short_body j (parsed_head_at (path_of is.1.0.target) c.in-Asks.asked) refl, is.0.section.len_fits, length-take 8192 received)
 
 pub returns-else-not-takes_body-clause-determined : goal.returns-else-not-takes_body-clause-determined
@@ -36,7 +36,7 @@ returns-else-not-takes_body-clause-determined c whole =
     let received = c.args.received.now in
     let some : 0 < length received = some_of c.is_empty.result _ c.is_empty.ensures c.if-is_empty.false in
     let is = subst (IsFound (prefix received) c.args.head.now.headers) c.in-Asks.is c.requires.found in
-    let j = found_judged received c.args.head.now.headers c.in-Asks.spans (Ok c.in-Asks.asked) some c.requires.room is in
+    let j = found_judged received c.args.head.now.headers c.in-Asks.spans (Ok c.in-Asks.asked) some c.requires.slots is in
     let parsed_head = parsed_head_at (path_of is.1.0.target) c.in-Asks.asked in
     let spans = c.in-Asks.spans in
     let long : parsed_head.length ≤ length received - spans.len = omega (arith, whole) in (
@@ -50,7 +50,7 @@ returns-else-not-takes_body-clause-bound c =
     let received = c.args.received.now in
     let some : 0 < length received = some_of c.is_empty.result _ c.is_empty.ensures c.if-is_empty.false in
     let is = subst (IsFound (prefix received) c.args.head.now.headers) c.in-Asks.is c.requires.found in
-    let j = found_judged received c.args.head.now.headers c.in-Asks.spans (Ok c.in-Asks.asked) some c.requires.room is in
+    let j = found_judged received c.args.head.now.headers c.in-Asks.spans (Ok c.in-Asks.asked) some c.requires.slots is in
     omega (arith, short_body j (parsed_head_at (path_of is.1.0.target) c.in-Asks.asked) refl, is.0.section.len_fits, length-take 8192 received)
 
 pub returns-else-not-takes_body-clause-waits : goal.returns-else-not-takes_body-clause-waits
@@ -58,7 +58,7 @@ returns-else-not-takes_body-clause-waits c more few =
     let received = c.args.received.now in
     let some : 0 < length received = some_of c.is_empty.result _ c.is_empty.ensures c.if-is_empty.false in
     let is = subst (IsFound (prefix received) c.args.head.now.headers) c.in-Asks.is c.requires.found in
-    let j = found_judged received c.args.head.now.headers c.in-Asks.spans (Ok c.in-Asks.asked) some c.requires.room is in
+    let j = found_judged received c.args.head.now.headers c.in-Asks.spans (Ok c.in-Asks.asked) some c.requires.slots is in
     body_waits j (parsed_head_at (path_of is.1.0.target) c.in-Asks.asked) refl (sym c.takes_body.ensures ∙ c.if-not-takes_body.false) more few
 
 pub returns-else-not-takes_body-clause-least : goal.returns-else-not-takes_body-clause-least
@@ -66,7 +66,7 @@ returns-else-not-takes_body-clause-least c more some_more few =
     let received = c.args.received.now in
     let some : 0 < length received = some_of c.is_empty.result _ c.is_empty.ensures c.if-is_empty.false in
     let is = subst (IsFound (prefix received) c.args.head.now.headers) c.in-Asks.is c.requires.found in
-    let j = found_judged received c.args.head.now.headers c.in-Asks.spans (Ok c.in-Asks.asked) some c.requires.room is in
+    let j = found_judged received c.args.head.now.headers c.in-Asks.spans (Ok c.in-Asks.asked) some c.requires.slots is in
     body_unsettled j (parsed_head_at (path_of is.1.0.target) c.in-Asks.asked) refl (sym c.takes_body.ensures ∙ c.if-not-takes_body.false) more few
 
 pub returns-in-Faulty-clause-determined : goal.returns-in-Faulty-clause-determined
@@ -74,7 +74,7 @@ returns-in-Faulty-clause-determined c whole =
     let received = c.args.received.now in
     let some : 0 < length received = some_of c.is_empty.result _ c.is_empty.ensures c.if-is_empty.false in
     let is = subst (IsFound (prefix received) c.args.head.now.headers) c.in-Faulty.is c.requires.found in
-    (faulty c.in-Faulty.field-1, fault_later received c.args.head.now.headers c.in-Faulty.field-0 c.in-Faulty.field-1 some c.requires.room is)
+    (faulty c.in-Faulty.field-1, fault_later received c.args.head.now.headers c.in-Faulty.field-0 c.in-Faulty.field-1 some c.requires.slots is)
 
 pub returns-then-received-ge-MAX_HEAD_LEN-clause-determined : goal.returns-then-received-ge-MAX_HEAD_LEN-clause-determined
 returns-then-received-ge-MAX_HEAD_LEN-clause-determined c whole =

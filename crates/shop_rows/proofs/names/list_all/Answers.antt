@@ -3,18 +3,18 @@ use Rattle.std.proofs.lemmas.List.{take_all}
 use Rattle.cut_measure.specs.Names.{Name, name_cmp}
 use Rattle.shop_rows.specs.Keys.{part_key}
 use Rattle.shop_records.specs.declared.records.Part.{Part}
-use Rattle.shop_rows.specs.Open.{finds_with_all, room_of, ListsParts}
+use Rattle.shop_rows.specs.Open.{finds_with_all, spare_of, ListsParts}
 use Rattle.shop_rows.proofs.Listed.{finds_more, keep_at}
 use Rattle.shop_rows.proofs.names.list_all.Goals as goal
 
-pub list_in_place-near-requires-clause-room : goal.list_in_place-near-requires-clause-room
-list_in_place-near-requires-clause-room c =
+pub list_in_place-near-requires-clause-spare : goal.list_in_place-near-requires-clause-spare
+list_in_place-near-requires-clause-spare c =
     let lists = c.loop-part.lists.items in
     let parts = c.args.parts.now in
     let i = c.loop-part.part-index in
     let part = c.part-item.result in
-    subst (λ (p : Part). 1 ≤ room_of p.material lists) (sym c.part-item.is)
-    (let room = c.loop-part.invariant.room i part c.loop-part-test.true in omega (arith, room, c.loop-part-test.true))
+    subst (λ (p : Part). 1 ≤ spare_of p.material lists) (sym c.part-item.is)
+    (let spare = c.loop-part.invariant.spare i part c.loop-part-test.true in omega (arith, spare, c.loop-part-test.true))
 
 pub loop-part-preserved : goal.loop-part-preserved
 loop-part-preserved c =
@@ -23,9 +23,9 @@ loop-part-preserved c =
     let part = c.part-item.result in
     record {
       order = c.list_in_place-near.ensures.order;
-      room = λ k d within.
-          let before = c.loop-part.invariant.room k d within in
-          let step = c.list_in_place-near.ensures.room (get_or parts k d).material in
+      spare = λ k d within.
+          let before = c.loop-part.invariant.spare k d within in
+          let step = c.list_in_place-near.ensures.spare (get_or parts k d).material in
           omega (arith, before, step, c.loop-part-test.true);
       listed = λ find lists keep.
           subst (λ (f : Name → Option Part). ListsParts f c.list_in_place-near.new.lists.items)

@@ -12,5 +12,5 @@ pub returns-clause-others : goal.returns-clause-others
 returns-clause-others c = λ find lists is.
     unlisted_taken c.args.part.now find c.args.lists.now.items lists c.in-Some.old c.settle_key.new.lists.items (is ∙ c.in-Some.is) c.settle_key.ensures.settled
 
-pub returns-clause-room : goal.returns-clause-room
-returns-clause-room c = c.settle_key.ensures.less refl
+pub returns-clause-spare : goal.returns-clause-spare
+returns-clause-spare c = c.settle_key.ensures.less refl

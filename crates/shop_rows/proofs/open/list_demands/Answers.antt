@@ -15,7 +15,7 @@ loop-demand-preserved c =
     let demand = c.demand-item.result in
     record {
       rising = c.list_demand.ensures.rising;
-      room = omega arith;
+      spare = omega arith;
       lists = λ find lists.
           subst (λ (f : ℕ → Option Demand). ListsNumbers is_open f c.list_demand.new.keys.items)
           (sym (ap (λ n. finds_with_all demand_key nat_cmp (take n demands) find) (add-one i) ∙ finds_more demand_key nat_cmp demands i demand find c.loop-demand-test.true c.demand-item.is))

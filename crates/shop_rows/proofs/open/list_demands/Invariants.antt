@@ -12,6 +12,6 @@ abbrev pub invariant-loop-demand : goal.invariant-loop-demand
 invariant-loop-demand l =
     record {
       rising : IsTrue (rise own_key nat_cmp l.keys.items);
-      room : vec_len l.keys + (length l.demands - l.demand-index) ≤ vec_capacity l.keys;
+      spare : vec_len l.keys + (length l.demands - l.demand-index) ≤ vec_capacity l.keys;
       lists : (find : ℕ → Option Demand) → ListsNumbers is_open find l.fn.keys.items → ListsNumbers is_open (finds_with_all demand_key nat_cmp (take l.demand-index l.demands) find) l.keys.items;
     }

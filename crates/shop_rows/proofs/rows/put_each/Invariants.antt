@@ -7,7 +7,7 @@ abbrev pub invariant-loop-row : goal.invariant-loop-row
 invariant-loop-row g l =
     record {
       rising : IsTrue (rise g.R.KeyedRow.key_of g.R.Key.RowKey.cmp l.rows.items);
-      room : vec_len l.rows + (length l.added - l.row-index) ≤ vec_capacity l.rows;
+      spare : vec_len l.rows + (length l.added - l.row-index) ≤ vec_capacity l.rows;
       rest : put_each g.R.KeyedRow.key_of g.R.Key.RowKey.cmp (drop l.row-index l.added) (entries_of g.R.KeyedRow.key_of g.R.Key.RowKey.cmp l.rows.items)
           ≡ put_each g.R.KeyedRow.key_of g.R.Key.RowKey.cmp l.added (entries_of g.R.KeyedRow.key_of g.R.Key.RowKey.cmp l.fn.rows.items);
     }

@@ -5,20 +5,20 @@ use Rattle.shop_serve.proofs.clients.open_client.Goals as goal
 pub returns-clause-opened : goal.returns-clause-opened
 returns-clause-opened g c =
     let watched = subst (λ stream. g.P.Port.is_watched c.watch.new.self stream c.vacant_key.result) c.watch.ensures.same (c.watch.ensures.watched c.if-not-watch.false) in
-    opened-so g.P.Port c.args.now c.args.stream c.args.clients.now c.make_room.new.clients c.insert.new.self _ c.insert.result c.ok.result c.ok.ensures.value
-    (watched-at c.insert.result c.vacant_key.result c.make_room.new.clients.vacant_key (λ k. (p : _) × g.P.Port.is_watched p c.args.stream k) c.vacant_key.ensures.value (c.watch.new.self, watched) c.insert.ensures.key)
+    opened-so g.P.Port c.args.now c.args.stream c.args.clients.now c.evict_oldest.new.clients c.insert.new.self _ c.insert.result c.ok.result c.ok.ensures.value
+    (watched-at c.insert.result c.vacant_key.result c.evict_oldest.new.clients.vacant_key (λ k. (p : _) × g.P.Port.is_watched p c.args.stream k) c.vacant_key.ensures.value (c.watch.new.self, watched) c.insert.ensures.key)
     c.insert.ensures.was_vacant c.insert.ensures.updates
-    c.make_room.ensures.room (record { own = c.watch.ensures.same; since = refl; received = c.new.ensures.items; needed = refl; asks = refl; waits = refl })
+    c.evict_oldest.ensures.cleared (record { own = c.watch.ensures.same; since = refl; received = c.new.ensures.items; needed = refl; asks = refl; waits = refl })
 
 pub returns-clause-watched : goal.returns-clause-watched
 returns-clause-watched g c =
     let watched = subst (λ stream. g.P.Port.is_watched c.watch.new.self stream c.vacant_key.result) c.watch.ensures.same (c.watch.ensures.watched c.if-not-watch.false) in
     watched-some c.insert.result c.ok.result (λ k. g.P.Port.is_watched c.watch.new.self c.args.stream k) c.ok.ensures.value
-    (watched-at c.insert.result c.vacant_key.result c.make_room.new.clients.vacant_key (λ k. g.P.Port.is_watched c.watch.new.self c.args.stream k) c.vacant_key.ensures.value watched c.insert.ensures.key)
+    (watched-at c.insert.result c.vacant_key.result c.evict_oldest.new.clients.vacant_key (λ k. g.P.Port.is_watched c.watch.new.self c.args.stream k) c.vacant_key.ensures.value watched c.insert.ensures.key)
 
 pub returns-clause-closed : goal.returns-clause-closed
 returns-clause-closed g c =
-    closed-so g.P.Port c.args.now c.args.stream c.args.clients.now c.make_room.new.clients c.insert.new.self (record {
+    closed-so g.P.Port c.args.now c.args.stream c.args.clients.now c.evict_oldest.new.clients c.insert.new.self (record {
       stream = c.watch.new.stream;
       since = c.args.now;
       received = c.new.result;
@@ -26,17 +26,17 @@ returns-clause-closed g c =
       task = None;
       answer = None;
       sent = 0;
-    }) c.insert.result c.ok.result c.ok.ensures.value c.insert.ensures.err c.insert.ensures.succeeds c.make_room.ensures.room
+    }) c.insert.result c.ok.result c.ok.ensures.value c.insert.ensures.err c.insert.ensures.succeeds c.evict_oldest.ensures.cleared
 
 pub returns-clause-fewer : goal.returns-clause-fewer
 returns-clause-fewer g c =
-    omega (arith, c.make_room.ensures.fewer, unanswered-inserted c.make_room.new.clients c.insert.new.self _ c.insert.result c.insert.ensures.updates c.insert.ensures.err)
+    omega (arith, c.evict_oldest.ensures.fewer, unanswered-inserted c.evict_oldest.new.clients c.insert.new.self _ c.insert.result c.insert.ensures.updates c.insert.ensures.err)
 
 pub returns-then-not-watch-clause-closed : goal.returns-then-not-watch-clause-closed
 returns-then-not-watch-clause-closed g c none =
     record {
-      room = c.make_room.new.clients;
-      made = c.make_room.ensures.room;
+      cleared = c.evict_oldest.new.clients;
+      made = c.evict_oldest.ensures.cleared;
       same = refl;
       why = inl (c.watch.new.self, c.watch.ensures.deaf c.if-not-watch.true);
     }

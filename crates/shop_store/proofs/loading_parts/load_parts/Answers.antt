@@ -4,8 +4,8 @@ use Rattle.std.proofs.lemmas.Result.{IfOk-weaker}
 use Rattle.sqlite.specs.Held.{state}
 use Rattle.sqlite.specs.State.{HasCleanDisk}
 use Rattle.shop_tables.specs.Changing.{HasSums}
-use Rattle.shop_tables.specs.Lending.{gone_through}
-use Rattle.shop_tables.specs.declared.lending.Lent.TheVariants.{Invalid}
+use Rattle.shop_tables.specs.Visiting.{gone_through}
+use Rattle.shop_tables.specs.declared.visiting.VisitEnd.TheVariants.{Invalid}
 use Rattle.shop_book.specs.Ledgers.{content_in}
 use Rattle.shop_store.specs.Checking.{AreSumsIn}
 use Rattle.shop_store.specs.Loading.{IsLoaded, loading_in, put_part, with_each}
@@ -21,11 +21,11 @@ returns-in_err-loader-clause-leaves g c = leaves_itself (state g.S.Store c.args.
 pub returns-in-All-clause-loaded : goal.returns-in-All-clause-loaded
 returns-in-All-clause-loaded g c clean b was list =
     let old = c.in_ok-loader.loader in
-    let new = c.lend_all_parts.new.visitor in
+    let new = c.visit_all_parts.new.visitor in
     let parts = values b.content.parts in
-    let visited = gone_through c.lend_all_parts.result in
-    let went = ap gone_through (c.in_ok-lend_all_parts.was ∙ ap Ok c.in-All.is) in
-    let visit : IsVisitOf parts old visited new = held_visit (state g.S.Store c.args.conn.now) (state g.S.Store c.lend_all_parts.new.conn) b old new visited clean was c.lend_all_parts.ensures.visit c.lend_all_parts.ensures.second c.lend_all_parts.ensures.earlier in
+    let visited = gone_through c.visit_all_parts.result in
+    let went = ap gone_through (c.in_ok-visit_all_parts.was ∙ ap Ok c.in-All.is) in
+    let visit : IsVisitOf parts old visited new = held_visit (state g.S.Store c.args.conn.now) (state g.S.Store c.visit_all_parts.new.conn) b old new visited clean was c.visit_all_parts.ensures.visit c.visit_all_parts.ensures.second c.visit_all_parts.ensures.earlier in
     let put = all_put parts old new visited went visit in
     let added = adder_visit parts old new visited visit (λ off. absurd (true≢false (sym put.0 ∙ off))) in
     let none = c.in_ok-loader.ensures.none in
@@ -38,11 +38,11 @@ returns-in-All-clause-loaded g c clean b was list =
 pub returns-in-Stopped-clause-loaded : goal.returns-in-Stopped-clause-loaded
 returns-in-Stopped-clause-loaded g c clean b was list =
     let old = c.in_ok-loader.loader in
-    let new = c.lend_all_parts.new.visitor in
+    let new = c.visit_all_parts.new.visitor in
     let parts = values b.content.parts in
-    let visited = gone_through c.lend_all_parts.result in
-    let went = ap gone_through (c.in_ok-lend_all_parts.was ∙ ap Ok c.in-Stopped.is) in
-    let visit : IsVisitOf parts old visited new = held_visit (state g.S.Store c.args.conn.now) (state g.S.Store c.lend_all_parts.new.conn) b old new visited clean was c.lend_all_parts.ensures.visit c.lend_all_parts.ensures.second c.lend_all_parts.ensures.earlier in
+    let visited = gone_through c.visit_all_parts.result in
+    let went = ap gone_through (c.in_ok-visit_all_parts.was ∙ ap Ok c.in-Stopped.is) in
+    let visit : IsVisitOf parts old visited new = held_visit (state g.S.Store c.args.conn.now) (state g.S.Store c.visit_all_parts.new.conn) b old new visited clean was c.visit_all_parts.ensures.visit c.visit_all_parts.ensures.second c.visit_all_parts.ensures.earlier in
     let none = c.in_ok-loader.ensures.none in
     let there = c.in_ok-loader.ensures.there in
     IfOk-weaker c.stopped.result _ _
@@ -53,7 +53,7 @@ returns-in-Stopped-clause-loaded g c clean b was list =
 
 pub returns-in_ok-part_key_at-in-Invalid-clause-loaded : goal.returns-in_ok-part_key_at-in-Invalid-clause-loaded
 returns-in_ok-part_key_at-in-Invalid-clause-loaded g c clean b was list =
-    let lent = c.lend_all_parts.ensures in
-    let before : HasCleanDisk (state g.S.Store c.lend_all_parts.new.conn) = let l = c.part_key_at.ensures.leaves.survives.clean in omega (arith, l, clean) in
-    let never : IfOk c.lend_all_parts.result (λ how. how ≢ Invalid) = either was (lent.invalid before b) (lent.second_invalid before b) (lent.earlier_invalid before b) in
-    absurd (subst (λ r. IfOk r (λ how. how ≢ Invalid)) (c.in_ok-lend_all_parts.was ∙ ap Ok c.in-Invalid.is) never refl)
+    let borrowed = c.visit_all_parts.ensures in
+    let before : HasCleanDisk (state g.S.Store c.visit_all_parts.new.conn) = let l = c.part_key_at.ensures.leaves.survives.clean in omega (arith, l, clean) in
+    let never : IfOk c.visit_all_parts.result (λ how. how ≢ Invalid) = either was (borrowed.invalid before b) (borrowed.second_invalid before b) (borrowed.earlier_invalid before b) in
+    absurd (subst (λ r. IfOk r (λ how. how ≢ Invalid)) (c.in_ok-visit_all_parts.was ∙ ap Ok c.in-Invalid.is) never refl)

@@ -9,7 +9,7 @@ use Rattle.shop_tables.proofs.adopting.adopt_found.Goals as goal
 pub returns-in_err-how-clause-neither : goal.returns-in_err-how-clause-neither
 returns-in_err-how-clause-neither g c is clean b was =
     let p = err_from_is_err_and c.from_residual.result c.from_residual.ensures.1 in
-    c.adopt_version.ensures.three refl (c.in_err-how.was ∙ (let told = p.1 in let same = p.2 in cc)) clean b was
+    c.adopt_version.ensures.three refl (c.in_err-how.was ∙ (let reported = p.1 in let same = p.2 in cc)) clean b was
 
 pub returns-in_err-has_no_old_totals-clause-leaves : goal.returns-in_err-has_no_old_totals-clause-leaves
 returns-in_err-has_no_old_totals-clause-leaves g c = leaves_then _ _ _ c.in_ok-how.ensures.leaves c.has_no_old_totals.ensures.leaves

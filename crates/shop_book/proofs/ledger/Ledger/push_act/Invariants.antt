@@ -8,5 +8,5 @@ abbrev pub invariant-loop-part : goal.invariant-loop-part
 invariant-loop-part l =
     record {
       few : length l.rows ≤ l.asked.most;
-      told : l.rows ≡ take l.asked.most (l.fn.rows ++ filter (is_asked (content_in l.self) l.asked) (take l.part-index l.part-items));
+      reported : l.rows ≡ take l.asked.most (l.fn.rows ++ filter (is_asked (content_in l.self) l.asked) (take l.part-index l.part-items));
     }

@@ -14,6 +14,6 @@ returns c =
     (subst
     (λ b. HasRuling guard c.args.received.now (ruled_parts guard c.of.result.now c.target_text.result.now spans.version (map (header_bytes b) (take spans.headers headers))))
     (sym c.prefix_of-prefix.ensures)
-    (whole_ruling guard c.args.received.now headers spans of.0 c.requires.room of.1 c.of.result.now c.target_text.result.now
+    (whole_ruling guard c.args.received.now headers spans of.0 c.requires.slots of.1 c.of.result.now c.target_text.result.now
     (c.of.ensures ∙ ap (λ b. span_bytes b spans.method) c.prefix_of-prefix.ensures)
     (c.target_text.ensures ∙ c.of-2.ensures ∙ ap (λ b. span_bytes b spans.path) c.prefix_of-prefix.ensures)))

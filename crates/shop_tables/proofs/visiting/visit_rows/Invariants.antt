@@ -1,7 +1,7 @@
 use Rattle.std.proofs.Common.{◌≡◌, false}
 use Rattle.sqlite.specs.Values.{bound}
 use Rattle.shop_tables.proofs.Going.{Going}
-use Rattle.shop_tables.proofs.lending.lend.Given as goal
+use Rattle.shop_tables.proofs.visiting.visit_rows.Given as goal
 
 abbrev pub invariant-rows : goal.invariant-rows
 invariant-rows g l =

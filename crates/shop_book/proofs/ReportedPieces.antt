@@ -167,9 +167,9 @@ module _ (p : Part → Bool) where
         filter_same (is_left from) (is_left act) xs (λ x there. agree from act x.name.act (p x) le (none x there)) ∙ by_act act xs (tested _ up)
 
     -- so they are told next
-    pub told_next : (most from act : ℕ) (rows : List Part) → from ≤ act → ((x : Part) → IsIn x xs → p x ≡ true → from ≤ x.name.act → act ≤ x.name.act)
+    pub reported_next : (most from act : ℕ) (rows : List Part) → from ≤ act → ((x : Part) → IsIn x xs → p x ≡ true → from ≤ x.name.act → act ≤ x.name.act)
         → take most (take most (rows ++ filter p (of_act act xs)) ++ filter (is_left (act + 1)) xs) ≡ take most (rows ++ filter (is_left from) xs)
-    told_next most from act rows le none =
+    reported_next most from act rows le none =
         take_again most (rows ++ filter p (of_act act xs)) (filter (is_left (act + 1)) xs)
         ∙ ap (take most) (append_assoc rows (filter p (of_act act xs)) (filter (is_left (act + 1)) xs) ∙ ap (λ ys. rows ++ ys) (sym (act_first from act le none)))
 

@@ -7,9 +7,9 @@ use Rattle.cut_measure.specs.Codes.{code_cmp}
 use Rattle.shop_rows.specs.Keys.{codes_exact}
 use Rattle.shop_rows.specs.Open.{list_key}
 use Rattle.shop_rows.specs.declared.names.NameList.{NameList}
-use Rattle.shop_rows.proofs.NameLists.{is_place, set_own_room, set_wider}
+use Rattle.shop_rows.proofs.NameLists.{is_place, set_own_spare, set_wider}
 use Rattle.shop_rows.proofs.Places.{row_missed, tested}
-use Rattle.shop_rows.proofs.names.make_room.Goals as goal
+use Rattle.shop_rows.proofs.names.reserve_list.Goals as goal
 
 pub returns-in_err-widen-in-Ok : goal.returns-in_err-widen-in-Ok
 returns-in_err-widen-in-Ok c =
@@ -17,7 +17,7 @@ returns-in_err-widen-in-Ok c =
     let list = c.index_mut.result.now in
     let place = is_place c.deref.result.now old c.in-Ok.i list c.args.material c.deref.ensures.value c.in-Ok.ensures.range c.in-Ok.ensures.position c.index_mut.ensures.value in
     let wider = set_wider old c.requires.order c.in-Ok.i list c.args.material place c.widen.new.list c.widen.ensures.material c.widen.ensures.names (omega (arith, c.widen.ensures.len, c.widen.ensures.capacity)) in
-    record { names = wider.names; order = wider.order; room = search rules; more = wider.more }
+    record { names = wider.names; order = wider.order; spare = search rules; more = wider.more }
 
 pub returns-in_ok-widen-in-Ok : goal.returns-in_ok-widen-in-Ok
 returns-in_ok-widen-in-Ok c =
@@ -25,8 +25,8 @@ returns-in_ok-widen-in-Ok c =
     let list = c.index_mut.result.now in
     let place = is_place c.deref.result.now old c.in-Ok.i list c.args.material c.deref.ensures.value c.in-Ok.ensures.range c.in-Ok.ensures.position c.index_mut.ensures.value in
     let wider = set_wider old c.requires.order c.in-Ok.i list c.args.material place c.widen.new.list c.widen.ensures.material c.widen.ensures.names (omega (arith, c.widen.ensures.len, c.widen.ensures.capacity)) in
-    let room = set_own_room old c.requires.order c.in-Ok.i list c.args.material place c.widen.new.list c.widen.ensures.material in
-    record { names = wider.names; order = wider.order; room = omega (arith, room, c.in_ok-widen-in-Ok.ensures.room); more = wider.more }
+    let spare = set_own_spare old c.requires.order c.in-Ok.i list c.args.material place c.widen.new.list c.widen.ensures.material in
+    record { names = wider.names; order = wider.order; spare = omega (arith, spare, c.in_ok-widen-in-Ok.ensures.spare); more = wider.more }
 
 pub begin_list-requires-clause-none : goal.begin_list-requires-clause-none
 begin_list-requires-clause-none c =

@@ -9,8 +9,8 @@ use Rattle.shop_records.specs.declared.records.Part.{Part}
 use Rattle.shop_records.specs.Visits.{HasSeen}
 use Rattle.shop_statements.specs.declared.faults.TableFault.{TableFault}
 use Rattle.shop_statements.specs.declared.faults.TableFault.TheVariants as fault
-use Rattle.shop_tables.specs.declared.lending.Lent.{Lent}
-use Rattle.shop_tables.specs.declared.lending.Lent.TheVariants as lent
+use Rattle.shop_tables.specs.declared.visiting.VisitEnd.{VisitEnd}
+use Rattle.shop_tables.specs.declared.visiting.VisitEnd.TheVariants as borrowed
 use Rattle.shop_statements.specs.Found.{columns_of}
 use Rattle.shop_statements.specs.Rows.{part_row}
 use Rattle.shop_tables.specs.ListedRows.{listed_part}
@@ -29,16 +29,16 @@ AreReadOf (r ∷ rows) [] = ⊥
 AreReadOf (r ∷ rows) (p ∷ parts) = IsReadOf r p × AreReadOf rows parts
 
 -- whether each part was answered true
-abbrev pub went_on : Lent → Bool
-went_on lent.All = true
-went_on lent.Stopped = false
-went_on lent.Invalid = true
+abbrev pub went_on : VisitEnd → Bool
+went_on borrowed.All = true
+went_on borrowed.Stopped = false
+went_on borrowed.Invalid = true
 
 -- how far the parts were handed out; a row that is no part is a fault
-abbrev pub gone_through : Result Lent TableFault → Result Bool TableFault
-gone_through (Ok lent.All) = Ok true
-gone_through (Ok lent.Stopped) = Ok false
-gone_through (Ok lent.Invalid) = Err fault.Store
+abbrev pub gone_through : Result VisitEnd TableFault → Result Bool TableFault
+gone_through (Ok borrowed.All) = Ok true
+gone_through (Ok borrowed.Stopped) = Ok false
+gone_through (Ok borrowed.Invalid) = Err fault.Store
 gone_through (Err e) = Err e
 
 module _ {S : Type 0} (g : Ghosts S) (sql : List ℕ) (params : Row) (old : Held S) where
@@ -59,13 +59,13 @@ module _ {S : Type 0} (g : Ghosts S) (sql : List ℕ) (params : Row) (old : Held
 
   -- The parts of the first rows were handed to the visitor, and led it to what it is. The result tells how far: to the end,
   -- or to where the visitor or a row stopped it.
-  pub record IsLent {V : Type 0} (looks : V → Part → Bool → V → Type 0) (new : Held S) (before : V) (result : Result Lent TableFault) (after : V) : Type 0 where
+  pub record IsBorrowed {V : Type 0} (looks : V → Part → Bool → V → Type 0) (new : Held S) (before : V) (result : Result VisitEnd TableFault) (after : V) : Type 0 where
     pub given : List Row
     pub parts : List Part
     pub read : AreReadOf given parts
     pub on : Bool
     pub visitor : HasSeen looks parts on before after
-    pub told : IfOk result (λ how. on ≡ went_on how)
+    pub reported : IfOk result (λ how. on ≡ went_on how)
     pub begins : HasCleanDisk (state g new) → Starts given
-    pub whole : HasCleanDisk (state g new) → IfOk result (λ how. how ≡ lent.All → Answers given)
-    pub invalid : HasCleanDisk (state g new) → IfOk result (λ how. how ≡ lent.Invalid → (row : Row) × IsNoPart row × Starts (given ++ row ∷ []))
+    pub whole : HasCleanDisk (state g new) → IfOk result (λ how. how ≡ borrowed.All → Answers given)
+    pub invalid : HasCleanDisk (state g new) → IfOk result (λ how. how ≡ borrowed.Invalid → (row : Row) × IsNoPart row × Starts (given ++ row ∷ []))

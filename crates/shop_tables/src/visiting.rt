@@ -5,11 +5,11 @@ ghost use Rattle.sqlite.specs.Held.{state};
 ghost use Rattle.sqlite.specs.Values.{bound};
 ghost use Rattle.std.specs.FinMap.{values};
 ghost use Rattle.shop_statements.specs.Earlier.{OnBooksEarlier, OnBooksSecond};
-ghost use Rattle.shop_tables.specs.Lending.{IsLent, IsReadOf, gone_through};
+ghost use Rattle.shop_tables.specs.Visiting.{IsBorrowed, IsReadOf, gone_through};
 ghost use Rattle.shop_statements.specs.Selecting.{is_select};
 ghost use Rattle.shop_statements.specs.Shown.{Leaves, OnBooks};
 ghost use Rattle.shop_tables.specs.Invalid.{IsNoPart};
-ghost use Rattle.shop_tables.specs.declared.lending.Lent.TheVariants.{Invalid};
+ghost use Rattle.shop_tables.specs.declared.visiting.VisitEnd.TheVariants.{Invalid};
 ghost use Rattle.shop_records.specs.Visits.{IsVisit};
 
 use crate::invalid::may_be_part;
@@ -23,7 +23,7 @@ const MAX_ROWS: u64 = 18446744073709551615;
 
 /// How the rows of a query were gone through.
 #[derive(Clone, Copy, Debug, PartialEq, Eq)]
-pub enum Lent {
+pub enum VisitEnd {
     /// To the end.
     All,
     /// Up to the part at which the visitor stopped.
@@ -49,7 +49,7 @@ fn read_whole(row: &Row) -> Result<Part, TableFault>
 }
 
 // None where the row is no part's.
-fn read_lent(row: &Row) -> Result<Option<Part>, TableFault>
+fn read_borrowed(row: &Row) -> Result<Option<Part>, TableFault>
     ensures read { IfOk result (λ part. IfSome part (IsReadOf row.now)) }
     ensures invalid { IfOk result (λ part. IfNone part (IsNoPart row.now)) }
 {
@@ -61,14 +61,14 @@ fn read_lent(row: &Row) -> Result<Option<Part>, TableFault>
 }
 
 /// Hands the parts that a query shows to a visitor, for as long as it answers true.
-fn lend<S: Alter, V: PartVisitor>(
+fn visit_rows<S: Alter, V: PartVisitor>(
     conn: &mut Connection<S>,
     sql: &str,
     params: &[ValueRef<'_>],
     visitor: &mut V,
-) -> Result<Lent, TableFault>
+) -> Result<VisitEnd, TableFault>
     requires { is_select sql.now ≡ true }
-    ensures lent { IsLent S.Store sql.now
+    ensures borrowed { IsBorrowed S.Store sql.now
         (bound params.now) conn.old V.looks conn.new visitor.old result visitor.new }
     ensures leaves { Leaves (state S.Store conn.old) (state S.Store conn.new) }
     ensures mode { conn.old.in_transaction ≡ false → conn.new.in_transaction ≡ false }
@@ -77,13 +77,13 @@ fn lend<S: Alter, V: PartVisitor>(
     'rows: for _ in 0..MAX_ROWS {
         rows.advance()?;
         let Some(row) = rows.get() else {
-            return Ok(Lent::All);
+            return Ok(VisitEnd::All);
         };
-        let Some(part) = read_lent(row)? else {
-            return Ok(Lent::Invalid);
+        let Some(part) = read_borrowed(row)? else {
+            return Ok(VisitEnd::Invalid);
         };
         if !visitor.part(&part) {
-            return Ok(Lent::Stopped);
+            return Ok(VisitEnd::Stopped);
         }
     }
     Err(TableFault::Store)
@@ -92,10 +92,10 @@ fn lend<S: Alter, V: PartVisitor>(
 /// Hands every part to a visitor, by rising act and then node, for as long as it answers true. What is told is how far it
 /// came; after an `Err` and before an invalid row too the parts that were handed out begin all parts. Tables that stand for
 /// books have no invalid row.
-pub fn lend_all_parts<S: Alter, V: PartVisitor>(
+pub fn visit_all_parts<S: Alter, V: PartVisitor>(
     conn: &mut Connection<S>,
     visitor: &mut V,
-) -> Result<Lent, TableFault>
+) -> Result<VisitEnd, TableFault>
     ensures visit { IsVisit V.looks
         (λ what. OnBooks (state S.Store conn.old) (state S.Store conn.new)
         (λ books. what (values books.content.parts))) visitor.old
@@ -117,7 +117,7 @@ pub fn lend_all_parts<S: Alter, V: PartVisitor>(
     ensures leaves { Leaves (state S.Store conn.old) (state S.Store conn.new) }
     ensures mode { conn.old.in_transaction ≡ false → conn.new.in_transaction ≡ false }
 {
-    lend(
+    visit_rows(
         conn,
         "SELECT act, node, material, batch, root_act, root_node, x, y, w, h, state, detail FROM parts ORDER BY act, node",
         &[],

@@ -6,7 +6,7 @@ use Rattle.shop_book.specs.FiledJobs.{AreJobsFiled}
 use Rattle.shop_book.specs.Pieces.{AreFiled}
 use Rattle.shop_book.proofs.Filed.{filed_stay}
 use Rattle.shop_book.proofs.JobsFiled.{jobs_stay}
-use Rattle.shop_book.proofs.ledger.Ledger.make_room.Goals as goal
+use Rattle.shop_book.proofs.ledger.Ledger.reserve_change.Goals as goal
 
 pub invariant_of-self : goal.invariant_of-self
 invariant_of-self c =
