@@ -1,4 +1,4 @@
--- A room that is divided between the pieces of two parts of the wants.
+-- A span that is divided between the pieces of two parts of the wants.
 use Rattle.std.proofs.Common.{◌≡◌, ℕ, ◌+◌, ◌-◌, ◌*◌, ◌/◌, ◌^◌, ◌<◌, ◌≤◌, ◌++◌, ◌⊎◌, List, [], ◌∷◌, length, take, drop, get_or, sym, refl, ap, ◌∙◌, subst, inl, inr, min, max, arith}
 use Rattle.std.specs.Prelude.{Contains, slice_set, ◌↔◌}
 use Rattle.std.proofs.lemmas.Bool.{cases_lt}
@@ -37,7 +37,7 @@ counts_parts (x ∷ xs) ys (a ∷ all) is =
     let p = counts_parts xs ys all is.1 in
     (a ∷ p.0, p.1, (is.0, p.2), p.3, ap (λ l. a ∷ l) p.4)
 
--- what best counts within a room are worth, and what entries are
+-- what best counts within a span are worth, and what entries are
 module _ (k whole : ℕ) (xs : List Want) (has : Entry → Type 0) (r : AreReached k xs whole has) where
   entry_worth : (ns : List ℕ) → AreCounts xs ns → span_taken k xs ns ≤ whole → (e : Entry) × has e × (e.span ≡ span_taken k xs ns) × (worth_of_counts xs ns ≤ e.worth)
   entry_worth ns is fits =
@@ -354,7 +354,7 @@ module _ (whole limit limit' : ℕ) (prefix back : List Entry) (rising_prefix : 
   lists_done left found end d =
       divided_all whole 0 (Contains prefix) (Contains back) (IsFrom prefix left) found d (λ e (i, lt, is). (i, omega (arith, end), lt, is))
 
--- tables: the entries of rooms after one
+-- tables: the entries of spans after one
 abbrev pub IsPast : ℕ → ℕ → Entry → Type 0
 IsPast whole span e = whole < e.span + span
 

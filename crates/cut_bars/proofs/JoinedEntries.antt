@@ -21,7 +21,7 @@ read_in xs i a lt is = (i, lt, sym is)
 pub same_entry : (e f : Entry) → e.span ≡ f.span → e.worth ≡ f.worth → e ≡ f
 same_entry e f p q = ap (λ (r : ℕ). record { span = r; worth = e.worth }) p ∙ ap (λ (w : ℕ). record { span = f.span; worth = w }) q
 
--- entries in order have one worth for each room
+-- entries in order have one worth for each span
 pub one_worth : (xs : List Entry) → AreRising xs → AreOwn (Contains xs)
 one_worth xs rising e f (i, il, ie) (j, jl, je) same =
     let at : get_or xs j e ≡ f = at_f in
@@ -38,7 +38,7 @@ one_worth xs rising e f (i, il, ie) (j, jl, je) same =
     at_f : get_or xs j e ≡ f
     at_f = subst (λ x. x ≡ f) (get_or_default xs j f e jl) je
 
--- a set that takes in entries in order, each at its room
+-- a set that takes in entries in order, each at its span
 module _ (entries : List Entry) (i : ℕ) (d : Entry) (rising : AreRising entries) (inside : i < length entries) where
   before : (e : Entry) → Contains (take i entries) e → e.span < (get_or entries i d).span
   before e (j, lt, is) =
@@ -59,7 +59,7 @@ module _ (entries : List Entry) (i : ℕ) (d : Entry) (rising : AreRising entrie
     ],
   )
 
--- the rooms still rise once a longer one is after them
+-- the spans still rise once a longer one is after them
 pub rising_push : (xs : List Entry) (x : Entry) → AreRising xs → ((e : Entry) → Contains xs e → e.span < x.span) → AreRising (xs ++ x ∷ [])
 rising_push xs x rising above = λ i j d lt in_range.
     elim (cases_lt j (length xs)) [
@@ -119,7 +119,7 @@ joined_push step gain base kept moved kept' moved' joined first j above next_kep
   ];
 }
 
--- an index goes on exactly where the room is the first one's
+-- an index goes on exactly where the span is the first one's
 abbrev pub GoesOn : (span first index index' : ℕ) → Type 0
 GoesOn span first index index' = ((span ≡ first) × (index' ≡ index + 1)) ⊎ ((span ≢ first) × (index' ≡ index))
 

@@ -9,7 +9,7 @@ use Rattle.cut_bars.specs.Counts.{AreCounts, span_taken, worth_of_counts}
 use Rattle.cut_bars.specs.Reached.{AreReached, AreOffered, HaveWorthsBoundedBySpan, IsLedTo, IsGreatestAt}
 use Rattle.cut_wants.proofs.LeafSums.{Contains-head, Contains-tail}
 
--- no counts at all take no room
+-- no counts at all take no span
 pub reached_none : (k whole : ℕ) (has : Entry → Type 0) → ((e : Entry) → has e → (e.span ≡ 0) × (e.worth ≡ 0)) → has (record { span = 0; worth = 0 }) → AreReached k [] whole has
 reached_none k whole has only none = record {
   only = λ e there. let z = only e there in (omega (arith, z.0), record { counts = []; within = tt; takes = sym z.0; value = sym z.1; most = λ others is fit. omega arith });
@@ -17,7 +17,7 @@ reached_none k whole has only none = record {
 }
 
 module _ (k whole : ℕ) (x : Want) (xs : List Want) (base entries : Entry → Type 0) (r : AreReached k xs whole base) (o : AreOffered (x.size.w + k) x.worth x.left whole base entries) where
-  -- counts lead to an entry of their room that is worth no less
+  -- counts lead to an entry of their span that is worth no less
   led : (a : ℕ) (os : List ℕ) → a ≤ x.left → AreCounts xs os → span_taken k (x ∷ xs) (a ∷ os) ≤ whole
       → (e : Entry) × entries e × (e.span ≡ span_taken k (x ∷ xs) (a ∷ os)) × (worth_of_counts (x ∷ xs) (a ∷ os) ≤ e.worth)
   led a os few within fits =
@@ -57,7 +57,7 @@ module _ (k whole : ℕ) (x : Want) (xs : List Want) (base entries : Entry → T
           let e = led a os is.0 is.1 fits in
           (e.0, e.1, e.2)
 
--- a worth of at most the price for each unit of room
+-- a worth of at most the price for each unit of span
 value_low : (price k : ℕ) (xs : List Want) (ns : List ℕ) → ((x : Want) → Contains xs x → x.worth ≤ (x.size.w + k) * price) → worth_of_counts xs ns ≤ span_taken k xs ns * price
 value_low price k [] ns each = omega arith
 value_low price k (x ∷ xs) [] each = omega arith

@@ -1,4 +1,4 @@
--- Levels: what counts of some wants reach, as a list of entries or as a cell for each room.
+-- Levels: what counts of some wants reach, as a list of entries or as a cell for each span.
 use Rattle.std.specs.Prelude.{◌≡◌, ℕ, ◌+◌, ◌-◌, ◌*◌, ◌<◌, ◌≤◌, ◌⊎◌, ◌++◌, zero, suc, max, map, List, length, slice_index, slice_index_or, Contains}
 use Rattle.cut_wants.specs.declared.wants.Want.{Want}
 use Rattle.cut_bars.specs.declared.reach.Entry.{Entry}
@@ -7,7 +7,7 @@ use Rattle.cut_bars.specs.declared.level.Level.TheVariants.{Listed, Tabled}
 use Rattle.cut_bars.specs.Counts.{AreBestCounts}
 use Rattle.cut_bars.specs.Reached.{AreRising, IsLedTo}
 
--- the cell of the entry's room, among cells with these numbers, is one more than its worth
+-- the cell of the entry's span, among cells with these numbers, is one more than its worth
 abbrev pub HasCell : List ℕ → Entry → Type 0
 HasCell cells e = slice_index cells e.span ≡ e.worth + 1
 
@@ -16,12 +16,12 @@ abbrev pub Has : {T : Type 0} → (T → ℕ) → Level T → Entry → Type 0
 Has value (Listed entries) e = Contains entries.items e
 Has value (Tabled cells) e = HasCell (map value cells.items) e
 
--- entries in order, or a cell for each room within the whole
+-- entries in order, or a cell for each span within the whole
 abbrev pub IsLevel : {T : Type 0} → ℕ → Level T → Type 0
 IsLevel whole (Listed entries) = AreRising entries.items
 IsLevel whole (Tabled cells) = length cells.items ≡ whole + 1
 
--- a room for the first of two sets of entries: one of either, which fit that room and the rest of the whole, are worth no less than any that fit the whole
+-- a span for the first of two sets of entries: one of either, which fit that span and the rest of the whole, are worth no less than any that fit the whole
 pub record IsBestDivision (whole at : ℕ) (prefix back : Entry → Type 0) : Type 0 where
   pub one : Entry
   pub other : Entry
@@ -31,7 +31,7 @@ pub record IsBestDivision (whole at : ℕ) (prefix back : Entry → Type 0) : Ty
   pub rest : other.span + at ≤ whole
   pub most : (e f : Entry) → prefix e → back f → e.span + f.span ≤ whole → e.worth + f.worth ≤ one.worth + other.worth
 
--- a room for the first wants: best counts of them within it, and of the others within the rest of the whole, are together best counts
+-- a span for the first wants: best counts of them within it, and of the others within the rest of the whole, are together best counts
 pub record IsBestSpanForFirst (k : ℕ) (first others : List Want) (whole at : ℕ) : Type 0 where
   pub within : at ≤ whole
   pub best : (ns ms : List ℕ) → AreBestCounts k first at ns → AreBestCounts k others (whole - at) ms → AreBestCounts k (first ++ others) whole (ns ++ ms)
@@ -47,19 +47,19 @@ abbrev pub gained : ℕ → ℕ → ℕ
 gained gain zero = 0
 gained gain (suc v) = suc v + gain
 
--- a price for each unit of room that the cells and a gain keep to, at which all the cells stay below the limit
+-- a price for each unit of span that the cells and a gain keep to, at which all the cells stay below the limit
 pub record AreCellsBelow (limit : ℕ) (cells : List ℕ) (step gain : ℕ) : Type 0 where
   pub price : ℕ
   pub low : (c : ℕ) → slice_index cells c ≤ c * price + 1
   pub gains : gain ≤ step * price
   pub below : (c : ℕ) → c < length cells → c * price + 1 < limit
 
--- each room of at least a step is offered what `from` has a step before it
+-- each span of at least a step is offered what `from` has a step before it
 pub record IsRaised (step gain : ℕ) (from old new : List ℕ) : Type 0 where
   pub low : (c : ℕ) → c < step → slice_index new c ≡ slice_index old c
   pub high : (c : ℕ) → step ≤ c → c < length old → slice_index new c ≡ max (slice_index old c) (gained gain (slice_index from (c - step)))
 
--- the entry of two that comes first, or at the same room the one worth more
+-- the entry of two that comes first, or at the same span the one worth more
 pub record IsFirstOf (a b first : Entry) : Type 0 where
   pub one : (first ≡ a) ⊎ (first ≡ b)
   pub span_a : first.span ≤ a.span
@@ -77,6 +77,6 @@ pub record AreJoined (step gain : ℕ) (base : List Entry) (kept moved : ℕ) (j
   pub has_moved : (i : ℕ) (d : Entry) → i < moved
       → (e : Entry) × Contains joined e × (e.span ≡ (slice_index_or base i d).span + step) × ((slice_index_or base i d).worth + gain ≤ e.worth)
 
--- each room is at most one of `base`
+-- each span is at most one of `base`
 abbrev pub AreUpTo : List Entry → List Entry → Type 0
 AreUpTo base entries = (e : Entry) → Contains entries e → (b : Entry) × Contains base b × (e.span ≤ b.span)

@@ -67,7 +67,7 @@ fn entries_of<T: Number>(
     level.into_entries(alloc)
 }
 
-/// The worth of a want for each unit of the room that a piece of it takes, rounded up.
+/// The worth of a want for each unit of the span that a piece of it takes, rounded up.
 fn price(want: &Want, kerf: u32) -> u64
     requires worth { want.now.worth ≤ 2 ^ 30 }
     requires kerf { kerf ≤ MAX_KERF }
@@ -102,7 +102,7 @@ fn is_narrow(wants: &[Want], kerf: u32, whole: u32) -> bool
     highest_price(wants, kerf) * whole as u64 + 1 < 4294967296
 }
 
-/// The room for the first wants, by levels whose cells are of one width.
+/// The span for the first wants, by levels whose cells are of one width.
 fn span_by<T: Number>(
     alloc: Global,
     first: &[Want],
@@ -122,7 +122,7 @@ fn span_by<T: Number>(
     Ok(at)
 }
 
-/// The room for the first wants, so that they and the others are worth most within the whole.
+/// The span for the first wants, so that they and the others are worth most within the whole.
 fn span_for_first(
     alloc: Global,
     first: &[Want],
@@ -154,7 +154,7 @@ fn count_one(want: &Want, kerf: u32, whole: u32) -> u32
     (whole / (want.size.w() + kerf)).min(want.left)
 }
 
-/// The best counts within a room: of one want as many as fit, and of more those of either half within its part of the room.
+/// The best counts within a span: of one want as many as fit, and of more those of either half within its part of the span.
 fn fill_counts(
     alloc: Global,
     wants: &[Want],
@@ -208,7 +208,7 @@ pub fn best_counts(
     Ok(counts)
 }
 
-/// An entry for each room within a bar and a kerf that counts take, with the greatest worth of such counts.
+/// An entry for each span within a bar and a kerf that counts take, with the greatest worth of such counts.
 pub fn reach(alloc: Global, wants: &[Want], size: u32, kerf: u32) -> Result<Vec<Entry>, AllocError>
     requires modest { HaveBoundedWorthsAndLefts wants.now }
     requires size { size ≤ MAX_BAR_LENGTH }

@@ -1,4 +1,4 @@
-//! The rooms of a bar as a table: 0 where no counts of pieces take a room, else one more than their best worth.
+//! The spans of a bar as a table: 0 where no counts of pieces take a span, else one more than their best worth.
 
 ghost use Rattle.std.specs.Prelude.{◌≡◌, ◌+◌, ◌-◌, ◌*◌, ◌^◌, ◌<◌, ◌≤◌, ◌↔◌, IfOk, Contains, length, map, max, vec_len};
 ghost use Rattle.cut_bars.specs.declared.reach.Entry.{Entry};
@@ -21,7 +21,7 @@ fn offered<T: Number>(cell: T, from: T, gain: u64) -> T
     }
 }
 
-/// Offers a batch of pieces to each room, the longest first.
+/// Offers a batch of pieces to each span, the longest first.
 pub fn raise<T: Number>(cells: &mut [T], step: usize, gain: u64)
     requires step { 1 ≤ step }
     requires fits { AreCellsBelow T.limit (map T.value cells.old) step gain }
@@ -33,7 +33,7 @@ pub fn raise<T: Number>(cells: &mut [T], step: usize, gain: u64)
     }
 }
 
-/// Offers any number of pieces to each room, the shortest first.
+/// Offers any number of pieces to each span, the shortest first.
 pub fn raise_freely<T: Number>(cells: &mut [T], step: usize, gain: u64)
     requires step { 1 ≤ step }
     requires fits { AreCellsBelow T.limit (map T.value cells.old) step gain }

@@ -1,4 +1,4 @@
-//! How the room of a bar is divided between the pieces of two parts of the wants.
+//! How the span of a bar is divided between the pieces of two parts of the wants.
 
 ghost use Rattle.std.specs.Prelude.{◌≡◌, ℕ, ◌+◌, ◌-◌, ◌^◌, ◌≤◌, ◌⊎◌, IfOk, Contains, length, map};
 ghost use Rattle.cut_bars.specs.declared.reach.Entry.{Entry};
@@ -17,7 +17,7 @@ fn worthier(a: Entry, b: Entry) -> Entry
     if a.worth < b.worth { b } else { a }
 }
 
-/// The room for the first of two lists: the first from its end and the second from its start, so that all of the second
+/// The span for the first of two lists: the first from its end and the second from its start, so that all of the second
 /// that has room beside an entry lies before.
 fn divide_lists(prefix: &[Entry], back: &[Entry], whole: u32) -> u32
     requires rising_prefix { AreRising prefix.now }
@@ -48,7 +48,7 @@ fn divide_lists(prefix: &[Entry], back: &[Entry], whole: u32) -> u32
     found.span
 }
 
-/// The room for the first of two tables of one length: the first from its end and the second from its start.
+/// The span for the first of two tables of one length: the first from its end and the second from its start.
 fn divide_tables<T: Number>(prefix: &[T], back: &[T], whole: u32) -> u32
     requires prefix { length prefix.now ≡ whole + 1 }
     requires back { length back.now ≡ whole + 1 }
@@ -78,7 +78,7 @@ fn divide_tables<T: Number>(prefix: &[T], back: &[T], whole: u32) -> u32
     found.span
 }
 
-/// The room within the whole for the first of two levels, so that both together are worth most; the other has the rest.
+/// The span within the whole for the first of two levels, so that both together are worth most; the other has the rest.
 pub fn divide<T: Number>(
     alloc: Global,
     prefix: Level<T>,

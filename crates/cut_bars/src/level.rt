@@ -12,12 +12,12 @@ use cut_wants::number::Number;
 use cut_wants::wants::Want;
 use std::alloc::{AllocError, Global};
 
-/// What counts reach: an entry for each room that they take, or a cell for each room.
+/// What counts reach: an entry for each span that they take, or a cell for each span.
 #[derive(Drop)]
 pub enum Level<T> {
-    /// Rising by the room.
+    /// Rising by the span.
     Listed(Vec<Entry>),
-    /// 0 where no counts take the room, else one more than their best worth.
+    /// 0 where no counts take the span, else one more than their best worth.
     Tabled(Vec<T>),
 }
 
@@ -75,7 +75,7 @@ impl<T: Number> Level<T> {
     }
 }
 
-/// A list while it has an entry for at most one in 32 rooms, and else a table.
+/// A list while it has an entry for at most one in 32 spans, and else a table.
 pub fn level_of<T: Number>(
     alloc: Global,
     entries: Vec<Entry>,

@@ -1,4 +1,4 @@
-//! Lists of the rooms of a bar that counts of pieces take, each with the greatest worth of such counts.
+//! Lists of the spans of a bar that counts of pieces take, each with the greatest worth of such counts.
 
 ghost use Rattle.std.specs.Prelude.{◌≡◌, ◌+◌, ◌*◌, ◌^◌, ◌≤◌, ◌↔◌, IfOk, Contains, length};
 ghost use Rattle.cut_bars.specs.Reached.{AreRising, AreOffered, HaveWorthsBoundedBySpan};
@@ -6,7 +6,7 @@ ghost use Rattle.cut_bars.specs.Levels.{AreJoined, AreUpTo, IsFirstOf};
 
 use std::alloc::{AllocError, Global};
 
-/// A room that counts of pieces take, and the greatest worth of such counts.
+/// A span, which is the lengths of some pieces with a kerf for each, and the greatest worth of counts that take it.
 #[derive(Clone, Copy, Debug, PartialEq, Eq)]
 pub struct Entry {
     /// Tenths of a millimetre, a kerf after each piece: at most 150200.
@@ -15,7 +15,7 @@ pub struct Entry {
     pub worth: u64,
 }
 
-/// The entry that comes first, or at the same room the one worth more.
+/// The entry that comes first, or at the same span the one worth more.
 fn first_of(a: Entry, b: Entry) -> Entry
     ensures { IsFirstOf a b result }
 {

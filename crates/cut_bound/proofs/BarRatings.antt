@@ -1,4 +1,4 @@
--- What a bar is worth at most: read from the rooms that counts reach, and no legal tree is worth more.
+-- What a bar is worth at most: read from the spans that counts reach, and no legal tree is worth more.
 use Rattle.std.proofs.Common.{◌≡◌, ℕ, ◌+◌, ◌-◌, ◌≤◌, true, false, List, [], ◌∷◌, sym, refl, ap, subst, ◌∙◌, inl, inr, arith}
 use Rattle.std.specs.Prelude.{Contains}
 use Rattle.std.proofs.lemmas.Bool.{false≢true}

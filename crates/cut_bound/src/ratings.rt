@@ -34,7 +34,7 @@ fn longest(sizes: &[StockSize]) -> u32
     longest
 }
 
-// The greatest worth of an entry within a room.
+// The greatest worth of an entry within a span.
 fn best_within(entries: &[Entry], span: u32) -> u64
     ensures { IsGreatest (λ e. e.span ≤ span) (λ e. e.worth) entries.now result }
 {
@@ -47,7 +47,7 @@ fn best_within(entries: &[Entry], span: u32) -> u64
     best
 }
 
-/// Each of some bars with the worth of its best plan within the counts, from the rooms that counts
+/// Each of some bars with the worth of its best plan within the counts, from the spans that counts
 /// reach of the longest.
 pub fn rated_bars(
     alloc: Global,

@@ -165,10 +165,10 @@ pub fn alike_reported(alloc: Global, unit: Unit) -> Result<String> {
     Ok(format!(in alloc; "{alike}")?)
 }
 
-// What pieces are worth in each room up to 43 at most.
+// What pieces are worth in each span up to 43 at most.
 type Spans = [u64; 44];
 
-// Offers a piece to each room, so that it is taken once.
+// Offers a piece to each span, so that it is taken once.
 fn offer_one(best: &mut Spans, span: usize, worth: u64) {
     let before = *best;
     for (whole, rest) in best.iter_mut().skip(span).zip(before) {
@@ -176,7 +176,7 @@ fn offer_one(best: &mut Spans, span: usize, worth: u64) {
     }
 }
 
-// The best worths of bars by a plain table: for each room, a bar's and a kerf's, what some pieces in it are worth at
+// The best worths of bars by a plain table: for each span, a bar's and a kerf's, what some pieces in it are worth at
 // most, piece by piece.
 fn best_spans(kerf: u32, wants: &[Want]) -> Spans
     requires { kerf ≤ 200 }

@@ -53,7 +53,7 @@ pub struct Bars {
     lengths: Vec<u32>,
     bars: Vec<u32>,
     demands: Vec<u32>,
-    /// How many tenths of a millimetre a room is: all pieces with a kerf are a number of them.
+    /// How many tenths of a millimetre a span is: all pieces with a kerf are a number of them.
     unit: u32,
     table: Table,
     entries: Vec<Entry>,
@@ -131,35 +131,35 @@ impl Bars {
         })
     }
 
-    /// The rooms of a length with a kerf.
+    /// The spans of a length with a kerf.
     fn spans(&self, length: u32) -> u32 {
         let whole = length.saturating_add(self.kerf);
         whole.checked_div(self.unit).unwrap_or(0)
     }
 
-    /// The rooms of a piece: more than any bar has where there is no such want.
+    /// The spans of a piece: more than any bar has where there is no such want.
     fn piece_spans(&self, want: usize) -> u32 {
         self.lengths
             .get(want)
             .map_or(u32::MAX, |length| self.spans(*length))
     }
 
-    /// The rooms of a bar.
+    /// The spans of a bar.
     fn bar_spans(&self, size: usize) -> u32 {
         self.bars.get(size).map_or(0, |length| self.spans(*length))
     }
 
-    /// Rooms that a unit has, with a kerf.
+    /// Spans that a unit has, with a kerf.
     pub fn unit_cells(&self, size: usize) -> u64 {
         self.bar_spans(size) as u64
     }
 
-    /// Rooms that a piece takes, with a kerf.
+    /// Spans that a piece takes, with a kerf.
     pub fn piece_cells(&self, want: usize) -> u64 {
         self.piece_spans(want) as u64
     }
 
-    /// Asks for a table of bars of so many rooms.
+    /// Asks for a table of bars of so many spans.
     fn begin(
         &mut self,
         alloc: Global,
@@ -260,12 +260,12 @@ impl Bars {
         self.entries.len().saturating_sub(first).min(self.part)
     }
 
-    /// What bars of so many rooms are worth, where the last part is shown.
+    /// What bars of so many spans are worth, where the last part is shown.
     fn best(&self, spans: u32) -> u32 {
         self.table.best(self.shown_items(), spans).unwrap_or(0)
     }
 
-    /// Takes the part that is shown from the rooms that are left, into counts.
+    /// Takes the part that is shown from the spans that are left, into counts.
     fn take_part(&self, alloc: Global, spans: u32, counts: &mut [u32]) -> Result<u32, AllocError> {
         let items = self.shown_items();
         let mut taken = no_counts(alloc, items)?;
@@ -279,7 +279,7 @@ impl Bars {
         Ok(rest)
     }
 
-    /// The counts of the best of each of these rooms, each rooms' into its own. The last part is
+    /// The counts of the best of each of these spans, each spans' into its own. The last part is
     /// shown before and after, where there is only one.
     fn take(
         &mut self,

@@ -1,15 +1,15 @@
-//! The bounded knapsack: for each room the greatest worth of items within it, by a row of cells
+//! The bounded knapsack: for each span the greatest worth of items within it, by a row of cells
 //! after each item. What it answers is a hint, and where worths are so great that a row's cells
 //! overflow, it is a wrong one.
 
 use std::alloc::{AllocError, Global};
 
-/// What may be put into a room, more than once.
+/// What may be put into a span, more than once.
 #[derive(Clone, Copy)]
 pub struct Item {
-    /// The room that one takes: of 0 none is taken.
+    /// The span that one takes: of 0 none is taken.
     pub step: u32,
-    /// What one is worth. What a room may hold is worth less than 2^32.
+    /// What one is worth. What a span may hold is worth less than 2^32.
     pub gain: u32,
     /// How many there are.
     pub most: u32,
@@ -27,7 +27,7 @@ fn offer(row: &mut [u32], at: usize, step: usize, gain: u32) {
     }
 }
 
-/// Offers one of a step to each room, the longest first.
+/// Offers one of a step to each span, the longest first.
 fn raise(row: &mut [u32], step: usize, gain: u32) {
     let blocks = row.len().checked_div(step).unwrap_or(0);
     for block in (0..blocks).rev() {
@@ -40,7 +40,7 @@ fn raise(row: &mut [u32], step: usize, gain: u32) {
     }
 }
 
-/// Offers any number of a step to each room, the shortest first.
+/// Offers any number of a step to each span, the shortest first.
 fn raise_freely(row: &mut [u32], step: usize, gain: u32) {
     let blocks = row.len().checked_div(step).unwrap_or(0);
     for block in 0..blocks {
@@ -53,7 +53,7 @@ fn raise_freely(row: &mut [u32], step: usize, gain: u32) {
     }
 }
 
-/// Offers up to so many of a step to each room: batches of 1, 2, 4 and so on, which any number up
+/// Offers up to so many of a step to each span: batches of 1, 2, 4 and so on, which any number up
 /// to that is a sum of.
 fn raise_often(row: &mut [u32], item: &Item, most: u32) {
     let mut rest = most;
@@ -70,7 +70,7 @@ fn raise_often(row: &mut [u32], item: &Item, most: u32) {
     }
 }
 
-/// How many of an item the longest room holds.
+/// How many of an item the longest span holds.
 fn most_within(item: &Item, cells: usize) -> u32 {
     let fit = cells.saturating_sub(1).checked_div(item.step as usize);
     u32::try_from(fit.unwrap_or(0)).unwrap_or(u32::MAX)
@@ -103,7 +103,7 @@ fn write_rows(rows: &mut [Vec<u32>], items: &[Item]) {
     }
 }
 
-/// How many of an item the best of a room has, the fewest where several do: the rest of it is the
+/// How many of an item the best of a span has, the fewest where several do: the rest of it is the
 /// best before the item.
 fn count_of(item: &Item, before: &[u32], row: &[u32], span: usize) -> Option<u32> {
     let worth = *row.get(span)?;
@@ -128,7 +128,7 @@ pub struct Table {
 }
 
 impl Table {
-    /// No items, and no rooms.
+    /// No items, and no spans.
     pub fn new(alloc: Global) -> Table {
         Table {
             items: Vec::new(alloc),
@@ -147,7 +147,7 @@ impl Table {
         Ok(())
     }
 
-    /// The table of the items over the worths that the rooms have without them, as many rooms as
+    /// The table of the items over the worths that the spans have without them, as many spans as
     /// those are.
     pub fn make_on(
         &mut self,
@@ -166,23 +166,23 @@ impl Table {
         Ok(())
     }
 
-    /// The table of the items in the rooms from 0 to a whole.
+    /// The table of the items in the spans from 0 to a whole.
     pub fn make(&mut self, alloc: Global, items: &[Item], whole: u32) -> Result<(), AllocError> {
         let start = vec![in alloc; 0u32; (whole as usize).saturating_add(1)]?;
         self.make_on(alloc, &start, items)
     }
 
-    /// The worths of the rooms, by the first items, so many of them.
+    /// The worths of the spans, by the first items, so many of them.
     pub fn worths(&self, items: usize) -> Option<&Vec<u32>> {
         self.rows.get(items)
     }
 
-    /// The best worth of a room, by the first items, so many of them.
+    /// The best worth of a span, by the first items, so many of them.
     pub fn best(&self, items: usize, span: u32) -> Option<u32> {
         self.rows.get(items)?.get(span as usize).copied()
     }
 
-    /// Adds to the counts how many of each the best of a room has, by the first items, so many of
+    /// Adds to the counts how many of each the best of a span has, by the first items, so many of
     /// them. What is left of the room for what the table began with; None out of the table.
     pub fn take(&self, items: usize, span: u32, counts: &mut [u32]) -> Option<u32> {
         let mut rest = span;

@@ -212,7 +212,7 @@ impl Rules<'_> {
         Ok(rows.saturating_add(columns).saturating_add(grids))
     }
 
-    // Rates all blocks in the next space of a state, and tells how many were looked at.
+    // Rates all blocks in the next space of a state, and returns how many were looked at.
     fn rate(&self, place: usize, state: &State, choice: &mut Choice) -> Result<u64, AllocError> {
         let Some(space) = state.spaces.last() else {
             return Ok(0);

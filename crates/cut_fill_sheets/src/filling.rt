@@ -125,7 +125,7 @@ impl Scribe<'_> {
         }
     }
 
-    // Writes a step's cuts and block, and tells which of the parts over, beside the block and of the full side, follow.
+    // Writes a step's cuts and block, and returns which of the parts over, beside the block and of the full side, follow.
     fn write_step(&self, step: &Step, marks: &mut Vec<Mark>) -> Result<(bool, bool), AllocError> {
         let Some(block) = self.blocks.get(step.block) else {
             marks.push(Mark::Rest)?;

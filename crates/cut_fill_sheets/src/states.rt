@@ -181,7 +181,7 @@ impl State {
         }
     }
 
-    /// Places a block in the corner of the next space by the step of a number, and tells that space. Of what is over the
+    /// Places a block in the corner of the next space by the step of a number, and returns that space. Of what is over the
     /// smaller space is filled next.
     pub(crate) fn place(
         &mut self,

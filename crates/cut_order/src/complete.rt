@@ -6,7 +6,7 @@ ghost use Rattle.cut_bound.specs.Cuttings as cuttings;
 ghost use Rattle.cut_bound.specs.Planned.{cutting_of};
 ghost use Rattle.cut_order.specs.Places.{IsAddition, IsDoneAt, IsFewOrderPlan, IsFilledOrFull, IsGrown};
 
-use crate::places::{units_allowed, unit_count};
+use crate::places::{unit_count, units_allowed};
 use crate::question::Question;
 use crate::single::single_plan;
 use cut_bound::{PlannedUnit, StockSize, pieces_of, units_at};

@@ -17,7 +17,7 @@ const LN_2: i64 = 693;
 /// Values count 1024ths of a cell.
 const VALUE_PARTS: u64 = 1024;
 
-/// What is 1 in the share of its room by which a piece is worth more or less: 1000ths of a power
+/// What is 1 in the share of its span by which a piece is worth more or less: 1000ths of a power
 /// times 1000ths of a logarithm.
 const WHOLE_SHARE: i128 = 1_000_000;
 
@@ -30,7 +30,7 @@ const MIN_WEIGHT: u64 = 667;
 /// That weight at most.
 const MAX_WEIGHT: u64 = 1500;
 
-/// How much the power of a room is above 1 at least, in 1000ths.
+/// How much the power of a span is above 1 at least, in 1000ths.
 const MIN_POWER: u64 = 20;
 
 /// How much it is at most.
@@ -98,8 +98,8 @@ fn logarithm(number: u64) -> i64 {
     (top as i64).saturating_mul(256).saturating_add(fraction)
 }
 
-/// A piece's room to a power a little above 1, as 1024ths: larger pieces are worth more for their
-/// room.
+/// A piece's span to a power a little above 1, as 1024ths: larger pieces are worth more for their
+/// span.
 fn raised(cells: u64, most: u64, power: u64) -> u64 {
     let after = logarithm(cells).saturating_sub(logarithm(most));
     let log = after.saturating_mul(LN_2) / 256;
@@ -110,10 +110,10 @@ fn raised(cells: u64, most: u64, power: u64) -> u64 {
     u64::try_from(raised).unwrap_or(1).max(1)
 }
 
-/// Values and room of a round's unit.
+/// Values and span of a round's unit.
 #[derive(Clone, Copy)]
 pub struct Loss {
-    /// The room of the largest unit.
+    /// The span of the largest unit.
     pub most: u64,
     pub unit: u64,
     pub used: u64,
@@ -139,7 +139,7 @@ pub fn corrected(value: u64, cells: u64, count: u32, often: u64, loss: &Loss) ->
     u64::try_from(mean).unwrap_or(u64::MAX).max(1)
 }
 
-/// What the prices of the program are in room: a unit that costs most is worth the most room, in
+/// What the prices of the program are in span: a unit that costs most is worth the most span, in
 /// 1024ths.
 pub fn values_of(alloc: Global, order: &Order, prices: &[u64]) -> Result<Vec<u64>, AllocError> {
     let most = order.most_cells() as u128 * VALUE_PARTS as u128;

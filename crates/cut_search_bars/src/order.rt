@@ -24,9 +24,9 @@ pub struct Order {
     pub pieces: Vec<Want>,
     /// How wide the saw cuts, in tenths of a millimetre: 0 to 200.
     pub kerf: u32,
-    /// Room that a unit of each size has, with a kerf.
+    /// Span that a unit of each size has, with a kerf.
     pub unit_cells: Vec<u64>,
-    /// Room that a piece of each want takes, with a kerf.
+    /// Span that a piece of each want takes, with a kerf.
     pub piece_cells: Vec<u64>,
     /// The greatest of the costs.
     pub dearest: u64,
@@ -137,7 +137,7 @@ impl Order {
         self.costs.get(size).copied().unwrap_or(u64::MAX)
     }
 
-    /// The room of the longest unit.
+    /// The span of the longest unit.
     pub fn most_cells(&self) -> u64 {
         let mut most = 1;
         for cells in &self.unit_cells {
@@ -209,7 +209,7 @@ impl Order {
         rounded_up(least, self.grain)
     }
 
-    /// What all that is left costs at least by its room.
+    /// What all that is left costs at least by its span.
     pub fn least_by_cells(&self, left: &[u32]) -> u64 {
         let mut cells = 0u128;
         for (piece, count) in self.piece_cells.iter().zip(left) {

@@ -43,7 +43,7 @@ impl Open {
     }
 }
 
-/// How many pieces fit a room, of so many.
+/// How many pieces fit a span, of so many.
 fn pieces_within(span: u64, cells: u64, most: u32) -> u32 {
     let fit = span.checked_div(cells).unwrap_or(0);
     u32::try_from(fit).unwrap_or(u32::MAX).min(most)
@@ -78,7 +78,7 @@ fn fill(
     Ok(())
 }
 
-/// The size whose room costs least among those that are free and hold a piece.
+/// The size whose span costs least among those that are free and hold a piece.
 fn cheapest(order: &Order, free: &[Option<u32>], cells: u64) -> Option<usize> {
     let mut found: Option<(usize, u64, u64)> = None;
     let sizes = order.unit_cells.iter().zip(&order.costs).zip(free);

@@ -58,7 +58,7 @@ fn offer_from<T: Number>(row: &mut [T], part: usize)
     offer_sums(&mut places[..reach], &parts[1..reach + 1], other);
 }
 
-/// Raises a place to the one before it, and tells whether it is worth more by itself.
+/// Raises a place to the one before it, and returns whether it is worth more by itself.
 fn raise_place<T: Number>(row: &mut [T], at: usize) -> bool
     requires some { 1 ≤ at }
     requires within { at < length row.old }

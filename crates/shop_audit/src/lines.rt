@@ -11,7 +11,7 @@ ghost use Rattle.shop_audit.specs.declared.lines.LinesFault.TheVariants.{Write};
 
 use crate::progress::Progress;
 use shop_book::{Book, BookFault};
-use shop_records::{ReportedEntry, Kept};
+use shop_records::{Kept, ReportedEntry};
 use shop_replies::entry_text;
 use shop_streams::{Sink, write_all};
 use std::alloc::{AllocError, Global};

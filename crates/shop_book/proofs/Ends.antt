@@ -1,4 +1,4 @@
--- What entries tell of the ends of jobs, and what is kept of them.
+-- What entries report of the ends of jobs, and what is kept of them.
 use Rattle.std.proofs.Common.{◌≡◌, ◌<◌, ◌+◌, ◌∙◌, ℕ, get_or, length, Bool, true, false, List, [], ◌∷◌, ◌++◌, eqb, take, drop, Option, Some, None, refl, sym, ap, inl, inr}
 use Rattle.std.proofs.lemmas.Bool.{eqb-true, eq-eqb, ne_eqb}
 use Rattle.std.proofs.lemmas.Grind.{take_at_read}
@@ -70,7 +70,7 @@ module _ (job : ℕ) where
       by true = refl
       by false = refl
 
-  -- an entry that isn't the job's end tells nothing of it
+  -- an entry that isn't the job's end reports nothing of it
   unreported : (entry : Entry) → is_end_of job entry ≡ false → end_time job (entry ∷ []) ≡ None
   unreported entry e = ap (option_map (λ (entry : Entry). entry.at)) (one_first entry ∙ ap (λ b. cond b (Some entry) None) e)
 

@@ -20,7 +20,7 @@ pub mod KnownRows
 pub mod Loaded
 -- when jobs were done or broken
 pub mod Ends
--- which entries a story tells
+-- which entries a story shows
 pub mod AboutOrders
 -- the day on which a job is due
 pub mod DueJobs

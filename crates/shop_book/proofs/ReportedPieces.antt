@@ -166,7 +166,7 @@ module _ (p : Part → Bool) where
     act_first from act le none =
         filter_same (is_left from) (is_left act) xs (λ x there. agree from act x.name.act (p x) le (none x there)) ∙ by_act act xs (tested _ up)
 
-    -- so they are told next
+    -- so they are reported next
     pub reported_next : (most from act : ℕ) (rows : List Part) → from ≤ act → ((x : Part) → IsIn x xs → p x ≡ true → from ≤ x.name.act → act ≤ x.name.act)
         → take most (take most (rows ++ filter p (of_act act xs)) ++ filter (is_left (act + 1)) xs) ≡ take most (rows ++ filter (is_left from) xs)
     reported_next most from act rows le none =

@@ -1,4 +1,4 @@
--- When jobs were done or broken, as entries tell it and as it is kept.
+-- When jobs were done or broken, as entries report it and as it is kept.
 use Rattle.std.specs.Prelude.{◌≡◌, ◌&&◌, ◌==◌, ◌<◌, ℕ, Bool, List, Option, filter, option_map, vec_capacity, vec_len}
 use Rattle.std.specs.List.{slice_get}
 use Rattle.std.specs.Option.{option_or}
@@ -29,11 +29,11 @@ row_time job rows = option_map (λ (row : JobEnd). row.at) (row_at end_key nat_c
 abbrev pub kept_time : (job : ℕ) → JobEnds → Option ℕ
 kept_time job ends = row_time job ends.rows.items
 
--- of each job it is kept what these entries tell
+-- of each job it is kept what these entries report
 abbrev pub AreEnds : List Entry → JobEnds → Type 0
 AreEnds entries ends = (job : ℕ) → kept_time job ends ≡ end_time job entries
 
--- The new ones are the old ones and, of a job that had none, what these entries tell.
+-- The new ones are the old ones and, of a job that had none, what these entries report.
 abbrev pub AddEnds : List Entry → (old new : JobEnds) → Type 0
 AddEnds entries old new = (job : ℕ) → kept_time job new ≡ option_or (kept_time job old) (end_time job entries)
 

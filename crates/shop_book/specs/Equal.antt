@@ -274,7 +274,7 @@ import_decides a b =
     Decides-like _ (λ p i. record { order = p.0 i; form = p.1.0 i; text = p.1.1.0 i; reply = p.1.1.1 i }) (λ p. (ap (λ r. r.order) p, (ap (λ r. r.form) p, (ap (λ r. r.text) p, ap (λ r. r.reply) p))))
     (Decides-and _ _ (bytes_decides a.order b.order) (Decides-and _ _ (form_decides a.form b.form) (Decides-and _ _ (bytes_decides a.text b.text) (bytes_decides a.reply b.reply))))
 
--- the word of a name: its first letter tells it, or its second or third
+-- the word of a name: its first letter decides it, or its second or third
 word_back : List ℕ → Word
 word_back name =
     let first = get_or name 0 0 in

@@ -17,7 +17,7 @@ CountsFailure (Err NoMemory) before after = after ≡ before
 CountsFailure (Err Store) before after = after ≡ one_more_failure before
 CountsFailure (Err WrongVersion) before after = ⊥
 
--- the refusal that tells of a fault
+-- the refusal that reports a fault
 abbrev pub refusal_for : BookFault → Refusal
 refusal_for NoMemory = refusal.NoMemory
 refusal_for Store = refusal.StoreFault

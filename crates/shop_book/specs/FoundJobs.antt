@@ -1,4 +1,4 @@
--- Jobs as they are found in a content: with the rows on which they stand, and as lists tell them.
+-- Jobs as they are found in a content: with the rows on which they stand, and as lists show them.
 use Rattle.std.specs.Prelude.{◌≡◌, ℕ}
 use Rattle.cut_tree.specs.Tree.{cut_count}
 use Rattle.shop_records.specs.declared.records.Job.{Job}
@@ -13,7 +13,7 @@ pub record IsFoundJob (m : Content) (number : ℕ) (found : FoundJob) : Type 0 w
   pub of_part : found.part ≡ part_of_job m found.job
   pub of_material : found.material ≡ material_of m found.part
 
--- how lists tell a job
+-- how lists show a job
 abbrev pub head_of : Content → Job → JobHead
 head_of content job =
     record { act = job.act; part = job.part; cuts = cut_count job.plan.tree; begun = begun_by content job.act; due = due_for_job content job }

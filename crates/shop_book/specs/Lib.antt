@@ -22,5 +22,5 @@ pub mod Storages
 pub mod MemStorages
 pub mod Loading
 pub mod DueJobs
--- which entries a story tells
+-- which entries a story shows
 pub mod Stories

@@ -90,7 +90,7 @@ pub struct FoundJob {
     pub material: Option<Material>,
 }
 
-/// A job as lists tell it: its number, its part, how many cuts its plan has, the terminal that has begun it, or 0, and the least
+/// A job as lists show it: its number, its part, how many cuts its plan has, the terminal that has begun it, or 0, and the least
 /// day on which an order is due that has a piece in the plan, or 0.
 #[derive(Clone, Copy, Debug)]
 pub struct JobHead {
@@ -153,7 +153,7 @@ pub trait Book {
         ensures keeps { Keeps has_clean_disk holds may_leave failed
             (CountsFailure result) self.old self.new };
 
-    /// The job under the number of the reservation's act, as lists tell it.
+    /// The job under the number of the reservation's act, as lists show it.
     fn job_head(&mut self, alloc: Global, number: u32) -> Result<Option<JobHead>, BookFault>
         ensures row { has_clean_disk self.new → (m : Content) → holds self.old m
             → IfOk result (λ head. head ≡ option_map (head_of m) (job_at m number)) }
@@ -386,7 +386,7 @@ pub trait Book {
         ensures time { has_clean_disk self.now → (m : Content) → holds self.now m
             → result ≡ of_found (λ (entry : EntryOf). entry.at) (end_entry m job) };
 
-    /// How many messages are kept. It is told in a log, and no clause says it.
+    /// How many messages are kept. It is reported in a log, and no clause says it.
     fn kept_count(&mut self) -> Result<u32, BookFault>
         ensures keeps { Keeps has_clean_disk holds may_leave failed
             (CountsFailure result) self.old self.new };

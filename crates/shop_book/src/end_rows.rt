@@ -26,7 +26,7 @@ impl KeyedRow for JobEnd {
     }
 }
 
-/// When jobs were done or broken: of each job the time of the first entry that tells it.
+/// When jobs were done or broken: of each job the time of the first entry that reports it.
 #[derive(Drop)]
 pub struct JobEnds {
     pub(crate) rows: Vec<JobEnd>,

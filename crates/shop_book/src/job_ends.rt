@@ -22,7 +22,7 @@ fn is_end_of(job: u32, entry: &Entry) -> bool
     ends_job(entry.word) && entry.job == job
 }
 
-/// When a job was done or broken, by the first of entries that tells it; 0 where none does.
+/// When a job was done or broken, by the first of entries that reports it; 0 where none does.
 pub(crate) fn time_of_end(job: u32, entries: &[Entry]) -> u64
     ensures { result ≡ of_found (λ (entry : EntryOf). entry.at) (first_end job entries.now) }
 {
@@ -88,7 +88,7 @@ impl JobEnds {
         reserve_rows(&mut self.rows, 1)
     }
 
-    /// Puts what an entry tells behind those before.
+    /// Puts what an entry reports behind those before.
     pub fn put(&mut self, entry: &Entry)
         requires { HasSpareEnd self.old }
         ensures { AddEnds (entry.now ∷ []) self.old self.new }
@@ -96,7 +96,7 @@ impl JobEnds {
         put_end(&mut self.rows, entry);
     }
 
-    /// Puts what entries tell behind those before, in their order.
+    /// Puts what entries report behind those before, in their order.
     pub fn put_all(&mut self, entries: &[Entry]) -> Result<(), AllocError>
         ensures { OnOk result (AddEnds entries.now self.old self.new) }
     {

@@ -132,7 +132,7 @@ fn put_one_by_one(
     }
 }
 
-// Puts parts of one material that stand together between two others, all by one move, and tells whether they do; else nothing
+// Puts parts of one material that stand together between two others, all by one move, and returns whether they do; else nothing
 // changes.
 fn insert_run(
     parts: &mut PartRows,

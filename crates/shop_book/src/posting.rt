@@ -82,7 +82,7 @@ impl Ledger {
         reserve_both(&mut self.demands, &mut self.lists.demands, count)
     }
 
-    /// Puts the rows of a change, once `make_room` has reserved their capacity.
+    /// Puts the rows of a change, once `reserve_change` has reserved their capacity.
     pub fn post(&mut self, change: Change)
         requires { HasSpareCapacityFor change self.old }
         ensures { content_in self.new ≡ bare (changed (content_in self.old) change) }

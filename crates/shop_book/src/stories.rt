@@ -1,4 +1,4 @@
-//! Which entries a story tells.
+//! Which entries a story shows.
 
 ghost use Rattle.std.specs.Prelude.{◌≡◌, IfOk, IsTrue};
 ghost use Rattle.std.specs.Ordering.{nat_cmp};

@@ -120,18 +120,18 @@ module _ (texts : Texts) (m : Content) (b : Booking) (bookings : List Booking) (
     parts = holds.parts.1;
     pairs = holds.pairs.1;
     left = λ number demand is.
-        let open = holds.left number demand is in
+        let free = holds.left number demand is in
         let sum = split number in
-        omega (arith, open, sum);
+        omega (arith, free, sum);
   }
 
   few : is_too_many (demand_at m) b.plan ≡ false
   few =
       any_false (λ (leaf : Leaf). is_over (count_of b.plan.tree leaf.demand) (demand_at m leaf.demand)) (plan_leaves b.plan)
       (λ leaf i. not_over (count_of b.plan.tree leaf.demand) (demand_at m leaf.demand) (λ d is.
-      let open = holds.left leaf.demand d is in
+      let free = holds.left leaf.demand d is in
       let sum = split leaf.demand in
-      omega (arith, open, sum)))
+      omega (arith, free, sum)))
 
   refused_by : (r : Refusal) (read : Reading) → Reads texts m (Reserve b.part b.text) read → refusal_of m (Reserve b.part b.text) read ≡ Some r → r ≡ NumbersSpent
   refused_by r unread reads e = absurd (reads b.plan first.reading)
@@ -211,9 +211,9 @@ module _ (texts : Texts) (m : Content) (b : Booking) (bookings : List Booking) (
       pairs = holds.pairs.1;
       left = λ number demand is.
           let was = recount_of m.demands with_reserved b.plan.tree rows recounted (no_reserved m.demands b.plan.tree) number demand is in
-          let open = holds.left number was.before was.was in
+          let free = holds.left number was.before was.was in
           let sum = split number in
-          subst (λ (d : Demand). d.reserved + d.made + booked number bookings ≤ d.wanted) (sym was.now) (omega (arith, open, sum));
+          subst (λ (d : Demand). d.reserved + d.made + booked number bookings ≤ d.wanted) (sym was.now) (omega (arith, free, sum));
     }
 
   accepted_by : (time : ℕ) (read : Reading) (change : Change) → Reads texts m (Reserve b.part b.text) read → Makes m (Reserve b.part b.text) read change

@@ -36,7 +36,7 @@ use Rattle.shop_machine.specs.Noting.{note_refusal, note_change}
 use Rattle.shop_machine.specs.Extending.{extend_refusal, extend_change}
 use Rattle.shop_machine.specs.Beginning.{begin_refusal, begin_change}
 use Rattle.shop_machine.specs.Undoing.{undo_refusal, taking_refusal, IsUndo}
-use Rattle.shop_machine.specs.Retiring.{turn_change}
+use Rattle.shop_machine.specs.Retiring.{state_change}
 use Rattle.shop_records.specs.declared.records.State.{State}
 use Rattle.shop_records.specs.declared.messages.Reply.{Reply}
 use Rattle.shop_desk.specs.Decided.{IsJudged, AreJobRows, halt_for, left_for}
@@ -111,29 +111,29 @@ module _ (m : Content) (part : Name) (text : List ℕ) (row : Option Part) (mate
 
 -- the row of a part that as a whole gets another state
 module _ (m : Content) (part : Name) (row : Option Part) (totals : Totals) (is_row : row ≡ part_at m part) (is_totals : totals ≡ totals_for m row) where
-  same_turn : (refusal : Option Part → Totals → Option Refusal) → refusal (part_at m part) (totals_for m (part_at m part)) ≡ refusal row totals
-  same_turn refusal = ap (λ r. refusal r (totals_for m r)) (sym is_row) ∙ ap (refusal row) (sym is_totals)
+  same_refusal : (refusal : Option Part → Totals → Option Refusal) → refusal (part_at m part) (totals_for m (part_at m part)) ≡ refusal row totals
+  same_refusal refusal = ap (λ r. refusal r (totals_for m r)) (sym is_row) ∙ ap (refusal row) (sym is_totals)
 
-  turn_by : (s : State) (answer : Name → Reply) (change : Change) → MatchOption row ⊥ (λ r. change ≡ turn_change s r totals (answer r.name))
-      → (r : Part) × (part_at m part ≡ Some r) × (change ≡ turn_change s r (totals_of m r.material) (answer r.name))
-  turn_by s answer change it = by row is_row is_totals it
+  state_by : (s : State) (answer : Name → Reply) (change : Change) → MatchOption row ⊥ (λ r. change ≡ state_change s r totals (answer r.name))
+      → (r : Part) × (part_at m part ≡ Some r) × (change ≡ state_change s r (totals_of m r.material) (answer r.name))
+  state_by s answer change it = by row is_row is_totals it
     where
-      by : (row : Option Part) → row ≡ part_at m part → totals ≡ totals_for m row → MatchOption row ⊥ (λ r. change ≡ turn_change s r totals (answer r.name))
-          → (r : Part) × (part_at m part ≡ Some r) × (change ≡ turn_change s r (totals_of m r.material) (answer r.name))
+      by : (row : Option Part) → row ≡ part_at m part → totals ≡ totals_for m row → MatchOption row ⊥ (λ r. change ≡ state_change s r totals (answer r.name))
+          → (r : Part) × (part_at m part ≡ Some r) × (change ≡ state_change s r (totals_of m r.material) (answer r.name))
       by None a e it = absurd it
-      by (Some r) a e it = (r, sym a, it ∙ ap (λ (t : Totals). turn_change s r t (answer r.name)) e)
+      by (Some r) a e it = (r, sym a, it ∙ ap (λ (t : Totals). state_change s r t (answer r.name)) e)
 
   module _ (texts : Texts) (command : Command) (reads : Reads texts m command unread) (refusal : Option Part → Totals → Option Refusal) (s : State) (answer : Name → Reply)
       (same : refusal_of m command unread ≡ refusal (part_at m part) (totals_for m (part_at m part)))
-      (makes : (change : Change) → (r : Part) × (part_at m part ≡ Some r) × (change ≡ turn_change s r (totals_of m r.material) (answer r.name)) → Makes m command unread change) where
-    abbrev Turned : Change → Type 0
-    Turned change = MatchOption row ⊥ (λ r. change ≡ turn_change s r totals (answer r.name))
+      (makes : (change : Change) → (r : Part) × (part_at m part ≡ Some r) × (change ≡ state_change s r (totals_of m r.material) (answer r.name)) → Makes m command unread change) where
+    abbrev IsStateSet : Change → Type 0
+    IsStateSet change = MatchOption row ⊥ (λ r. change ≡ state_change s r totals (answer r.name))
 
-    turned : (change : Change) → Turned change → Makes m command unread change
-    turned change it = makes change (turn_by s answer change it)
+    turned : (change : Change) → IsStateSet change → Makes m command unread change
+    turned change it = makes change (state_by s answer change it)
 
-    pub turn_decided : (before after : ℕ) (result : Result Change Refusal) → Decides (refusal row totals) Turned result → IsJudged texts m command before result after
-    turn_decided before after = decided_by texts m command unread reads before after _ (same ∙ same_turn refusal) Turned turned
+    pub state_decided : (before after : ℕ) (result : Result Change Refusal) → Decides (refusal row totals) IsStateSet result → IsJudged texts m command before result after
+    state_decided before after = decided_by texts m command unread reads before after _ (same ∙ same_refusal refusal) IsStateSet turned
 
 -- the lines of an order
 module _ (m : Content) (order : List ℕ) (lines found : List OrderLine) (used : Bool) (first : ℕ) (is_used : used ≡ has_order m order) (is_lines : found ≡ lines) (is_first : first ≡ m.last_demand + 1) where

@@ -17,7 +17,7 @@ ghost use Rattle.shop_desk.specs.ReportedEntries.{ShowsOrHides, Reports, Reports
 use cut_measure::{Code, PartName};
 use shop_book::{Book, BookFault};
 use shop_rules::{
-    Entry, EntryList, EntryRows, ReportedEntry, Kept, MAX_LISTED, Pair, Refusal, Reply, Subject,
+    Entry, EntryList, EntryRows, Kept, MAX_LISTED, Pair, Refusal, Reply, ReportedEntry, Subject,
     bytes_with, is_full,
 };
 use std::alloc::{AllocError, Global};

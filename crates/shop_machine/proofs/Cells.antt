@@ -15,7 +15,7 @@ use Rattle.shop_records.specs.declared.records.Part.{Part}
 use Rattle.shop_records.specs.declared.records.State.{State}
 use Rattle.shop_records.specs.declared.records.State.TheVariants.{Standing, Cut, Scrap}
 use Rattle.shop_records.specs.Content.{with_parts, in_state}
-use Rattle.shop_machine.specs.Ending.{row_part, fate}
+use Rattle.shop_machine.specs.Ending.{row_part, state_after_cut}
 use Rattle.shop_machine.specs.Receiving.{unit_part, unit_parts}
 use Rattle.shop_machine.specs.History.{Owner, owner_at, is_gone, standing_as, HasCellOf, IsOwner, HasOwner}
 use Rattle.shop_records.specs.Elements.{IsIn}
@@ -136,19 +136,19 @@ kept_stands : (b : Bool) → standing_as (if b then Standing else Scrap) ≡ (if
 kept_stands true = refl
 kept_stands false = refl
 
-pub fate_whole : (rule : Rule) (of : of_row.Owner) (size : Extent) → is_gone (fate rule of size) ≡ false
-fate_whole rule (owner.Piece demand) size = refl
-fate_whole rule owner.Rest size = kept_or_not (is_kept rule size)
-fate_whole rule owner.Kerf size = refl
-fate_whole rule owner.Uncut size = kept_or_not (is_kept rule size)
-fate_whole rule owner.Lost size = refl
+pub after_cut_whole : (rule : Rule) (of : of_row.Owner) (size : Extent) → is_gone (state_after_cut rule of size) ≡ false
+after_cut_whole rule (owner.Piece demand) size = refl
+after_cut_whole rule owner.Rest size = kept_or_not (is_kept rule size)
+after_cut_whole rule owner.Kerf size = refl
+after_cut_whole rule owner.Uncut size = kept_or_not (is_kept rule size)
+after_cut_whole rule owner.Lost size = refl
 
-fate_stands : (rule : Rule) (of : of_row.Owner) (size : Extent) → standing_as (fate rule of size) ≡ fate rule of size
-fate_stands rule (owner.Piece demand) size = refl
-fate_stands rule owner.Rest size = kept_stands (is_kept rule size)
-fate_stands rule owner.Kerf size = refl
-fate_stands rule owner.Uncut size = kept_stands (is_kept rule size)
-fate_stands rule owner.Lost size = refl
+after_cut_stands : (rule : Rule) (of : of_row.Owner) (size : Extent) → standing_as (state_after_cut rule of size) ≡ state_after_cut rule of size
+after_cut_stands rule (owner.Piece demand) size = refl
+after_cut_stands rule owner.Rest size = kept_stands (is_kept rule size)
+after_cut_stands rule owner.Kerf size = refl
+after_cut_stands rule owner.Uncut size = kept_stands (is_kept rule size)
+after_cut_stands rule owner.Lost size = refl
 
 module _ (m : FinMap name_cmp Part) (named : Named m) (p : Name) (row : Part) (kept : get m p ≡ Some row) (whole : is_gone row.state ≡ false) (stands : standing_as row.state ≡ Standing)
     (job : ℕ) (unused : (node : ℕ) → get m (record { act = job; node = node }) ≡ None)
@@ -239,7 +239,7 @@ module _ (m : FinMap name_cmp Part) (named : Named m) (p : Name) (row : Part) (k
       let px : r.x + s.x ≡ i = place.x in let py : r.y + s.y ≡ j = place.y in
       record {
         name = ap (λ n. record { act = job; node = n }) (sym place.node);
-        state = fate_stands rule r.owner mine ∙ ap (λ v. fate rule v mine) (sym place.owner) ∙ ap (λ v. fate rule s.owner v) sizes;
+        state = after_cut_stands rule r.owner mine ∙ ap (λ v. state_after_cut rule v mine) (sym place.owner) ∙ ap (λ v. state_after_cut rule s.owner v) sizes;
         size = sizes;
         across = omega arith;
         down = omega arith;
@@ -253,7 +253,7 @@ module _ (m : FinMap name_cmp Part) (named : Named m) (p : Name) (row : Part) (k
   here u x y r i j held across down h =
       let a : r.x ≤ i = held.left in let b : i < r.x + r.w = held.right in
       let c : r.y ≤ j = held.top in let d : j < r.y + r.h = held.bottom in
-      record { root = h.root; whole = fate_whole rule r.owner (record { w = r.w; h = r.h }); right = omega arith; left = omega arith; below = omega arith; above = omega arith }
+      record { root = h.root; whole = after_cut_whole rule r.owner (record { w = r.w; h = r.h }); right = omega arith; left = omega arith; below = omega arith; above = omega arith }
 
   moved : (t : Row) (i j x y : ℕ) → row.x + i ≡ x → row.y + j ≡ y → lay.CoversCell t (x - row.x) (y - row.y) → lay.CoversCell t i j
   moved t i j x y across down held =

@@ -38,7 +38,7 @@ use Rattle.shop_records.proofs.Basics.{name_cases, same_some, get_same}
 use Rattle.shop_machine.proofs.Moved.{no_freed, no_laid}
 use Rattle.cut_tree.proofs.OneLaidList.{laid_few}
 use Rattle.shop_machine.proofs.OrderedLines.{lines_recounted}
-use Rattle.shop_machine.proofs.Cells.{Named, restated, found_cases, found_cut, kept_old, cut_up, fate_whole}
+use Rattle.shop_machine.proofs.Cells.{Named, restated, found_cases, found_cut, kept_old, cut_up, after_cut_whole}
 use Rattle.shop_machine.proofs.Accounts.{IsRow, IsWhole, reservation, Follows, never_cut, if_yes, if_no, row_later, material_is, stands_yes, stands_no}
 use Rattle.shop_machine.proofs.Inside.{row_inside}
 use Rattle.shop_machine.proofs.EndingStep.{job_waits, no_wait}
@@ -108,7 +108,7 @@ module _ (texts : Texts) (message : Message) (earlier : List Effect) (old : Cont
           let inside = row_inside j.plan.tree row.size.w row.size.h material.limits.kerf outcome laid is_laid r i in
           let a = inside.right in let b = inside.bottom in
           let c : row.x + row.size.w ≤ base.unit.size.w = base.across in let d : row.y + row.size.h ≤ base.unit.size.h = base.down in
-          record { unit = base.unit; received = base.received; root = base.root; material = base.material; across = omega arith; down = omega arith; cut = never_cut (done ∷ earlier) (row_part row material.limits j.act r) (fate_whole material.limits r.owner (record { w = r.w; h = r.h })) }
+          record { unit = base.unit; received = base.received; root = base.root; material = base.material; across = omega arith; down = omega arith; cut = never_cut (done ∷ earlier) (row_part row material.limits j.act r) (after_cut_whole material.limits r.owner (record { w = r.w; h = r.h })) }
 
       -- the part that is cut stood before this end
       cut_row : IsRow (done ∷ earlier) (in_state (Cut j.act) row)
@@ -218,7 +218,7 @@ module _ (texts : Texts) (message : Message) (earlier : List Effect) (old : Cont
         wholes = λ unit i. whole_after unit (f.wholes unit i);
         cells = λ unit i x y across down. cell_after unit.name x y (f.cells unit i x y across down);
         over = λ n q job k is. elim (cases n q k) [
-          | inl g ↦ absurd (true≢false (ap is_gone (sym is ∙ ap (λ (p : Part). p.state) g.2) ∙ fate_whole material.limits g.0.owner (record { w = g.0.w; h = g.0.h })))
+          | inl g ↦ absurd (true≢false (ap is_gone (sym is ∙ ap (λ (p : Part). p.state) g.2) ∙ after_cut_whole material.limits g.0.owner (record { w = g.0.w; h = g.0.h })))
           | inr g ↦ elim g [
             | inl c ↦ (
                 let own : j.act ≡ job = ap state_of (sym (ap (λ (p : Part). p.state) c.1) ∙ is) in

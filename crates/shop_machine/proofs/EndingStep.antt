@@ -47,7 +47,7 @@ use Rattle.shop_records.specs.Same.{same_name}
 use Rattle.shop_records.specs.Columns.{is_there, is_piece_for, is_waiting, state_of, is_reserved_for, is_counted}
 use Rattle.shop_records.specs.Content.{Content, part_at, job_at, halt_at, with_halt, demand_at, kept_at, changed, in_state, material_of, part_of_job, totals_of, totals_for}
 use Rattle.shop_machine.specs.Recounts.{AreRecounted, with_laid, with_freed, pieces_in, plan_leaves}
-use Rattle.shop_machine.specs.Ending.{IsWork, fate, row_part, ended_state, ended_reply, kept_halt, end_change, release_change, end_refusal, can_end, has_reserved, rests, job_refusal}
+use Rattle.shop_machine.specs.Ending.{IsWork, state_after_cut, row_part, ended_state, ended_reply, kept_halt, end_change, release_change, end_refusal, can_end, has_reserved, rests, job_refusal}
 use Rattle.shop_machine.specs.Moving.{cells_counted, tally, has_cells, moved_totals}
 use Rattle.shop_machine.specs.Machine.{keeping}
 use Rattle.shop_records.specs.Elements.{IsIn}
@@ -72,35 +72,35 @@ job_waits m stop number j found allowed =
 
 -- ---- what becomes of a rectangle
 
-pub fate_uncut : (rule : Rule) (o : Owner) (size : Extent) → is_uncut (fate rule o size) ≡ true
-fate_uncut rule (owner.Piece demand) size = refl
-fate_uncut rule owner.Rest size = by (is_kept rule size)
+pub after_cut_uncut : (rule : Rule) (o : Owner) (size : Extent) → is_uncut (state_after_cut rule o size) ≡ true
+after_cut_uncut rule (owner.Piece demand) size = refl
+after_cut_uncut rule owner.Rest size = by (is_kept rule size)
   where
     by : (b : Bool) → is_uncut (if b then state.Standing else state.Scrap) ≡ true
     by true = refl
     by false = refl
-fate_uncut rule owner.Kerf size = refl
-fate_uncut rule owner.Uncut size = by (is_kept rule size)
+after_cut_uncut rule owner.Kerf size = refl
+after_cut_uncut rule owner.Uncut size = by (is_kept rule size)
   where
     by : (b : Bool) → is_uncut (if b then state.Standing else state.Scrap) ≡ true
     by true = refl
     by false = refl
-fate_uncut rule owner.Lost size = refl
+after_cut_uncut rule owner.Lost size = refl
 
-pub fate_piece : (number : ℕ) (rule : Rule) (o : Owner) (size : Extent) → is_piece_for number (fate rule o size) ≡ is_owner_of number o
-fate_piece number rule (owner.Piece demand) size = refl
-fate_piece number rule owner.Rest size = by (is_kept rule size)
+pub after_cut_piece : (number : ℕ) (rule : Rule) (o : Owner) (size : Extent) → is_piece_for number (state_after_cut rule o size) ≡ is_owner_of number o
+after_cut_piece number rule (owner.Piece demand) size = refl
+after_cut_piece number rule owner.Rest size = by (is_kept rule size)
   where
     by : (b : Bool) → is_piece_for number (if b then state.Standing else state.Scrap) ≡ false
     by true = refl
     by false = refl
-fate_piece number rule owner.Kerf size = refl
-fate_piece number rule owner.Uncut size = by (is_kept rule size)
+after_cut_piece number rule owner.Kerf size = refl
+after_cut_piece number rule owner.Uncut size = by (is_kept rule size)
   where
     by : (b : Bool) → is_piece_for number (if b then state.Standing else state.Scrap) ≡ false
     by true = refl
     by false = refl
-fate_piece number rule owner.Lost size = refl
+after_cut_piece number rule owner.Lost size = refl
 
 -- ---- a waiting job
 
@@ -304,8 +304,8 @@ module _ (m : Content) (stock : IsStock m) (number : ℕ) (j : Job) (part : Part
   pieces_made : (d : ℕ) → count_by (λ (p : Part). is_piece_for d p.state) made ≡ pieces_in d laid
   pieces_made d =
       sum_map (λ (p : Part). if is_piece_for d p.state then 1 else 0) (row_part part material.limits j.act) laid
-      ∙ sum_as (λ (r : Row). if is_piece_for d (fate material.limits r.owner (record { w = r.w; h = r.h })) then 1 else 0) (λ (r : Row). if is_owner_of d r.owner then 1 else 0) laid
-      (λ r i. ap (λ b. if b then 1 else 0) (fate_piece d material.limits r.owner (record { w = r.w; h = r.h })))
+      ∙ sum_as (λ (r : Row). if is_piece_for d (state_after_cut material.limits r.owner (record { w = r.w; h = r.h })) then 1 else 0) (λ (r : Row). if is_owner_of d r.owner then 1 else 0) laid
+      (λ r i. ap (λ b. if b then 1 else 0) (after_cut_piece d material.limits r.owner (record { w = r.w; h = r.h })))
 
   row_placed : (r : Row) → IsIn r laid → IsPlaced m (record { act = j.act; node = r.node }) (row_part part material.limits j.act r)
   row_placed r i =
@@ -358,8 +358,8 @@ module _ (m : Content) (stock : IsStock m) (number : ℕ) (j : Job) (part : Part
     where
       each : (r : Row) → cells_left code (row_part part material.limits j.act r) ≡ (if b then r.w * r.h else 0)
       each r =
-          ap (λ t. if t && is_uncut (fate material.limits r.owner (record { w = r.w; h = r.h })) then r.w * r.h else 0) e
-          ∙ ap (λ t. if b && t then r.w * r.h else 0) (fate_uncut material.limits r.owner (record { w = r.w; h = r.h })) ∙ and_true b (r.w * r.h)
+          ap (λ t. if t && is_uncut (state_after_cut material.limits r.owner (record { w = r.w; h = r.h })) then r.w * r.h else 0) e
+          ∙ ap (λ t. if b && t then r.w * r.h else 0) (after_cut_uncut material.limits r.owner (record { w = r.w; h = r.h })) ∙ and_true b (r.w * r.h)
         where
           and_true : (b : Bool) (n : ℕ) → ◌≡◌ {A = ℕ} (if b && true then n else 0) (if b then n else 0)
           and_true true n = refl
@@ -480,7 +480,7 @@ module _ (m : Content) (stock : IsStock m) (number : ℕ) (j : Job) (part : Part
         (record { stock = omega arith; rack = omega arith; pieces = omega arith; kerf = omega arith; scrap = omega arith; returned = omega arith }))
         end_counts
 
--- ---- what is told of a job whose work ended
+-- ---- what is reported of a job whose work ended
 
 reply_made : (stop : Stop) (number : ℕ) (parts : List Part) → IsNumber number → ((column : Column) → IsWide (cells_counted column parts)) → IsMade (ended_reply stop number (tally parts))
 reply_made stop.All number parts small few = (small, few column.Kerf, few column.Pieces, few column.Rack, few column.Scrap)

@@ -36,7 +36,7 @@ use Rattle.shop_records.specs.Elements.{IsIn}
 use Rattle.shop_machine.specs.Recounts.{AreRecounted, with_reserved, with_freed, with_laid, with_unmade}
 use Rattle.shop_machine.specs.Reserving.{IsReservation, reserve_change}
 use Rattle.shop_machine.specs.Ending.{IsWork, IsEnd, IsRelease, end_change, release_change}
-use Rattle.shop_machine.specs.Retiring.{turn_change}
+use Rattle.shop_machine.specs.Retiring.{state_change}
 use Rattle.shop_machine.specs.Importing.{ImportMakes}
 use Rattle.shop_machine.specs.Amending.{amend_change}
 use Rattle.shop_machine.specs.Undoing.{IsUndo, laid_by, stop_of, undo_change}
@@ -308,10 +308,10 @@ module _ (a : Content) (halts : FinMap nat_cmp JobHalt) (entries : FinMap nat_cm
       released_same (demand_at a) number p.0 p.1 one other p.4 (release_alike number p.0 q.0 p.1 q.1 p.2 q.2 p.3 q.3 other q.4)
   one_change (Scrap part) read one other p q =
       let row : p.0 ≡ q.0 = same_some p.0 q.0 (sym p.1 ∙ q.1) in
-      equal_same (Scrap part) one other (p.2 ∙ ap (λ (r : Part). turn_change state.Scrap r (totals_of a r.material) (reply.Scrap r.name)) row ∙ sym q.2)
+      equal_same (Scrap part) one other (p.2 ∙ ap (λ (r : Part). state_change state.Scrap r (totals_of a r.material) (reply.Scrap r.name)) row ∙ sym q.2)
   one_change (GiveBack part) read one other p q =
       let row : p.0 ≡ q.0 = same_some p.0 q.0 (sym p.1 ∙ q.1) in
-      equal_same (GiveBack part) one other (p.2 ∙ ap (λ (r : Part). turn_change state.Returned r (totals_of a r.material) (reply.GiveBack r.name)) row ∙ sym q.2)
+      equal_same (GiveBack part) one other (p.2 ∙ ap (λ (r : Part). state_change state.Returned r (totals_of a r.material) (reply.GiveBack r.name)) row ∙ sym q.2)
   one_change (Import order form text) read one other p q =
       equal_same (Import order form text) one other (import_same order form text (totals_of a) (a.last_act + 1) (a.last_demand + 1) read one other p q)
   one_change (Amend demand wanted) read one other p q =

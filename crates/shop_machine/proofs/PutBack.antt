@@ -22,7 +22,7 @@ use Rattle.shop_records.proofs.Puts.{Pairwise, all_from, sum_over}
 use Rattle.shop_records.proofs.Entries.{in_found}
 use Rattle.shop_machine.specs.Ending.{row_part}
 use Rattle.shop_machine.specs.History.{Owner, is_gone, HasCellOf, IsOwner, HasOwner}
-use Rattle.shop_machine.proofs.Cells.{Named, fate_whole}
+use Rattle.shop_machine.proofs.Cells.{Named, after_cut_whole}
 
 -- ---- elements of a list that pass a test
 
@@ -82,7 +82,7 @@ module _ (m : FinMap name_cmp Part) (named : Named m) (p : Name) (row : Part) (k
   gone_in r i = map_in (in_state (Undone job)) made (row_part row rule job r) (map_in (row_part row rule job) rows r i)
 
   row_whole : (r : Row) → is_gone (row_part row rule job r).state ≡ false
-  row_whole r = fate_whole rule r.owner (record { w = r.w; h = r.h })
+  row_whole r = after_cut_whole rule r.owner (record { w = r.w; h = r.h })
 
   -- the part isn't one of those that were made of it
   pub not_made : p.act ≡ job → ⊥

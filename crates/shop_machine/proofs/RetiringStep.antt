@@ -26,9 +26,9 @@ use Rattle.shop_records.specs.declared.messages.Command.TheVariants.{Scrap, Give
 use Rattle.shop_records.specs.declared.messages.Reply.TheVariants as reply
 use Rattle.shop_records.specs.Readings.{Reading}
 use Rattle.shop_machine.specs.Moving.{has_cells, tally}
-use Rattle.shop_machine.specs.Retiring.{scrap_refusal, return_refusal, turn_change}
-use Rattle.shop_machine.specs.Machine.{keeping, Effect, effects, Turns}
-use Rattle.shop_machine.specs.History.{turned_owner, acts_of, owner_of, is_gone, standing_as}
+use Rattle.shop_machine.specs.Retiring.{scrap_refusal, return_refusal, state_change}
+use Rattle.shop_machine.specs.Machine.{keeping, Effect, effects, SetsState}
+use Rattle.shop_machine.specs.History.{owner_with_state, acts_of, owner_of, is_gone, standing_as}
 use Rattle.shop_records.proofs.Basics.{same_some}
 use Rattle.shop_records.proofs.Puts.{not_both}
 use Rattle.shop_machine.proofs.AddedUp.{is_uncut}
@@ -72,7 +72,7 @@ held_for m stock name p there =
 module _ (m : Content) (stock : IsStock m) (name : Name) (row : Part) (found : part_at m name ≡ Some row) (stands : row.state ≡ Standing)
     (s : State) (uncut : is_uncut s ≡ true) (plain : (number : ℕ) → is_piece_for number s ≡ false) (texts : Texts) (message : Message) (answer : Reply) where
   abbrev after : Content
-  after = changed m (keeping texts message (turn_change s row (totals_of m row.material) answer))
+  after = changed m (keeping texts message (state_change s row (totals_of m row.material) answer))
 
   there : part_at m row.name ≡ Some row
   there = ap (λ n. part_at m n) (stock.parts name row found).named ∙ found
@@ -118,8 +118,8 @@ module _ (m : Content) (stock : IsStock m) (name : Name) (row : Part) (found : p
         asked = λ number piece. absurd (let no : true ≡ false = sym piece ∙ plain number in cc);
       }
 
-  pub turn_stock : IsStock after
-  turn_stock = record {
+  pub state_stock : IsStock after
+  state_stock = record {
     in_range = record {
       acts = λ n p is.
           elim (found_moved m.parts row s [] there none_new tt n p is) [
@@ -153,8 +153,8 @@ module _ (m : Content) (stock : IsStock m) (name : Name) (row : Part) (found : p
     lines = stock.lines;
   }
 
-  pub turn_fits : kept_at m (pair_of message) ≡ None → Fits m (keeping texts message (turn_change s row (totals_of m row.material) answer))
-  turn_fits new = record {
+  pub state_fits : kept_at m (pair_of message) ≡ None → Fits m (keeping texts message (state_change s row (totals_of m row.material) answer))
+  state_fits new = record {
     material = tt;
     parts = All-nil _;
     rising = no_pairs (λ (a b : Part). name_cmp a.name b.name ≡ Less);
@@ -185,20 +185,20 @@ module _ (m : Content) (stock : IsStock m) (name : Name) (row : Part) (found : p
 
 module _ (texts : Texts) (message : Message) (earlier : List Effect) (old : Content) (sound : IsSound texts old) (f : Follows earlier old) where
   -- a standing part as a whole gets a state that stays
-  by_turn : (s : State) (row : Part) (answer : Reply) → is_gone s ≡ false → standing_as s ≡ s → part_at old row.name ≡ Some row → row.state ≡ Standing
-      → After texts message earlier old sound f (Turns row.name s) (turn_change s row (totals_of old row.material) answer)
-  by_turn s row answer whole stays kept stands = record {
+  by_state : (s : State) (row : Part) (answer : Reply) → is_gone s ≡ false → standing_as s ≡ s → part_at old row.name ≡ Some row → row.state ≡ Standing
+      → After texts message earlier old sound f (SetsState row.name s) (state_change s row (totals_of old row.material) answer)
+  by_state s row answer whole stays kept stands = record {
     acts = (let e : old.last_act ≡ acts_of earlier = f.acts in omega arith);
     numbers = f.numbers;
     lines = f.lines;
     rules = f.rules;
-    rows = rows_restated texts message earlier old sound f row s whole kept (Turns row.name s) (λ p job x y is. refl);
+    rows = rows_restated texts message earlier old sound f row s whole kept (SetsState row.name s) (λ p job x y is. refl);
     jobs = f.jobs;
     wholes = λ unit i. whole_restated texts message earlier old sound f row s whole kept unit (f.wholes unit i);
     cells = λ unit i x y across down.
-        turned old.parts (named texts message earlier old sound f) row.name row kept (ap is_gone stands) s whole stays (owner_of earlier unit.name x y) (turned_owner row.name s (owner_of earlier unit.name x y)) unit.name x y
-        (λ w e name state. ap (turned_owner row.name s) e ∙ ap (λ b. if b then Some (record w { state = s }) else Some w) (stands_yes row.name w name (sym state ∙ ap standing_as stands)))
-        (λ w e other. ap (turned_owner row.name s) e ∙ ap (λ b. if b then Some (record w { state = s }) else Some w) (stands_no row.name w other))
+        turned old.parts (named texts message earlier old sound f) row.name row kept (ap is_gone stands) s whole stays (owner_of earlier unit.name x y) (owner_with_state row.name s (owner_of earlier unit.name x y)) unit.name x y
+        (λ w e name state. ap (owner_with_state row.name s) e ∙ ap (λ b. if b then Some (record w { state = s }) else Some w) (stands_yes row.name w name (sym state ∙ ap standing_as stands)))
+        (λ w e other. ap (owner_with_state row.name s) e ∙ ap (λ b. if b then Some (record w { state = s }) else Some w) (stands_no row.name w other))
         (f.cells unit i x y across down);
     over = λ n q job k cut. f.over n q job (cut_restated texts message earlier old sound f row s whole kept n q job k cut) cut;
   }
@@ -207,17 +207,17 @@ module _ (texts : Texts) (message : Message) (earlier : List Effect) (old : Cont
   Then command read change = AfterAll texts message earlier old sound f (effects command read) change
 
   pub scraps : (part : Name) (read : Reading) (change : Change) (row : Part) → scrap_refusal (part_at old part) (totals_for old (part_at old part)) ≡ None → part_at old part ≡ Some row
-      → change ≡ turn_change state.Scrap row (totals_of old row.material) (reply.Scrap row.name) → Then (Scrap part) read change
+      → change ≡ state_change state.Scrap row (totals_of old row.material) (reply.Scrap row.name) → Then (Scrap part) read change
   scraps part read change row allowed found is =
       let same : row.name ≡ part = named texts message earlier old sound f part row found in
       subst (λ n. Then (Scrap n) read change) same
       (subst (Then (Scrap row.name) read) (sym is)
-      (by_turn state.Scrap row (reply.Scrap row.name) refl refl (ap (part_at old) same ∙ found) (scrap_stands (part_at old part) row (totals_for old (part_at old part)) found allowed)))
+      (by_state state.Scrap row (reply.Scrap row.name) refl refl (ap (part_at old) same ∙ found) (scrap_stands (part_at old part) row (totals_for old (part_at old part)) found allowed)))
 
   pub gives_back : (part : Name) (read : Reading) (change : Change) (row : Part) → return_refusal (part_at old part) (totals_for old (part_at old part)) ≡ None → part_at old part ≡ Some row
-      → change ≡ turn_change state.Returned row (totals_of old row.material) (reply.GiveBack row.name) → Then (GiveBack part) read change
+      → change ≡ state_change state.Returned row (totals_of old row.material) (reply.GiveBack row.name) → Then (GiveBack part) read change
   gives_back part read change row allowed found is =
       let same : row.name ≡ part = named texts message earlier old sound f part row found in
       subst (λ n. Then (GiveBack n) read change) same
       (subst (Then (GiveBack row.name) read) (sym is)
-      (by_turn state.Returned row (reply.GiveBack row.name) refl refl (ap (part_at old) same ∙ found) (returned_stands (part_at old part) row (totals_for old (part_at old part)) found allowed)))
+      (by_state state.Returned row (reply.GiveBack row.name) refl refl (ap (part_at old) same ∙ found) (returned_stands (part_at old part) row (totals_for old (part_at old part)) found allowed)))

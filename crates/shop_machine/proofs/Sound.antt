@@ -44,7 +44,7 @@ use Rattle.shop_machine.proofs.OrderingStep.{order_of, order_stock, order_fits, 
 use Rattle.shop_machine.proofs.EndingStep.{job_waits, end_stock, end_fits, release_stock, release_fits, so_far, end_reported, end_agrees}
 use Rattle.shop_machine.proofs.ReceivingStep.{receive_stock, receive_fits, receipt, receive_agrees}
 use Rattle.shop_machine.proofs.ReservingStep.{reserve_stock, reserve_fits, reading, fitting, reserve_agrees}
-use Rattle.shop_machine.proofs.RetiringStep.{scrap_stands, returned_stands, turn_stock, turn_fits, scrap_agrees, return_agrees, held_for, scraps, gives_back}
+use Rattle.shop_machine.proofs.RetiringStep.{scrap_stands, returned_stands, state_stock, state_fits, scrap_agrees, return_agrees, held_for, scraps, gives_back}
 use Rattle.shop_machine.proofs.AmendingStep.{amend_in_limit, amend_stock, amend_fits, amend_agrees, amends}
 use Rattle.shop_machine.proofs.ExtendingStep.{extended_of, extend_stock, extend_fits, extend_agrees, by_lines}
 use Rattle.shop_machine.proofs.SayingStep.{said_stock, may_be_said, is_there, note_fits, begin_fits, note_agrees, begin_agrees, by_note, by_begin}
@@ -90,10 +90,10 @@ fits_by texts message m stock used (Release number) read change reads allowed ma
     (release_fits m stock number makes.0 makes.1 makes.2 makes.3 (job_waits m stop.All number makes.0 makes.3.found allowed) makes.4.rows makes.4.recounted texts message new)
 fits_by texts message m stock used (Scrap part) read change reads allowed makes new =
     subst (λ (c : Change). Fits m (keeping texts message c)) (sym makes.2)
-    (turn_fits m stock part makes.0 makes.1 (scrap_stands (part_at m part) makes.0 (totals_for m (part_at m part)) makes.1 allowed) state.Scrap refl (λ number. refl) texts message (reply.Scrap makes.0.name) new)
+    (state_fits m stock part makes.0 makes.1 (scrap_stands (part_at m part) makes.0 (totals_for m (part_at m part)) makes.1 allowed) state.Scrap refl (λ number. refl) texts message (reply.Scrap makes.0.name) new)
 fits_by texts message m stock used (GiveBack part) read change reads allowed makes new =
     subst (λ (c : Change). Fits m (keeping texts message c)) (sym makes.2)
-    (turn_fits m stock part makes.0 makes.1 (returned_stands (part_at m part) makes.0 (totals_for m (part_at m part)) makes.1 allowed) state.Returned refl (λ number. refl) texts message (reply.GiveBack makes.0.name) new)
+    (state_fits m stock part makes.0 makes.1 (returned_stands (part_at m part) makes.0 (totals_for m (part_at m part)) makes.1 allowed) state.Returned refl (λ number. refl) texts message (reply.GiveBack makes.0.name) new)
 fits_by texts message m stock used (Import order form text) read change reads allowed makes new =
     import_fits texts m order message form text read change stock (used order) (accepted texts m order form text read change reads allowed makes) new
 fits_by texts message m stock used (Amend demand wanted) read change reads allowed makes new =
@@ -139,10 +139,10 @@ stock_by texts message m stock (Release number) read change reads allowed makes 
     (release_stock m stock number makes.0 makes.1 makes.2 makes.3 (job_waits m stop.All number makes.0 makes.3.found allowed) makes.4.rows makes.4.recounted texts message)
 stock_by texts message m stock (Scrap part) read change reads allowed makes is =
     subst (λ (c : Change). IsStock (changed m (keeping texts message c))) (sym makes.2)
-    (turn_stock m stock part makes.0 makes.1 (scrap_stands (part_at m part) makes.0 (totals_for m (part_at m part)) makes.1 allowed) state.Scrap refl (λ number. refl) texts message (reply.Scrap makes.0.name))
+    (state_stock m stock part makes.0 makes.1 (scrap_stands (part_at m part) makes.0 (totals_for m (part_at m part)) makes.1 allowed) state.Scrap refl (λ number. refl) texts message (reply.Scrap makes.0.name))
 stock_by texts message m stock (GiveBack part) read change reads allowed makes is =
     subst (λ (c : Change). IsStock (changed m (keeping texts message c))) (sym makes.2)
-    (turn_stock m stock part makes.0 makes.1 (returned_stands (part_at m part) makes.0 (totals_for m (part_at m part)) makes.1 allowed) state.Returned refl (λ number. refl) texts message (reply.GiveBack makes.0.name))
+    (state_stock m stock part makes.0 makes.1 (returned_stands (part_at m part) makes.0 (totals_for m (part_at m part)) makes.1 allowed) state.Returned refl (λ number. refl) texts message (reply.GiveBack makes.0.name))
 stock_by texts message m stock (Import order form text) read change reads allowed makes is =
     import_stock texts m order message form text read change stock (accepted texts m order form text read change reads allowed makes)
 stock_by texts message m stock (Amend demand wanted) read change reads allowed makes is =

@@ -34,13 +34,13 @@ use Rattle.shop_records.proofs.Basics.{names_total, names_same}
 use Rattle.shop_records.proofs.Puts.{Pairwise, pairs_in, pairs_more, map_pairs, sum_map, sum_as, sum_none, sum_over}
 use Rattle.shop_records.proofs.Entries.{each_value}
 use Rattle.shop_records.proofs.SameRows.{states_equal, parts_equal}
-use Rattle.shop_machine.specs.Ending.{row_part, fate, IsWork, fits_part}
+use Rattle.shop_machine.specs.Ending.{row_part, state_after_cut, IsWork, fits_part}
 use Rattle.shop_machine.specs.Recounts.{pieces_in}
 use Rattle.shop_machine.specs.Undoing.{stop_of, laid_by, left_parts, are_as_left, stop_refusal, back_refusal, undo_refusal}
 use Rattle.shop_machine.proofs.AddedUp.{cells_left, is_uncut}
 use Rattle.shop_machine.proofs.Allowed.{none_of}
 use Rattle.shop_machine.proofs.Cells.{Named}
-use Rattle.shop_machine.proofs.EndingStep.{fate_piece, fate_uncut}
+use Rattle.shop_machine.proofs.EndingStep.{after_cut_piece, after_cut_uncut}
 use Rattle.shop_machine.proofs.Grown.{IsStock}
 use Rattle.shop_machine.proofs.PartStep.{less_apart}
 use Rattle.shop_machine.proofs.PutBack.{in_filter, filter_in, value_in, not_made, sum_replaced}
@@ -172,8 +172,8 @@ module _ (m : Content) (named : Named m.parts) (j : Job) (row : Part) (material 
   pub pieces_made : (d : ℕ) → count_by (λ (p : Part). is_piece_for d p.state) made ≡ pieces_in d laid
   pieces_made d =
       sum_map (λ (p : Part). if is_piece_for d p.state then 1 else 0) (row_part row material.limits j.act) laid
-      ∙ sum_as (λ (r : Row). if is_piece_for d (fate material.limits r.owner (record { w = r.w; h = r.h })) then 1 else 0) (λ (r : Row). if is_owner_of d r.owner then 1 else 0) laid
-      (λ r i. ap (λ b. if b then 1 else 0) (fate_piece d material.limits r.owner (record { w = r.w; h = r.h })))
+      ∙ sum_as (λ (r : Row). if is_piece_for d (state_after_cut material.limits r.owner (record { w = r.w; h = r.h })) then 1 else 0) (λ (r : Row). if is_owner_of d r.owner then 1 else 0) laid
+      (λ r i. ap (λ b. if b then 1 else 0) (after_cut_piece d material.limits r.owner (record { w = r.w; h = r.h })))
 
   pub all_cells : sum_by (λ (r : Row). r.w * r.h) laid ≡ row.size.w * row.size.h
   all_cells = add_up j.plan.tree row.size.w row.size.h material.limits.kerf outcome laid u.is_laid (λ n o a b. true) ∙ count_all row.size.w row.size.h
@@ -184,8 +184,8 @@ module _ (m : Content) (named : Named m.parts) (j : Job) (row : Part) (material 
     where
       kept : (b : Bool) → is_eq (code_cmp row.material code) ≡ b → (r : Row) → cells_left code (row_part row material.limits j.act r) ≡ (if b then r.w * r.h else 0)
       kept b e r =
-          ap (λ t. if t && is_uncut (fate material.limits r.owner (record { w = r.w; h = r.h })) then r.w * r.h else 0) e
-          ∙ ap (λ t. if b && t then r.w * r.h else 0) (fate_uncut material.limits r.owner (record { w = r.w; h = r.h })) ∙ and_true b (r.w * r.h)
+          ap (λ t. if t && is_uncut (state_after_cut material.limits r.owner (record { w = r.w; h = r.h })) then r.w * r.h else 0) e
+          ∙ ap (λ t. if b && t then r.w * r.h else 0) (after_cut_uncut material.limits r.owner (record { w = r.w; h = r.h })) ∙ and_true b (r.w * r.h)
         where
           and_true : (b : Bool) (n : ℕ) → ◌≡◌ {A = ℕ} (if b && true then n else 0) (if b then n else 0)
           and_true true n = refl

@@ -38,7 +38,7 @@ use Rattle.shop_records.specs.Elements.{IsIn}
 use Rattle.shop_records.specs.Soundness.{IsPlaced, IsWaiting, IsJob, IsDemand, IsCounted, IsMovedPart, IsMovedDemand, with_totals, Fits, made_in}
 use Rattle.shop_records.proofs.Basics.{same_some, in_map, codes_same}
 use Rattle.shop_records.proofs.Puts.{all_from, pairs_from, map_pairs, not_both, found_one, is_known, some_known, sum_over, sum_map, sum_none, equal}
-use Rattle.shop_machine.specs.Ending.{row_part, fate, IsWork, fits_part}
+use Rattle.shop_machine.specs.Ending.{row_part, state_after_cut, IsWork, fits_part}
 use Rattle.shop_machine.specs.Moving.{cells_counted, tally, can_move}
 use Rattle.shop_machine.specs.Machine.{keeping}
 use Rattle.shop_machine.specs.Recounts.{AreRecounted, pieces_in, plan_leaves, with_unmade}
@@ -56,32 +56,32 @@ use Rattle.shop_machine.proofs.Undoable.{IsUndoable, there, all, made_of, rise, 
 use Rattle.shop_machine.proofs.UndoingEffect.{no_unmade}
 
 -- what is made at a job's end isn't reserved
-fate_free : (number : ℕ) (rule : Rule) (o : Owner) (size : Extent) → is_reserved_for number (fate rule o size) ≡ false
-fate_free number rule (owner.Piece demand) size = refl
-fate_free number rule owner.Rest size = by (is_kept rule size)
+after_cut_free : (number : ℕ) (rule : Rule) (o : Owner) (size : Extent) → is_reserved_for number (state_after_cut rule o size) ≡ false
+after_cut_free number rule (owner.Piece demand) size = refl
+after_cut_free number rule owner.Rest size = by (is_kept rule size)
   where
     by : (b : Bool) → is_reserved_for number (if b then state.Standing else state.Scrap) ≡ false
     by true = refl
     by false = refl
-fate_free number rule owner.Kerf size = refl
-fate_free number rule owner.Uncut size = by (is_kept rule size)
+after_cut_free number rule owner.Kerf size = refl
+after_cut_free number rule owner.Uncut size = by (is_kept rule size)
   where
     by : (b : Bool) → is_reserved_for number (if b then state.Standing else state.Scrap) ≡ false
     by true = refl
     by false = refl
-fate_free number rule owner.Lost size = refl
+after_cut_free number rule owner.Lost size = refl
 
 -- the columns of what became of cells
-abbrev is_fate : Column → Bool
-is_fate Received = false
-is_fate Stock = true
-is_fate Rack = true
-is_fate Pieces = true
-is_fate Kerf = true
-is_fate Scrap = true
-is_fate Returned = true
+abbrev is_after_cut : Column → Bool
+is_after_cut Received = false
+is_after_cut Stock = true
+is_after_cut Rack = true
+is_after_cut Pieces = true
+is_after_cut Kerf = true
+is_after_cut Scrap = true
+is_after_cut Returned = true
 
-cut_uncounted : (c : Column) → is_fate c ≡ true → (n : ℕ) (p : Part) → is_counted c (in_state (state.Cut n) p) ≡ false
+cut_uncounted : (c : Column) → is_after_cut c ≡ true → (n : ℕ) (p : Part) → is_counted c (in_state (state.Cut n) p) ≡ false
 cut_uncounted Received e n p = absurd (true≢false (sym e))
 cut_uncounted Stock e n p = refl
 cut_uncounted Rack e n p = refl
@@ -90,7 +90,7 @@ cut_uncounted Kerf e n p = refl
 cut_uncounted Scrap e n p = refl
 cut_uncounted Returned e n p = refl
 
-undone_uncounted : (c : Column) → is_fate c ≡ true → (n : ℕ) (p : Part) → is_counted c (in_state (state.Undone n) p) ≡ false
+undone_uncounted : (c : Column) → is_after_cut c ≡ true → (n : ℕ) (p : Part) → is_counted c (in_state (state.Undone n) p) ≡ false
 undone_uncounted Received e n p = absurd (true≢false (sym e))
 undone_uncounted Stock e n p = refl
 undone_uncounted Rack e n p = refl
@@ -149,14 +149,14 @@ module _ (m : Content) (stock : IsStock m) (j : Job) (row : Part) (material : Ma
   -- ---- totals
 
   -- the cells that the job made of the part are in the totals
-  within : (c : Column) → is_fate c ≡ true → cells_counted c made ≤ cells_in c row.material (values m.parts)
+  within : (c : Column) → is_after_cut c ≡ true → cells_counted c made ≤ cells_in c row.material (values m.parts)
   within c is =
       let sum = sum_gone m named j row material (outcome_of end) laid u (cells_as c row.material) in
       let none = gone_none (cells_as c row.material) (λ p. no_cells (is_eq (code_cmp p.material row.material)) (is_counted c (in_state (state.Undone j.act) p)) (p.size.w * p.size.h) (undone_uncounted c is j.act p)) in
       let count = of_material row.material row.material c true (own row.material) made (λ x i. ap (λ (p : Part). p.material) (made_of m named j row material (outcome_of end) laid u x i).2) in
       omega (arith, sum, none, count)
 
-  column_back : (c : Column) → is_fate c ≡ true → (code : List ℕ) (b : Bool) → is_eq (code_cmp row.material code) ≡ b
+  column_back : (c : Column) → is_after_cut c ≡ true → (code : List ℕ) (b : Bool) → is_eq (code_cmp row.material code) ≡ b
       → cells_in c code (values (with_parts gone (insert m.parts row.name (in_state state.Standing row)))) + (if b then cells_counted c made else 0)
       ≡ cells_in c code (values m.parts) + (if b then cells_counted c (in_state state.Standing row ∷ []) else 0)
   column_back c is code b e =
@@ -176,7 +176,7 @@ module _ (m : Content) (stock : IsStock m) (j : Job) (row : Part) (material : Ma
       let stands : f (in_state state.Standing row) ≡ f row = refl in
       omega (arith, sum, same, stands)
 
-  move_back : (c : Column) → is_fate c ≡ true
+  move_back : (c : Column) → is_after_cut c ≡ true
       → cells_in c row.material (values (with_parts gone (insert m.parts row.name (in_state state.Standing row))))
       ≡ cells_in c row.material (values m.parts) - cells_counted c made + cells_counted c (in_state state.Standing row ∷ [])
   move_back c is =
@@ -184,7 +184,7 @@ module _ (m : Content) (stock : IsStock m) (j : Job) (row : Part) (material : Ma
       let less = within c is in
       omega (arith, sum, less)
 
-  stay_back : (c : Column) → is_fate c ≡ true → (code : List ℕ) → is_eq (code_cmp row.material code) ≡ false
+  stay_back : (c : Column) → is_after_cut c ≡ true → (code : List ℕ) → is_eq (code_cmp row.material code) ≡ false
       → cells_in c code (values (with_parts gone (insert m.parts row.name (in_state state.Standing row)))) ≡ cells_in c code (values m.parts)
   stay_back c is code e = let sum = column_back c is code false e in omega (arith, sum)
 
@@ -271,7 +271,7 @@ module _ (m : Content) (stock : IsStock m) (j : Job) (row : Part) (material : Ma
           let is : row_part row material.limits j.act r ≡ w.on.row = same_some (row_part row material.limits j.act r) w.on.row (sym (here r i) ∙ ap (λ n. part_at m n) e ∙ w.on.found) in
           true≢false
           (sym (eq-eqb other.act other.act refl) ∙ sym (ap (is_reserved_for other.act) w.reserved) ∙ ap (λ (p : Part). is_reserved_for other.act p.state) (sym is)
-          ∙ fate_free other.act material.limits r.owner (record { w = r.w; h = r.h })));
+          ∙ after_cut_free other.act material.limits r.owner (record { w = r.w; h = r.h })));
       none_yet = λ node.
           same_at (record { act = other.act; node = node })
           (λ e. not_both (part_at m (record { act = other.act; node = node })) row (w.none_yet node) (ap (λ n. part_at m n) e ∙ u.on))

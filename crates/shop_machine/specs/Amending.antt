@@ -18,7 +18,7 @@ amend_refusal (Some demand) wanted =
 abbrev pub amended : (wanted : ℕ) → Demand → Demand
 amended wanted demand = record demand { wanted = wanted }
 
--- this one demand is amended, and the reply tells how many are wanted
+-- this one demand is amended, and the reply gives how many are wanted
 abbrev pub amend_change : Demand → (wanted : ℕ) → Change
 amend_change demand wanted =
     record (no_change (reply.Amend demand.number wanted)) {

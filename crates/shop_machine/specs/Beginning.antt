@@ -15,7 +15,7 @@ abbrev pub begin_refusal : Option Job → Option Refusal
 begin_refusal None = Some NoJob
 begin_refusal (Some j) = first_of ((not (is_waiting j.state), JobOver) ∷ [])
 
--- The job is begun, and the reply tells the terminal that had begun it. Which one has begun it now is known once the message is
+-- The job is begun, and the reply gives the terminal that had begun it. Which one has begun it now is known once the message is
 -- kept.
 abbrev pub begin_change : (number : ℕ) → (before : Option JobBegin) → Change
 begin_change number before =

@@ -95,12 +95,12 @@ pub record IsWork (old : Content) (number : ℕ) (j : Job) (part : Part) (materi
   pub of : material_at old part.material ≡ Some material
 
 -- what becomes of a laid rectangle
-abbrev pub fate : Rule → Owner → Extent → State
-fate rule (owner.Piece demand) size = Piece demand
-fate rule owner.Rest size = if is_kept rule size then Standing else Scrap
-fate rule owner.Kerf size = Kerf
-fate rule owner.Uncut size = if is_kept rule size then Standing else Scrap
-fate rule owner.Lost size = Scrap
+abbrev pub state_after_cut : Rule → Owner → Extent → State
+state_after_cut rule (owner.Piece demand) size = Piece demand
+state_after_cut rule owner.Rest size = if is_kept rule size then Standing else Scrap
+state_after_cut rule owner.Kerf size = Kerf
+state_after_cut rule owner.Uncut size = if is_kept rule size then Standing else Scrap
+state_after_cut rule owner.Lost size = Scrap
 
 -- the part that a laid row of a job on a part becomes, in the received unit's coordinates
 abbrev pub row_part : Part → Rule → ℕ → Row → Part
@@ -114,7 +114,7 @@ row_part part rule act row =
       x = part.x + row.x;
       y = part.y + row.y;
       size = size;
-      state = fate rule row.owner size;
+      state = state_after_cut rule row.owner size;
     }
 
 -- the job is done where all cuts were made, else broken
@@ -123,7 +123,7 @@ ended_state stop.All = job.Done
 ended_state (stop.After halt) = job.Broken
 ended_state (stop.Saved halt rest) = job.Broken
 
--- the cells of the new parts, column by column, are told
+-- the cells of the new parts, column by column, are reported
 abbrev pub ended_reply : Stop → ℕ → Totals → Reply
 ended_reply stop.All number come = reply.Done number come.kerf come.pieces come.rack come.scrap
 ended_reply (stop.After halt) number come = reply.Break number come.kerf come.pieces come.rack come.scrap

@@ -23,7 +23,7 @@ extend_refusal known at there lines first =
     (first_of ((not known, NoOrder) ∷ (not (nat_le 1 (length lines) && nat_le (length there + length lines) MAX_LINES), BadLine) ∷ []))
     (option_or (lines_refusal at (last_line there) lines) (first_of ((nat_lt (MAX_NUMBERS + 1) (first + length lines), NumbersSpent) ∷ [])))
 
--- the order gets these lines, and the reply tells how many, and the first one's demand
+-- the order gets these lines, and the reply gives how many, and the first one's demand
 abbrev pub extend_change : List ℕ → List OrderLine → (first : ℕ) → Change
 extend_change order lines first =
     record (no_change (reply.Extend (length lines) first order)) {

@@ -26,8 +26,8 @@ use Rattle.shop_records.specs.Elements.{IsIn}
 use Rattle.shop_records.specs.Messages.{Texts, IsMessage, is_accepted, pair_of}
 use Rattle.shop_records.specs.Readings.{Reading}
 use Rattle.shop_records.specs.Content.{Content, fresh, part_at, demand_at, kept_at, entry_at, entry_count, forgotten, totals_of, AddsUp}
-use Rattle.shop_machine.specs.Machine.{Accepts, Effect, Rules, Receives, Orders, Reserves, Ends, Turns, Amends, effects, Undoes}
-use Rattle.shop_machine.specs.Ending.{fate}
+use Rattle.shop_machine.specs.Machine.{Accepts, Effect, Rules, Receives, Orders, Reserves, Ends, SetsState, Amends, effects, Undoes}
+use Rattle.shop_machine.specs.Ending.{state_after_cut}
 use Rattle.shop_records.specs.Soundness.{IsCounted, reserved_in, made_in}
 
 -- what was done: an accepted message, and what its text was read as
@@ -219,7 +219,7 @@ stands_as part owner = same_name owner.name part && is_free owner.state
 abbrev pub owner_at : Rule → ℕ → Spot → Owner
 owner_at rule number spot =
     let size : Extent = record { w = spot.w; h = spot.h } in
-    record { state = fate rule spot.owner size; name = record { act = number; node = spot.node }; size = size; x = spot.x; y = spot.y }
+    record { state = state_after_cut rule spot.owner size; name = record { act = number; node = spot.node }; size = size; x = spot.x; y = spot.y }
 
 -- The owner after the cuts of a job, before which it was this one: where that was the job's part, the cell is followed down
 -- the tree.
@@ -233,9 +233,9 @@ cut_owner (Some made) None outcome number before = before
 cut_owner (Some made) (Some rule) outcome number None = None
 
 -- the owner after a standing part as a whole got this state
-abbrev pub turned_owner : Name → State → Option Owner → Option Owner
-turned_owner part into None = None
-turned_owner part into (Some before) = if stands_as part before then Some (record before { state = into }) else Some before
+abbrev pub owner_with_state : Name → State → Option Owner → Option Owner
+owner_with_state part into None = None
+owner_with_state part into (Some before) = if stands_as part before then Some (record before { state = into }) else Some before
 
 -- The owner after a job's end was taken back: where it was a part that the job made, the owner before that end.
 abbrev pub undone_owner : ℕ → Option Owner → Option Owner → Option Owner
@@ -249,7 +249,7 @@ owner_by (Receives material batch size count) earlier unit x y ended before =
 owner_by (Ends job outcome) earlier unit x y ended before =
     cut_owner (job_of earlier job) (material_rule earlier (unit_material earlier unit)) outcome job before
 owner_by (Undoes job) earlier unit x y ended before = undone_owner job (ended job) before
-owner_by (Turns part into) earlier unit x y ended before = turned_owner part into before
+owner_by (SetsState part into) earlier unit x y ended before = owner_with_state part into before
 owner_by _ earlier unit x y ended before = before
 
 -- the end of this job

@@ -76,7 +76,7 @@ problem_refusal used at known totals act first size lines =
     (option_or (lines_refusal at 0 lines)
     (option_or (receive_refusal known totals act size.w size.h 1) (order_refusal used at lines first))))
 
--- the same again is refused only where the row that is kept of it tells no reply
+-- the same again is refused only where the row that is kept of it stores no reply
 abbrev pub again_refusal : Option Reply → Option Refusal
 again_refusal None = Some StoreFault
 again_refusal (Some answer) = None

@@ -40,7 +40,7 @@ use Rattle.shop_machine.specs.Ordering.{order_refusal, order_change}
 use Rattle.shop_machine.specs.Importing.{IsImportReading, import_refusal, ImportMakes, problem_lines}
 use Rattle.shop_machine.specs.Reserving.{IsReading, reserve_refusal, IsReservation}
 use Rattle.shop_machine.specs.Ending.{end_refusal, IsWork, IsDone, IsBroken, IsRelease}
-use Rattle.shop_machine.specs.Retiring.{scrap_refusal, return_refusal, turn_change}
+use Rattle.shop_machine.specs.Retiring.{scrap_refusal, return_refusal, state_change}
 use Rattle.shop_machine.specs.Amending.{amend_refusal, amend_change}
 use Rattle.shop_machine.specs.Undoing.{undo_refusal, IsUndo}
 use Rattle.shop_machine.specs.Noting.{note_refusal, note_change}
@@ -114,9 +114,9 @@ Makes old (Release number) read change =
     (j : Job) × (part : Part) × (material : Material) × IsWork old number j part material
     × IsRelease j part (demand_at old) change
 Makes old (Scrap part) read change =
-    (row : Part) × (part_at old part ≡ Some row) × (change ≡ turn_change state.Scrap row (totals_of old row.material) (reply.Scrap row.name))
+    (row : Part) × (part_at old part ≡ Some row) × (change ≡ state_change state.Scrap row (totals_of old row.material) (reply.Scrap row.name))
 Makes old (GiveBack part) read change =
-    (row : Part) × (part_at old part ≡ Some row) × (change ≡ turn_change state.Returned row (totals_of old row.material) (reply.GiveBack row.name))
+    (row : Part) × (part_at old part ≡ Some row) × (change ≡ state_change state.Returned row (totals_of old row.material) (reply.GiveBack row.name))
 Makes old (Import order form text) read change =
     ImportMakes order form text (totals_of old) (old.last_act + 1) (old.last_demand + 1) read change
 Makes old (Amend demand wanted) read change = (row : Demand) × (demand_at old demand ≡ Some row) × (change ≡ amend_change row wanted)
@@ -146,7 +146,7 @@ pub data Effect : Type 0 where
   -- the end of a job is taken back
   Undoes : (job : ℕ) → Effect
   -- a standing part as a whole is in this state from now on
-  Turns : (part : Name) (into : State) → Effect
+  SetsState : (part : Name) (into : State) → Effect
   -- so many pieces of a demand are wanted from now on
   Amends : (demand wanted : ℕ) → Effect
 
@@ -168,8 +168,8 @@ effects (Reserve part text) _ = nothing ∷ []
 effects (Done job) read = Ends job all_made ∷ []
 effects (Break job halt rest) read = Ends job (outcome_of (halted halt rest)) ∷ []
 effects (Release job) read = nothing ∷ []
-effects (Scrap part) read = Turns part state.Scrap ∷ []
-effects (GiveBack part) read = Turns part state.Returned ∷ []
+effects (Scrap part) read = SetsState part state.Scrap ∷ []
+effects (GiveBack part) read = SetsState part state.Returned ∷ []
 effects (Import order form text) read = import_effects order form read
 effects (Amend demand wanted) read = Amends demand wanted ∷ []
 effects (Undo job) read = Undoes job ∷ []

@@ -23,9 +23,9 @@ return_refusal None totals = Some NoPart
 return_refusal (Some part) totals =
     first_of ((not (is_free part.state), NotStanding) ∷ (not (is_whole part), NotWhole) ∷ (not (has_cells part totals), StoreFault) ∷ [])
 
--- the whole part has this state, its cells pass to the state's total, and the reply tells of it
-abbrev pub turn_change : State → Part → Totals → Reply → Change
-turn_change s part totals answer =
+-- the whole part has this state, its cells pass to the state's total, and the reply names it
+abbrev pub state_change : State → Part → Totals → Reply → Change
+state_change s part totals answer =
     record (no_change answer) {
       moved = Some (in_state s part);
       totals = Some (record { material = part.material; totals = moved_totals part (tally (in_state s part ∷ [])) totals });

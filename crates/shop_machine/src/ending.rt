@@ -14,7 +14,7 @@ ghost use Rattle.shop_records.specs.declared.records.State.TheVariants.{Cut};
 ghost use Rattle.shop_records.specs.Messages.{is_accepted};
 ghost use Rattle.shop_machine.specs.Decisions.{Decides};
 ghost use Rattle.shop_machine.specs.Recounts.{plan_leaves, AreDemandsFound, AreRecounted, leaves_in, HasRow, CanBeMade, IsNumbered, pieces_in, with_laid};
-ghost use Rattle.shop_machine.specs.Ending.{has_reserved, IsEnd, IsDone, IsBroken, IsRelease, ended_reply, ended_state, kept_halt, fate, has_begun, can_end, is_part_of, fits_part, is_held, job_refusal, rests, row_part};
+ghost use Rattle.shop_machine.specs.Ending.{has_reserved, IsEnd, IsDone, IsBroken, IsRelease, ended_reply, ended_state, kept_halt, state_after_cut, has_begun, can_end, is_part_of, fits_part, is_held, job_refusal, rests, row_part};
 ghost use Rattle.shop_machine.specs.Moving.{has_cells, tally, AreFew};
 
 use crate::decisions::no_change;
@@ -29,8 +29,8 @@ use shop_records::{
 use std::alloc::{AllocError, Global};
 
 // What becomes of a laid rectangle.
-fn fate(limits: Limits, owner: Owner, size: Size) -> State
-    ensures { result ≡ fate limits owner size }
+fn state_after_cut(limits: Limits, owner: Owner, size: Size) -> State
+    ensures { result ≡ state_after_cut limits owner size }
 {
     match owner {
         Owner::Piece(demand) => State::Piece(demand),
@@ -64,7 +64,7 @@ fn row_part(part: &Part, limits: Limits, act: u32, row: &Row) -> Part
         x: part.x + row.x,
         y: part.y + row.y,
         size,
-        state: fate(limits, row.owner, size),
+        state: state_after_cut(limits, row.owner, size),
     }
 }
 
@@ -248,7 +248,7 @@ fn ended_state(stop: &Stop) -> JobState
     }
 }
 
-// What is told of a job that ended so: the cells of its new parts.
+// What is reported of a job that ended so: the cells of its new parts.
 fn ended_reply(stop: &Stop, job: u32, come: &Totals) -> Reply
     ensures { result ≡ ended_reply stop.now job come.now }
 {

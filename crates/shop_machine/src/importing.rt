@@ -66,7 +66,7 @@ pub fn problem_lines(
     Ok(lines)
 }
 
-/// Accepts an import that came before, with the reply that was told of it. Refused `StoreFault` where there is none.
+/// Accepts an import that came before, with its first reply. Refused `StoreFault` where there is none.
 pub fn decide_again(alloc: Global, earlier: Option<Reply>) -> Result<Change, Refusal>
     requires { IfSome earlier (λ answer. IsTrue (is_accepted answer)) }
     ensures decision { Decides (again_refusal earlier)

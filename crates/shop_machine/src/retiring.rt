@@ -6,7 +6,7 @@ ghost use Rattle.shop_records.specs.declared.records.State.TheVariants as state;
 ghost use Rattle.shop_records.specs.Messages.{is_accepted};
 ghost use Rattle.shop_machine.specs.Decisions.{Decides};
 ghost use Rattle.shop_machine.specs.Moving.{has_cells};
-ghost use Rattle.shop_machine.specs.Retiring.{scrap_refusal, return_refusal, turn_change};
+ghost use Rattle.shop_machine.specs.Retiring.{scrap_refusal, return_refusal, state_change};
 
 use crate::decisions::no_change;
 use crate::moving::{has_cells, moved_totals, tally_one};
@@ -16,7 +16,7 @@ use std::alloc::Global;
 // The change of a part that as a whole gets another state.
 fn turned(alloc: Global, part: Part, state: State, totals: &Totals, reply: Reply) -> Change
     requires { IsTrue (has_cells part totals.now) }
-    ensures { result ≡ turn_change state part totals.now reply }
+    ensures { result ≡ state_change state part totals.now reply }
 {
     let moved = Part { state, ..part };
     let come = tally_one(&moved);
@@ -35,7 +35,7 @@ fn turned(alloc: Global, part: Part, state: State, totals: &Totals, reply: Reply
 pub fn decide_scrap(alloc: Global, part: Option<Part>, totals: Totals) -> Result<Change, Refusal>
     ensures decision { Decides (scrap_refusal part totals)
         (λ change. MatchOption part ⊥
-        (λ row. change ≡ turn_change state.Scrap row totals (reply.Scrap row.name))) result }
+        (λ row. change ≡ state_change state.Scrap row totals (reply.Scrap row.name))) result }
     ensures reported { IfOk result (λ change. IsTrue (is_accepted change.reply)) }
 {
     let Some(part) = part else {
@@ -60,7 +60,7 @@ pub fn decide_give_back(
 ) -> Result<Change, Refusal>
     ensures decision { Decides (return_refusal part totals)
         (λ change. MatchOption part ⊥
-        (λ row. change ≡ turn_change state.Returned row totals (reply.GiveBack row.name)))
+        (λ row. change ≡ state_change state.Returned row totals (reply.GiveBack row.name)))
         result }
     ensures reported { IfOk result (λ change. IsTrue (is_accepted change.reply)) }
 {

@@ -1,7 +1,7 @@
 pub mod Firsts
 pub mod Grouped
 pub mod FirstRows
-pub mod DayTurns
+pub mod DayRanks
 pub mod StockFacts
 pub mod EntryLists
 pub mod NamedOnce

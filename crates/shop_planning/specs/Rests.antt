@@ -8,11 +8,11 @@ use Rattle.cut_tree.specs.Patterns.{Pattern}
 use Rattle.cut_tree.specs.Stops.{outcome_of}
 use Rattle.cut_bound.specs.declared.planned.PlannedUnit.{PlannedUnit}
 use Rattle.shop_records.specs.Columns.{is_free}
-use Rattle.shop_machine.specs.Ending.{fate}
+use Rattle.shop_machine.specs.Ending.{state_after_cut}
 
 -- the cells of a laid rectangle if it stands once the job has ended, else none
 abbrev pub kept_cells : Rule → Row → ℕ
-kept_cells rule row = if is_free (fate rule row.owner (record { w = row.w; h = row.h })) then row.w * row.h else 0
+kept_cells rule row = if is_free (state_after_cut rule row.owner (record { w = row.w; h = row.h })) then row.w * row.h else 0
 
 -- the most cells that one of the rectangles keeps
 abbrev pub most_kept : Rule → List Row → ℕ

@@ -2,7 +2,7 @@
 
 ghost use Rattle.std.specs.Prelude.{◌≡◌, IfOk};
 ghost use Rattle.shop_records.specs.Columns.{is_free};
-ghost use Rattle.shop_machine.specs.Ending.{fate};
+ghost use Rattle.shop_machine.specs.Ending.{state_after_cut};
 ghost use Rattle.shop_planning.specs.Rests as rests;
 ghost use Rattle.shop_planning.specs.Rests.{IsLargestRest, IsRestOf};
 
@@ -13,7 +13,7 @@ use std::alloc::{AllocError, Global};
 
 // Whether a rectangle that is laid stands once the job has ended.
 fn is_kept(limits: Limits, row: &Row) -> bool
-    ensures { result ≡ is_free (fate limits row.now.owner (record { w = row.now.w; h = row.now.h })) }
+    ensures { result ≡ is_free (state_after_cut limits row.now.owner (record { w = row.now.w; h = row.now.h })) }
 {
     let (long, short) = (row.w.max(row.h), row.w.min(row.h));
     match row.owner {

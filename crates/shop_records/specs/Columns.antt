@@ -138,6 +138,6 @@ state_of state.Scrap = 0
 state_of state.Returned = 0
 state_of (state.Undone job) = job
 
--- how a part on the rack is told
+-- how a part on the rack is reported
 abbrev pub rack_row : Part → RackRow
 rack_row part = record { h = part.size.h; part = part.name; state = state_word part.state; w = part.size.w }

@@ -211,7 +211,7 @@ parts_named content act = filter (λ part. part.name.act == act) (map.values con
 abbrev pub parts_of : Content → List ℕ → List Part
 parts_of content code = filter (is_listed code) (map.values content.parts)
 
--- those of the parts that have a job's name, as they are told
+-- those of the parts that have a job's name, as they are reported
 abbrev pub rack_rows : List Part → List RackRow
 rack_rows parts = map_list rack_row (filter (λ part. not (is_whole part)) parts)
 

@@ -12,7 +12,7 @@ pub record KeepsReply (texts : Texts) (row : Kept) (message : Message) (answer :
   pub command : row.command ≡ texts.of_message message
   pub reply : row.reply ≡ texts.of_reply answer
 
--- the reply that a kept import's row tells, or that it tells none
+-- the reply that a kept import's row stores, or that it stores none
 abbrev pub StoresReply : Texts → ImportRow → Option Reply → Type 0
 StoresReply texts row (Some answer) = IsMade answer × (row.reply ≡ texts.of_reply answer)
 StoresReply texts row None = (answer : Reply) → IsMade answer → row.reply ≢ texts.of_reply answer

@@ -95,7 +95,7 @@ due_of content order = of_found (λ (row : OrderNote). row.due) (note_at content
 abbrev pub text_of : Content → (order : List ℕ) → List ℕ
 text_of content order = unwrap_or (option_map (λ (row : OrderNote). row.text) (note_at content order)) []
 
--- how a demand is told
+-- how a demand is reported
 abbrev pub demand_row : Content → Demand → DemandRow
 demand_row content demand = record { demand = demand; due = due_of content demand.order }
 
@@ -105,7 +105,7 @@ pub record AreLines (content : Content) (order : List ℕ) (rows : List Demand) 
   pub there : All (λ row. (demand_at content row.number ≡ Some row) × (row.order ≡ order)) rows
   pub all : (number : ℕ) (row : Demand) → demand_at content number ≡ Some row → row.order ≡ order → IsIn row rows
 
--- how an order with these lines is told
+-- how an order with these lines is reported
 abbrev pub order_row : Content → (order : List ℕ) → (lines : List Demand) → OrderRow
 order_row content order lines =
     record {
@@ -221,7 +221,7 @@ is_about content (subject.Part name) entry =
 abbrev pub entries_about : Content → Subject → (after : ℕ) → List Entry
 entries_about content about after = filter (is_about content about) (entries_behind content after)
 
--- How an entry is told: with the texts that are kept of its message. An entry whose message isn't kept is none; in each
+-- How an entry is reported: with the texts that are kept of its message. An entry whose message isn't kept is none; in each
 -- content that a history gives every entry's message is kept.
 abbrev pub reported_entry : Content → Entry → Option ReportedEntry
 reported_entry content entry =
@@ -282,7 +282,7 @@ pieces_after content from after = filter (λ (part : Part). is_from content from
 abbrev pub end_entry : Content → (job : ℕ) → Option Entry
 end_entry content job = slice_get (filter (λ (entry : Entry). ends_job entry.word && (entry.job == job)) (entries_behind content 0)) 0
 
--- How a piece is told. A piece without a demand is none; in each content that a history gives the demand of each piece is there.
+-- How a piece is reported. A piece without a demand is none; in each content that a history gives the demand of each piece is there.
 abbrev pub piece_row : Content → Part → Option PieceRow
 piece_row content part =
     option_map
@@ -309,7 +309,7 @@ demand_at_node content (token.Cut axis place) = None
 demand_at_node content (token.Piece demand turned) = demand_at content demand
 demand_at_node content token.Rest = None
 
--- how a node of a job's plan is told, with what became of it
+-- how a node of a job's plan is reported, with what became of it
 abbrev pub step_row : Content → (job : ℕ) → Step → StepRow
 step_row content job step =
     let row = part_at content (record { act = job; node = step.node }) in

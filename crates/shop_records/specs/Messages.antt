@@ -107,7 +107,7 @@ IsMade (reply.Pieces more pieces) = ⊥
 IsMade (reply.Steps job kerf material part state steps) = ⊥
 IsMade (reply.Refused refusal) = ⊥
 
--- the refusal that a reply tells of
+-- the refusal that a reply gives
 abbrev pub refusal_in : Reply → Option Refusal
 refusal_in (reply.Refused refusal) = Some refusal
 refusal_in _ = None

@@ -15,7 +15,7 @@ pub data Reading : Type 0 where
   Lines : (lines : List OrderLine) → Reading
   -- a problem's rectangle and pieces
   Problem : (size : Extent) (pieces : List Piece) → Reading
-  -- the same import again, and the reply that was told of it, where the row that is kept of it tells one
+  -- the same import again, and its first reply, where the row that is kept of it stores one
   Again : (answer : Option Reply) → Reading
 
 -- the plan, where it was read as one

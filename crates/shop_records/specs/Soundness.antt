@@ -54,7 +54,7 @@ pub record IsKept (texts : Texts) (pair : Pair) (row : Kept) : Type 0 where
   pub of_pair : pair_of message ≡ pair
   pub keeps : KeepsReply texts row message answer
 
--- a kept import's order is there, and its row tells a reply
+-- a kept import's order is there, and its row stores a reply
 pub record IsImport (texts : Texts) (content : Content) (code : List ℕ) (row : ImportRow) : Type 0 where
   pub ordered : has_order content code ≡ true
   pub answer : Reply

@@ -17,7 +17,7 @@ module _ {V : Type 0} (looks : V → Part → Bool → V → Type 0) where
   HasSeen parts true old new = GoesOn parts old new
   HasSeen parts false old new = Stops parts old new
 
-  -- The parts that were handed out begin the list, and are all of it where the result is true; the result tells whether the
+  -- The parts that were handed out begin the list, and are all of it where the result is true; the result says whether the
   -- visitor went on. `says` is what can be said of the list.
   pub record IsVisit {Fault : Type 0} (says : (List Part → Type 0) → Type 0) (old : V) (result : Result Bool Fault) (new : V) : Type 0 where
     pub parts : List Part

@@ -105,7 +105,7 @@ pub enum Subject {
     Part(PartName),
 }
 
-/// An entry as it is told, with the texts that are kept of its message.
+/// An entry as it is reported, with the texts that are kept of its message.
 #[derive(Debug, Drop)]
 pub struct ReportedEntry {
     /// In seconds since 1970-01-01 00:00 UTC.

@@ -17,25 +17,25 @@ pub type LineList = RowList<OrderLine>;
 /// Parts on the rack, in order.
 pub type RackList = RowList<RackRow>;
 
-/// Waiting jobs as they are told, in order.
+/// Waiting jobs as they are reported, in order.
 pub type JobList = RowList<JobRow>;
 
-/// Orders as they are told, in order.
+/// Orders as they are reported, in order.
 pub type OrderList = RowList<OrderRow>;
 
-/// Demands as they are told, in order.
+/// Demands as they are reported, in order.
 pub type DemandRows = RowList<DemandRow>;
 
-/// Pieces as they are told, in order.
+/// Pieces as they are reported, in order.
 pub type PieceList = RowList<PieceRow>;
 
-/// Nodes of a plan as they are told, in order.
+/// Nodes of a plan as they are reported, in order.
 pub type StepList = RowList<StepRow>;
 
 /// Codes of orders, in order.
 pub type CodeList = RowList<Code>;
 
-/// Entries as they are told, in order.
+/// Entries as they are reported, in order.
 pub type EntryList = RowList<ReportedEntry>;
 
 /// Entries as they are written, in order.

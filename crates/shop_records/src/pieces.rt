@@ -1,4 +1,4 @@
-//! Pieces, and the nodes of a job's plan, as they are told.
+//! Pieces, and the nodes of a job's plan, as they are reported.
 
 use crate::records::StateWord;
 use cut_measure::{Code, PartName};
@@ -15,7 +15,7 @@ pub enum PieceSource {
     Unit(PartName),
 }
 
-/// A piece as it is told. Its sides are tenths of a millimetre.
+/// A piece as it is reported. Its sides are tenths of a millimetre.
 #[derive(Clone, Copy, Debug, PartialEq)]
 pub struct PieceRow {
     /// When the job was done or broken that made it, in seconds since 1970-01-01 00:00 UTC; 0 where that has no entry.
@@ -32,7 +32,7 @@ pub struct PieceRow {
     pub w: u32,
 }
 
-/// A node of a job's plan as it is told, and what became of it.
+/// A node of a job's plan as it is reported, and what became of it.
 #[derive(Clone, Copy, Debug, PartialEq)]
 pub struct StepRow {
     /// Its number, its whole rectangle in the part that is cut, and what is done there.

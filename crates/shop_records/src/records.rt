@@ -34,7 +34,7 @@ pub enum State {
     Undone(u32),
 }
 
-/// A state without its number, as it is told.
+/// A state without its number, as it is reported.
 #[derive(Clone, Copy, Debug, PartialEq, Eq)]
 pub enum StateWord {
     Standing,
@@ -234,7 +234,7 @@ pub struct Demand {
     pub made: u32,
 }
 
-/// A part on the rack, as it is told. Its sides are tenths of a millimetre.
+/// A part on the rack, as it is reported. Its sides are tenths of a millimetre.
 #[derive(Clone, Copy, Debug, PartialEq)]
 pub struct RackRow {
     pub h: u32,
@@ -243,7 +243,7 @@ pub struct RackRow {
     pub w: u32,
 }
 
-/// A waiting job, as it is told: how many cuts its plan has, 0 to 255, and its part with that one's material and sides, in
+/// A waiting job, as it is reported: how many cuts its plan has, 0 to 255, and its part with that one's material and sides, in
 /// tenths of a millimetre.
 #[derive(Clone, Copy, Debug, PartialEq)]
 pub struct JobRow {
@@ -259,7 +259,7 @@ pub struct JobRow {
     pub w: u32,
 }
 
-/// An order as it is told: what is said of it, how many lines it has, and how many pieces of all of them are made, reserved
+/// An order as it is reported: what is said of it, how many lines it has, and how many pieces of all of them are made, reserved
 /// and wanted.
 #[derive(Debug, Drop, PartialEq)]
 pub struct OrderRow {
@@ -273,14 +273,14 @@ pub struct OrderRow {
     pub wanted: u64,
 }
 
-/// A demand as it is told, with the day on which its order is due, or 0.
+/// A demand as it is reported, with the day on which its order is due, or 0.
 #[derive(Clone, Copy, Debug, PartialEq)]
 pub struct DemandRow {
     pub demand: Demand,
     pub due: u32,
 }
 
-/// What is told of a material, in cells: 0 to 1000000000000000 each, and the others add up to `received`.
+/// What is reported of a material, in cells: 0 to 1000000000000000 each, and the others add up to `received`.
 #[derive(Clone, Copy, Debug, PartialEq, Eq)]
 pub struct Totals {
     pub received: u64,
@@ -341,7 +341,7 @@ impl Part {
         self.name.act() == self.root.act() && self.name.node() == self.root.node()
     }
 
-    /// How it is told of the rack.
+    /// How the rack shows it.
     pub fn rack_row(&self) -> RackRow
         ensures { result ≡ rack_row self.now }
     {

@@ -12,7 +12,7 @@ use crate::replies::reply_text;
 use serde_json::Value;
 use shop_forms::{elements_at, flag_at, has_keys, text_at, wide_at};
 use shop_messages::{message_text, sent_message};
-use shop_records::{EntryList, ReportedEntry, Reply, RowList, Text};
+use shop_records::{EntryList, Reply, ReportedEntry, RowList, Text};
 use std::alloc::{AllocError, Global};
 
 // The text of the message that a value stands for.

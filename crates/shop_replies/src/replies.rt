@@ -14,7 +14,7 @@ use crate::history::write_entry;
 use crate::reading::reported;
 use serde_json::Value;
 use shop_forms::{new_writer, value_of, written_text};
-use shop_records::{ReportedEntry, Refusal, Reply, Text};
+use shop_records::{Refusal, Reply, ReportedEntry, Text};
 use std::alloc::{AllocError, Global};
 
 /// The reply of an accepted message, or the one about entries, that a value stands for; refused `BadMessage` where it stands

@@ -4,7 +4,7 @@ use Rattle.std.specs.Borrow.{Bor}
 use Rattle.std.specs.List.{after_first, before_first, flat_map, position_or_len}
 use Rattle.shop_request.specs.declared.addresses.Address.{Address}
 
--- the texts that are lent
+-- the texts that are borrowed
 abbrev pub texts_of : List (Bor (List ℕ)) → List (List ℕ)
 texts_of texts = map (λ text. text.now) texts
 

@@ -26,7 +26,7 @@ pub record IsGuardOf (address : Address) (has_page has_backups : Bool) (run : Li
   pub its_origins : map string_bytes guard.origins.items ≡ own_origins address
   pub its_run : string_bytes guard.quoted_run ≡ quoted_run run
 
--- the fields that tell of whom a request is, and which run of the server it is for
+-- the fields that say of whom a request is, and which run of the server it is for
 abbrev pub mark_name : Mark → List ℕ
 mark_name Site = codes "sec-fetch-site"
 mark_name Origin = codes "origin"
@@ -84,7 +84,7 @@ ruled_parts guard method target minor fields =
 unfoldable pub ruled_head : Guard → RequestHead → Ruling
 ruled_head guard h = ruled_parts guard h.method h.target h.minor (map name_and_value h.fields)
 
--- a bad head goes where its fault is told
+-- a bad head goes where its fault is reported
 abbrev pub ruled : Guard → Result RequestHead RequestFault → Ruling
 ruled guard (Ok h) = ruled_head guard h
 ruled guard (Err f) = Routed

@@ -34,7 +34,7 @@ pub enum Ruling {
     NoBackups,
 }
 
-// The fields that tell a cross-site request, and the one that names a run of the server.
+// The fields that mark a cross-site request, and the one that names a run of the server.
 #[derive(Clone, Copy, Debug, PartialEq, Eq)]
 pub(crate) enum Mark {
     Site,
@@ -133,7 +133,7 @@ impl Guard {
         self.is_foreign(mark, first.value.of(buf)) || others
     }
 
-    // Whether fields tell a cross-site request.
+    // Whether fields mark a cross-site request.
     fn shows_cross_site(&self, buf: &[u8], headers: &[HeaderSpan]) -> bool
         requires { All (IsHeaderWithin (length buf.now)) headers.now }
         ensures { result ≡ is_cross_site self.now (map (header_bytes buf.now) headers.now) }

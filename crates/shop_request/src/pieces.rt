@@ -10,7 +10,7 @@ use shop_streams::Source;
 
 const BUFFER_SIZE: usize = 8192;
 
-/// Reads a piece more, and tells whether there was one.
+/// Reads a piece more, and returns whether there was one.
 pub(crate) fn read_piece<S: Source>(
     source: &mut S,
     received: &mut Vec<u8>,

@@ -19,7 +19,7 @@ use crate::wholes::least_bytes;
 use httparse::spans::{HeaderSpan, RequestSpans};
 use shop_streams::Source;
 
-/// What an input stands for. What it says is lent by the bytes that came.
+/// What an input stands for. What it says is borrowed from the bytes that came.
 #[derive(Clone, Copy, Debug)]
 pub enum Inbound<'b> {
     /// No byte came.
@@ -86,7 +86,7 @@ pub fn inbound_of<'b>(head: &Head, received: &'b [u8]) -> Inbound<'b>
     }
 }
 
-// Reads until so many bytes came, and tells whether they did.
+// Reads until so many bytes came, and returns whether they did.
 fn read_to<S: Source>(
     source: &mut S,
     received: &mut Vec<u8>,

@@ -14,7 +14,8 @@ mod sums;
 pub use laws::origin_limits;
 pub use lines::{Span, between, by_line};
 pub use names::{
-    NameList, OpenPart, list_all, list_in_place, list_part, reserve_list, names_after, reserve_names,
+    NameList, OpenPart, list_all, list_in_place, list_part, names_after, reserve_list,
+    reserve_names,
 };
 pub use open::{OpenRows, entries_after, list_demands, list_job, numbers_after};
 pub use part_rows::{Origin, PartRow, PartRows};

@@ -1,4 +1,4 @@
-//! The lines of an order: between which numbers its demands lie, and how they are told by rising line.
+//! The lines of an order: between which numbers its demands lie, and how they are reported by rising line.
 
 ghost use Rattle.std.specs.Prelude.{◌≡◌, ◌++◌, ◌∷◌, [], ◌≤◌, ℕ, All, List, IfOk, IfSome, IsSome, IsTrue, None, Some, false, filter, nat_le, not, is_some};
 ghost use Rattle.std.specs.Ordering.{nat_cmp};
@@ -117,7 +117,7 @@ impl KeyedRow for Line {
     }
 }
 
-// Puts a demand among lines, and tells whether its line was free.
+// Puts a demand among lines, and returns whether its line was free.
 fn put_line(lines: &mut Vec<Line>, demand: &Demand) -> Result<bool, AllocError>
     requires { IsTrue (rise line_key nat_cmp lines.old.items) }
     ensures rising { IsTrue (rise line_key nat_cmp lines.new.items) }
@@ -130,7 +130,7 @@ fn put_line(lines: &mut Vec<Line>, demand: &Demand) -> Result<bool, AllocError>
     Ok(other.is_none())
 }
 
-// Puts a demand among the lines of an order where it is of that one, and tells whether its line was free.
+// Puts a demand among the lines of an order where it is of that one, and returns whether its line was free.
 fn add_line(lines: &mut Vec<Line>, demand: &Demand, order: &Code) -> Result<bool, AllocError>
     requires { IsTrue (rise line_key nat_cmp lines.old.items) }
     ensures rising { IsTrue (rise line_key nat_cmp lines.new.items) }

@@ -340,7 +340,7 @@ impl PartRows {
         }
     }
 
-    /// Puts parts that stand together between two others, all by one move, and tells whether they do; else nothing changes.
+    /// Puts parts that stand together between two others, all by one move, and returns whether they do; else nothing changes.
     pub fn put_run(&mut self, added: &[Part]) -> bool
         requires rising { IsTrue (rise part_key name_cmp (parts_in self.old)) }
         requires known { AreKnown self.old }

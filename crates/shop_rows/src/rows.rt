@@ -304,7 +304,7 @@ pub(crate) fn move_back<R: KeyedRow>(rows: &mut Vec<R>, from: usize, i: usize)
     move_to(rows, from, i);
 }
 
-/// Puts rows that stand together between two others, all by one move, and tells whether they do; else nothing changes.
+/// Puts rows that stand together between two others, all by one move, and returns whether they do; else nothing changes.
 pub fn put_run<R: KeyedRow + Copy>(rows: &mut Vec<R>, added: &[R]) -> bool
     requires rising { IsTrue (rise R.key_of R.Key.cmp rows.old.items) }
     requires spare { vec_len rows.old + length added.now ≤ vec_capacity rows.old }

@@ -12,7 +12,7 @@ use Rattle.shop_statements.specs.Rows.{act_number, entry_columns, node_number, o
 use Rattle.shop_statements.specs.Shown.{IsRowOf}
 use Rattle.shop_statements.specs.Values.{IsEntryValue, IsOwnEntry}
 
--- the word of a name: its first letter tells it, or its third
+-- the word of a name: its first letter decides it, or its third
 word_back : List ℕ → Word
 word_back text =
     let first = get_or text 0 0 in

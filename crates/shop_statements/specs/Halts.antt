@@ -31,7 +31,7 @@ lost_text (First cuts lost) = flag_text lost
 lost_text (Listed cuts None) = flag_text false
 lost_text (Listed cuts (Some cut)) = decimal cut
 
--- what is left of the rectangle of the cut that went wrong, where that was told
+-- what is left of the rectangle of the cut that went wrong, where that was reported
 abbrev pub rest_text : Option ℕ → List ℕ
 rest_text None = []
 rest_text (Some rest) = codes ",\"rest\":" ++ decimal rest

@@ -28,7 +28,7 @@ pub fn count_in(row: &Row, at: usize) -> Result<u64, TableFault>
     Ok(row.get(at)?)
 }
 
-// A text, lent by its row.
+// A text, borrowed from its row.
 fn word_in(row: &Row, at: usize) -> Result<&str, TableFault>
     ensures { IfOk result (λ word. column row.now at ≡ Word word.now) }
 {

@@ -19,7 +19,7 @@ use crate::loaded::Loaded;
 use crate::part_loader::PartLoader;
 use shop_book::{Ledger, ReadRows};
 use shop_records::{DemandList, MaterialTotals, Part, PartList, PartVisitor};
-use shop_tables::{VisitEnd, TableFault, visit_all_parts, part_key_at};
+use shop_tables::{TableFault, VisitEnd, part_key_at, visit_all_parts};
 use sqlite::{Alter, Connection};
 use std::alloc::{AllocError, Global};
 

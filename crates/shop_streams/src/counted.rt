@@ -11,7 +11,7 @@ use std::marker::Model;
 
 const MAX_TRIES: u32 = 1000;
 
-/// A source over any reader, or a sink over any writer: it tells the bytes that the reader or the writer tells. An
+/// A source over any reader, or a sink over any writer: it reports the bytes that the reader or the writer reports. An
 /// error, Interrupted 1000 times in a row, and a write that takes 0 bytes are failures.
 #[derive(Drop)]
 pub struct Counted<T> {

@@ -26,7 +26,7 @@ impl Error for Failed {}
 pub trait Source {
     ghost use Rattle.shop_streams.specs.Streams.{TalliesFailure, one_more};
 
-    /// The bytes that are left, where the source tells them.
+    /// The bytes that are left, where the source reports them.
     ghost left: { Self → Option (List ℕ) };
 
     /// How often a read failed, up to the greatest number that is counted.
@@ -53,13 +53,13 @@ pub trait Source {
 pub trait Sink {
     ghost use Rattle.shop_streams.specs.Streams.{TalliesFailure};
 
-    /// The bytes that were written, where the sink tells them.
+    /// The bytes that were written, where the sink reports them.
     ghost held: { Self → Option (List ℕ) };
 
     /// How often a write failed, up to the greatest number that is counted.
     ghost failed: { Self → ℕ };
 
-    /// Appends the first of the bytes, at least one, and tells how many. An Err appends nothing and raises the failures
+    /// Appends the first of the bytes, at least one, and returns how many. An Err appends nothing and raises the failures
     /// by one, unless they stand at 18446744073709551615; an Ok leaves them.
     fn write(&mut self, bytes: &[u8]) -> Result<usize, Failed>
         requires { 0 < length bytes.now }

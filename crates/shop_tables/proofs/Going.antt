@@ -1,4 +1,4 @@
--- What is known while rows are lent.
+-- What is known while rows are visited.
 use Rattle.std.proofs.Common.{◌≡◌, inl, inr, ℕ, Bool, true, false, true≢false, List, [], ◌∷◌, ◌++◌, Some, None, Ok, Err, Result, IsTrue, IfOk, refl, sym, arith}
 use Rattle.std.proofs.lemmas.Fn.{FoldsTo-push}
 use Rattle.std.specs.Result.{IsErr}
@@ -60,7 +60,7 @@ module _ {S : Type 0} (g : Ghosts S) where
   given_open sql params h given it = it.0.is_open
 
   module _ {V : Type 0} (looks : V → Part → Bool → V → Type 0) (sql : List ℕ) (params : Row) (first : Held S) (before : V) where
-    -- so many rows were lent, and their parts led the visitor to what it is
+    -- so many rows were visited, and their parts led the visitor to what it is
     pub record Going (now : Held S) (after : V) : Type 0 where
       pub given : List Row
       pub parts : List Part

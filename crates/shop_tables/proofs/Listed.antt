@@ -116,7 +116,7 @@ module _ (old : State) (schema : Schema) (has : old.now.schema ≡ schema) (name
       (λ d. (column d 0 ∷ column d 1 ∷ [], whole d)) shown_later (λ e. refl) rows m.parts are a
       ∙ ap (map part_row) (filter_true (entries m.parts))
 
-  -- all rows were lent
+  -- all rows were visited
   pub all_there_of : (new : State) (given : List Row) (parts : List Part) → Shown all_parts_text [] old new given → AreReadOf given parts → values m.parts ≡ parts
   all_there_of new given parts shown read =
       let a = (reads_as all_parts_text [] old new schema has _ is.command is.plain is.listing given shown).answer in
@@ -206,7 +206,7 @@ module _ {S : Type 0} (g : Ghosts S) (sql : List ℕ) (params : Row) (list : Boo
     begins = λ clean b was. let first = begin_listed r h clean b was in (first.0, first.1, tt);
   }
 
-  -- as it is told of all parts
+  -- as it is said of all parts
   pub visited_by : (r : Result VisitEnd TableFault) → Handed r → Visited (gone_through r)
   visited_by (Ok borrowed.All) h = visits_all (Ok borrowed.All) refl h
   visited_by (Ok borrowed.Stopped) h = visits_some (Ok borrowed.Stopped) refl h

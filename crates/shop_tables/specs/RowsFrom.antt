@@ -1,4 +1,4 @@
--- Demands, jobs, begun jobs and entries from a number on, and what a job's row tells without its plan.
+-- Demands, jobs, begun jobs and entries from a number on, and what a job's row has without its plan.
 use Rattle.std.specs.Prelude.{◌≡◌, ℕ, List, [], filter, IsSome, nat_le}
 use Rattle.std.specs.FinMap.{values}
 use Rattle.sqlite_value.specs.Order.{Row}

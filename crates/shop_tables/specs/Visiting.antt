@@ -1,4 +1,4 @@
--- Parts that are lent one row at a time.
+-- Parts that are visited one row at a time.
 use Rattle.std.specs.Prelude.{◌≡◌, ◌⊎◌, ℕ, Bool, true, false, List, [], ◌∷◌, ◌++◌, ⊤, IsTrue, IfOk, Result, Ok, Err}
 use Rattle.sqlite_value.specs.Order.{Row}
 use Rattle.sqlite_trees.specs.declared.store.Store.{Ghosts}
@@ -57,7 +57,7 @@ module _ {S : Type 0} (g : Ghosts S) (sql : List ℕ) (params : Row) (old : Held
   abbrev pub Answers : List Row → Type 0
   Answers given = (mid : Held S) × (next : Held S) × IsHeldAt mid × Shown sql params (state g mid) (state g next) given
 
-  -- The parts of the first rows were handed to the visitor, and led it to what it is. The result tells how far: to the end,
+  -- The parts of the first rows were handed to the visitor, and led it to what it is. The result says how far: to the end,
   -- or to where the visitor or a row stopped it.
   pub record IsBorrowed {V : Type 0} (looks : V → Part → Bool → V → Type 0) (new : Held S) (before : V) (result : Result VisitEnd TableFault) (after : V) : Type 0 where
     pub given : List Row

@@ -369,7 +369,7 @@ fn adopt_taken<S: Alter>(conn: &mut Connection<S>) -> Result<Adopted, AdoptFault
     adopt_found(conn)
 }
 
-/// Makes the tables where none of their names is taken, in one transaction, goes on with tables of version 3, and tells where
+/// Makes the tables where none of their names is taken, in one transaction, goes on with tables of version 3, and returns where
 /// there are tables of version 2 or 1. It answers `WrongVersion` where a name is taken and they aren't there, or are of another
 /// version, or the totals of version 1 have a row, or tables of version 2 or 1 have an undone part or job, and writes nothing
 /// then.

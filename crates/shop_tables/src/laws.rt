@@ -1,4 +1,4 @@
-//! Limits of what is lent, tied to their numbers.
+//! Limits of a visit of rows, tied to their numbers.
 
 ghost use Rattle.std.specs.Prelude.{◌≡◌};
 ghost use Rattle.shop_tables.specs.declared.visiting.TheConstants.{MAX_ROWS};

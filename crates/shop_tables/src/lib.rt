@@ -11,7 +11,6 @@ mod kept_counts;
 mod last_numbers;
 mod laws;
 mod laying;
-mod visiting;
 mod listed_rows;
 mod listing;
 mod material_lists;
@@ -22,6 +21,7 @@ mod renewing;
 mod reopening;
 mod undone_rows;
 mod valid_rows;
+mod visiting;
 mod writing;
 
 pub use adopting::{AdoptFault, Adopted, adopt_tables};
@@ -32,7 +32,6 @@ pub use kept_counts::{count_kept, count_texts};
 pub use last_numbers::find_last_number;
 pub use laws::visiting_limits;
 pub use laying::statements_make_tables;
-pub use visiting::{VisitEnd, visit_all_parts};
 pub use listing::list_totals;
 pub use material_lists::material_rows;
 pub use note_lists::note_rows;
@@ -47,3 +46,4 @@ pub use valid_rows::{
     NoRow, StoredJob, begun_key_of, begun_of_row, demand_key_of, demand_of_row, job_key_of,
     job_of_row, material_key_of, material_of_row, note_key_of, note_of_row, plan_of_row,
 };
+pub use visiting::{VisitEnd, visit_all_parts};

@@ -117,7 +117,7 @@ pub fn begun_of_row(row: &Row) -> Result<Option<JobBegin>, TableFault>
     Ok(Some(begun))
 }
 
-/// A job as its row tells it, without its plan.
+/// A job as its row has it, without its plan.
 #[derive(Clone, Copy, Debug, PartialEq, Eq)]
 pub struct StoredJob {
     pub number: u32,

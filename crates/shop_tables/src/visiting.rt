@@ -1,4 +1,4 @@
-//! Parts that a query lends one row at a time.
+//! Parts that a query visits one row at a time.
 
 ghost use Rattle.std.specs.Prelude.{◌≡◌, ◌≢◌, true, false, IfOk, IfSome, IfNone};
 ghost use Rattle.sqlite.specs.Held.{state};
@@ -89,7 +89,7 @@ fn visit_rows<S: Alter, V: PartVisitor>(
     Err(TableFault::Store)
 }
 
-/// Hands every part to a visitor, by rising act and then node, for as long as it answers true. What is told is how far it
+/// Hands every part to a visitor, by rising act and then node, for as long as it answers true. The result says how far it
 /// came; after an `Err` and before an invalid row too the parts that were handed out begin all parts. Tables that stand for
 /// books have no invalid row.
 pub fn visit_all_parts<S: Alter, V: PartVisitor>(

@@ -4,7 +4,7 @@ use crate::sheets::flow::{Flow, Reported};
 use crate::sheets::hints::Hints;
 use crate::sheets::job::Job;
 use crate::sheets::units::{Plan, Units};
-use crate::sheets::worker::{TURN, Worker};
+use crate::sheets::worker::{SLICE, Worker};
 use cut_search_bars::stock::SearchSize;
 use cut_wants::wants::Want;
 use std::alloc::{AllocError, Global};
@@ -23,9 +23,9 @@ pub struct Course {
     pub flow: Flow,
     /// For each of its sizes the place of that size in the whole stock.
     places: Vec<usize>,
-    /// How many turns it has had.
-    pub turns: u64,
-    /// How much work of the next turn is done.
+    /// How many slices it has had.
+    pub slices: u64,
+    /// How much work of the next slice is done.
     done: u64,
 }
 
@@ -100,7 +100,7 @@ impl Course {
             worker,
             flow,
             places,
-            turns: 0,
+            slices: 0,
             done: 0,
         })
     }
@@ -114,7 +114,10 @@ impl Course {
     /// A lower bound of the cost of its plans, as far as it knows one.
     pub fn least(&self) -> u64 {
         let job = &self.worker.job;
-        let by_cells = self.flow.least(job).max(job.least_by_cells(&job.order.left));
+        let by_cells = self
+            .flow
+            .least(job)
+            .max(job.least_by_cells(&job.order.left));
         by_cells.max(self.worker.hints.bound)
     }
 
@@ -130,19 +133,19 @@ impl Course {
         Ok(Reported::Nothing)
     }
 
-    /// Goes on with a turn, by about so much work at most. The turn ends when the course reports
-    /// something or the work of the turn is done.
-    pub fn take_turn(
+    /// Goes on with a slice, by about so much work at most. The slice ends when the course reports
+    /// something or the work of the slice is done.
+    pub fn take_slice(
         &mut self,
         alloc: Global,
         most: u64,
         goal: u64,
     ) -> Result<Reported, AllocError> {
-        let rest = TURN.saturating_sub(self.done).max(1);
+        let rest = SLICE.saturating_sub(self.done).max(1);
         let reported = self.run(alloc, rest.min(most), goal)?;
         self.done = self.done.saturating_add(self.worker.spent);
-        if reported != Reported::Nothing || self.done >= TURN {
-            self.turns = self.turns.saturating_add(1);
+        if reported != Reported::Nothing || self.done >= SLICE {
+            self.slices = self.slices.saturating_add(1);
             self.done = 0;
         }
         Ok(reported)

@@ -153,7 +153,7 @@ impl Flow {
         matches!(self.stage, Stage::Packs | Stage::Rest | Stage::Ended)
     }
 
-    /// What all costs at least by its room, where it uses one size alone.
+    /// What all costs at least by its area, where it uses one size alone.
     pub fn least(&self, job: &Job) -> u64 {
         match self.only {
             Some(size) => {
@@ -172,7 +172,7 @@ impl Flow {
     }
 
     /// Goes on to a stage.
-    fn turn(&mut self, stage: Stage) {
+    fn go_to(&mut self, stage: Stage) {
         self.stage = stage;
         self.round = 0;
         self.begun = self.fillings;
@@ -182,13 +182,13 @@ impl Flow {
     /// Goes on to what is left where no lower cost can be found.
     pub fn finish(&mut self) {
         if !self.has_cost() {
-            self.turn(Stage::Packs);
+            self.go_to(Stage::Packs);
         }
     }
 
     /// Ends it.
     pub fn stop(&mut self) {
-        self.turn(Stage::Ended);
+        self.go_to(Stage::Ended);
     }
 
     /// Remembers the plans of units for the programs.

@@ -282,7 +282,7 @@ impl GiveUp {
         }))
     }
 
-    /// Sizes for new units that cost no more than the room together.
+    /// Sizes for new units that cost no more than the budget together.
     fn sizes_for(
         &self,
         alloc: Global,

@@ -29,7 +29,7 @@ const MIN_WEIGHT: u64 = 667;
 /// That weight at most.
 const MAX_WEIGHT: u64 = 1500;
 
-/// How much the power of a room is above 1 at least, in 1000ths.
+/// How much the power of an area is above 1 at least, in 1000ths.
 const MIN_POWER: u64 = 20;
 
 /// How much it is at most.
@@ -66,8 +66,8 @@ pub struct Greedy {
     most_cost: u64,
 }
 
-/// What a unit of a size is worth at most: all that is left, or its room at the greatest value of a
-/// piece's room.
+/// What a unit of a size is worth at most: all that is left, or its area at the greatest value of a
+/// piece's area.
 fn most_value(job: &Job, size: usize, left: &[u32], values: &[u64]) -> u64 {
     let unit = job.unit_cells(size);
     let mut most = 0u128;

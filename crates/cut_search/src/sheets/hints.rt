@@ -1,4 +1,4 @@
-//! What pieces and sizes are worth, by their room and by the prices of the bound.
+//! What pieces and sizes are worth, by their area and by the prices of the bound.
 
 use crate::sheets::ceilings::Ceilings;
 use crate::sheets::job::Job;
@@ -8,15 +8,15 @@ use std::alloc::{AllocError, Global};
 /// Values count 1024ths of a cell.
 pub const VALUE_PARTS: u64 = 1024;
 
-/// How much prices count in a mixed value, in 1000ths; room has the rest.
+/// How much prices count in a mixed value, in 1000ths; area has the rest.
 const PRICE_SHARE: u128 = 800;
 
 /// Hints for the search.
 #[derive(Drop)]
 pub struct Hints {
-    /// What a piece of each want is worth by its room.
+    /// What a piece of each want is worth by its area.
     pub cells: Vec<u64>,
-    /// What it is worth by prices, with some room.
+    /// What it is worth by prices, with some area.
     pub priced: Vec<u64>,
     /// What a unit of each size is worth for its cost.
     pub rates: Vec<u64>,
@@ -24,7 +24,7 @@ pub struct Hints {
     pub bound: u64,
 }
 
-/// What pieces are worth by prices and by their room, so that both give the same in all.
+/// What pieces are worth by prices and by their area, so that both give the same in all.
 pub fn mixed(
     alloc: Global,
     order: &Order,
@@ -53,7 +53,7 @@ pub fn mixed(
 }
 
 impl Hints {
-    /// Hints by room alone.
+    /// Hints by area alone.
     pub fn new(alloc: Global, job: &Job) -> Result<Hints, AllocError> {
         let mut cells = Vec::new(alloc);
         for area in &job.order.piece_cells {

@@ -162,7 +162,7 @@ impl Job {
         false
     }
 
-    /// Whether a unit of a size might hold all of the pieces: each of them, and their room.
+    /// Whether a unit of a size might hold all of the pieces: each of them, and their area.
     pub fn might_hold(&self, size: usize, counts: &[u32]) -> bool {
         let (w, h) = self.sides_of(size);
         for (count, piece) in counts.iter().zip(&self.pieces) {
@@ -173,12 +173,12 @@ impl Job {
         self.cells_in(counts) <= self.unit_cells(size)
     }
 
-    /// The room of a unit.
+    /// The area of a unit.
     pub fn unit_cells(&self, size: usize) -> u64 {
         self.order.unit_cells.get(size).copied().unwrap_or(1).max(1)
     }
 
-    /// The room that pieces take.
+    /// The area that pieces take.
     pub fn cells_in(&self, counts: &[u32]) -> u64 {
         sum_of(counts, &self.order.piece_cells)
     }
@@ -207,7 +207,7 @@ impl Job {
         Ok(numbers)
     }
 
-    /// What all that is left costs at least by its room, at the least cost of room.
+    /// What all that is left costs at least by its area, at the least cost of area.
     pub fn least_by_cells(&self, left: &[u32]) -> u64 {
         self.order.least_by_cells(left)
     }

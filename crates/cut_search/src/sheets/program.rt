@@ -169,7 +169,7 @@ impl Program {
 
     /// The place among its sizes of the size that is asked for now, and that size. Goes on to the
     /// next place.
-    fn turn(&mut self) -> Option<(usize, usize)> {
+    fn next_size(&mut self) -> Option<(usize, usize)> {
         let place = self.next;
         let next = place.saturating_add(1);
         self.next = if next < self.sizes.len() { next } else { 0 };
@@ -181,7 +181,7 @@ impl Program {
     /// gains, or no filling is left.
     fn ask(&mut self, alloc: Global, worker: &mut Worker) -> Result<bool, AllocError> {
         self.prices = self.master.want_prices(alloc, self.left.len())?;
-        let Some((place, size)) = self.turn() else {
+        let Some((place, size)) = self.next_size() else {
             return Ok(true);
         };
         let filled = worker.fill(alloc, size, &self.left, &self.prices, WIDE_BEAM)?;

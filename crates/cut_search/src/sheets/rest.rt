@@ -139,7 +139,7 @@ impl Pack {
     }
 
     /// Goes to the other axis. Whether there is none.
-    fn turn(&mut self, job: &Job) -> bool {
+    fn next_axis(&mut self, job: &Job) -> bool {
         if self.axis == Axis::Y {
             return true;
         }
@@ -154,14 +154,14 @@ impl Pack {
         if self.fill(alloc, worker, side)? {
             self.high = self.at;
         } else if self.at >= side {
-            return Ok(self.turn(&worker.job));
+            return Ok(self.next_axis(&worker.job));
         } else {
             self.low = self.at;
         }
         self.tries = self.tries.saturating_sub(1);
         let span = self.high.saturating_sub(self.low);
         if self.tries == 0 || span <= (side / FINENESS).max(1) {
-            return Ok(self.turn(&worker.job));
+            return Ok(self.next_axis(&worker.job));
         }
         self.at = self.low.saturating_add(span / 2);
         Ok(false)

@@ -4,13 +4,13 @@
 use crate::sheets::best::{Best, found_units};
 use crate::sheets::course::{Course, places_with};
 use crate::sheets::flow::Reported;
-use crate::sheets::worker::{MAX_WORK, TURN};
+use crate::sheets::worker::{MAX_WORK, SLICE};
 use cut_search_bars::found::{Found, FoundUnit};
 use cut_search_bars::stock::SearchSize;
 use cut_wants::wants::Want;
 use std::alloc::{AllocError, Global};
 
-/// The courses over one size may be so many turns ahead of the calls of the search. A call of a query
+/// The courses over one size may be so many slices ahead of the calls of the search. A call of a query
 /// that rates prices isn't a call of the search, and a query for one size alone may have fewer of
 /// these.
 const AHEAD: u64 = 2;
@@ -117,16 +117,16 @@ impl SheetSearch {
         }
     }
 
-    /// The place of the course over one size that has had the fewest turns, among those that still
-    /// have turns to come.
+    /// The place of the course over one size that has had the fewest slices, among those that still
+    /// have slices to come.
     fn next_alone(&self) -> Option<usize> {
         let mut next: Option<(u64, usize)> = None;
         let target = self.calls.saturating_add(AHEAD);
         for (place, course) in self.alone.iter().enumerate() {
-            let turns = course.turns;
-            let is_behind = turns < target && !course.flow.has_ended();
-            if is_behind && next.map_or(true, |(least, _)| turns < least) {
-                next = Some((turns, place));
+            let slices = course.slices;
+            let is_behind = slices < target && !course.flow.has_ended();
+            if is_behind && next.map_or(true, |(least, _)| slices < least) {
+                next = Some((slices, place));
             }
         }
         next.map(|(_, place)| place)
@@ -161,7 +161,7 @@ impl SheetSearch {
             }
             if let Some(course) = self.alone.get_mut(place) {
                 let own = course.flow.best.cost;
-                let reported = course.take_turn(alloc, rest, own)?;
+                let reported = course.take_slice(alloc, rest, own)?;
                 spent = spent.saturating_add(course.worker.spent).saturating_add(1);
                 if reported == Reported::Units {
                     self.take_units(alloc, place)?;
@@ -237,7 +237,7 @@ impl SheetSearch {
         self.leave();
         let spent = self.go_on_alone(alloc)?;
         let rest = if self.alone.is_empty() {
-            TURN
+            SLICE
         } else {
             MAX_WORK.saturating_sub(spent)
         };

@@ -22,8 +22,8 @@ const GUIDE_POINTS: usize = 96;
 /// So much work a call does at most, in some 50 microseconds each.
 pub const MAX_WORK: u64 = 500;
 
-/// So much work is a turn of a course, a third of a call's.
-pub const TURN: u64 = 170;
+/// So much work is a slice of a course, a third of a call's.
+pub const SLICE: u64 = 170;
 
 /// So many looks of a filling are a worker's work.
 const LOOKS_A_WORK: u64 = 1600;

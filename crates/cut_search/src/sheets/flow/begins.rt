@@ -63,7 +63,7 @@ const NEAR: u128 = 300;
 /// So many of the emptiest units are put narrow or low over several sizes.
 const MAX_PACKED: usize = 3;
 
-/// The batches with the most room that isn't filled, the emptiest last.
+/// The batches with the most area that isn't filled, the emptiest last.
 fn emptiest(
     alloc: Global,
     worker: &Worker,
@@ -90,12 +90,12 @@ impl Flow {
     /// Begins the quick plan.
     fn begin_quick(&mut self, alloc: Global, worker: &mut Worker) -> Result<(), AllocError> {
         if self.round > 0 {
-            self.turn(Stage::Rounds);
+            self.go_to(Stage::Rounds);
             if self.only.is_some() && self.best.missing > 0 {
                 self.only = None;
             }
             if self.only.is_none() {
-                self.turn(Stage::Bound);
+                self.go_to(Stage::Bound);
             }
             return Ok(());
         }
@@ -108,7 +108,7 @@ impl Flow {
     /// Begins a round of plans from nothing over several sizes.
     fn begin_mixed_round(&mut self, alloc: Global, worker: &mut Worker) -> Result<(), AllocError> {
         if self.round >= MIXED_ROUNDS || self.is_met(worker) {
-            self.turn(Stage::Plans);
+            self.go_to(Stage::Plans);
             return Ok(());
         }
         let mut values = Vec::new(alloc);
@@ -130,7 +130,7 @@ impl Flow {
         next: Stage,
     ) -> Result<(), AllocError> {
         if self.round >= ROUNDS || self.is_met(worker) {
-            self.turn(next);
+            self.go_to(next);
             return Ok(());
         }
         if self.round == 0 {
@@ -222,17 +222,17 @@ impl Flow {
             (_, Some(_)) => Stage::Priced,
             (_, None) => Stage::Rounds,
         };
-        self.turn(next);
+        self.go_to(next);
     }
 
     /// Begins a dive.
     fn begin_dive(&mut self, alloc: Global, worker: &Worker) -> Result<(), AllocError> {
         let Some(program) = self.program.take() else {
-            self.turn(Stage::Gains);
+            self.go_to(Stage::Gains);
             return Ok(());
         };
         if self.is_met(worker) {
-            self.turn(Stage::Gains);
+            self.go_to(Stage::Gains);
             return Ok(());
         }
         let most = self.best.cost.saturating_sub(1);
@@ -260,7 +260,7 @@ impl Flow {
         } else {
             Stage::More
         };
-        self.turn(next);
+        self.go_to(next);
     }
 
     /// Whether units are given up no more in this stage.
@@ -299,7 +299,7 @@ impl Flow {
             return Ok(cells);
         }
         if self.best.missing > 0 && self.best.missing < u64::MAX {
-            // as many pieces as can be: each counts the same, and a little its room
+            // as many pieces as can be: each counts the same, and a little its area
             let mut most = 1u64;
             for cells in &hints.cells {
                 most = most.max(*cells);
@@ -428,7 +428,7 @@ impl Flow {
     /// Begins to pack the emptiest units of the best plan.
     fn begin_packs(&mut self, alloc: Global, worker: &Worker) -> Result<(), AllocError> {
         let Some(best) = &self.best.units else {
-            self.turn(Stage::Ended);
+            self.go_to(Stage::Ended);
             return Ok(());
         };
         if self.fillings == self.begun && self.packed.is_empty() {
@@ -436,12 +436,12 @@ impl Flow {
             self.packed = emptiest(alloc, worker, best, most)?;
         }
         if self.packed.is_empty() {
-            self.turn(Stage::Rest);
+            self.go_to(Stage::Rest);
             return Ok(());
         }
         self.begin_pack(alloc, worker)?;
         if matches!(self.task, Task::Nothing) {
-            self.turn(Stage::Rest);
+            self.go_to(Stage::Rest);
         }
         Ok(())
     }
@@ -449,11 +449,11 @@ impl Flow {
     /// Begins to fill units again for a large rest: the emptiest one is given up.
     fn begin_rest(&mut self, alloc: Global, worker: &Worker) -> Result<(), AllocError> {
         let Some(best) = &self.best.units else {
-            self.turn(Stage::Ended);
+            self.go_to(Stage::Ended);
             return Ok(());
         };
         if self.round > 0 || best.batches.len() >= MAX_BATCHES / 2 || best.count() < 2 {
-            self.turn(Stage::Ended);
+            self.go_to(Stage::Ended);
             return Ok(());
         }
         self.round = 1;

@@ -93,7 +93,7 @@ impl Flow {
             Some(_) => Stage::Bound,
             None => Stage::Dive,
         };
-        self.turn(next);
+        self.go_to(next);
     }
 
     /// Ends a dive.
@@ -103,7 +103,7 @@ impl Flow {
         worker: &Worker,
         dive: Dive,
     ) -> Result<Reported, AllocError> {
-        self.turn(Stage::Gains);
+        self.go_to(Stage::Gains);
         let units = dive.units;
         if self.only.is_some() {
             return self.offer(alloc, worker, &units);
@@ -233,7 +233,7 @@ impl Flow {
     ) -> Result<Reported, AllocError> {
         let is_over = self.fillings >= self.begun.saturating_add(REST_FILLINGS);
         if is_over || given == Given::Tired {
-            self.turn(Stage::Ended);
+            self.go_to(Stage::Ended);
             return Ok(Reported::Nothing);
         }
         if given == Given::Less {

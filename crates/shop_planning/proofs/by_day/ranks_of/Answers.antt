@@ -1,6 +1,6 @@
 use Rattle.std.proofs.Common.{◌∙◌}
-use Rattle.shop_planning.proofs.DayTurns.{turn_more}
-use Rattle.shop_planning.proofs.by_day.turns_of.Goals as goal
+use Rattle.shop_planning.proofs.DayRanks.{rank_more}
+use Rattle.shop_planning.proofs.by_day.ranks_of.Goals as goal
 
 pub loop-row-preserved : goal.loop-row-preserved
 loop-row-preserved g c =
@@ -13,8 +13,8 @@ loop-row-preserved g c =
         crash = λ clean_disk m held left may. before.crash (one.clean_disk clean_disk) m held left (one.crash clean_disk m (before.stays (one.clean_disk clean_disk) m held) left may);
         failures = one.failures ∙ before.failures;
       };
-      turns = λ clean_disk m held.
-          turn_more m c.args.rows.now c.loop-row.row-index c.row-item.result c.loop-row.turns.items c.push_turn.new.turns.items c.in_ok-day.day c.make_turn.result c.loop-row-test.true c.row-item.is
-          (c.loop-row.invariant.turns (one.clean_disk clean_disk) m held) c.in_ok-push_turn.ensures c.make_turn.ensures.value c.make_turn.ensures.ranges
+      ranks = λ clean_disk m held.
+          rank_more m c.args.rows.now c.loop-row.row-index c.row-item.result c.loop-row.ranks.items c.push_rank.new.ranks.items c.in_ok-day.day c.make_rank.result c.loop-row-test.true c.row-item.is
+          (c.loop-row.invariant.ranks (one.clean_disk clean_disk) m held) c.in_ok-push_rank.ensures c.make_rank.ensures.value c.make_rank.ensures.ranges
           (c.in_ok-day.ensures.day clean_disk m (before.stays (one.clean_disk clean_disk) m held));
     }

@@ -13,15 +13,15 @@ use Rattle.shop_records.specs.declared.records.Demand.{Demand}
 use Rattle.shop_records.specs.Content.{Content}
 use Rattle.shop_records.specs.Lists.{due_of, is_due_before}
 use Rattle.shop_answers.specs.declared.planning.FoundDemand.{FoundDemand}
-use Rattle.shop_planning.specs.declared.by_day.Turn.{Turn}
+use Rattle.shop_planning.specs.declared.by_day.Ranked.{Ranked}
 use Rattle.shop_planning.specs.Asked.{before_it, first_by_day, with_row}
-use Rattle.shop_planning.specs.ByDay.{HasTurn, HaveTurns, IsLast, is_taken, turn_by, turn_of, turns_in, with_turn}
+use Rattle.shop_planning.specs.ByDay.{HasRank, HaveRanks, IsLast, is_taken, rank_by, rank_of, ranks_in, with_rank}
 
 by_test : {R : Type 0} (b : Bool) → (b ≡ true → R) → (b ≡ false → R) → R
 by_test true f g = f refl
 by_test false f g = g refl
 
--- ---- the last that is taken, where turns rise
+-- ---- the last that is taken, where ranks rise
 
 abbrev below : ℕ → List ℕ → ℕ
 below t s = count_by (λ other. nat_lt other t) s
@@ -88,13 +88,13 @@ pub got : (s : List ℕ) (k : ℕ) (found : Option (Bor ℕ)) (P : Bor ℕ → T
 got s k None P some match = none_at s k match
 got s k (Some x) P some match = ap Some some ∙ sym (slice_get-get_or s k x.now match.0)
 
--- the 100th of the turns in order is the last
-pub last_is : (turns sorted : List ℕ) → IsPermutation turns sorted → IsNonDecreasing sorted → IsLast (slice_get sorted (MAX_ORDER_WANTS - 1)) turns
-last_is turns sorted moved up turn =
-    last_in turn sorted (MAX_ORDER_WANTS - 1) up
-    ∙ ap (λ n. nat_lt n MAX_ORDER_WANTS) (sum_by-IsPermutation (λ other. cond {A = ℕ} (nat_lt other turn) 1 0) turns sorted moved)
+-- the 100th of the ranks in order is the last
+pub last_is : (ranks sorted : List ℕ) → IsPermutation ranks sorted → IsNonDecreasing sorted → IsLast (slice_get sorted (MAX_ORDER_WANTS - 1)) ranks
+last_is ranks sorted moved up rank =
+    last_in rank sorted (MAX_ORDER_WANTS - 1) up
+    ∙ ap (λ n. nat_lt n MAX_ORDER_WANTS) (sum_by-IsPermutation (λ other. cond {A = ℕ} (nat_lt other rank) 1 0) ranks sorted moved)
 
--- ---- turns are the order by day
+-- ---- ranks are the order by day
 
 abbrev place : ℕ → ℕ
 place day = if day == 0 then 4294967295 else day - 1
@@ -115,16 +115,16 @@ place_day : (day : ℕ) → (day == 0) ≡ false → place day ≡ day - 1
 place_day day is = ap {B = ℕ} (λ b. if b then 4294967295 else day - 1) is
 
 in_turn : (x y n k : ℕ) → x < 4294967296 → n < 4294967296 → y < 4294967296 → k < 4294967296
-    → (if x == y then nat_lt n k else (if y == 0 then true else (if x == 0 then false else nat_lt x y))) ≡ nat_lt (turn_by x n) (turn_by y k)
+    → (if x == y then nat_lt n k else (if y == 0 then true else (if x == 0 then false else nat_lt x y))) ≡ nat_lt (rank_by x n) (rank_by y k)
 in_turn x y n k hx hn hy hk =
-    cond_both (x == y) (nat_lt n k) (if y == 0 then true else (if x == 0 then false else nat_lt x y)) (λ r. r ≡ nat_lt (turn_by x n) (turn_by y k))
-    (λ is. sym (equal (place x) n k) ∙ ap (λ z. nat_lt (turn_by x n) (turn_by z k)) (eqb-true x y is))
-    (λ no. cond_both (y == 0) true (if x == 0 then false else nat_lt x y) (λ r. r ≡ nat_lt (turn_by x n) (turn_by y k))
+    cond_both (x == y) (nat_lt n k) (if y == 0 then true else (if x == 0 then false else nat_lt x y)) (λ r. r ≡ nat_lt (rank_by x n) (rank_by y k))
+    (λ is. sym (equal (place x) n k) ∙ ap (λ z. nat_lt (rank_by x n) (rank_by z k)) (eqb-true x y is))
+    (λ no. cond_both (y == 0) true (if x == 0 then false else nat_lt x y) (λ r. r ≡ nat_lt (rank_by x n) (rank_by y k))
     (λ none. let yz = eqb-true y 0 none in let ne = eqb-false x y no in let py = place_none y none in
     let px = place_day x (ne_eqb x 0 (λ e. ne (e ∙ sym yz))) in
     sym (lower (place x) (place y) n k (omega (arith, px, py)) hn))
     (λ day. let yn = eqb-false y 0 day in let py = place_day y day in
-    cond_both (x == 0) false (nat_lt x y) (λ r. r ≡ nat_lt (turn_by x n) (turn_by y k))
+    cond_both (x == 0) false (nat_lt x y) (λ r. r ≡ nat_lt (rank_by x n) (rank_by y k))
     (λ none. let px = place_none x none in sym (higher (place x) (place y) n k (omega (arith, px, py)) hk))
     (λ some. let xn = eqb-false x 0 some in let px = place_day x some in let ne = eqb-false x y no in
     by_test (nat_lt x y)
@@ -138,51 +138,51 @@ in_turn x y n k hx hn hy hk =
     strict : (a b : ℕ) → b ≤ a → (a ≡ b → ⊥) → b < a
     strict a b le ne = by_test (nat_lt b a) (λ is. ltb-true b a is) (λ is. let back = ltb-false b a is in absurd (ne (omega (arith, back))))
 
-before_by_turn : (m : Content) (a b : Demand) → HasTurn m a → HasTurn m b → is_due_before m a b ≡ nat_lt (turn_of m a) (turn_of m b)
-before_by_turn m a b here there = in_turn (due_of m a.order) (due_of m b.order) a.number b.number here.0 here.1 there.0 there.1
+before_by_rank : (m : Content) (a b : Demand) → HasRank m a → HasRank m b → is_due_before m a b ≡ nat_lt (rank_of m a) (rank_of m b)
+before_by_rank m a b here there = in_turn (due_of m a.order) (due_of m b.order) a.number b.number here.0 here.1 there.0 there.1
 
--- ---- so those up to the last turn are the first by day
+-- ---- so those up to the last rank are the first by day
 
-counted : (m : Content) (d : Demand) → HasTurn m d → (rows : List Demand) → All (HasTurn m) rows
-    → below (turn_of m d) (turns_in (map (with_turn m) rows)) ≡ before_it m rows d
+counted : (m : Content) (d : Demand) → HasRank m d → (rows : List Demand) → All (HasRank m) rows
+    → below (rank_of m d) (ranks_in (map (with_rank m) rows)) ≡ before_it m rows d
 counted m d has [] all = refl
 counted m d has (row ∷ rows) all =
-    below_cons (turn_of m d) (turn_of m row) (turns_in (map (with_turn m) rows))
-    ∙ ap (λ b. cond {A = ℕ} b 1 0 + below (turn_of m d) (turns_in (map (with_turn m) rows))) (sym (before_by_turn m row d (All-head (HasTurn m) row rows all) has))
-    ∙ ap (λ n. cond {A = ℕ} (is_due_before m row d) 1 0 + n) (counted m d has rows (All-tail (HasTurn m) row rows all))
+    below_cons (rank_of m d) (rank_of m row) (ranks_in (map (with_rank m) rows))
+    ∙ ap (λ b. cond {A = ℕ} b 1 0 + below (rank_of m d) (ranks_in (map (with_rank m) rows))) (sym (before_by_rank m row d (All-head (HasRank m) row rows all) has))
+    ∙ ap (λ n. cond {A = ℕ} (is_due_before m row d) 1 0 + n) (counted m d has rows (All-tail (HasRank m) row rows all))
     ∙ sym (sum_by-cons (λ other. cond {A = ℕ} (is_due_before m other d) 1 0) row rows)
 
-chosen : (m : Content) (last : Option ℕ) (p : Demand → Bool) (rows : List Demand) → All (λ d. is_taken last (turn_of m d) ≡ p d) rows
-    → map (λ (t : Turn). with_row t.row) (filter (λ (t : Turn). is_taken last t.turn) (map (with_turn m) rows)) ≡ map with_row (filter p rows)
+chosen : (m : Content) (last : Option ℕ) (p : Demand → Bool) (rows : List Demand) → All (λ d. is_taken last (rank_of m d) ≡ p d) rows
+    → map (λ (t : Ranked). with_row t.row) (filter (λ (t : Ranked). is_taken last t.rank) (map (with_rank m) rows)) ≡ map with_row (filter p rows)
 chosen m last p [] all = refl
 chosen m last p (d ∷ rows) all =
-    ap (λ b. map (λ (t : Turn). with_row t.row) (cond b (with_turn m d ∷ more) more)) (All-head (λ e. is_taken last (turn_of m e) ≡ p e) d rows all)
-    ∙ by (p d) (chosen m last p rows (All-tail (λ e. is_taken last (turn_of m e) ≡ p e) d rows all))
+    ap (λ b. map (λ (t : Ranked). with_row t.row) (cond b (with_rank m d ∷ more) more)) (All-head (λ e. is_taken last (rank_of m e) ≡ p e) d rows all)
+    ∙ by (p d) (chosen m last p rows (All-tail (λ e. is_taken last (rank_of m e) ≡ p e) d rows all))
   where
-    more : List Turn
-    more = filter (λ (t : Turn). is_taken last t.turn) (map (with_turn m) rows)
+    more : List Ranked
+    more = filter (λ (t : Ranked). is_taken last t.rank) (map (with_rank m) rows)
 
-    by : (b : Bool) → map (λ (t : Turn). with_row t.row) more ≡ map with_row (filter p rows)
-        → map (λ (t : Turn). with_row t.row) (cond b (with_turn m d ∷ more) more) ≡ map with_row (cond b (d ∷ filter p rows) (filter p rows))
+    by : (b : Bool) → map (λ (t : Ranked). with_row t.row) more ≡ map with_row (filter p rows)
+        → map (λ (t : Ranked). with_row t.row) (cond b (with_rank m d ∷ more) more) ≡ map with_row (cond b (d ∷ filter p rows) (filter p rows))
     by true rest = ap (λ (l : List FoundDemand). with_row d ∷ l) rest
     by false rest = rest
 
-pub taken_by_day : (m : Content) (rows : List Demand) (turns : List Turn) (last : Option ℕ) → HaveTurns m rows turns → IsLast last (turns_in turns)
-    → map (λ (t : Turn). with_row t.row) (filter (λ (t : Turn). is_taken last t.turn) turns) ≡ map with_row (first_by_day m rows)
-taken_by_day m rows turns last have is =
-    ap (λ l. map (λ (t : Turn). with_row t.row) (filter (λ (t : Turn). is_taken last t.turn) l)) have.0
+pub taken_by_day : (m : Content) (rows : List Demand) (ranks : List Ranked) (last : Option ℕ) → HaveRanks m rows ranks → IsLast last (ranks_in ranks)
+    → map (λ (t : Ranked). with_row t.row) (filter (λ (t : Ranked). is_taken last t.rank) ranks) ≡ map with_row (first_by_day m rows)
+taken_by_day m rows ranks last have is =
+    ap (λ l. map (λ (t : Ranked). with_row t.row) (filter (λ (t : Ranked). is_taken last t.rank) l)) have.0
     ∙ chosen m last (λ d. nat_lt (before_it m rows d) MAX_ORDER_WANTS) rows
-    (All-weaker (HasTurn m) (λ d. is_taken last (turn_of m d) ≡ nat_lt (before_it m rows d) MAX_ORDER_WANTS)
-    (λ d has. is (turn_of m d) ∙ ap (λ l. nat_lt (below (turn_of m d) (turns_in l)) MAX_ORDER_WANTS) have.0 ∙ ap (λ n. nat_lt n MAX_ORDER_WANTS) (counted m d has rows have.1)) rows have.1)
+    (All-weaker (HasRank m) (λ d. is_taken last (rank_of m d) ≡ nat_lt (before_it m rows d) MAX_ORDER_WANTS)
+    (λ d has. is (rank_of m d) ∙ ap (λ l. nat_lt (below (rank_of m d) (ranks_in l)) MAX_ORDER_WANTS) have.0 ∙ ap (λ n. nat_lt n MAX_ORDER_WANTS) (counted m d has rows have.1)) rows have.1)
 
--- ---- one turn more
+-- ---- one rank more
 
-pub turn_more : (m : Content) (rows : List Demand) (i : ℕ) (row : Demand) (turns new : List Turn) (day turn : ℕ) → i < length rows → row ≡ get_or rows i row
-    → HaveTurns m (take i rows) turns → new ≡ turns ++ record { row = row; turn = turn } ∷ [] → turn ≡ turn_by day row.number
-    → (day < 4294967296) × (row.number < 4294967296) → day ≡ due_of m row.order → HaveTurns m (take (i + 1) rows) new
-turn_more m rows i row turns new day turn lt at have pushed value ranges is = (
-  pushed ∙ ap (λ l. l ++ record { row = row; turn = turn } ∷ []) have.0
-      ∙ ap (λ n. map (with_turn m) (take i rows) ++ record { row = row; turn = n } ∷ []) (value ∙ ap (λ d. turn_by d row.number) is)
-      ∙ ap (λ (r : Demand). map (with_turn m) (take i rows) ++ with_turn m r ∷ []) at ∙ sym (map_more (with_turn m) rows i row lt),
-  All-more (HasTurn m) rows i row lt have.1 (subst (HasTurn m) at (subst (λ d. d < 4294967296) is ranges.0, ranges.1)),
+pub rank_more : (m : Content) (rows : List Demand) (i : ℕ) (row : Demand) (ranks new : List Ranked) (day rank : ℕ) → i < length rows → row ≡ get_or rows i row
+    → HaveRanks m (take i rows) ranks → new ≡ ranks ++ record { row = row; rank = rank } ∷ [] → rank ≡ rank_by day row.number
+    → (day < 4294967296) × (row.number < 4294967296) → day ≡ due_of m row.order → HaveRanks m (take (i + 1) rows) new
+rank_more m rows i row ranks new day rank lt at have pushed value ranges is = (
+  pushed ∙ ap (λ l. l ++ record { row = row; rank = rank } ∷ []) have.0
+      ∙ ap (λ n. map (with_rank m) (take i rows) ++ record { row = row; rank = n } ∷ []) (value ∙ ap (λ d. rank_by d row.number) is)
+      ∙ ap (λ (r : Demand). map (with_rank m) (take i rows) ++ with_rank m r ∷ []) at ∙ sym (map_more (with_rank m) rows i row lt),
+  All-more (HasRank m) rows i row lt have.1 (subst (HasRank m) at (subst (λ d. d < 4294967296) is ranges.0, ranges.1)),
 )
