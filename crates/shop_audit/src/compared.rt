@@ -19,6 +19,15 @@ fn same_import(one: &Option<ImportRow>, other: &Option<ImportRow>) -> bool
     }
 }
 
+/// What reading a row failed of: the store, if the row is none of a book's, as an audited store is held in memory. Any other
+/// fault is handed on.
+pub(crate) fn unread(fault: BookFault) -> Result<(), BookFault> {
+    match fault {
+        BookFault::Store => Ok(()),
+        other => Err(other),
+    }
+}
+
 // Whether both books keep the same of an order's import.
 fn has_same_import<B: Book, F: Book>(
     alloc: Global,
@@ -31,9 +40,16 @@ fn has_same_import<B: Book, F: Book>(
     ensures keeps { IsLookedAt B.Book book.old book.new }
     ensures keeps_anew { IsLookedAt F.Book anew.old anew.new }
 {
-    let one = book.import(alloc, code)?;
-    let other = anew.import(alloc, code)?;
-    Ok(same_import(&one, &other))
+    match book.import(alloc, code) {
+        Ok(one) => {
+            let other = anew.import(alloc, code)?;
+            Ok(same_import(&one, &other))
+        }
+        Err(fault) => {
+            unread(fault)?;
+            Ok(false)
+        }
+    }
 }
 
 // Whether both books keep the same of the imports of these orders.
@@ -101,8 +117,13 @@ fn has_same_halt<B: Book, F: Book>(
     let Some(row) = anew.halt(alloc, number)? else {
         return Ok(true);
     };
-    let found = book.halt(alloc, number)?;
-    Ok(is_halt(&found, &row))
+    match book.halt(alloc, number) {
+        Ok(found) => Ok(is_halt(&found, &row)),
+        Err(fault) => {
+            unread(fault)?;
+            Ok(false)
+        }
+    }
 }
 
 // Whether a book keeps the same as the new one of where the work on the new one's jobs below a number halted.

@@ -1,5 +1,6 @@
 //! Which row two books differ by first, the tables by their names and each by its key.
 
+use crate::compared::unread;
 use crate::rows::Row;
 use cut_measure::{Code, MAX_NUMBERS, PartName};
 use shop_book::{Book, BookFault, Ledger, StrayUse, is_same_halt};
@@ -38,6 +39,21 @@ fn same_halt(one: &Option<JobHalt>, other: &Option<JobHalt>) -> bool {
     }
 }
 
+fn is_other_halt<B: Book, F: Book>(
+    alloc: Global,
+    book: &mut B,
+    anew: &mut F,
+    number: u32,
+) -> Result<bool, BookFault> {
+    match book.halt(alloc, number) {
+        Ok(found) => Ok(!same_halt(&found, &anew.halt(alloc, number)?)),
+        Err(fault) => {
+            unread(fault)?;
+            Ok(true)
+        }
+    }
+}
+
 fn first_halt<B: Book, F: Book>(
     alloc: Global,
     book: &mut B,
@@ -45,7 +61,7 @@ fn first_halt<B: Book, F: Book>(
 ) -> Result<Option<Row>, BookFault> {
     let behind = book.next_act()?.max(anew.next_act()?);
     for number in 1..behind {
-        if !same_halt(&book.halt(alloc, number)?, &anew.halt(alloc, number)?) {
+        if is_other_halt(alloc, book, anew, number)? {
             return Ok(Some(Row::Halt(number)));
         }
     }
@@ -94,6 +110,21 @@ fn first_job<B: Book, F: Book>(
     Ok(None)
 }
 
+fn is_other_import<B: Book, F: Book>(
+    alloc: Global,
+    book: &mut B,
+    anew: &mut F,
+    code: Code,
+) -> Result<bool, BookFault> {
+    match book.import(alloc, code) {
+        Ok(found) => Ok(found != anew.import(alloc, code)?),
+        Err(fault) => {
+            unread(fault)?;
+            Ok(true)
+        }
+    }
+}
+
 // The first of the orders of one book of whose import the books don't keep the same.
 fn first_import_of<B: Book, F: Book>(
     alloc: Global,
@@ -102,7 +133,7 @@ fn first_import_of<B: Book, F: Book>(
     codes: &[Code],
 ) -> Result<Option<Code>, BookFault> {
     for code in codes {
-        if book.import(alloc, *code)? != anew.import(alloc, *code)? {
+        if is_other_import(alloc, book, anew, *code)? {
             return Ok(Some(*code));
         }
     }

@@ -22,6 +22,9 @@ use shop_rules::{
 };
 use std::alloc::{AllocError, Global};
 
+/// More entries than memory holds, and no more than a store can be asked for at once.
+const MAX_READ: usize = 4294967295;
+
 // The time of the first entry, 0 if there is none.
 fn first_time<B: Book>(book: &mut B) -> Result<u64, BookFault>
     ensures time { OnContent B.Book book.old book.new (λ m. IfOk result (λ at. at ≡ first_time m)) }
@@ -199,7 +202,7 @@ fn reported_first<B: Book>(
     }
 }
 
-// The same of all entries with greater numbers, whose list isn't longer than memory.
+// The same of all entries with greater numbers.
 fn reported_last<B: Book>(
     alloc: Global,
     book: &mut B,
@@ -210,7 +213,7 @@ fn reported_last<B: Book>(
         (λ reported. Reports m (entries_for m about.now after) reported.0 reported.1)) }
     ensures keeps { Unchanged B.Book (CountsFailure result) book.old book.new }
 {
-    match reported_first(alloc, book, about, after, usize::MAX)? {
+    match reported_first(alloc, book, about, after, MAX_READ)? {
         Some(reported) => Ok(reported),
         None => Err(BookFault::NoMemory),
     }

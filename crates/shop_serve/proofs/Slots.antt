@@ -12,14 +12,14 @@ use Rattle.std.specs.declared.time.Instant.{Instant}
 use Rattle.shop_serve.proofs.Counts.{count-but, count-fewer, one, one-most, one-none}
 use Rattle.shop_serve.specs.Clients.{ClosesLate, IsFresh, IsOpened, IsTurnedAway, EvictsOldest, in_time, is_late, is_unanswered, unanswered}
 
--- it is watched under the key that it was put under
-pub watched-at : {E : Type 0} (r : Result ℕ E) (reported free : ℕ) (Watched : ℕ → Type 0) → reported ≡ free → Watched reported → IfOk r (λ k. k ≡ free) → IfOk r Watched
-watched-at (Ok k) reported free Watched e watched is = subst Watched (e ∙ sym is) watched
-watched-at (Err f) reported free Watched e watched is = tt
+-- it is registered under the key that it was put under
+pub registered-at : {E : Type 0} (r : Result ℕ E) (reported free : ℕ) (Registered : ℕ → Type 0) → reported ≡ free → Registered reported → IfOk r (λ k. k ≡ free) → IfOk r Registered
+registered-at (Ok k) reported free Registered e registered is = subst Registered (e ∙ sym is) registered
+registered-at (Err f) reported free Registered e registered is = tt
 
-pub watched-some : {E : Type 0} (r : Result ℕ E) (key : Option ℕ) (Watched : ℕ → Type 0) → key ≡ result_ok r → IfOk r Watched → IfSome key Watched
-watched-some (Ok k) key Watched e watched = subst (λ key. IfSome key Watched) (sym e) watched
-watched-some (Err f) key Watched e watched = subst (λ key. IfSome key Watched) (sym e) tt
+pub registered-some : {E : Type 0} (r : Result ℕ E) (key : Option ℕ) (Registered : ℕ → Type 0) → key ≡ result_ok r → IfOk r Registered → IfSome key Registered
+registered-some (Ok k) key Registered e registered = subst (λ key. IfSome key Registered) (sym e) registered
+registered-some (Err f) key Registered e registered = subst (λ key. IfSome key Registered) (sym e) tt
 
 module _ {C : Type 0} where
   -- one for a connection without an answer
@@ -66,13 +66,13 @@ module _ {C : Type 0} where
   unanswered-empty clients e = rw e refl
 
   module _ {E P : Type 0} (port : PortGhosts P C) (now : Instant) (stream : C) (old cleared new : Slab (Client C)) (client : Client C) where
-    -- it was put under a free key, under which it is watched
-    pub opened-so : (r : Result ℕ E) (key : Option ℕ) → key ≡ result_ok r → IfOk r (λ k. (p : P) × port.is_watched p stream k) → IfOk r (λ k. get cleared k ≡ None) → IfOk r (λ k. Updates cleared new k (Some client))
+    -- it was put under a free key, under which it is registered
+    pub opened-so : (r : Result ℕ E) (key : Option ℕ) → key ≡ result_ok r → IfOk r (λ k. (p : P) × port.is_registered p stream k) → IfOk r (λ k. get cleared k ≡ None) → IfOk r (λ k. Updates cleared new k (Some client))
         → EvictsOldest old cleared → IsFresh now stream client → IfSome key (λ k. IsOpened port now stream k old new)
-    opened-so (Ok k) key e watched free there made fresh =
+    opened-so (Ok k) key e registered free there made fresh =
         subst (λ key. IfSome key (λ k. IsOpened port now stream k old new)) (sym e)
-        (record { cleared = cleared; made = made; client = client; fresh = fresh; free = free; there = there; watched = watched })
-    opened-so (Err f) key e watched free there made fresh = subst (λ key. IfSome key (λ k. IsOpened port now stream k old new)) (sym e) tt
+        (record { cleared = cleared; made = made; client = client; fresh = fresh; free = free; there = there; registered = registered })
+    opened-so (Err f) key e registered free there made fresh = subst (λ key. IfSome key (λ k. IsOpened port now stream k old new)) (sym e) tt
 
     -- or there was no memory for it
     pub closed-so : (r : Result ℕ E) (key : Option ℕ) → key ≡ result_ok r → OnErr r (new ≡ record cleared { capacity = new.capacity })

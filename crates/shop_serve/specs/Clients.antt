@@ -20,7 +20,7 @@ use Rattle.shop_serve.specs.Making.{IsAsked}
 use Rattle.shop_serve.specs.declared.sites.Site.{Site}
 use Rattle.shop_serve.specs.Serving.{HasServed, IsAnsweredThen}
 use Rattle.shop_serve.specs.Times.{Times, StandsUntil, ReportsNone}
-use Rattle.shop_serve.specs.Watches.{is_done}
+use Rattle.shop_serve.specs.Clocks.{is_done}
 
 -- what came is an unfinished request, and so is all that goes on from it with fewer bytes than are needed
 pub record AwaitsMore (received : List ℕ) (needed : ℕ) : Type 0 where
@@ -94,7 +94,7 @@ module _ {C : Type 0} where
   EvictsOldest old new =
       ((slab_len old < MAX_CLIENTS) × (new.slots ≡ old.slots)) ⊎ ((MAX_CLIENTS ≤ slab_len old) × (key : ℕ) × IsOldest old key × Updates old new key None)
 
-  -- It isn't opened, though room was made: it can't be watched, or memory for one more runs out.
+  -- It isn't opened, though room was made: it can't be registered, or memory for one more runs out.
   pub record IsTurnedAway {P : Type 0} (port : PortGhosts P C) (old new : Slab (Client C)) : Type 0 where
     pub cleared : Slab (Client C)
     pub made : EvictsOldest old cleared
@@ -110,7 +110,7 @@ module _ {C : Type 0} where
     pub asks : client.task ≡ None
     pub waits : client.answer ≡ None
 
-  -- it is open under a key that was free, once room was made for it, and is watched under this key
+  -- it is open under a key that was free, once room was made for it, and is registered under this key
   pub record IsOpened {P : Type 0} (port : PortGhosts P C) (now : Instant) (stream : C) (key : ℕ) (old new : Slab (Client C)) : Type 0 where
     pub cleared : Slab (Client C)
     pub made : EvictsOldest old cleared
@@ -118,7 +118,7 @@ module _ {C : Type 0} where
     pub fresh : IsFresh now stream client
     pub free : get cleared key ≡ None
     pub there : Updates cleared new key (Some client)
-    pub watched : (p : P) × port.is_watched p stream key
+    pub registered : (p : P) × port.is_registered p stream key
 
 -- a connection took the bytes of its answer from one place to another, and no others
 abbrev pub TakesAnswer : {C : Type 0} → ConnectionGhosts C → List ℕ → C → ℕ → C → ℕ → Type 0

@@ -3,7 +3,7 @@ pub mod Serving
 pub mod Making
 pub mod Runs
 pub mod Times
-pub mod Watches
+pub mod Clocks
 pub mod Lines
 pub mod Ports
 pub mod Clients

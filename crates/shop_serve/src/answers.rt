@@ -14,8 +14,8 @@ ghost use Rattle.shop_serve.specs.Serving.{HandlesRequestAt, HasServed, IsAskedF
 ghost use Rattle.shop_serve.specs.Times.{Copies, ReportsNone};
 ghost use Rattle.shop_serve.specs.Sites.{health_bytes, health_text, is_health, is_routed, json_bytes, own_bytes, page_bytes, page_fields, page_start};
 
+use crate::clocks::ServerClock;
 use crate::sites::Site;
-use crate::watches::Watch;
 use shop_book::{Book, BookFault};
 use shop_planning::PlanTask;
 use shop_request::{Head, Inbound, Route, Ruling, inbound_of};
@@ -309,33 +309,33 @@ fn answer_of<B: Book>(
 }
 
 // Notes an answer, to a message or to something else.
-fn note_made<K: Watch>(watch: &mut K, is_message: bool, made: &Made)
-    ensures { ReportsNone (K.times watch.old) (K.times watch.new) }
+fn note_made<K: ServerClock>(clock: &mut K, is_message: bool, made: &Made)
+    ensures { ReportsNone (K.times clock.old) (K.times clock.new) }
 {
     if let Made::Answer(answer) = made {
-        watch.note(is_message, answer);
+        clock.note(is_message, answer);
     }
 }
 
 // Notes that memory ran out for a backup.
-fn note_want<K: Watch>(watch: &mut K, outcome: Result<u32, Refusal>, answer: &str)
-    ensures { ReportsNone (K.times watch.old) (K.times watch.new) }
+fn note_want<K: ServerClock>(clock: &mut K, outcome: Result<u32, Refusal>, answer: &str)
+    ensures { ReportsNone (K.times clock.old) (K.times clock.new) }
 {
     if outcome == Err(Refusal::NoMemory) {
-        watch.note(false, answer.as_bytes());
+        clock.note(false, answer.as_bytes());
     }
 }
 
 // Makes a backup, and the answer that reports what came of it.
-fn copied_answer<K: Watch>(alloc: Global, watch: &mut K) -> Option<Vec<u8>>
+fn copied_answer<K: ServerClock>(alloc: Global, clock: &mut K) -> Option<Vec<u8>>
     ensures { IfSome result (λ answer. (outcome : Result ℕ RefusalOf)
-        × Copies (K.times watch.old) (K.times watch.new) outcome
+        × Copies (K.times clock.old) (K.times clock.new) outcome
         × (answer.items ≡ answer_bytes (backup_answer outcome))) }
 {
-    let outcome = watch.back_up(alloc);
+    let outcome = clock.back_up(alloc);
     match backup_answer(alloc, outcome) {
         Ok(answer) => {
-            note_want(watch, outcome, answer.as_str());
+            note_want(clock, outcome, answer.as_str());
             Some(answer.into_bytes())
         }
         Err(_) => None,
@@ -344,32 +344,32 @@ fn copied_answer<K: Watch>(alloc: Global, watch: &mut K) -> Option<Vec<u8>>
 
 /// Serves the bytes that came, by their head, and gives the whole answer, or begins their query. A message is given the time
 /// that it is. A backup that they ask for is made. If memory runs out there is nothing, though what was asked for may be done.
-pub(crate) fn made_of<K: Watch, B: Book>(
+pub(crate) fn made_of<K: ServerClock, B: Book>(
     alloc: Global,
     site: &Site,
     head: &Head,
     received: &[u8],
-    watch: &mut K,
+    clock: &mut K,
     book: &mut B,
 ) -> Option<Made>
     requires some { 0 < length received.now }
     requires head { IsHeadIn received.now head.now }
     ensures made { IfSome result (IsMadeMeanwhile site.now B.Book book.old book.new
-        (K.times watch.old) (K.times watch.new) received.now) }
-    ensures timed { IfSome (K.date watch.old)
+        (K.times clock.old) (K.times clock.new) received.now) }
+    ensures timed { IfSome (K.date clock.old)
         (λ at. HandlesRequestAt site.now B.Book book.old book.new at received.now) }
     ensures step { HasServed site.now B.Book book.old book.new 1 }
     ensures clean_disk { B.has_clean_disk book.new → B.has_clean_disk book.old }
 {
     let is_message = asks_message(&inbound_of(head, received));
-    let at = watch.second();
-    match answer_of(alloc, site, watch.has_failed(), head, received, at, book)? {
+    let at = clock.second();
+    match answer_of(alloc, site, clock.has_failed(), head, received, at, book)? {
         Next::Made(made) => {
-            note_made(watch, is_message, &made);
+            note_made(clock, is_message, &made);
             Some(made)
         }
         Next::Backup => {
-            let answer = copied_answer(alloc, watch)?;
+            let answer = copied_answer(alloc, clock)?;
             Some(Made::Answer(answer))
         }
     }

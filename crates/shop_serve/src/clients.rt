@@ -16,12 +16,12 @@ ghost use Rattle.shop_serve.specs.declared.transfers.Given.TheVariants as given;
 ghost use Rattle.shop_serve.specs.declared.transfers.Taken.TheVariants as taken;
 
 use crate::answers::{Made, made_of};
+use crate::clocks::{ServerClock, is_done};
 use crate::connections::Connection;
 use crate::ports::Port;
 use crate::searching::{FAIR_CALLS, RunningTask};
 use crate::sites::Site;
 use crate::transfers::{Given, Rest, Taken, drop_rest, hand_over, take_bytes};
-use crate::watches::{Watch, is_done};
 use shop_book::Book;
 use shop_planning::PlanTask;
 use shop_request::Head;
@@ -122,11 +122,11 @@ fn put_made<C>(client: &mut Client<C>, made: Made, now: Instant)
 }
 
 // Takes what has come of a request, and has it answered, be it by a backup, or its query begun once it is whole.
-fn ask<C: Connection, K: Watch, B: Book>(
+fn ask<C: Connection, K: ServerClock, B: Book>(
     alloc: Global,
     site: &Site,
     client: &mut Client<C>,
-    watch: &mut K,
+    clock: &mut K,
     book: &mut B,
 ) -> Taken
     requires waits { client.old.answer ≡ None }
@@ -138,9 +138,9 @@ fn ask<C: Connection, K: Watch, B: Book>(
     ensures waits { result ≡ taken.Waits → (client.new.answer ≡ None)
         × (client.new.task ≡ None) × (book.new ≡ book.old) × C.is_drained client.new.stream }
     ensures goes_on { result ≡ taken.Waits → (client.new.since ≡ client.old.since)
-        × ReportsNone (K.times watch.old) (K.times watch.new) }
+        × ReportsNone (K.times clock.old) (K.times clock.new) }
     ensures since { result ≡ taken.Whole → IsSome client.new.task
-        → StandsUntil (K.times watch.old) (K.times watch.new) client.new.since }
+        → StandsUntil (K.times clock.old) (K.times clock.new) client.new.since }
     ensures awaits { result ≡ taken.Waits → AwaitsMore client.old.received.items client.old.needed
         → AwaitsMore client.new.received.items client.new.needed }
     ensures over { result ≡ taken.Over
@@ -151,8 +151,8 @@ fn ask<C: Connection, K: Watch, B: Book>(
     ensures whole { result ≡ taken.Whole → IsDetermined client.new.received.items
         ⊎ IsAtEnd (C.remaining client.new.stream) }
     ensures own { IfSome client.new.answer
-        (λ answer. IsAnsweredThen site.now B.Book book.old book.new (K.times watch.old)
-        (K.times watch.new) client.new.since client.new.received.items answer.items) }
+        (λ answer. IsAnsweredThen site.now B.Book book.old book.new (K.times clock.old)
+        (K.times clock.new) client.new.since client.new.received.items answer.items) }
     ensures asked { IfSome client.new.task
         (λ t. (t.last ≡ None) × IsAsked site.now B.Book book.old book.new client.new.received.items
         (instance_in t.task)) }
@@ -172,11 +172,11 @@ fn ask<C: Connection, K: Watch, B: Book>(
         Taken::Waits => return Taken::Waits,
         Taken::Whole => (),
     }
-    watch.stop();
-    let Some(made) = made_of(alloc, site, &head, &client.received, watch, book) else {
+    clock.stop();
+    let Some(made) = made_of(alloc, site, &head, &client.received, clock, book) else {
         return Taken::NoMemory;
     };
-    put_made(client, made, watch.now());
+    put_made(client, made, clock.now());
     Taken::Whole
 }
 
@@ -196,16 +196,16 @@ fn discard_input<C: Connection>(client: &mut Client<C>) -> Given
 
 // Takes what has come of a request, has it answered once it is whole, and hands over its answer as far as it is taken. One
 // whose query is searched waits.
-fn service<C: Connection, K: Watch, B: Book>(
+fn service<C: Connection, K: ServerClock, B: Book>(
     alloc: Global,
     site: &Site,
     client: &mut Client<C>,
-    watch: &mut K,
+    clock: &mut K,
     book: &mut B,
 ) -> Given
     ensures serviced { result ≢ given.Lost → result ≢ given.NoMemory
         → IsServiced C.Connection site.now B.Book client.old client.new book.old book.new
-        (K.times watch.old) (K.times watch.new) }
+        (K.times clock.old) (K.times clock.new) }
     ensures lost { result ≡ given.Lost
         → IsSpoiled C.Connection site.now B.Book client.old client.new }
     ensures whole { result ≡ given.Whole
@@ -220,7 +220,7 @@ fn service<C: Connection, K: Watch, B: Book>(
     if client.task.is_some() {
         return discard_input(client);
     }
-    match ask(alloc, site, client, watch, book) {
+    match ask(alloc, site, client, clock, book) {
         Taken::NoMemory => return Given::NoMemory,
         Taken::Over => return Given::Lost,
         Taken::Waits => return Given::Waits,
@@ -252,24 +252,24 @@ fn finish<C: Connection>(client: &mut Client<C>) -> ConnectionStatus
 }
 
 // Services a connection.
-fn service_once<C: Connection, K: Watch, B: Book>(
+fn service_once<C: Connection, K: ServerClock, B: Book>(
     alloc: Global,
     site: &Site,
     client: &mut Client<C>,
-    watch: &mut K,
+    clock: &mut K,
     book: &mut B,
 ) -> ConnectionStatus
     ensures serviced { result ≡ status.Stays
         → IsServiced C.Connection site.now B.Book client.old client.new book.old book.new
-        (K.times watch.old) (K.times watch.new) }
+        (K.times clock.old) (K.times clock.new) }
     ensures over { result ≡ status.Over
         → IsClosedBy C.Connection site.now B.Book status.Over client.old book.old book.new
-        (K.times watch.old) (K.times watch.new) }
+        (K.times clock.old) (K.times clock.new) }
     ensures once { is_unanswered (Some client.old) ≡ false → book.new ≡ book.old }
     ensures one { HasServed site.now B.Book book.old book.new 1 }
     ensures clean_disk { B.has_clean_disk book.new → B.has_clean_disk book.old }
 {
-    match service(alloc, site, client, watch, book) {
+    match service(alloc, site, client, clock, book) {
         Given::Waits => ConnectionStatus::Stays,
         Given::Lost => ConnectionStatus::Over,
         Given::NoMemory => ConnectionStatus::NoMemory,
@@ -278,16 +278,16 @@ fn service_once<C: Connection, K: Watch, B: Book>(
 }
 
 /// Services the connection of a key, and closes it when it is over or memory runs out.
-pub(crate) fn service_at<C: Connection + Drop, K: Watch, B: Book>(
+pub(crate) fn service_at<C: Connection + Drop, K: ServerClock, B: Book>(
     alloc: Global,
     site: &Site,
     clients: &mut Slab<Client<C>>,
     key: usize,
-    watch: &mut K,
+    clock: &mut K,
     book: &mut B,
 ) -> ConnectionStatus
     ensures at { IsServicedAt C.Connection site.now B.Book result key clients.old clients.new book.old
-        book.new (K.times watch.old) (K.times watch.new) }
+        book.new (K.times clock.old) (K.times clock.new) }
     ensures run { Advances site.now B.Book book.old book.new (unanswered clients.old)
         (unanswered clients.new) }
     ensures clean_disk { B.has_clean_disk book.new → B.has_clean_disk book.old }
@@ -295,7 +295,7 @@ pub(crate) fn service_at<C: Connection + Drop, K: Watch, B: Book>(
     let Some(client) = clients.get_mut(key) else {
         return ConnectionStatus::Stays;
     };
-    match service_once(alloc, site, client, watch, book) {
+    match service_once(alloc, site, client, clock, book) {
         ConnectionStatus::Stays => ConnectionStatus::Stays,
         ConnectionStatus::Over => {
             drop(clients.try_remove(key));
@@ -375,7 +375,7 @@ fn evict_oldest<C: Drop>(clients: &mut Slab<Client<C>>)
     }
 }
 
-/// Opens a connection, be it in another's place, and gives its key, under which it is watched. One that can't be is closed.
+/// Opens a connection, be it in another's place, and gives its key, under which it is registered. One that can't be is closed.
 pub(crate) fn open_client<C: Drop, P: Port<C>>(
     alloc: Global,
     port: &mut P,
@@ -385,7 +385,7 @@ pub(crate) fn open_client<C: Drop, P: Port<C>>(
 ) -> Option<usize>
     requires cleared { CanOpenOne clients.old }
     ensures opened { IfSome result (λ key. IsOpened P.Port now stream key clients.old clients.new) }
-    ensures watched { IfSome result (λ key. P.is_watched port.new stream key) }
+    ensures registered { IfSome result (λ key. P.is_registered port.new stream key) }
     ensures closed { result ≡ None → IsTurnedAway P.Port clients.old clients.new }
     ensures fewer { unanswered clients.new ≤ unanswered clients.old + 1 }
     ensures reported { P.all_reported port.new ≡ P.all_reported port.old }
@@ -393,7 +393,7 @@ pub(crate) fn open_client<C: Drop, P: Port<C>>(
 {
     evict_oldest(clients);
     let mut stream = stream;
-    if !port.watch(&mut stream, clients.vacant_key()) {
+    if !port.register(&mut stream, clients.vacant_key()) {
         return None;
     }
     let client = Client {

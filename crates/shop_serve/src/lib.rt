@@ -4,6 +4,7 @@
 
 mod answers;
 mod clients;
+mod clocks;
 mod connections;
 mod dates;
 mod faults;
@@ -15,7 +16,6 @@ mod searching;
 mod serving;
 mod sites;
 mod transfers;
-mod watches;
 
 pub use dates::{note_clock, second_now};
 pub use faults::ServeFault;

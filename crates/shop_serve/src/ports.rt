@@ -1,4 +1,4 @@
-//! What connections come by: a port, and a listener that is watched.
+//! What connections come by: a port, and a listener that is registered.
 
 ghost use Rattle.std.specs.Prelude.{◌≡◌, ℕ, List, Option, None, OnOk, map, true, false, ⊤};
 ghost use Rattle.mio.specs.Events.{items};
@@ -76,7 +76,7 @@ pub(crate) trait Port<C> {
     ghost reported: { Self → List ℕ };
 
     /// It has a connection reported under a key.
-    ghost is_watched: { Self → C → ℕ → Type 0 };
+    ghost is_registered: { Self → C → ℕ → Type 0 };
 
     /// It can't have one more connection reported.
     ghost is_deaf: { Self → Type 0 };
@@ -96,34 +96,34 @@ pub(crate) trait Port<C> {
         ensures reported { all_reported self.new ≡ all_reported self.old };
 
     /// Has a connection reported under a key from now on.
-    fn watch(&mut self, stream: &mut C, key: usize) -> bool
+    fn register(&mut self, stream: &mut C, key: usize) -> bool
         ensures same { stream.new ≡ stream.old }
-        ensures watched { result ≡ true → is_watched self.new stream.new key }
+        ensures registered { result ≡ true → is_registered self.new stream.new key }
         ensures deaf { result ≡ false → is_deaf self.new }
         ensures reported { all_reported self.new ≡ all_reported self.old }
         ensures given { given self.new ≡ given self.old };
 }
 
-/// A listener that is watched beside the connections that it gave.
+/// A listener that is registered beside the connections that it gave.
 #[derive(Drop)]
-pub(crate) struct WatchedListener<'a> {
+pub(crate) struct RegisteredListener<'a> {
     listener: &'a Listener,
     poll: Poll,
     events: Events,
     keys: Vec<usize>,
 }
 
-impl<'a> WatchedListener<'a> {
-    /// Watches a listener.
+impl<'a> RegisteredListener<'a> {
+    /// Registers a listener.
     pub(crate) fn new<R: Net>(
         rt: &R,
         alloc: Global,
         listener: &'a Listener,
-    ) -> Result<WatchedListener<'a>, ServeFault> {
+    ) -> Result<RegisteredListener<'a>, ServeFault> {
         let events = Events::with_capacity(alloc, MAX_EVENTS)?;
         let keys = Vec::with_capacity(alloc, MAX_EVENTS)?;
-        let poll = watched(rt, listener)?;
-        Ok(WatchedListener {
+        let poll = registered(rt, listener)?;
+        Ok(RegisteredListener {
             listener,
             poll,
             events,
@@ -133,7 +133,7 @@ impl<'a> WatchedListener<'a> {
 }
 
 // Waits for what comes to a listener.
-fn watched<R: Net>(rt: &R, listener: &Listener) -> Result<Poll, ServeFault> {
+fn registered<R: Net>(rt: &R, listener: &Listener) -> Result<Poll, ServeFault> {
     let Ok(poll) = Poll::new(rt) else {
         return Err(ServeFault::Port);
     };
@@ -184,14 +184,14 @@ fn next_stream(listener: &Listener) -> Result<Option<Stream>, ServeFault> {
     Ok(None)
 }
 
-impl<'a> Port<Stream> for WatchedListener<'a> {
+impl<'a> Port<Stream> for RegisteredListener<'a> {
     ghost all_reported = { λ _. None };
 
     ghost given = { λ _. None };
 
     ghost reported = { λ listening. listening.keys.items };
 
-    ghost is_watched = { λ _ _ _. ⊤ };
+    ghost is_registered = { λ _ _ _. ⊤ };
 
     ghost is_deaf = { λ _. ⊤ };
 
@@ -213,7 +213,7 @@ impl<'a> Port<Stream> for WatchedListener<'a> {
         next_stream(self.listener)
     }
 
-    fn watch(&mut self, stream: &mut Stream, key: usize) -> bool {
+    fn register(&mut self, stream: &mut Stream, key: usize) -> bool {
         let both = Interest::READABLE.add(Interest::WRITABLE);
         self.poll
             .registry()

@@ -11,10 +11,10 @@ ghost use Rattle.shop_serve.specs.Times.{ReportsNone};
 ghost use Rattle.shop_serve.specs.declared.searching.Progress.TheVariants as progress;
 
 use crate::clients::{Client, is_begun, put_answer, service_at};
+use crate::clocks::ServerClock;
 use crate::connections::Connection;
 use crate::sites::Site;
 use crate::transfers::{Rest, drop_rest};
-use crate::watches::Watch;
 use shop_book::Book;
 use shop_planning::PlanTask;
 use shop_wire::{plans_answer, plans_refused};
@@ -153,17 +153,17 @@ pub(crate) enum Progress {
 }
 
 // Reports that memory ran out for a connection's query, if there is memory for that.
-fn refuse<C, K: Watch>(alloc: Global, client: &mut Client<C>, watch: &mut K) -> Progress
+fn refuse<C, K: ServerClock>(alloc: Global, client: &mut Client<C>, clock: &mut K) -> Progress
     ensures goes_on { result ≢ progress.GoesOn }
     ensures answered { result ≡ progress.Answered
-        → IsRefused client.old client.new (K.times watch.old) (K.times watch.new) }
+        → IsRefused client.old client.new (K.times clock.old) (K.times clock.new) }
     ensures closed { result ≡ progress.NoMemory
-        → ReportsNone (K.times watch.old) (K.times watch.new) }
+        → ReportsNone (K.times clock.old) (K.times clock.new) }
 {
     match plans_refused(alloc) {
         Ok(answer) => {
-            watch.note(false, answer.as_str().as_bytes());
-            put_answer(client, answer.into_bytes(), watch.now());
+            clock.note(false, answer.as_str().as_bytes());
+            put_answer(client, answer.into_bytes(), clock.now());
             Progress::Answered
         }
         Err(_) => Progress::NoMemory,
@@ -183,21 +183,21 @@ fn is_there<C: Connection>(stream: &mut C) -> bool
 
 // Takes one search step of the query of a connection that is there, and notes when. It is reported as far as its search came where its
 // input ended, or where it had its calls and others wait. If memory runs out, what was found is freed first.
-fn step_search_once<C: Connection, K: Watch>(
+fn step_search_once<C: Connection, K: ServerClock>(
     alloc: Global,
     client: &mut Client<C>,
     is_crowded: bool,
     now: Instant,
-    watch: &mut K,
+    clock: &mut K,
 ) -> Progress
     requires { IsSome client.old.task }
     ensures goes_on { result ≡ progress.GoesOn
         → IsSteppedOnce C.Connection is_crowded now client.old client.new
-        × ReportsNone (K.times watch.old) (K.times watch.new) }
+        × ReportsNone (K.times clock.old) (K.times clock.new) }
     ensures answered { result ≡ progress.Answered
-        → IsFinished C.Connection client.old client.new (K.times watch.old) (K.times watch.new) }
+        → IsFinished C.Connection client.old client.new (K.times clock.old) (K.times clock.new) }
     ensures closed { result ≡ progress.NoMemory
-        → ReportsNone (K.times watch.old) (K.times watch.new) }
+        → ReportsNone (K.times clock.old) (K.times clock.new) }
 {
     let Some(mut searching) = client.task.take() else {
         unreachable!()
@@ -213,34 +213,34 @@ fn step_search_once<C: Connection, K: Watch>(
         }
         Ok(Some(answer)) => {
             drop(searching);
-            put_answer(client, answer.into_bytes(), watch.now());
+            put_answer(client, answer.into_bytes(), clock.now());
             Progress::Answered
         }
         Err(_) => {
             drop(searching);
-            refuse(alloc, client, watch)
+            refuse(alloc, client, clock)
         }
     }
 }
 
 // Takes one search step of the query of a key's connection, and closes it when memory runs out. Reports what came of it.
-fn step_search_at<C: Connection + Drop, K: Watch>(
+fn step_search_at<C: Connection + Drop, K: ServerClock>(
     alloc: Global,
     clients: &mut Slab<Client<C>>,
     key: usize,
     is_crowded: bool,
     now: Instant,
-    watch: &mut K,
+    clock: &mut K,
 ) -> Progress
     requires { AsksAt clients.old key }
     ensures at { IsSteppedAt C.Connection is_crowded result now key clients.old clients.new
-        (K.times watch.old) (K.times watch.new) }
+        (K.times clock.old) (K.times clock.new) }
     ensures fewer { unanswered clients.new ≤ unanswered clients.old }
 {
     let Some(client) = clients.get_mut(key) else {
         return Progress::GoesOn;
     };
-    match step_search_once(alloc, client, is_crowded, now, watch) {
+    match step_search_once(alloc, client, is_crowded, now, clock) {
         Progress::GoesOn => Progress::GoesOn,
         Progress::Answered => Progress::Answered,
         Progress::NoMemory => {
@@ -251,16 +251,16 @@ fn step_search_at<C: Connection + Drop, K: Watch>(
 }
 
 /// Thinks once on one of the queries, where there is any, and hands over its answer where that is done or ends.
-pub(crate) fn step_search<C: Connection + Drop, K: Watch, B: Book>(
+pub(crate) fn step_search<C: Connection + Drop, K: ServerClock, B: Book>(
     alloc: Global,
     site: &Site,
     clients: &mut Slab<Client<C>>,
     now: Instant,
-    watch: &mut K,
+    clock: &mut K,
     book: &mut B,
 )
     ensures steps_search { StepsSearch C.Connection site.now B.Book now clients.old clients.new book.old book.new
-        (K.times watch.old) (K.times watch.new) }
+        (K.times clock.old) (K.times clock.new) }
     ensures run { Advances site.now B.Book book.old book.new (unanswered clients.old)
         (unanswered clients.new) }
     ensures clean_disk { B.has_clean_disk book.new → B.has_clean_disk book.old }
@@ -269,11 +269,11 @@ pub(crate) fn step_search<C: Connection + Drop, K: Watch, B: Book>(
         return;
     };
     let is_crowded = is_crowded(clients);
-    match step_search_at(alloc, clients, key, is_crowded, now, watch) {
+    match step_search_at(alloc, clients, key, is_crowded, now, clock) {
         Progress::GoesOn => (),
         Progress::NoMemory => (),
         Progress::Answered => {
-            let _ = service_at(alloc, site, clients, key, watch, book);
+            let _ = service_at(alloc, site, clients, key, clock, book);
         }
     }
 }

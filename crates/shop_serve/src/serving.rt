@@ -11,13 +11,13 @@ ghost use Rattle.shop_serve.specs.Times.{Adds};
 ghost use Rattle.shop_serve.specs.declared.faults.ServeFault.TheVariants as faults;
 
 use crate::clients::{Client, can_open_one, close_late, open_client, service_at};
+use crate::clocks::{PausableClock, ServerClock};
 use crate::connections::Connection;
 use crate::faults::ServeFault;
 use crate::lines::Lines;
-use crate::ports::{Listener, Port, WatchedListener};
+use crate::ports::{Listener, Port, RegisteredListener};
 use crate::searching::{next_wait, step_search};
 use crate::sites::Site;
-use crate::watches::{Stopwatch, Watch};
 use shop_backup::{Backups, Names};
 use shop_book::Book;
 use slab::Slab;
@@ -37,30 +37,30 @@ const MAX_WAIT: u64 = 1;
 pub const MAX_SERVED: u64 = u64::MAX;
 
 // Opens a connection. The next round services it, behind its own look at the store's names.
-fn receive<C: Drop, P: Port<C>, K: Watch>(
+fn receive<C: Drop, P: Port<C>, K: ServerClock>(
     alloc: Global,
     port: &mut P,
     stream: C,
-    watch: &mut K,
+    clock: &mut K,
     clients: &mut Slab<Client<C>>,
 )
     requires cleared { CanOpenOne clients.old }
-    ensures received { IsReceived P.Port stream clients.old clients.new (K.times watch.old)
-        (K.times watch.new) }
+    ensures received { IsReceived P.Port stream clients.old clients.new (K.times clock.old)
+        (K.times clock.new) }
     ensures reported { P.all_reported port.new ≡ P.all_reported port.old }
     ensures given { P.given port.new ≡ P.given port.old }
     ensures fewer { unanswered clients.new ≤ unanswered clients.old + 1 }
 {
-    let now = watch.now();
+    let now = clock.now();
     let _ = open_client(alloc, port, stream, now, clients);
 }
 
 // Accepts the connections that wait, up to a limit, and gives how long the next round may wait. None can be accepted for good
 // where it is `None`.
-fn accept_waiting<C: Drop, P: Port<C>, K: Watch>(
+fn accept_waiting<C: Drop, P: Port<C>, K: ServerClock>(
     alloc: Global,
     port: &mut P,
-    watch: &mut K,
+    clock: &mut K,
     limit: u64,
     clients: &mut Slab<Client<C>>,
     accepted: &mut u64,
@@ -68,7 +68,7 @@ fn accept_waiting<C: Drop, P: Port<C>, K: Watch>(
     requires bound { accepted.old ≤ limit }
     ensures each { (arrived : List C) × (accepted.new ≡ accepted.old + length arrived)
         × Adds (P.given port.old) (P.given port.new) arrived
-        × AreReceived P.Port arrived clients.old clients.new (K.times watch.old) (K.times watch.new) }
+        × AreReceived P.Port arrived clients.old clients.new (K.times clock.old) (K.times clock.new) }
     ensures reported { P.all_reported port.new ≡ P.all_reported port.old }
     ensures fewer { unanswered clients.new + accepted.old ≤ unanswered clients.old + accepted.new }
     ensures bound { accepted.new ≤ limit }
@@ -86,38 +86,38 @@ fn accept_waiting<C: Drop, P: Port<C>, K: Watch>(
             Err(_) => return None,
         };
         *accepted += 1;
-        receive(alloc, port, stream, watch, clients);
+        receive(alloc, port, stream, clock, clients);
     }
     Some(Duration::ZERO)
 }
 
 // Services each connection that is reported.
-fn service_reported<C: Connection + Drop, K: Watch, B: Book>(
+fn service_reported<C: Connection + Drop, K: ServerClock, B: Book>(
     alloc: Global,
     site: &Site,
     keys: &[usize],
-    watch: &mut K,
+    clock: &mut K,
     clients: &mut Slab<Client<C>>,
     book: &mut B,
 )
     ensures each { AreServiced C.Connection site.now B.Book keys.now clients.old clients.new book.old
-        book.new (K.times watch.old) (K.times watch.new) }
+        book.new (K.times clock.old) (K.times clock.new) }
     ensures run { Advances site.now B.Book book.old book.new (unanswered clients.old)
         (unanswered clients.new) }
     ensures clean_disk { B.has_clean_disk book.new → B.has_clean_disk book.old }
 {
     for key in keys {
-        let _ = service_at(alloc, site, clients, *key, watch, book);
+        let _ = service_at(alloc, site, clients, *key, clock, book);
     }
 }
 
 // One round: services what is reported, closes what had its time, takes one search step of a query, and accepts what waits, to which
 // the next round services. Gives how long that one may wait, or `None` where none can be accepted for good.
-fn serve_round<C: Connection + Drop, P: Port<C>, K: Watch, B: Book>(
+fn serve_round<C: Connection + Drop, P: Port<C>, K: ServerClock, B: Book>(
     alloc: Global,
     site: &Site,
     port: &mut P,
-    watch: &mut K,
+    clock: &mut K,
     limit: u64,
     clients: &mut Slab<Client<C>>,
     accepted: &mut u64,
@@ -128,7 +128,7 @@ fn serve_round<C: Connection + Drop, P: Port<C>, K: Watch, B: Book>(
         × Adds (P.given port.old) (P.given port.new) arrived
         × ((now : Moment) × IsRound C.Connection site.now B.Book P.Port
         (record { now = now; keys = P.reported port.old; arrived = arrived }) clients.old clients.new book.old
-        book.new (K.times watch.old) (K.times watch.new)) }
+        book.new (K.times clock.old) (K.times clock.new)) }
     ensures waits { IfSome result
         (λ wait. (key : ℕ) → AsksAt clients.new key → as_nanos wait ≡ 0) }
     ensures reported { P.all_reported port.new ≡ P.all_reported port.old }
@@ -137,20 +137,20 @@ fn serve_round<C: Connection + Drop, P: Port<C>, K: Watch, B: Book>(
     ensures bound { accepted.new ≤ limit }
     ensures clean_disk { B.has_clean_disk book.new → B.has_clean_disk book.old }
 {
-    service_reported(alloc, site, port.keys(), watch, clients, book);
-    let moment = watch.now();
+    service_reported(alloc, site, port.keys(), clock, clients, book);
+    let moment = clock.now();
     close_late(clients, moment);
-    step_search(alloc, site, clients, moment, watch, book);
-    let wait = accept_waiting(alloc, port, watch, limit, clients, accepted);
+    step_search(alloc, site, clients, moment, clock, book);
+    let wait = accept_waiting(alloc, port, clock, limit, clients, accepted);
     next_wait(clients, wait)
 }
 
 // Serves the connections that a port gives, until as many as the limit says came and are done with, or none can be accepted
 // or waited for, or the store's names lead to other files: then nothing is done of what came.
-fn serve_port<C: Connection + Drop, P: Port<C>, K: Watch, B: Book>(
+fn serve_port<C: Connection + Drop, P: Port<C>, K: ServerClock, B: Book>(
     alloc: Global,
     port: &mut P,
-    watch: &mut K,
+    clock: &mut K,
     limit: u64,
     site: &Site,
     book: &mut B,
@@ -158,7 +158,7 @@ fn serve_port<C: Connection + Drop, P: Port<C>, K: Watch, B: Book>(
     ensures all { OnOk result
         (HasServedAll C.Connection site.now B.Book P.Port limit (P.all_reported port.old)
         (P.all_reported port.new) (P.given port.old) (P.given port.new) book.old book.new
-        (K.times watch.old) (K.times watch.new)) }
+        (K.times clock.old) (K.times clock.new)) }
     ensures served { HasServed site.now B.Book book.old book.new limit }
     ensures fault { IfErr result (λ fault. (fault ≡ faults.Port) ⊎ (fault ≡ faults.Moved)) }
     ensures clean_disk { B.has_clean_disk book.new → B.has_clean_disk book.old }
@@ -174,14 +174,14 @@ fn serve_port<C: Connection + Drop, P: Port<C>, K: Watch, B: Book>(
             Ok(()) => (),
             Err(_) => return Err(ServeFault::Port),
         }
-        if !watch.is_in_place() {
+        if !clock.is_in_place() {
             return Err(ServeFault::Moved);
         }
         match serve_round(
             alloc,
             site,
             port,
-            watch,
+            clock,
             limit,
             &mut clients,
             &mut accepted,
@@ -230,7 +230,7 @@ pub fn serve_on<R: Net + Clock + Eprint + Files, B: Book>(
         (IsUnserved site.now B.Book book.old book.new (most_served limit)) }
     ensures clean_disk { B.has_clean_disk book.new → B.has_clean_disk book.old }
 {
-    let mut port = WatchedListener::new(rt, alloc, listener)?;
-    let mut watch = Stopwatch::new(rt, alloc, names, backups, lines)?;
-    serve_port(alloc, &mut port, &mut watch, most_served(limit), site, book)
+    let mut port = RegisteredListener::new(rt, alloc, listener)?;
+    let mut clock = PausableClock::new(rt, alloc, names, backups, lines)?;
+    serve_port(alloc, &mut port, &mut clock, most_served(limit), site, book)
 }

@@ -28,10 +28,10 @@ returns-in-Waits-clause-one g c = none_served c.args.site.now g.B.Book c.args.bo
 pub returns-clause-own : goal.returns-clause-own
 returns-clause-own g c =
     let before : Client g.row.C.Denot = record { stream = c.take_bytes.new.stream; since = c.args.client.now.since; received = c.take_bytes.new.received; needed = c.take_bytes.new.needed; task = c.args.client.now.task; answer = c.args.client.now.answer; sent = c.args.client.now.sent } in
-    let seen = g.K.Watch.times c.args.watch.now in
-    let still = g.K.Watch.times c.stop.new.self in
-    let between = g.K.Watch.times c.made_of.new.watch in
-    let seeing = g.K.Watch.times c.now.new.self in
+    let seen = g.K.ServerClock.times c.args.clock.now in
+    let still = g.K.ServerClock.times c.stop.new.self in
+    let between = g.K.ServerClock.times c.made_of.new.clock in
+    let seeing = g.K.ServerClock.times c.now.new.self in
     let book = c.made_of.new.book in
     let made = subst (λ (received : List ℕ). IsMadeMeanwhile c.args.site.now g.B.Book c.args.book.now book still between received c.in-Some.made) c.deref.ensures.value c.in-Some.ensures.made in
     subst (λ (l : Client g.row.C.Denot). IfSome l.answer (λ answer. IsAnsweredThen c.args.site.now g.B.Book c.args.book.now book seen seeing l.since l.received.items answer.items)) (sym c.put_made.ensures)
@@ -40,10 +40,10 @@ returns-clause-own g c =
 pub returns-clause-since : goal.returns-clause-since
 returns-clause-since g c whole =
     let before : Client g.row.C.Denot = record { stream = c.take_bytes.new.stream; since = c.args.client.now.since; received = c.take_bytes.new.received; needed = c.take_bytes.new.needed; task = c.args.client.now.task; answer = c.args.client.now.answer; sent = c.args.client.now.sent } in
-    let seen = g.K.Watch.times c.args.watch.now in
-    let still = g.K.Watch.times c.stop.new.self in
-    let between = g.K.Watch.times c.made_of.new.watch in
-    let seeing = g.K.Watch.times c.now.new.self in
+    let seen = g.K.ServerClock.times c.args.clock.now in
+    let still = g.K.ServerClock.times c.stop.new.self in
+    let between = g.K.ServerClock.times c.made_of.new.clock in
+    let seeing = g.K.ServerClock.times c.now.new.self in
     let book = c.made_of.new.book in
     let made = subst (λ (received : List ℕ). IsMadeMeanwhile c.args.site.now g.B.Book c.args.book.now book still between received c.in-Some.made) c.deref.ensures.value c.in-Some.ensures.made in
     subst (λ (l : Client g.row.C.Denot). IsSome l.task → StandsUntil seen seeing l.since) (sym c.put_made.ensures)
@@ -52,10 +52,10 @@ returns-clause-since g c whole =
 pub returns-clause-asked : goal.returns-clause-asked
 returns-clause-asked g c =
     let before : Client g.row.C.Denot = record { stream = c.take_bytes.new.stream; since = c.args.client.now.since; received = c.take_bytes.new.received; needed = c.take_bytes.new.needed; task = c.args.client.now.task; answer = c.args.client.now.answer; sent = c.args.client.now.sent } in
-    let seen = g.K.Watch.times c.args.watch.now in
-    let still = g.K.Watch.times c.stop.new.self in
-    let between = g.K.Watch.times c.made_of.new.watch in
-    let seeing = g.K.Watch.times c.now.new.self in
+    let seen = g.K.ServerClock.times c.args.clock.now in
+    let still = g.K.ServerClock.times c.stop.new.self in
+    let between = g.K.ServerClock.times c.made_of.new.clock in
+    let seeing = g.K.ServerClock.times c.now.new.self in
     let book = c.made_of.new.book in
     let made = subst (λ (received : List ℕ). IsMadeMeanwhile c.args.site.now g.B.Book c.args.book.now book still between received c.in-Some.made) c.deref.ensures.value c.in-Some.ensures.made in
     subst (λ (l : Client g.row.C.Denot). IfSome l.task (λ t. (t.last ≡ None) × IsAsked c.args.site.now g.B.Book c.args.book.now book l.received.items (instance_in t.task))) (sym c.put_made.ensures)

@@ -14,7 +14,7 @@ pub returns-clause-serviced : goal.returns-clause-serviced
 returns-clause-serviced g c stays known =
     let none : c.args.client.now.answer ≡ None = search rules in
     let rests : c.args.client.now.task ≡ None = search rules in
-    serviced-first g.C.Connection c.args.site.now g.B.Book c.args.client.now c.ask.new.client c.answer_on-2.new.client c.args.book.now c.ask.new.book (g.K.Watch.times c.args.watch.now) (g.K.Watch.times c.ask.new.watch) c.answer_on-2.result none rests
+    serviced-first g.C.Connection c.args.site.now g.B.Book c.args.client.now c.ask.new.client c.answer_on-2.new.client c.args.book.now c.ask.new.book (g.K.ServerClock.times c.args.clock.now) (g.K.ServerClock.times c.ask.new.clock) c.answer_on-2.result none rests
     (c.ask.ensures.read (λ over. absurd (cc (over, c.in-Whole.is))) (λ none. absurd (cc (none, c.in-Whole.is)))) c.ask.ensures.kept (c.ask.ensures.begins c.in-Whole.is) (c.ask.ensures.whole c.in-Whole.is) c.ask.ensures.own c.ask.ensures.asked (c.ask.ensures.since c.in-Whole.is)
     c.answer_on-2.ensures.kept c.answer_on-2.ensures.since c.answer_on-2.ensures.task c.answer_on-2.ensures.idle stays c.answer_on-2.ensures.takes c.answer_on-2.ensures.stops
 

@@ -9,7 +9,7 @@ returns-in-Ok-clause-answered g c reported =
     record {
       answer = c.into_bytes.result;
       now = c.now.result;
-      read = subst (λ t. Reports t (g.K.Watch.times c.now.new.self) c.now.result) c.note.ensures c.now.ensures;
+      read = subst (λ t. Reports t (g.K.ServerClock.times c.now.new.self) c.now.result) c.note.ensures c.now.ensures;
       reported = ap (λ (v : Vec ℕ Global). v.items) c.into_bytes.ensures.value ∙ c.in-Ok.ensures;
       kept = c.put_answer.ensures;
     }

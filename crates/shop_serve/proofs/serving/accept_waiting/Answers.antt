@@ -8,33 +8,33 @@ use Rattle.shop_serve.proofs.serving.accept_waiting.Goals as goal
 
 pub returns-then-accepted-limit-clause-each : goal.returns-then-accepted-limit-clause-each
 returns-then-accepted-limit-clause-each g c =
-    arrived-all _ (g.P.Port.given c.args.port.now) (g.P.Port.given c.loop.port) (g.P.Port.given c.loop.port) c.args.accepted.now c.loop.accepted c.args.clients.now c.loop.clients (g.K.Watch.times c.args.watch.now) (g.K.Watch.times c.loop.watch)
+    arrived-all _ (g.P.Port.given c.args.port.now) (g.P.Port.given c.loop.port) (g.P.Port.given c.loop.port) c.args.accepted.now c.loop.accepted c.args.clients.now c.loop.clients (g.K.ServerClock.times c.args.clock.now) (g.K.ServerClock.times c.loop.clock)
     (adds-none (g.P.Port.given c.loop.port)) c.loop.invariant.each
 
 pub returns-then-not-can_open_one-clause-each : goal.returns-then-not-can_open_one-clause-each
 returns-then-not-can_open_one-clause-each g c =
-    arrived-all _ (g.P.Port.given c.args.port.now) (g.P.Port.given c.loop.port) (g.P.Port.given c.loop.port) c.args.accepted.now c.loop.accepted c.args.clients.now c.loop.clients (g.K.Watch.times c.args.watch.now) (g.K.Watch.times c.loop.watch)
+    arrived-all _ (g.P.Port.given c.args.port.now) (g.P.Port.given c.loop.port) (g.P.Port.given c.loop.port) c.args.accepted.now c.loop.accepted c.args.clients.now c.loop.clients (g.K.ServerClock.times c.args.clock.now) (g.K.ServerClock.times c.loop.clock)
     (adds-none (g.P.Port.given c.loop.port)) c.loop.invariant.each
 
 pub returns-clause-each : goal.returns-clause-each
 returns-clause-each g c =
-    arrived-all _ (g.P.Port.given c.args.port.now) (g.P.Port.given c.loop.port) (g.P.Port.given c.loop.port) c.args.accepted.now c.loop.accepted c.args.clients.now c.loop.clients (g.K.Watch.times c.args.watch.now) (g.K.Watch.times c.loop.watch)
+    arrived-all _ (g.P.Port.given c.args.port.now) (g.P.Port.given c.loop.port) (g.P.Port.given c.loop.port) c.args.accepted.now c.loop.accepted c.args.clients.now c.loop.clients (g.K.ServerClock.times c.args.clock.now) (g.K.ServerClock.times c.loop.clock)
     (adds-none (g.P.Port.given c.loop.port)) c.loop.invariant.each
 
 pub returns-in-Ok-None-clause-each : goal.returns-in-Ok-None-clause-each
 returns-in-Ok-None-clause-each g c =
-    arrived-all _ (g.P.Port.given c.args.port.now) (g.P.Port.given c.loop.port) (g.P.Port.given c.accept.new.self) c.args.accepted.now c.loop.accepted c.args.clients.now c.loop.clients (g.K.Watch.times c.args.watch.now) (g.K.Watch.times c.loop.watch)
+    arrived-all _ (g.P.Port.given c.args.port.now) (g.P.Port.given c.loop.port) (g.P.Port.given c.accept.new.self) c.args.accepted.now c.loop.accepted c.args.clients.now c.loop.clients (g.K.ServerClock.times c.args.clock.now) (g.K.ServerClock.times c.loop.clock)
     (subst (λ o. Adds (g.P.Port.given c.loop.port) (g.P.Port.given c.accept.new.self) (given_by {E = ServeFault} (Ok o))) c.in-Ok-None.field-0-is c.in-Ok-None.ensures.given) c.loop.invariant.each
 
 pub returns-in-Err-clause-each : goal.returns-in-Err-clause-each
 returns-in-Err-clause-each g c =
-    arrived-all _ (g.P.Port.given c.args.port.now) (g.P.Port.given c.loop.port) (g.P.Port.given c.accept.new.self) c.args.accepted.now c.loop.accepted c.args.clients.now c.loop.clients (g.K.Watch.times c.args.watch.now) (g.K.Watch.times c.loop.watch)
+    arrived-all _ (g.P.Port.given c.args.port.now) (g.P.Port.given c.loop.port) (g.P.Port.given c.accept.new.self) c.args.accepted.now c.loop.accepted c.args.clients.now c.loop.clients (g.K.ServerClock.times c.args.clock.now) (g.K.ServerClock.times c.loop.clock)
     (c.in-Err.ensures.given) c.loop.invariant.each
 
 pub loop-init : goal.loop-init
 loop-init g c =
     record {
-      each = arrived-none _ (g.P.Port.given c.args.port.now) c.args.accepted.now c.args.clients.now (g.K.Watch.times c.args.watch.now);
+      each = arrived-none _ (g.P.Port.given c.args.port.now) c.args.accepted.now c.args.clients.now (g.K.ServerClock.times c.args.clock.now);
       reported = refl;
       fewer = omega arith;
       bound = c.requires.bound;
@@ -47,7 +47,7 @@ loop-preserved g c =
     let given = subst (λ o. Adds (g.P.Port.given c.loop.port) (g.P.Port.given c.accept.new.self) (given_by {E = ServeFault} (Ok o))) c.in-Ok-Some.field-0-is c.in-Ok-Some.ensures.given in
     record {
       each = arrived-one _ (g.P.Port.given c.args.port.now) (g.P.Port.given c.loop.port) (g.P.Port.given c.receive.new.port)
-          c.args.accepted.now c.loop.accepted c.args.clients.now c.loop.clients c.receive.new.clients (g.K.Watch.times c.args.watch.now) (g.K.Watch.times c.loop.watch) (g.K.Watch.times c.receive.new.watch) c.in-Ok-Some.stream
+          c.args.accepted.now c.loop.accepted c.args.clients.now c.loop.clients c.receive.new.clients (g.K.ServerClock.times c.args.clock.now) (g.K.ServerClock.times c.loop.clock) (g.K.ServerClock.times c.receive.new.clock) c.in-Ok-Some.stream
           (subst (λ o. Adds (g.P.Port.given c.loop.port) o (c.in-Ok-Some.stream ∷ [])) (sym more.given) given) more.received so_far.each;
       reported = more.reported ∙ c.accept.ensures.reported ∙ so_far.reported;
       fewer = omega (arith, so_far.fewer, more.fewer);

@@ -10,7 +10,7 @@ use Rattle.shop_serve.proofs.serving.serve_port.Goals as goal
 pub loop-init : goal.loop-init
 loop-init g c =
     record {
-      all = rounds-none g.C.Connection c.args.site.now g.B.Book _ (g.P.Port.all_reported c.args.port.now) (g.P.Port.given c.args.port.now) c.new-clients.result c.args.book.now (g.K.Watch.times c.args.watch.now);
+      all = rounds-none g.C.Connection c.args.site.now g.B.Book _ (g.P.Port.all_reported c.args.port.now) (g.P.Port.given c.args.port.now) c.new-clients.result c.args.book.now (g.K.ServerClock.times c.args.clock.now);
       run = stays c.args.site.now g.B.Book c.args.book.now 0 (unanswered c.new-clients.result) (omega (arith, unanswered-empty c.new-clients.result c.new-clients.ensures.empty));
       bound = omega arith;
       clean_disk = λ clean_disk. clean_disk;
@@ -23,10 +23,10 @@ loop-preserved g c =
     record {
       all = rounds-one g.C.Connection c.args.site.now g.B.Book _ (g.P.Port.all_reported c.args.port.now) (g.P.Port.all_reported c.loop.port) (g.P.Port.all_reported c.serve_round.new.port) (g.P.Port.given c.args.port.now) (g.P.Port.given c.loop.port) (g.P.Port.given c.serve_round.new.port)
           c.loop.accepted c.serve_round.new.accepted c.new-clients.result c.loop.clients c.serve_round.new.clients c.args.book.now c.loop.book c.serve_round.new.book
-          (g.K.Watch.times c.args.watch.now) (g.K.Watch.times c.loop.watch) (g.K.Watch.times c.is_in_place.new.self) (g.K.Watch.times c.serve_round.new.watch) more.round.3.0 (g.P.Port.reported c.wait.new.self) more.round.0
+          (g.K.ServerClock.times c.args.clock.now) (g.K.ServerClock.times c.loop.clock) (g.K.ServerClock.times c.is_in_place.new.self) (g.K.ServerClock.times c.serve_round.new.clock) more.round.3.0 (g.P.Port.reported c.wait.new.self) more.round.0
           (subst (λ t. Adds (g.P.Port.all_reported c.loop.port) t (g.P.Port.reported c.wait.new.self)) (sym more.reported) c.in-Ok.ensures.reported)
           (subst (λ t. Adds t (g.P.Port.given c.serve_round.new.port) more.round.0) c.wait.ensures.given more.round.2)
-          more.round.1 (subst (Looks (g.K.Watch.times c.loop.watch) (g.K.Watch.times c.is_in_place.new.self)) c.if-not-is_in_place.false c.is_in_place.ensures) more.round.3.1 so_far.all;
+          more.round.1 (subst (Looks (g.K.ServerClock.times c.loop.clock) (g.K.ServerClock.times c.is_in_place.new.self)) c.if-not-is_in_place.false c.is_in_place.ensures) more.round.3.1 so_far.all;
       run = advances_more c.args.site.now g.B.Book c.args.book.now c.loop.book c.serve_round.new.book c.loop.accepted (unanswered c.loop.clients)
           (unanswered c.loop.clients + c.serve_round.new.accepted) (unanswered c.serve_round.new.clients + c.loop.accepted) c.serve_round.new.accepted (unanswered c.serve_round.new.clients) (omega arith) more.clean_disk so_far.run more.run;
       bound = more.bound;
@@ -40,7 +40,7 @@ returns-then-is_empty-clause-all g c =
       rounds = so_far.all.0;
       first = c.new-clients.result;
       last = c.loop.clients;
-      run = rounds-all g.C.Connection c.args.site.now g.B.Book _ (g.P.Port.all_reported c.args.port.now) (g.P.Port.all_reported c.loop.port) (g.P.Port.given c.args.port.now) (g.P.Port.given c.loop.port) c.loop.accepted c.new-clients.result c.loop.clients c.args.book.now c.loop.book (g.K.Watch.times c.args.watch.now) (g.K.Watch.times c.loop.watch) so_far.all;
+      run = rounds-all g.C.Connection c.args.site.now g.B.Book _ (g.P.Port.all_reported c.args.port.now) (g.P.Port.all_reported c.loop.port) (g.P.Port.given c.args.port.now) (g.P.Port.given c.loop.port) c.loop.accepted c.new-clients.result c.loop.clients c.args.book.now c.loop.book (g.K.ServerClock.times c.args.clock.now) (g.K.ServerClock.times c.loop.clock) so_far.all;
       none = λ key. rw c.new-clients.ensures.empty refl;
       closed = λ key. none-open c.loop.clients.slots (eqb-true _ _ (sym c.is_empty.ensures ∙ c.if-is_empty.true)) key;
       count = sym so_far.all.1 ∙ omega (arith, so_far.bound, c.if-accepted-limit.true);

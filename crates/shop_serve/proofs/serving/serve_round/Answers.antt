@@ -14,14 +14,14 @@ returns-clause-round g c =
         record {
           serviced = c.service_reported.new.clients;
           mid = c.service_reported.new.book;
-          first = g.K.Watch.times c.service_reported.new.watch;
-          each = subst (λ keys. AreServiced g.C.Connection c.args.site.now g.B.Book keys c.args.clients.now c.service_reported.new.clients c.args.book.now c.service_reported.new.book (g.K.Watch.times c.args.watch.now) (g.K.Watch.times c.service_reported.new.watch)) c.keys.ensures c.service_reported.ensures.each;
+          first = g.K.ServerClock.times c.service_reported.new.clock;
+          each = subst (λ keys. AreServiced g.C.Connection c.args.site.now g.B.Book keys c.args.clients.now c.service_reported.new.clients c.args.book.now c.service_reported.new.book (g.K.ServerClock.times c.args.clock.now) (g.K.ServerClock.times c.service_reported.new.clock)) c.keys.ensures c.service_reported.ensures.each;
           kept = c.close_late.new.clients;
-          second = g.K.Watch.times c.now-moment.new.self;
+          second = g.K.ServerClock.times c.now-moment.new.self;
           read = c.now-moment.ensures;
           late = c.close_late.ensures.late;
           task = c.step_search.new.clients;
-          third = g.K.Watch.times c.step_search.new.watch;
+          third = g.K.ServerClock.times c.step_search.new.clock;
           steps_search = c.step_search.ensures.steps_search;
           received = arrived.3;
         },

@@ -18,9 +18,9 @@ loop-key-preserved g c =
     let more = c.service_at.ensures in
     record {
       each = λ clients book seeing run.
-          so_far.each clients book seeing (subst (λ keys. AreServiced g.C.Connection c.args.site.now g.B.Book keys c.loop-key.clients clients c.loop-key.book book (g.K.Watch.times c.loop-key.watch) seeing)
+          so_far.each clients book seeing (subst (λ keys. AreServiced g.C.Connection c.args.site.now g.B.Book keys c.loop-key.clients clients c.loop-key.book book (g.K.ServerClock.times c.loop-key.clock) seeing)
           (sym (drop_more c.args.keys.now c.loop-key.key-index 0 (omega (arith, c.loop-key-test.true))))
-          (c.service_at.result, c.service_at.new.clients, c.service_at.new.book, g.K.Watch.times c.service_at.new.watch, more.at, run));
+          (c.service_at.result, c.service_at.new.clients, c.service_at.new.book, g.K.ServerClock.times c.service_at.new.clock, more.at, run));
       run = advances_more c.args.site.now g.B.Book c.args.book.now c.loop-key.book c.service_at.new.book (unanswered c.args.clients.now) (unanswered c.loop-key.clients)
           (unanswered c.loop-key.clients) (unanswered c.service_at.new.clients) (unanswered c.args.clients.now) (unanswered c.service_at.new.clients) (omega arith) more.clean_disk so_far.run more.run;
       clean_disk = λ clean_disk. so_far.clean_disk (more.clean_disk clean_disk);

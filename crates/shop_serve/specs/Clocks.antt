@@ -3,7 +3,7 @@ use Rattle.std.specs.Prelude.{◌≡◌, ℕ, ◌==◌, ◌+◌, ◌-◌, ◌<�
 use Rattle.std.specs.Duration.{as_nanos, max_nanos}
 use Rattle.std.specs.Time.{instant_nanos}
 use Rattle.std.specs.declared.time.Instant.{Instant}
-use Rattle.shop_serve.specs.declared.watches.Timer.{Timer}
+use Rattle.shop_serve.specs.declared.clocks.Timer.{Timer}
 use Rattle.std.specs.List.{starts_with, ends_with}
 
 -- For how long a clock stood still that reads this, stood still for so many nanoseconds before, and stands still since then, if it does: as

@@ -4,7 +4,7 @@
 ghost use Rattle.std.specs.Prelude.{◌≡◌, ◌+◌, ◌-◌, ◌<◌, ◌≤◌, IfSome, None, min, unwrap_or, option_map};
 ghost use Rattle.std.specs.Duration.{as_nanos, max_nanos};
 ghost use Rattle.std.specs.Time.{instant_nanos};
-ghost use Rattle.shop_serve.specs.Watches.{IsTimeAt, failed_after, is_done, is_store_fault, still_after, still_nanos};
+ghost use Rattle.shop_serve.specs.Clocks.{IsTimeAt, failed_after, is_done, is_store_fault, still_after, still_nanos};
 
 use crate::dates::second_now;
 use crate::faults::ServeFault;
@@ -18,7 +18,7 @@ use std::io::Eprint;
 use std::time::{Clock, Duration, Instant};
 
 /// What reports a server's time, and makes its backups.
-pub(crate) trait Watch {
+pub(crate) trait ServerClock {
     ghost use Rattle.std.specs.Prelude.{◌≡◌, ℕ, IfSome, Option};
     ghost use Rattle.shop_serve.specs.Times.{Copies, Looks, Stands, Times, Reports, ReportsNone};
 
@@ -69,7 +69,7 @@ struct Timer {
 
 /// The timer of a clock, the names of a store, its backups, where any are made, and whether it failed.
 #[derive(Drop)]
-pub(crate) struct Stopwatch<'a, R> {
+pub(crate) struct PausableClock<'a, R> {
     clock: &'a R,
     alloc: Global,
     timer: Timer,
@@ -79,7 +79,7 @@ pub(crate) struct Stopwatch<'a, R> {
     failed: bool,
 }
 
-impl<'a, R: Clock> Stopwatch<'a, R> {
+impl<'a, R: Clock> PausableClock<'a, R> {
     /// The time of this clock, from now on. `Port` where it can't be read.
     pub(crate) fn new(
         clock: &'a R,
@@ -87,9 +87,9 @@ impl<'a, R: Clock> Stopwatch<'a, R> {
         names: &'a Names,
         backups: Option<&'a Backups>,
         lines: &'a mut Lines,
-    ) -> Result<Stopwatch<'a, R>, ServeFault> {
+    ) -> Result<PausableClock<'a, R>, ServeFault> {
         match Instant::now(clock) {
-            Ok(last) => Ok(Stopwatch {
+            Ok(last) => Ok(PausableClock {
                 clock,
                 alloc,
                 timer: Timer {
@@ -233,7 +233,7 @@ fn back_up<R: Files + Eprint + Clock>(
     }
 }
 
-impl<'a, R: Clock + Eprint + Files> Watch for Stopwatch<'a, R> {
+impl<'a, R: Clock + Eprint + Files> ServerClock for PausableClock<'a, R> {
     ghost use Rattle.std.specs.Prelude.{None};
 
     ghost times = { λ _. None };
