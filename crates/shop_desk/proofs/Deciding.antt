@@ -45,9 +45,9 @@ use Rattle.shop_desk.specs.Decided.{IsJudged, AreJobRows, halt_for, left_for}
 module _ (texts : Texts) (m : Content) (command : Command) (read : Reading) (reads : Reads texts m command read) (before after : ℕ) (first : Option Refusal) (same : refusal_of m command read ≡ first)
     (E : Change → Type 0) (makes : (change : Change) → E change → Makes m command read change) where
   pub decided_by : (result : Result Change Refusal) → Decides first E result → IsJudged texts m command before result after
-  decided_by (Ok change) d = record { decision = (read, reads, same ∙ d.0, makes change d.1); blame = tt }
+  decided_by (Ok change) d = record { decision = (read, reads, same ∙ d.0, makes change d.1); store_fault_justified = tt }
   decided_by (Err refusal) d =
-      record { decision = λ n s. (read, reads, same ∙ d n); blame = λ e. inr (read, reads, same ∙ d (λ f. memory refusal e f) ∙ ap Some e) }
+      record { decision = λ n s. (read, reads, same ∙ d n); store_fault_justified = λ e. inr (read, reads, same ∙ d (λ f. memory refusal e f) ∙ ap Some e) }
     where
       memory : (refusal : Refusal) → refusal ≡ StoreFault → refusal ≡ NoMemory → ⊥
       memory refusal e f = cc
@@ -220,7 +220,7 @@ module _ (texts : Texts) (m : Content) (order text : List ℕ) where
     -- a text that spells nothing
     pub unread_decided : (form : Form) → Read form unread → (before after : ℕ) → IsJudged texts m (Import order form text) before (Err (unread_refusal used)) after
     unread_decided form reads before after =
-        record { decision = λ n s. (unread, reads, ap (λ u. Some (unread_refusal u)) (sym is_used)); blame = λ e. absurd (no_fault used e) }
+        record { decision = λ n s. (unread, reads, ap (λ u. Some (unread_refusal u)) (sym is_used)); store_fault_justified = λ e. absurd (no_fault used e) }
       where
         no_fault : (used : Bool) → unread_refusal used ≡ StoreFault → ⊥
         no_fault true e = cc

@@ -16,8 +16,8 @@ use Rattle.shop_machine.proofs.Runs.{AreMessages, gives_after}
 use Rattle.shop_machine.proofs.Owners.{account_of}
 use Rattle.shop_book.specs.declared.books.Book.{Ghosts}
 use Rattle.shop_desk.specs.Faults.{CountsUp}
-use Rattle.shop_desk.specs.Handled.{LeftBy, HandlesMessageAt, OneByOne, AreHandled, AreHandledAt, HasAccount, HasAllEntries, HasEntries, HasRun}
-use Rattle.shop_desk.proofs.Blame.{up_same, up_answer, up_more, report_more, report_one}
+use Rattle.shop_desk.specs.Handled.{CrashStatesAfter, HandlesMessageAt, OneByOne, AreHandled, AreHandledAt, HasAccount, HasAllEntries, HasEntries, HasRun}
+use Rattle.shop_desk.proofs.Justified.{up_same, up_answer, up_more, report_more, report_one}
 use Rattle.shop_desk.proofs.Steps.{leads_grow}
 
 account_after : (texts : Texts) (old new : Content) (messages : List Message) (answers : List Reply) → AreMessages messages → Run texts old messages answers new → HasAccount texts old messages answers new
@@ -102,7 +102,7 @@ module _ {B : Type 0} (texts : Texts) (book : Ghosts B) where
         held = subst (λ b. book.holds b m) (sym same) held;
         sound = sound;
         crash = (refl, λ left it. subst (λ b. book.may_leave b left) same it);
-        blame = λ none. absurd none;
+        store_fault_justified = λ none. absurd none;
         account = account_after texts m m [] [] tt refl;
         entries = entries_are texts m;
       }
@@ -122,10 +122,10 @@ module _ {B : Type 0} (texts : Texts) (book : Ghosts B) where
         crash = (
           one.next,
           one.step,
-          leads_grow texts book.stands (LeftBy texts book.stands (book.may_leave before) m message answer one.next) (book.may_leave mid) (book.may_leave after) one.crash one.next more.next ms rs more.crash,
+          leads_grow texts book.stands (CrashStatesAfter texts book.stands (book.may_leave before) m message answer one.next) (book.may_leave mid) (book.may_leave after) one.crash one.next more.next ms rs more.crash,
         );
-        blame = report_more (book.failed before) (book.failed mid) (book.failed after) (answer ∷ []) rs (up_answer (book.failed before) (book.failed mid) answer handled.1.failures) (handled_up mid after ms rs handled.2)
-            (report_one (book.failed before) (book.failed mid) answer (handled.1.store_fault at_mid m held sound)) more.blame;
+        store_fault_justified = report_more (book.failed before) (book.failed mid) (book.failed after) (answer ∷ []) rs (up_answer (book.failed before) (book.failed mid) answer handled.1.failures) (handled_up mid after ms rs handled.2)
+            (report_one (book.failed before) (book.failed mid) answer (handled.1.store_fault at_mid m held sound)) more.store_fault_justified;
         account = account_after texts m more.next (message ∷ ms) (answer ∷ rs) (are_messages before after (message ∷ ms) (answer ∷ rs) handled) run;
         entries = entries_step texts m one.next more.next message answer sound one.step more.entries;
       }

@@ -1,7 +1,7 @@
 pub mod Counted
 pub mod Steps
 pub mod Deciding
-pub mod Blame
+pub mod Justified
 pub mod Accounts
 pub mod TakenParts
 pub mod TakenJobs

@@ -24,8 +24,8 @@ use Rattle.shop_records.specs.Soundness.{IsSound, Fits}
 use Rattle.shop_machine.proofs.Sound.{reports_accepted, sound_entered, fits_entered, agrees}
 use Rattle.shop_machine.proofs.Timeless.{untimed}
 use Rattle.shop_desk.specs.Faults.{CountsRefusal, CountsReply, StoreFailed}
-use Rattle.shop_desk.specs.Decided.{BlamesStore, Contradicts, CountsOrDisagrees}
-use Rattle.shop_desk.specs.Handled.{LeftByNew, LeftBy, IsHandledAt, Leads}
+use Rattle.shop_desk.specs.Decided.{JustifiesStoreFault, Contradicts, CountsOrDisagrees}
+use Rattle.shop_desk.specs.Handled.{CrashStatesAfterNew, CrashStatesAfter, IsHandledAt, Leads}
 
 pub counts_made : (before after : ℕ) (answer : Reply) → is_accepted answer ≡ true → after ≡ before → CountsReply answer before after
 counts_made before after answer made same = by (refusal_in answer) made
@@ -49,24 +49,24 @@ counted_made before after change (inl same) = same
 counted_made before after change (inr rows) = rows.1
 
 -- a commit that failed blames the store only where it failed
-pub commit_blamed : (T : Type 0) (before mid after : ℕ) (fault : BookFault) (refusal : Refusal) → mid ≡ before → CountsFailure {T = T} (Err fault) mid after
+pub commit_justified : (T : Type 0) (before mid after : ℕ) (fault : BookFault) (refusal : Refusal) → mid ≡ before → CountsFailure {T = T} (Err fault) mid after
     → refusal ≡ refusal_for fault → Refused refusal ≡ Refused StoreFault → StoreFailed before after
-commit_blamed T before mid after fault.NoMemory refusal same counts is reported = absurd (other refusal is reported)
+commit_justified T before mid after fault.NoMemory refusal same counts is reported = absurd (other refusal is reported)
   where
     other : (refusal : Refusal) → refusal ≡ NoMemory → Refused refusal ≡ Refused StoreFault → ⊥
     other refusal is reported = cc
-commit_blamed T before mid after fault.Store refusal same counts is reported =
+commit_justified T before mid after fault.Store refusal same counts is reported =
     rose before after (nat_lt before MAX_FAILURES) (subst (λ n. after ≡ (if nat_lt n MAX_FAILURES then n + 1 else MAX_FAILURES)) same counts)
-commit_blamed T before mid after fault.WrongVersion refusal same counts is reported = absurd counts
+commit_justified T before mid after fault.WrongVersion refusal same counts is reported = absurd counts
 
 -- what follows a decision to accept is counted as if it were alone
 pub counted_after : (before mid after : ℕ) (refusal : Refusal) → mid ≡ before → CountsRefusal refusal mid after → CountsRefusal refusal before after
 counted_after before mid after refusal same counts = subst (λ n. CountsRefusal refusal n after) same counts
 
 -- on a sound content a decision blames the store only where it failed
-pub blamed : (texts : Texts) (m : Content) (message : Message) (before after : ℕ) (refusal : Refusal) → IsSound texts m
-    → BlamesStore texts m message.command before (Err refusal) after → Refused refusal ≡ Refused StoreFault → StoreFailed before after
-blamed texts m message before after refusal sound blames is = by (blames (same refusal is))
+pub justified : (texts : Texts) (m : Content) (message : Message) (before after : ℕ) (refusal : Refusal) → IsSound texts m
+    → JustifiesStoreFault texts m message.command before (Err refusal) after → Refused refusal ≡ Refused StoreFault → StoreFailed before after
+justified texts m message before after refusal sound justifies is = by (justifies (same refusal is))
   where
     same : (refusal : Refusal) → Refused refusal ≡ Refused StoreFault → refusal ≡ StoreFault
     same refusal e = cc
@@ -185,22 +185,22 @@ module _ (texts : Texts) where
 
   module _ {Left : Type 0} (stands : Left → Content → Type 0) where
     left_made : (before : Left → Type 0) (old : Content) (message : Message) (answer : Reply) (next : Content) (left : Left) → IsMade answer → stands left next
-        → LeftByNew texts stands before old message answer next left
+        → CrashStatesAfterNew texts stands before old message answer next left
     left_made before old message answer next left made it =
         subst (λ (o : Option Refusal). MatchOption o (stands left next) (λ refusal. before left ⊎ ((other : Reply) × (made : Content) × StepNew texts old message other made × stands left made))) (sym (none_made answer made)) it
 
     left_new : (before : Left → Type 0) (old : Content) (message : Message) (answer : Reply) (next : Content) (left : Left) → kept_at old (pair_of message) ≡ None
-        → LeftByNew texts stands before old message answer next left → LeftBy texts stands before old message answer next left
+        → CrashStatesAfterNew texts stands before old message answer next left → CrashStatesAfter texts stands before old message answer next left
     left_new before old message answer next left none it =
-        subst (λ o. MatchOption o (LeftByNew texts stands before old message answer next left) (λ (row : Kept). before left)) (sym none) it
+        subst (λ o. MatchOption o (CrashStatesAfterNew texts stands before old message answer next left) (λ (row : Kept). before left)) (sym none) it
 
     left_refused : (before : Left → Type 0) (old : Content) (message : Message) (refusal : Refusal) (next : Content) (left : Left) (found : Option Kept) → before left
-        → MatchOption found (LeftByNew texts stands before old message (Refused refusal) next left) (λ (row : Kept). before left)
+        → MatchOption found (CrashStatesAfterNew texts stands before old message (Refused refusal) next left) (λ (row : Kept). before left)
     left_refused before old message refusal next left None it = inl it
     left_refused before old message refusal next left (Some row) it = it
 
     more_new : (before mid : Left → Type 0) → ((left : Left) → mid left → before left)
-        → (old : Content) (message : Message) (answer : Reply) (next : Content) (left : Left) → LeftByNew texts stands mid old message answer next left → LeftByNew texts stands before old message answer next left
+        → (old : Content) (message : Message) (answer : Reply) (next : Content) (left : Left) → CrashStatesAfterNew texts stands mid old message answer next left → CrashStatesAfterNew texts stands before old message answer next left
     more_new before mid grows old message answer next left it = by (refusal_in answer) it
       where
         by : (o : Option Refusal) → MatchOption o (stands left next) (λ refusal. mid left ⊎ ((other : Reply) × (made : Content) × StepNew texts old message other made × stands left made))
@@ -211,19 +211,19 @@ module _ (texts : Texts) where
 
     more_by : (before mid : Left → Type 0) → ((left : Left) → mid left → before left)
         → (old : Content) (message : Message) (answer : Reply) (next : Content) (left : Left) (found : Option Kept)
-        → MatchOption found (LeftByNew texts stands mid old message answer next left) (λ (row : Kept). mid left)
-        → MatchOption found (LeftByNew texts stands before old message answer next left) (λ (row : Kept). before left)
+        → MatchOption found (CrashStatesAfterNew texts stands mid old message answer next left) (λ (row : Kept). mid left)
+        → MatchOption found (CrashStatesAfterNew texts stands before old message answer next left) (λ (row : Kept). before left)
     more_by before mid grows old message answer next left None it = more_new before mid grows old message answer next left it
     more_by before mid grows old message answer next left (Some row) it = grows left it
 
     -- what may be left grows with what could be left before
     pub left_more : (before mid : Left → Type 0) → ((left : Left) → mid left → before left)
-        → (old : Content) (message : Message) (answer : Reply) (next : Content) (left : Left) → LeftBy texts stands mid old message answer next left → LeftBy texts stands before old message answer next left
+        → (old : Content) (message : Message) (answer : Reply) (next : Content) (left : Left) → CrashStatesAfter texts stands mid old message answer next left → CrashStatesAfter texts stands before old message answer next left
     left_more before mid grows old message answer next left it = more_by before mid grows old message answer next left (kept_at old (pair_of message)) it
 
     -- a step with a time
     handled_at : (at : ℕ) (before after : Left → Type 0) (holds : Content → Type 0) (m : Content) (message : Message) (answer : Reply) (next : Content) → StepAt texts at m message answer next
-        → holds next → IsSound texts next → ((left : Left) → after left → LeftBy texts stands before m message answer next left) → IsHandledAt texts stands at before after holds m message answer
+        → holds next → IsSound texts next → ((left : Left) → after left → CrashStatesAfter texts stands before m message answer next left) → IsHandledAt texts stands at before after holds m message answer
     handled_at at before after holds m message answer next step held sound crash =
         record { handled = record { next = next; step = untimed texts at m next message answer step; held = held; sound = sound; crash = crash }; timed = step }
 
@@ -248,7 +248,7 @@ module _ (texts : Texts) where
         → IsSound texts m → holds m → ((left : Left) → after left → before left) → IsHandledAt texts stands at before after holds m message answer
     repeated at before after holds m message answer row some step sound held crash =
         handled_at at before after holds m message answer m (step_again at m message answer row some step) held sound
-        (λ left it. subst (λ o. MatchOption o (LeftByNew texts stands before m message answer m left) (λ (row : Kept). before left)) (sym some) (crash left it))
+        (λ left it. subst (λ o. MatchOption o (CrashStatesAfterNew texts stands before m message answer m left) (λ (row : Kept). before left)) (sym some) (crash left it))
 
     -- handled after a reading
     pub handled_later : (at : ℕ) (before mid after : Left → Type 0) (holds : Content → Type 0) (m : Content) (message : Message) (answer : Reply) → ((left : Left) → mid left → before left)
@@ -307,5 +307,5 @@ module _ (texts : Texts) where
     leads_grow before mid after grows old new (m ∷ ms) (r ∷ rs) leads = (
       leads.0,
       leads.1,
-      leads_grow (LeftBy texts stands before old m r leads.0) (LeftBy texts stands mid old m r leads.0) after (left_more before mid grows old m r leads.0) leads.0 new ms rs leads.2,
+      leads_grow (CrashStatesAfter texts stands before old m r leads.0) (CrashStatesAfter texts stands mid old m r leads.0) after (left_more before mid grows old m r leads.0) leads.0 new ms rs leads.2,
     )

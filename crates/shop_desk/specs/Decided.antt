@@ -31,14 +31,14 @@ abbrev pub Contradicts : Texts → Content → Command → Type 0
 Contradicts texts m command = (read : Reading) × Reads texts m command read × (refusal_of m command read ≡ Some StoreFault)
 
 -- a decision reports a failed store only where the store failed, or where rows contradict each other
-abbrev pub BlamesStore : Texts → Content → Command → ℕ → Result Change Refusal → ℕ → Type 0
-BlamesStore texts m command before result after =
+abbrev pub JustifiesStoreFault : Texts → Content → Command → ℕ → Result Change Refusal → ℕ → Type 0
+JustifiesStoreFault texts m command before result after =
     IfErr result (λ refusal. refusal ≡ StoreFault → StoreFailed before after ⊎ Contradicts texts m command)
 
 -- what is decided on a command over a content
 pub record IsJudged (texts : Texts) (m : Content) (command : Command) (before : ℕ) (result : Result Change Refusal) (after : ℕ) : Type 0 where
   pub decision : IsDecided texts m command result
-  pub blame : BlamesStore texts m command before result after
+  pub store_fault_justified : JustifiesStoreFault texts m command before result after
 
 -- what is decided on a command over a book, for each sound content that it held
 abbrev pub Judges : {B : Type 0} → Ghosts B → Texts → Command → B → Result Change Refusal → B → Type 0

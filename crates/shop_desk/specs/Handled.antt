@@ -17,16 +17,16 @@ use Rattle.shop_desk.specs.Faults.{StoreFailed, ReportOfFailures, CountsOrContra
 module _ (texts : Texts) {Left : Type 0} (stands : Left → Content → Type 0) where
   -- What may be left after a message that wasn't kept: once it is accepted what stands for the next content, and once it
   -- is refused what could be left before, or what stands for the message's own step.
-  abbrev pub LeftByNew : (Left → Type 0) → Content → Message → Reply → Content → Left → Type 0
-  LeftByNew before old message answer next left =
+  abbrev pub CrashStatesAfterNew : (Left → Type 0) → Content → Message → Reply → Content → Left → Type 0
+  CrashStatesAfterNew before old message answer next left =
       MatchOption (refusal_in answer)
       (stands left next)
       (λ refusal. before left ⊎ ((other : Reply) × (made : Content) × StepNew texts old message other made × stands left made))
 
   -- after a message that was kept, what could be left before
-  abbrev pub LeftBy : (Left → Type 0) → Content → Message → Reply → Content → Left → Type 0
-  LeftBy before old message answer next left =
-      MatchOption (kept_at old (pair_of message)) (LeftByNew before old message answer next left) (λ row. before left)
+  abbrev pub CrashStatesAfter : (Left → Type 0) → Content → Message → Reply → Content → Left → Type 0
+  CrashStatesAfter before old message answer next left =
+      MatchOption (kept_at old (pair_of message)) (CrashStatesAfterNew before old message answer next left) (λ row. before left)
 
   -- The book held old and holds next, a step of the machine later.
   pub record IsHandled (before after : Left → Type 0) (holds : Content → Type 0) (old : Content) (message : Message) (answer : Reply) : Type 0 where
@@ -34,7 +34,7 @@ module _ (texts : Texts) {Left : Type 0} (stands : Left → Content → Type 0) 
     pub step : Step texts old message answer next
     pub held : holds next
     pub sound : IsSound texts next
-    pub crash : (left : Left) → after left → LeftBy before old message answer next left
+    pub crash : (left : Left) → after left → CrashStatesAfter before old message answer next left
 
   -- the same of a message that was given this time
   pub record IsHandledAt (at : ℕ) (before after : Left → Type 0) (holds : Content → Type 0) (old : Content) (message : Message) (answer : Reply) : Type 0 where
@@ -45,7 +45,7 @@ module _ (texts : Texts) {Left : Type 0} (stands : Left → Content → Type 0) 
   abbrev pub Leads : (Left → Type 0) → Content → List Message → List Reply → Content → (Left → Type 0) → Type 0
   Leads before old [] [] new after = (new ≡ old) × ((left : Left) → after left → before left)
   Leads before old (message ∷ messages) (answer ∷ answers) new after =
-      (next : Content) × Step texts old message answer next × Leads (LeftBy before old message answer next) next messages answers new after
+      (next : Content) × Step texts old message answer next × Leads (CrashStatesAfter before old message answer next) next messages answers new after
   Leads before old [] (answer ∷ answers) new after = ⊥
   Leads before old (message ∷ messages) [] new after = ⊥
 
@@ -62,8 +62,8 @@ HandlesAt texts at book before after message answer =
     → IsHandledAt texts book.stands at (book.may_leave before) (book.may_leave after) (book.holds after) m message answer)
 
 -- over such a content a failed store is reported only where it failed
-abbrev pub BlamesStore : {B : Type 0} → Texts → Ghosts B → B → B → Reply → Type 0
-BlamesStore texts book before after answer =
+abbrev pub JustifiesStoreFault : {B : Type 0} → Texts → Ghosts B → B → B → Reply → Type 0
+JustifiesStoreFault texts book before after answer =
     OnContent book before after (λ m. IsSound texts m → answer ≡ Refused StoreFault → StoreFailed (book.failed before) (book.failed after))
 
 -- a refusal leaves each content that a book with a clean disk held, whether a history gives it or not
@@ -77,7 +77,7 @@ pub record HandlesMessage {B : Type 0} (texts : Texts) (book : Ghosts B) (before
   pub is_message : IsMessage message
   pub clean_disk : book.has_clean_disk after → book.has_clean_disk before
   pub failures : CountsOrContradicts answer (book.failed before) (book.failed after)
-  pub store_fault : BlamesStore texts book before after answer
+  pub store_fault : JustifiesStoreFault texts book before after answer
 
 -- the same of a message that was given this time
 pub record HandlesMessageAt {B : Type 0} (texts : Texts) (at : ℕ) (book : Ghosts B) (before after : B) (message : Message) (answer : Reply) : Type 0 where
@@ -124,6 +124,6 @@ pub record HasRun {B : Type 0} (texts : Texts) (book : Ghosts B) (before after :
   pub held : book.holds after next
   pub sound : IsSound texts next
   pub crash : Leads texts book.stands (book.may_leave before) old messages answers next (book.may_leave after)
-  pub blame : ReportOfFailures answers (book.failed before) (book.failed after)
+  pub store_fault_justified : ReportOfFailures answers (book.failed before) (book.failed after)
   pub account : HasAccount texts old messages answers next
   pub entries : HasEntries texts old next

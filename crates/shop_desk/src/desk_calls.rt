@@ -16,7 +16,7 @@ ghost use Rattle.shop_forms.specs.Forms.{json_texts};
 ghost use Rattle.shop_book.specs.Failures.{CountsFailure};
 ghost use Rattle.shop_book.specs.Kept.{Unchanged, OnContent};
 ghost use Rattle.shop_desk.specs.Faults.{CountsDecision, CountsReply, CountsOrContradicts, CountsUp, StoreFailed};
-ghost use Rattle.shop_desk.specs.Handled.{AreHandled, AreHandledAt, BlamesStore, Handles, HandlesAt, HasRun, IsHandledAt, RefusalKeeps};
+ghost use Rattle.shop_desk.specs.Handled.{AreHandled, AreHandledAt, JustifiesStoreFault, Handles, HandlesAt, HasRun, IsHandledAt, RefusalKeeps};
 
 use crate::decided::{decide, keeping_message};
 use crate::found::{demands_for, material_for};
@@ -153,7 +153,7 @@ fn handle_message<B: Book>(
     ensures message { IsMessage message.now }
     ensures clean_disk { B.has_clean_disk book.new → B.has_clean_disk book.old }
     ensures failures { CountsOrContradicts result.0 (B.failed book.old) (B.failed book.new) }
-    ensures store_fault { BlamesStore json_texts B.Book book.old book.new result.0 }
+    ensures store_fault { JustifiesStoreFault json_texts B.Book book.old book.new result.0 }
 {
     let Ok(text) = message_text(alloc, message) else {
         return (Reply::Refused(Refusal::NoMemory), None);
@@ -182,7 +182,7 @@ pub fn handle_with_text_at<B: Book>(
     ensures message { IsMessage message.now }
     ensures clean_disk { B.has_clean_disk book.new → B.has_clean_disk book.old }
     ensures failures { CountsOrContradicts result.0 (B.failed book.old) (B.failed book.new) }
-    ensures store_fault { BlamesStore json_texts B.Book book.old book.new result.0 }
+    ensures store_fault { JustifiesStoreFault json_texts B.Book book.old book.new result.0 }
 {
     handle_message(alloc, book, message, at)
 }
@@ -195,7 +195,7 @@ pub fn handle_at<B: Book>(alloc: Global, book: &mut B, message: &Message, at: u6
     ensures message { IsMessage message.now }
     ensures clean_disk { B.has_clean_disk book.new → B.has_clean_disk book.old }
     ensures failures { CountsOrContradicts result (B.failed book.old) (B.failed book.new) }
-    ensures store_fault { BlamesStore json_texts B.Book book.old book.new result }
+    ensures store_fault { JustifiesStoreFault json_texts B.Book book.old book.new result }
 {
     handle_with_text_at(alloc, book, message, at).0
 }
@@ -214,7 +214,7 @@ pub fn handle_with_text<B: Book>(
     ensures message { IsMessage message.now }
     ensures clean_disk { B.has_clean_disk book.new → B.has_clean_disk book.old }
     ensures failures { CountsOrContradicts result.0 (B.failed book.old) (B.failed book.new) }
-    ensures store_fault { BlamesStore json_texts B.Book book.old book.new result.0 }
+    ensures store_fault { JustifiesStoreFault json_texts B.Book book.old book.new result.0 }
 {
     handle_with_text_at(alloc, book, message, 0)
 }
@@ -226,7 +226,7 @@ pub fn handle<B: Book>(alloc: Global, book: &mut B, message: &Message) -> Reply
     ensures message { IsMessage message.now }
     ensures clean_disk { B.has_clean_disk book.new → B.has_clean_disk book.old }
     ensures failures { CountsOrContradicts result (B.failed book.old) (B.failed book.new) }
-    ensures store_fault { BlamesStore json_texts B.Book book.old book.new result }
+    ensures store_fault { JustifiesStoreFault json_texts B.Book book.old book.new result }
 {
     handle_at(alloc, book, message, 0)
 }

@@ -9,7 +9,7 @@ use Rattle.shop_records.specs.Readings.{Reading}
 use Rattle.shop_records.specs.Messages.{refusal_in, pair_of}
 use Rattle.shop_records.specs.Content.{Content, kept_at}
 use Rattle.shop_machine.specs.Machine.{Accepts, Refuses, Step, StepAgain, StepNew}
-use Rattle.shop_desk.specs.Handled.{Leads, LeftBy}
+use Rattle.shop_desk.specs.Handled.{Leads, CrashStatesAfter}
 use Rattle.shop_forms.specs.Forms.{json_texts}
 use Rattle.shop_opening.specs.Stops.{IsAfter, WasRefused}
 
@@ -50,7 +50,7 @@ module _ {Left : Type 0} (stands : Left → Content → Type 0) where
       }
     ]
 
-    handled : Step json_texts old message answer next → LeftBy json_texts stands before old message answer next left → StandsAfter stands (Also refused message answer) next left
+    handled : Step json_texts old message answer next → CrashStatesAfter json_texts stands before old message answer next left → StandsAfter stands (Also refused message answer) next left
     handled step may = handled_at (kept_at old (pair_of message)) (refusal_in answer) refl step may
 
   pub stands_after : (messages : List Message) (answers : List Reply) (before after : Left → Type 0) (refused : Message → Type 0) (old next : Content) → ((left : Left) → before left → StandsAfter stands refused old left)
@@ -59,7 +59,7 @@ module _ {Left : Type 0} (stands : Left → Content → Type 0) where
   stands_after [] (answer ∷ answers) before after refused old next was leads left may = absurd leads
   stands_after (message ∷ messages) [] before after refused old next was leads left may = absurd leads
   stands_after (message ∷ messages) (answer ∷ answers) before after refused old next was leads left may =
-      let later = stands_after messages answers (LeftBy json_texts stands before old message answer leads.0) after (Also refused message answer) leads.0 next
+      let later = stands_after messages answers (CrashStatesAfter json_texts stands before old message answer leads.0) after (Also refused message answer) leads.0 next
       (λ it now. handled before refused old was message answer leads.0 it leads.1 now) leads.2 left may in
       more (λ m. Also refused message answer m ⊎ WasRefused messages answers m) (λ m. refused m ⊎ WasRefused (message ∷ messages) (answer ∷ answers) m) next next left (λ m p. elim p [
         | inl prefix ↦ elim prefix [ inl earlier ↦ inl earlier | inr this ↦ inr (inl this) ]

@@ -6,7 +6,7 @@ use Rattle.shop_book.specs.Kept.{Unchanged}
 use Rattle.shop_book.specs.declared.books.Book.{Ghosts}
 use Rattle.shop_book.specs.declared.books.BookFault.{BookFault}
 use Rattle.shop_book.specs.declared.books.BookFault.TheVariants.{NoMemory, Store, WrongVersion}
-use Rattle.shop_desk.proofs.Blame.{up_reply}
+use Rattle.shop_desk.proofs.Justified.{up_reply}
 use Rattle.shop_desk.specs.Faults.{CountsUp}
 use Rattle.shop_records.specs.declared.messages.Reply.TheVariants.{Refused}
 use Rattle.shop_records.specs.declared.refusals.Refusal.TheVariants.{StoreFault}

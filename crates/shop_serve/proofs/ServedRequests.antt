@@ -12,7 +12,7 @@ use Rattle.shop_serve.specs.Times.{Times}
 use Rattle.shop_desk.specs.Handled.{HasAccount}
 use Rattle.shop_desk.specs.Faults.{CountsUp}
 use Rattle.shop_desk.proofs.Accounts.{account_same, account_more}
-use Rattle.shop_desk.proofs.Blame.{up_more, failed_first, failed_last}
+use Rattle.shop_desk.proofs.Justified.{up_more, failed_first, failed_last}
 use Rattle.shop_records.specs.Content.{Content}
 use Rattle.shop_request.specs.Guards.{HasRuling}
 use Rattle.shop_request.specs.declared.guards.Ruling.{Ruling}
@@ -93,16 +93,16 @@ served-append site book before mid after old m new (s ∷ ss) ts run more =
     (run.0, run.1, run.2, run.3, served-append site book run.0 mid after run.1 m new ss ts run.4 more)
 
 -- rounds, and then more of them
-blame-append : (a b c : ℕ) (ss ts : List ServedRequest) → CountsUp a b → CountsUp b c → ReportOfFailures ss a b → ReportOfFailures ts b c → ReportOfFailures (ss ++ ts) a c
-blame-append a b c [] ts up next first second t i e = failed_last a b c up (second t i e) next
-blame-append a b c (s ∷ ss) ts up next first second t (inl is) e = failed_first a b c (first t (inl is) e) next
-blame-append a b c (s ∷ ss) ts up next first second t (inr i) e = blame-append a b c ss ts up next (λ t i. first t (inr i)) second t i e
+store_fault_justified-append : (a b c : ℕ) (ss ts : List ServedRequest) → CountsUp a b → CountsUp b c → ReportOfFailures ss a b → ReportOfFailures ts b c → ReportOfFailures (ss ++ ts) a c
+store_fault_justified-append a b c [] ts up next first second t i e = failed_last a b c up (second t i e) next
+store_fault_justified-append a b c (s ∷ ss) ts up next first second t (inl is) e = failed_first a b c (first t (inl is) e) next
+store_fault_justified-append a b c (s ∷ ss) ts up next first second t (inr i) e = store_fault_justified-append a b c ss ts up next (λ t i. first t (inr i)) second t i e
 
 module _ (site : Site) {B : Type 0} (book : Ghosts B) where
   -- none
   pub none_served : (here : B) (count : ℕ) → HasServed site book here here count
   none_served here count clean_disk m held sound =
-      record { served = []; few = omega arith; next = m; run = (refl, refl); held = held; sound = sound; crash = (refl, λ left it. it); failures = inl refl; blame = λ t i. absurd i; account = account_same json_texts m m refl }
+      record { served = []; few = omega arith; next = m; run = (refl, refl); held = held; sound = sound; crash = (refl, λ left it. it); failures = inl refl; store_fault_justified = λ t i. absurd i; account = account_same json_texts m m refl }
 
   -- nothing was done
   pub none_done : (before after : B) (count : ℕ) → after ≡ before → HasServed site book before after count
@@ -118,7 +118,7 @@ module _ (site : Site) {B : Type 0} (book : Ghosts B) where
         held = held;
         crash = subst (λ es. ExchangesLead book here here m es m) (sym none) (refl, λ left it. it);
         failures = inl refl;
-        blame = λ reports. absurd (unreported reports);
+        store_fault_justified = λ reports. absurd (unreported reports);
       }
 
   -- by its head an input goes to its route
@@ -133,7 +133,7 @@ module _ (site : Site) {B : Type 0} (book : Ghosts B) where
       let done = s.2.run.run clean_disk m held sound in
       let served_one : ServedRequest = record { input = input; handling = routed s.0 response; answer = s.2.bytes } in
       let once : IsServedOnce book before after m (routed s.0 response) done.next =
-      record { step = done.step; clean_disk = clean_disk; held = done.held; crash = done.crash; failures = up; blame = done.blame } in
+      record { step = done.step; clean_disk = clean_disk; held = done.held; crash = done.crash; failures = up; store_fault_justified = done.store_fault_justified } in
       record {
         served = served_one ∷ [];
         few = omega arith;
@@ -143,7 +143,7 @@ module _ (site : Site) {B : Type 0} (book : Ghosts B) where
         sound = done.sound;
         crash = subst (λ es. ExchangesLead book before after m es done.next) (sym (append-nil (exchanged s.0 response))) done.crash;
         failures = up;
-        blame = λ t i e. elim i [ inl is ↦ done.blame (subst (λ (t : ServedRequest). ReportsFailure t.handling) is e) | inr none ↦ absurd none ];
+        store_fault_justified = λ t i e. elim i [ inl is ↦ done.store_fault_justified (subst (λ (t : ServedRequest). ReportsFailure t.handling) is e) | inr none ↦ absurd none ];
         account = subst (λ es. HasAccount json_texts m (map (λ e. e.0) es) (map (λ e. e.1) es) done.next) (sym (append-nil (exchanged s.0 response))) done.account;
       }
 
@@ -165,7 +165,7 @@ module _ (site : Site) {B : Type 0} (book : Ghosts B) where
       let done = b.run clean_disk m held sound in
       let served_one : ServedRequest = record { input = input; handling = begun b.body b.query instance; answer = [] } in
       let once : IsServedOnce book before after m (begun b.body b.query instance) m =
-      record { step = (refl, done.1); clean_disk = clean_disk; held = done.0; crash = (refl, b.keeps.crash clean_disk m held); failures = up; blame = λ none. absurd none } in
+      record { step = (refl, done.1); clean_disk = clean_disk; held = done.0; crash = (refl, b.keeps.crash clean_disk m held); failures = up; store_fault_justified = λ none. absurd none } in
       record {
         served = served_one ∷ [];
         few = omega arith;
@@ -175,7 +175,7 @@ module _ (site : Site) {B : Type 0} (book : Ghosts B) where
         sound = sound;
         crash = (refl, b.keeps.crash clean_disk m held);
         failures = up;
-        blame = λ t i e. elim i [ inl is ↦ absurd (subst (λ (t : ServedRequest). ReportsFailure t.handling) is e) | inr none ↦ absurd none ];
+        store_fault_justified = λ t i e. elim i [ inl is ↦ absurd (subst (λ (t : ServedRequest). ReportsFailure t.handling) is e) | inr none ↦ absurd none ];
         account = account_same json_texts m m refl;
       }
 
@@ -196,7 +196,7 @@ module _ (site : Site) {B : Type 0} (book : Ghosts B) where
         sound = sound;
         crash = (refl, λ left it. it);
         failures = inl refl;
-        blame = λ t i e. elim i [ inl is ↦ absurd (subst (λ (t : ServedRequest). ReportsFailure t.handling) is e) | inr none ↦ absurd none ];
+        store_fault_justified = λ t i e. elim i [ inl is ↦ absurd (subst (λ (t : ServedRequest). ReportsFailure t.handling) is e) | inr none ↦ absurd none ];
         account = account_same json_texts m m refl;
       }
 
@@ -228,7 +228,7 @@ module _ (site : Site) {B : Type 0} (book : Ghosts B) where
         held = holds;
         crash = (refl, counted.0.crash clean_disk m held);
         failures = counted.0.failures;
-        blame = λ none. absurd none;
+        store_fault_justified = λ none. absurd none;
       } in
       record {
         served = served_one ∷ [];
@@ -239,7 +239,7 @@ module _ (site : Site) {B : Type 0} (book : Ghosts B) where
         sound = sound;
         crash = (refl, counted.0.crash clean_disk m held);
         failures = counted.0.failures;
-        blame = λ t i e. elim i [ inl is ↦ absurd (subst (λ (t : ServedRequest). ReportsFailure t.handling) is e) | inr none ↦ absurd none ];
+        store_fault_justified = λ t i e. elim i [ inl is ↦ absurd (subst (λ (t : ServedRequest). ReportsFailure t.handling) is e) | inr none ↦ absurd none ];
         account = account_same json_texts m m refl;
       }
 
@@ -258,7 +258,7 @@ module _ (site : Site) {B : Type 0} (book : Ghosts B) where
         crash = subst (λ es. ExchangesLead book before after m es second.next) (sym (flat_map-append (λ (t : ServedRequest). exchange_of t.handling) first.served second.served))
             (leads_join json_texts book.stands (book.may_leave before) (book.may_leave mid) (book.may_leave after) m first.next second.next (exchanges first.served) (exchanges second.served) first.crash second.crash);
         failures = up_more (book.failed before) (book.failed mid) (book.failed after) first.failures second.failures;
-        blame = blame-append (book.failed before) (book.failed mid) (book.failed after) first.served second.served first.failures second.failures first.blame second.blame;
+        store_fault_justified = store_fault_justified-append (book.failed before) (book.failed mid) (book.failed after) first.served second.served first.failures second.failures first.store_fault_justified second.store_fault_justified;
         account = subst (λ es. HasAccount json_texts m (map (λ e. e.0) es) (map (λ e. e.1) es) second.next) (sym (flat_map-append (λ (t : ServedRequest). exchange_of t.handling) first.served second.served))
             (account_more json_texts m first.next second.next (exchanges first.served) (exchanges second.served) first.account second.account);
       }
@@ -276,7 +276,7 @@ module _ (site : Site) {B : Type 0} (book : Ghosts B) where
         sound = done.sound;
         crash = done.crash;
         failures = done.failures;
-        blame = done.blame;
+        store_fault_justified = done.store_fault_justified;
         account = done.account;
       }
 

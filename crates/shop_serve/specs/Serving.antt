@@ -124,7 +124,7 @@ pub record IsServedOnce {B : Type 0} (book : Ghosts B) (before after : B) (old :
   pub held : book.holds after new
   pub crash : ExchangesLead book before after old (exchange_of handling) new
   pub failures : CountsUp (book.failed before) (book.failed after)
-  pub blame : ReportsFailure handling → StoreFailed (book.failed before) (book.failed after)
+  pub store_fault_justified : ReportsFailure handling → StoreFailed (book.failed before) (book.failed after)
 
 -- one after another, each of which came as some bytes, over the book that the one before it left
 abbrev pub ServedInOrder : Site → {B : Type 0} → Ghosts B → B → Content → List ServedRequest → B → Content → Type 0
@@ -148,7 +148,7 @@ pub record HasServedRequests (site : Site) {B : Type 0} (book : Ghosts B) (befor
   pub sound : IsSound json_texts next
   pub crash : ExchangesLead book before after old (exchanges served) next
   pub failures : CountsUp (book.failed before) (book.failed after)
-  pub blame : ReportOfFailures served (book.failed before) (book.failed after)
+  pub store_fault_justified : ReportOfFailures served (book.failed before) (book.failed after)
   pub account : HasAccount json_texts old (map (λ e. e.0) (exchanges served)) (map (λ e. e.1) (exchanges served)) next
 
 -- at most so many requests were served by a book: each sound content that one with a clean disk held led to one that it holds

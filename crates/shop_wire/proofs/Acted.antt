@@ -18,8 +18,8 @@ use Rattle.shop_book.specs.declared.books.Book.{Ghosts}
 use Rattle.shop_book.specs.declared.books.TheConstants.{MAX_FAILURES}
 use Rattle.shop_book.specs.Failures.{one_more_failure}
 use Rattle.shop_desk.specs.Faults.{CountsUp, StoreFailed}
-use Rattle.shop_desk.specs.Handled.{HasAccount, LeftBy, RefusalKeeps}
-use Rattle.shop_desk.proofs.Blame.{up_reply}
+use Rattle.shop_desk.specs.Handled.{HasAccount, CrashStatesAfter, RefusalKeeps}
+use Rattle.shop_desk.proofs.Justified.{up_reply}
 use Rattle.shop_desk.proofs.Accounts.{account_same, account_step}
 use Rattle.shop_text.specs.Printing.{CountsRefusal, IsFailure, IsTextMade}
 use Rattle.shop_text.specs.Tickets.{ticket_of}
@@ -73,19 +73,19 @@ failed_by a b false e is = inr is
 pub store_failed : (a b : ℕ) → b ≡ one_more_failure a → StoreFailed a b
 store_failed a b is = failed_by a b (nat_lt a MAX_FAILURES) refl is
 
-text_blame : (said : Result (List ℕ) Refusal) (refusal : Refusal) (a b : ℕ) → said ≢ Err StoreFault → (said ≡ Err refusal) ⊎ IsFailure refusal a b → refusal ≡ StoreFault → StoreFailed a b
-text_blame said refusal a b agrees (inl is) e = absurd (agrees (is ∙ ap Err e))
-text_blame said refusal a b agrees (inr (inl p)) e = absurd (cc (sym p.0 ∙ e))
-text_blame said refusal a b agrees (inr (inr p)) e = store_failed a b p.1
+text_justified : (said : Result (List ℕ) Refusal) (refusal : Refusal) (a b : ℕ) → said ≢ Err StoreFault → (said ≡ Err refusal) ⊎ IsFailure refusal a b → refusal ≡ StoreFault → StoreFailed a b
+text_justified said refusal a b agrees (inl is) e = absurd (agrees (is ∙ ap Err e))
+text_justified said refusal a b agrees (inr (inl p)) e = absurd (cc (sym p.0 ∙ e))
+text_justified said refusal a b agrees (inr (inr p)) e = store_failed a b p.1
 
 -- what is asked for is no contradiction
 abbrev Agrees : Option (Result (List ℕ) Refusal) → Type 0
 Agrees o = MatchOption o ⊤ (λ said. said ≢ Err StoreFault)
 
-printed_blame : (o : Option (Result (List ℕ) Refusal)) (response : Response) (a b : ℕ) → Agrees o → PrintsCounted o response a b → response ≡ replied (Refused StoreFault) → StoreFailed a b
-printed_blame None response a b agrees is e = absurd (cc (sym is ∙ e))
-printed_blame (Some said) (printed text) a b agrees h e = absurd (cc e)
-printed_blame (Some said) (replied reply) a b agrees h e = text_blame said h.0 a b agrees h.2 (refused_same h.0 (sym h.1 ∙ reported_reply reply (Refused StoreFault) e))
+printed_justified : (o : Option (Result (List ℕ) Refusal)) (response : Response) (a b : ℕ) → Agrees o → PrintsCounted o response a b → response ≡ replied (Refused StoreFault) → StoreFailed a b
+printed_justified None response a b agrees is e = absurd (cc (sym is ∙ e))
+printed_justified (Some said) (printed text) a b agrees h e = absurd (cc e)
+printed_justified (Some said) (replied reply) a b agrees h e = text_justified said h.0 a b agrees h.2 (refused_same h.0 (sym h.1 ∙ reported_reply reply (Refused StoreFault) e))
 
 asked_agrees : {X : Type 0} (says : X → Result (List ℕ) Refusal) → ((x : X) → says x ≢ Err StoreFault) → (o : Option X) → Agrees (option_map says o)
 asked_agrees says agrees None = tt
@@ -121,8 +121,8 @@ ask_unread m o refusal (inr why) = subst (λ o. AskStep m o (Refused refusal) m)
 pub ask_answered : (m : Content) (o : Option Query) (q : Query) (reply : Reply) → o ≡ Some q → Answers m q reply → AskStep m o reply m
 ask_answered m o q reply is answers = subst (λ o. AskStep m o reply m) (sym is) (answers, refl)
 
-pub unread_blame : (o : Option Query) (refusal : Refusal) (A : Type 0) → IsUnread refusal o → Refused refusal ≡ Refused StoreFault → A
-unread_blame o refusal A why e = absurd (unread_not_store refusal o why (refused_same refusal e))
+pub unread_justified : (o : Option Query) (refusal : Refusal) (A : Type 0) → IsUnread refusal o → Refused refusal ≡ Refused StoreFault → A
+unread_justified o refusal A why e = absurd (unread_not_store refusal o why (refused_same refusal e))
 
 -- the account of a message, as far as there is one
 abbrev AccountOf : Content → Option MessageOf → Response → Content → Type 0
@@ -141,10 +141,10 @@ message_kept book before after body message reply is keeps clean_disk m held (in
 
 module _ {B : Type 0} (book : Ghosts B) (before after : B) (m : Content) where
   pub message_served : (body : List ℕ) (message : MessageOf) (reply : Reply) (next : Content) → line_message body ≡ Some message → IsMessage message → Step json_texts m message reply next
-      → book.holds after next → IsSound json_texts next → ((left : book.Left) → book.may_leave after left → LeftBy json_texts book.stands (book.may_leave before) m message reply next left)
+      → book.holds after next → IsSound json_texts next → ((left : book.Left) → book.may_leave after left → CrashStatesAfter json_texts book.stands (book.may_leave before) m message reply next left)
       → (reply ≡ Refused StoreFault → StoreFailed (book.failed before) (book.failed after))
       → HasServedInput book before after m (asking Message body) (replied reply)
-  message_served body message reply next is is_message step held sound crash blame =
+  message_served body message reply next is is_message step held sound crash store_fault_justified =
       record {
         next = next;
         step = subst (λ (o : Option MessageOf). MatchOption o (IsNoMessage m reply next) (λ message. Step json_texts m message reply next)) (sym is) step;
@@ -152,7 +152,7 @@ module _ {B : Type 0} (book : Ghosts B) (before after : B) (m : Content) where
         sound = sound;
         crash = subst (λ o. ExchangesLead book before after m (with_reply o (replied reply)) next) (sym is)
             (leads_one json_texts book.stands (book.may_leave before) (book.may_leave after) m next message reply step crash);
-        blame = λ e. blame (reported_reply reply (Refused StoreFault) e);
+        store_fault_justified = λ e. store_fault_justified (reported_reply reply (Refused StoreFault) e);
         account = subst (λ o. AccountOf m o (replied reply) next) (sym is) (account_step json_texts m next message reply is_message step);
       }
 
@@ -165,7 +165,7 @@ module _ {B : Type 0} (book : Ghosts B) (before after : B) (m : Content) where
         held = held;
         sound = sound;
         crash = leads_unread json_texts book.stands (book.may_leave before) (book.may_leave after) m refusal (line_message body) why sound keeps;
-        blame = λ e. absurd (unread_not_store refusal (line_message body) why (refused_same refusal (reported_reply (Refused refusal) (Refused StoreFault) e)));
+        store_fault_justified = λ e. absurd (unread_not_store refusal (line_message body) why (refused_same refusal (reported_reply (Refused refusal) (Refused StoreFault) e)));
         account = refused_account m refusal (line_message body);
       }
 
@@ -225,49 +225,49 @@ module _ {B : Type 0} (book : Ghosts B) (before after : B) (m : Content) where
   module _ (held : book.holds after m) (sound : IsSound json_texts m) (keeps : (left : book.Left) → book.may_leave after left → book.may_leave before left) where
     pub asked_served : (route : Route) (text : List ℕ) (reply : Reply) → route ≢ Message → route ≢ Plans → route ≢ Ticket → route ≢ Yield → AskStep m (asked_at route text) reply m
         → (reply ≡ Refused StoreFault → StoreFailed (book.failed before) (book.failed after)) → HasServedInput book before after m (asking route text) (replied reply)
-    asked_served Message text reply a b c d step blame = absurd (a refl)
-    asked_served Plans text reply a b c d step blame = absurd (b refl)
-    asked_served Ticket text reply a b c d step blame = absurd (c refl)
-    asked_served Yield text reply a b c d step blame = absurd (d refl)
-    asked_served Plan text reply a b c d step blame = record { next = m; step = step; held = held; sound = sound; crash = (refl, keeps); blame = λ e. blame (reported_reply reply (Refused StoreFault) e); account = account_same json_texts m m refl }
-    asked_served Bound text reply a b c d step blame = record { next = m; step = step; held = held; sound = sound; crash = (refl, keeps); blame = λ e. blame (reported_reply reply (Refused StoreFault) e); account = account_same json_texts m m refl }
-    asked_served Backup text reply a b c d step blame = record { next = m; step = step; held = held; sound = sound; crash = (refl, keeps); blame = λ e. blame (reported_reply reply (Refused StoreFault) e); account = account_same json_texts m m refl }
-    asked_served Totals text reply a b c d step blame = record { next = m; step = step; held = held; sound = sound; crash = (refl, keeps); blame = λ e. blame (reported_reply reply (Refused StoreFault) e); account = account_same json_texts m m refl }
-    asked_served Rack text reply a b c d step blame = record { next = m; step = step; held = held; sound = sound; crash = (refl, keeps); blame = λ e. blame (reported_reply reply (Refused StoreFault) e); account = account_same json_texts m m refl }
-    asked_served Trace text reply a b c d step blame = record { next = m; step = step; held = held; sound = sound; crash = (refl, keeps); blame = λ e. blame (reported_reply reply (Refused StoreFault) e); account = account_same json_texts m m refl }
-    asked_served Demand text reply a b c d step blame = record { next = m; step = step; held = held; sound = sound; crash = (refl, keeps); blame = λ e. blame (reported_reply reply (Refused StoreFault) e); account = account_same json_texts m m refl }
-    asked_served Materials text reply a b c d step blame = record { next = m; step = step; held = held; sound = sound; crash = (refl, keeps); blame = λ e. blame (reported_reply reply (Refused StoreFault) e); account = account_same json_texts m m refl }
-    asked_served Parts text reply a b c d step blame = record { next = m; step = step; held = held; sound = sound; crash = (refl, keeps); blame = λ e. blame (reported_reply reply (Refused StoreFault) e); account = account_same json_texts m m refl }
-    asked_served PartsAfter text reply a b c d step blame = record { next = m; step = step; held = held; sound = sound; crash = (refl, keeps); blame = λ e. blame (reported_reply reply (Refused StoreFault) e); account = account_same json_texts m m refl }
-    asked_served Demands text reply a b c d step blame = record { next = m; step = step; held = held; sound = sound; crash = (refl, keeps); blame = λ e. blame (reported_reply reply (Refused StoreFault) e); account = account_same json_texts m m refl }
-    asked_served DemandsOf text reply a b c d step blame = record { next = m; step = step; held = held; sound = sound; crash = (refl, keeps); blame = λ e. blame (reported_reply reply (Refused StoreFault) e); account = account_same json_texts m m refl }
-    asked_served Orders text reply a b c d step blame = record { next = m; step = step; held = held; sound = sound; crash = (refl, keeps); blame = λ e. blame (reported_reply reply (Refused StoreFault) e); account = account_same json_texts m m refl }
-    asked_served OrdersAfter text reply a b c d step blame = record { next = m; step = step; held = held; sound = sound; crash = (refl, keeps); blame = λ e. blame (reported_reply reply (Refused StoreFault) e); account = account_same json_texts m m refl }
-    asked_served OrderLines text reply a b c d step blame = record { next = m; step = step; held = held; sound = sound; crash = (refl, keeps); blame = λ e. blame (reported_reply reply (Refused StoreFault) e); account = account_same json_texts m m refl }
-    asked_served Jobs text reply a b c d step blame = record { next = m; step = step; held = held; sound = sound; crash = (refl, keeps); blame = λ e. blame (reported_reply reply (Refused StoreFault) e); account = account_same json_texts m m refl }
-    asked_served Job text reply a b c d step blame = record { next = m; step = step; held = held; sound = sound; crash = (refl, keeps); blame = λ e. blame (reported_reply reply (Refused StoreFault) e); account = account_same json_texts m m refl }
-    asked_served Terminal text reply a b c d step blame = record { next = m; step = step; held = held; sound = sound; crash = (refl, keeps); blame = λ e. blame (reported_reply reply (Refused StoreFault) e); account = account_same json_texts m m refl }
-    asked_served Shop text reply a b c d step blame = record { next = m; step = step; held = held; sound = sound; crash = (refl, keeps); blame = λ e. blame (reported_reply reply (Refused StoreFault) e); account = account_same json_texts m m refl }
-    asked_served History text reply a b c d step blame = record { next = m; step = step; held = held; sound = sound; crash = (refl, keeps); blame = λ e. blame (reported_reply reply (Refused StoreFault) e); account = account_same json_texts m m refl }
-    asked_served OrderStory text reply a b c d step blame = record { next = m; step = step; held = held; sound = sound; crash = (refl, keeps); blame = λ e. blame (reported_reply reply (Refused StoreFault) e); account = account_same json_texts m m refl }
-    asked_served JobStory text reply a b c d step blame = record { next = m; step = step; held = held; sound = sound; crash = (refl, keeps); blame = λ e. blame (reported_reply reply (Refused StoreFault) e); account = account_same json_texts m m refl }
-    asked_served PartStory text reply a b c d step blame = record { next = m; step = step; held = held; sound = sound; crash = (refl, keeps); blame = λ e. blame (reported_reply reply (Refused StoreFault) e); account = account_same json_texts m m refl }
-    asked_served OrderPieces text reply a b c d step blame = record { next = m; step = step; held = held; sound = sound; crash = (refl, keeps); blame = λ e. blame (reported_reply reply (Refused StoreFault) e); account = account_same json_texts m m refl }
-    asked_served OrderPiecesAfter text reply a b c d step blame = record { next = m; step = step; held = held; sound = sound; crash = (refl, keeps); blame = λ e. blame (reported_reply reply (Refused StoreFault) e); account = account_same json_texts m m refl }
-    asked_served BatchPieces text reply a b c d step blame = record { next = m; step = step; held = held; sound = sound; crash = (refl, keeps); blame = λ e. blame (reported_reply reply (Refused StoreFault) e); account = account_same json_texts m m refl }
-    asked_served BatchPiecesAfter text reply a b c d step blame = record { next = m; step = step; held = held; sound = sound; crash = (refl, keeps); blame = λ e. blame (reported_reply reply (Refused StoreFault) e); account = account_same json_texts m m refl }
-    asked_served UnitPieces text reply a b c d step blame = record { next = m; step = step; held = held; sound = sound; crash = (refl, keeps); blame = λ e. blame (reported_reply reply (Refused StoreFault) e); account = account_same json_texts m m refl }
-    asked_served UnitPiecesAfter text reply a b c d step blame = record { next = m; step = step; held = held; sound = sound; crash = (refl, keeps); blame = λ e. blame (reported_reply reply (Refused StoreFault) e); account = account_same json_texts m m refl }
-    asked_served Steps text reply a b c d step blame = record { next = m; step = step; held = held; sound = sound; crash = (refl, keeps); blame = λ e. blame (reported_reply reply (Refused StoreFault) e); account = account_same json_texts m m refl }
+    asked_served Message text reply a b c d step store_fault_justified = absurd (a refl)
+    asked_served Plans text reply a b c d step store_fault_justified = absurd (b refl)
+    asked_served Ticket text reply a b c d step store_fault_justified = absurd (c refl)
+    asked_served Yield text reply a b c d step store_fault_justified = absurd (d refl)
+    asked_served Plan text reply a b c d step store_fault_justified = record { next = m; step = step; held = held; sound = sound; crash = (refl, keeps); store_fault_justified = λ e. store_fault_justified (reported_reply reply (Refused StoreFault) e); account = account_same json_texts m m refl }
+    asked_served Bound text reply a b c d step store_fault_justified = record { next = m; step = step; held = held; sound = sound; crash = (refl, keeps); store_fault_justified = λ e. store_fault_justified (reported_reply reply (Refused StoreFault) e); account = account_same json_texts m m refl }
+    asked_served Backup text reply a b c d step store_fault_justified = record { next = m; step = step; held = held; sound = sound; crash = (refl, keeps); store_fault_justified = λ e. store_fault_justified (reported_reply reply (Refused StoreFault) e); account = account_same json_texts m m refl }
+    asked_served Totals text reply a b c d step store_fault_justified = record { next = m; step = step; held = held; sound = sound; crash = (refl, keeps); store_fault_justified = λ e. store_fault_justified (reported_reply reply (Refused StoreFault) e); account = account_same json_texts m m refl }
+    asked_served Rack text reply a b c d step store_fault_justified = record { next = m; step = step; held = held; sound = sound; crash = (refl, keeps); store_fault_justified = λ e. store_fault_justified (reported_reply reply (Refused StoreFault) e); account = account_same json_texts m m refl }
+    asked_served Trace text reply a b c d step store_fault_justified = record { next = m; step = step; held = held; sound = sound; crash = (refl, keeps); store_fault_justified = λ e. store_fault_justified (reported_reply reply (Refused StoreFault) e); account = account_same json_texts m m refl }
+    asked_served Demand text reply a b c d step store_fault_justified = record { next = m; step = step; held = held; sound = sound; crash = (refl, keeps); store_fault_justified = λ e. store_fault_justified (reported_reply reply (Refused StoreFault) e); account = account_same json_texts m m refl }
+    asked_served Materials text reply a b c d step store_fault_justified = record { next = m; step = step; held = held; sound = sound; crash = (refl, keeps); store_fault_justified = λ e. store_fault_justified (reported_reply reply (Refused StoreFault) e); account = account_same json_texts m m refl }
+    asked_served Parts text reply a b c d step store_fault_justified = record { next = m; step = step; held = held; sound = sound; crash = (refl, keeps); store_fault_justified = λ e. store_fault_justified (reported_reply reply (Refused StoreFault) e); account = account_same json_texts m m refl }
+    asked_served PartsAfter text reply a b c d step store_fault_justified = record { next = m; step = step; held = held; sound = sound; crash = (refl, keeps); store_fault_justified = λ e. store_fault_justified (reported_reply reply (Refused StoreFault) e); account = account_same json_texts m m refl }
+    asked_served Demands text reply a b c d step store_fault_justified = record { next = m; step = step; held = held; sound = sound; crash = (refl, keeps); store_fault_justified = λ e. store_fault_justified (reported_reply reply (Refused StoreFault) e); account = account_same json_texts m m refl }
+    asked_served DemandsOf text reply a b c d step store_fault_justified = record { next = m; step = step; held = held; sound = sound; crash = (refl, keeps); store_fault_justified = λ e. store_fault_justified (reported_reply reply (Refused StoreFault) e); account = account_same json_texts m m refl }
+    asked_served Orders text reply a b c d step store_fault_justified = record { next = m; step = step; held = held; sound = sound; crash = (refl, keeps); store_fault_justified = λ e. store_fault_justified (reported_reply reply (Refused StoreFault) e); account = account_same json_texts m m refl }
+    asked_served OrdersAfter text reply a b c d step store_fault_justified = record { next = m; step = step; held = held; sound = sound; crash = (refl, keeps); store_fault_justified = λ e. store_fault_justified (reported_reply reply (Refused StoreFault) e); account = account_same json_texts m m refl }
+    asked_served OrderLines text reply a b c d step store_fault_justified = record { next = m; step = step; held = held; sound = sound; crash = (refl, keeps); store_fault_justified = λ e. store_fault_justified (reported_reply reply (Refused StoreFault) e); account = account_same json_texts m m refl }
+    asked_served Jobs text reply a b c d step store_fault_justified = record { next = m; step = step; held = held; sound = sound; crash = (refl, keeps); store_fault_justified = λ e. store_fault_justified (reported_reply reply (Refused StoreFault) e); account = account_same json_texts m m refl }
+    asked_served Job text reply a b c d step store_fault_justified = record { next = m; step = step; held = held; sound = sound; crash = (refl, keeps); store_fault_justified = λ e. store_fault_justified (reported_reply reply (Refused StoreFault) e); account = account_same json_texts m m refl }
+    asked_served Terminal text reply a b c d step store_fault_justified = record { next = m; step = step; held = held; sound = sound; crash = (refl, keeps); store_fault_justified = λ e. store_fault_justified (reported_reply reply (Refused StoreFault) e); account = account_same json_texts m m refl }
+    asked_served Shop text reply a b c d step store_fault_justified = record { next = m; step = step; held = held; sound = sound; crash = (refl, keeps); store_fault_justified = λ e. store_fault_justified (reported_reply reply (Refused StoreFault) e); account = account_same json_texts m m refl }
+    asked_served History text reply a b c d step store_fault_justified = record { next = m; step = step; held = held; sound = sound; crash = (refl, keeps); store_fault_justified = λ e. store_fault_justified (reported_reply reply (Refused StoreFault) e); account = account_same json_texts m m refl }
+    asked_served OrderStory text reply a b c d step store_fault_justified = record { next = m; step = step; held = held; sound = sound; crash = (refl, keeps); store_fault_justified = λ e. store_fault_justified (reported_reply reply (Refused StoreFault) e); account = account_same json_texts m m refl }
+    asked_served JobStory text reply a b c d step store_fault_justified = record { next = m; step = step; held = held; sound = sound; crash = (refl, keeps); store_fault_justified = λ e. store_fault_justified (reported_reply reply (Refused StoreFault) e); account = account_same json_texts m m refl }
+    asked_served PartStory text reply a b c d step store_fault_justified = record { next = m; step = step; held = held; sound = sound; crash = (refl, keeps); store_fault_justified = λ e. store_fault_justified (reported_reply reply (Refused StoreFault) e); account = account_same json_texts m m refl }
+    asked_served OrderPieces text reply a b c d step store_fault_justified = record { next = m; step = step; held = held; sound = sound; crash = (refl, keeps); store_fault_justified = λ e. store_fault_justified (reported_reply reply (Refused StoreFault) e); account = account_same json_texts m m refl }
+    asked_served OrderPiecesAfter text reply a b c d step store_fault_justified = record { next = m; step = step; held = held; sound = sound; crash = (refl, keeps); store_fault_justified = λ e. store_fault_justified (reported_reply reply (Refused StoreFault) e); account = account_same json_texts m m refl }
+    asked_served BatchPieces text reply a b c d step store_fault_justified = record { next = m; step = step; held = held; sound = sound; crash = (refl, keeps); store_fault_justified = λ e. store_fault_justified (reported_reply reply (Refused StoreFault) e); account = account_same json_texts m m refl }
+    asked_served BatchPiecesAfter text reply a b c d step store_fault_justified = record { next = m; step = step; held = held; sound = sound; crash = (refl, keeps); store_fault_justified = λ e. store_fault_justified (reported_reply reply (Refused StoreFault) e); account = account_same json_texts m m refl }
+    asked_served UnitPieces text reply a b c d step store_fault_justified = record { next = m; step = step; held = held; sound = sound; crash = (refl, keeps); store_fault_justified = λ e. store_fault_justified (reported_reply reply (Refused StoreFault) e); account = account_same json_texts m m refl }
+    asked_served UnitPiecesAfter text reply a b c d step store_fault_justified = record { next = m; step = step; held = held; sound = sound; crash = (refl, keeps); store_fault_justified = λ e. store_fault_justified (reported_reply reply (Refused StoreFault) e); account = account_same json_texts m m refl }
+    asked_served Steps text reply a b c d step store_fault_justified = record { next = m; step = step; held = held; sound = sound; crash = (refl, keeps); store_fault_justified = λ e. store_fault_justified (reported_reply reply (Refused StoreFault) e); account = account_same json_texts m m refl }
 
     pub plans_served : (body : List ℕ) (response : Response) → PlansStep m (body_plans body) response m → (response ≡ replied (Refused StoreFault) → StoreFailed (book.failed before) (book.failed after))
         → HasServedInput book before after m (asking Plans body) response
-    plans_served body response step blame = record { next = m; step = step; held = held; sound = sound; crash = (refl, keeps); blame = blame; account = account_same json_texts m m refl }
+    plans_served body response step store_fault_justified = record { next = m; step = step; held = held; sound = sound; crash = (refl, keeps); store_fault_justified = store_fault_justified; account = account_same json_texts m m refl }
 
     pub ticket_served : (part : List ℕ) (response : Response) → PrintsCounted (text_at m Ticket part) response (book.failed before) (book.failed after) → HasServedInput book before after m (asking Ticket part) response
     ticket_served part response h =
-        record { next = m; step = printed_step m (text_at m Ticket part) response _ _ h; held = held; sound = sound; crash = (refl, keeps); blame = printed_blame (text_at m Ticket part) response _ _ (asked_agrees (ticket_of m) (λ number. ticket_reported json_texts m number sound) (numbered part)) h; account = account_same json_texts m m refl }
+        record { next = m; step = printed_step m (text_at m Ticket part) response _ _ h; held = held; sound = sound; crash = (refl, keeps); store_fault_justified = printed_justified (text_at m Ticket part) response _ _ (asked_agrees (ticket_of m) (λ number. ticket_reported json_texts m number sound) (numbered part)) h; account = account_same json_texts m m refl }
 
     pub yield_served : (part : List ℕ) (response : Response) → PrintsCounted (text_at m Yield part) response (book.failed before) (book.failed after) → HasServedInput book before after m (asking Yield part) response
     yield_served part response h =
-        record { next = m; step = printed_step m (text_at m Yield part) response _ _ h; held = held; sound = sound; crash = (refl, keeps); blame = printed_blame (text_at m Yield part) response _ _ (asked_agrees (yield_of m) (report_response m) (code_at part)) h; account = account_same json_texts m m refl }
+        record { next = m; step = printed_step m (text_at m Yield part) response _ _ h; held = held; sound = sound; crash = (refl, keeps); store_fault_justified = printed_justified (text_at m Yield part) response _ _ (asked_agrees (yield_of m) (report_response m) (code_at part)) h; account = account_same json_texts m m refl }

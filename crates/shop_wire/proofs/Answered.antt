@@ -26,8 +26,8 @@ use Rattle.shop_plans.specs.declared.queries.PlansQuery.{PlansQuery}
 use Rattle.shop_plans.specs.Queries.{plans_query_of}
 use Rattle.shop_planning.specs.Queries.{AnswersPlans}
 use Rattle.shop_desk.specs.Faults.{StoreFailed, ReportOfFailures}
-use Rattle.shop_desk.specs.Handled.{HasAccount, LeftBy}
-use Rattle.shop_desk.proofs.Blame.{report_one}
+use Rattle.shop_desk.specs.Handled.{HasAccount, CrashStatesAfter}
+use Rattle.shop_desk.proofs.Justified.{report_one}
 use Rattle.shop_desk.proofs.Accounts.{account_same, account_step}
 use Rattle.shop_wire.specs.Lines.{kept_of, longest_line}
 use Rattle.shop_wire.specs.Responses.{IsRead, IsUnread}
@@ -163,8 +163,8 @@ refused_account m refusal None = account_same json_texts m m refl
 refused_account m refusal (Some message) = account_same json_texts m m refl
 
 report_reported : (a b : ℕ) (response : Response) → (response ≡ replied (Refused StoreFault) → StoreFailed a b) → ReportOfFailures (replies_in (response ∷ [])) a b
-report_reported a b (replied reply) blame = report_one a b reply (λ is. blame (ap replied is))
-report_reported a b (printed text) blame = λ none. absurd none
+report_reported a b (replied reply) store_fault_justified = report_one a b reply (λ is. store_fault_justified (ap replied is))
+report_reported a b (printed text) store_fault_justified = λ none. absurd none
 
 -- what a crash may leave after it
 abbrev pub LeadsOne : {B : Type 0} → Ghosts B → B → B → Content → Response → Content → Option Message → Type 0
@@ -181,8 +181,8 @@ module _ {B : Type 0} (book : Ghosts B) (before after : B) (m : Content) where
     pub one_answered : (response : Response) (next : Content) → step m x response next → book.holds after next → IsSound json_texts next
         → LeadsOne book before after m response next (message_in x) → (response ≡ replied (Refused StoreFault) → StoreFailed (book.failed before) (book.failed after)) → AccountOne m response next (message_in x)
         → HasAnswered step message_in book before after m (x ∷ []) (response ∷ [])
-    one_answered response next is held sound crash blame account =
-        record { next = next; run = (next, is, refl); held = held; sound = sound; crash = crash; blame = report_reported (book.failed before) (book.failed after) response blame; account = account }
+    one_answered response next is held sound crash store_fault_justified account =
+        record { next = next; run = (next, is, refl); held = held; sound = sound; crash = crash; store_fault_justified = report_reported (book.failed before) (book.failed after) response store_fault_justified; account = account }
 
     -- refused unread
     pub one_refused : (refusal : Refusal) (response : Response) → response ≡ replied (Refused refusal) → IsUnread refusal (message_in x) → step m x (replied (Refused refusal)) m → book.holds after m
@@ -195,30 +195,30 @@ module _ {B : Type 0} (book : Ghosts B) (before after : B) (m : Content) where
         same refusal e = cc
 
   pub message_answered : (d : Data) (message : Message) (reply : Reply) (next : Content) → message_of d ≡ Some message → IsMessage message → Step json_texts m message reply next
-      → book.holds after next → IsSound json_texts next → ((left : book.Left) → book.may_leave after left → LeftBy json_texts book.stands (book.may_leave before) m message reply next left)
+      → book.holds after next → IsSound json_texts next → ((left : book.Left) → book.may_leave after left → CrashStatesAfter json_texts book.stands (book.may_leave before) m message reply next left)
       → (reply ≡ Refused StoreFault → StoreFailed (book.failed before) (book.failed after)) → HasAnswered ValueStep message_of book before after m (d ∷ []) (replied reply ∷ [])
-  message_answered d message reply next is is_message step held sound crash blame =
+  message_answered d message reply next is is_message step held sound crash store_fault_justified =
       one_answered ValueStep message_of d (replied reply) next (of_message m next d reply message is step) held sound
       (subst (LeadsOne book before after m (replied reply) next) (sym is) (leads_one json_texts book.stands (book.may_leave before) (book.may_leave after) m next message reply step crash))
-      (λ e. blame (reported_reply reply (Refused StoreFault) e))
+      (λ e. store_fault_justified (reported_reply reply (Refused StoreFault) e))
       (subst (AccountOne m (replied reply) next) (sym is) (account_step json_texts m next message reply is_message step))
 
   -- what is no message, and leaves the content
   unsent_answered : (d : Data) (response : Response) → message_of d ≡ None → ValueStep m d response m → book.holds after m → IsSound json_texts m
       → ((left : book.Left) → book.may_leave after left → book.may_leave before left) → (response ≡ replied (Refused StoreFault) → StoreFailed (book.failed before) (book.failed after)) → HasAnswered ValueStep message_of book before after m (d ∷ []) (response ∷ [])
-  unsent_answered d response none step held sound keeps blame =
-      one_answered ValueStep message_of d response m step held sound (subst (LeadsOne book before after m response m) (sym none) (refl, keeps)) blame (subst (AccountOne m response m) (sym none) (account_same json_texts m m refl))
+  unsent_answered d response none step held sound keeps store_fault_justified =
+      one_answered ValueStep message_of d response m step held sound (subst (LeadsOne book before after m response m) (sym none) (refl, keeps)) store_fault_justified (subst (AccountOne m response m) (sym none) (account_same json_texts m m refl))
 
   pub query_answered : (d : Data) (query : Query) (reply : Reply) → message_of d ≡ None → query_of d ≡ Some query → Answers m query reply
       → book.holds after m → IsSound json_texts m → ((left : book.Left) → book.may_leave after left → book.may_leave before left) → (reply ≡ Refused StoreFault → StoreFailed (book.failed before) (book.failed after))
       → HasAnswered ValueStep message_of book before after m (d ∷ []) (replied reply ∷ [])
-  query_answered d query reply none is answers held sound keeps blame =
-      unsent_answered d (replied reply) none (of_query m m d reply query none is answers refl) held sound keeps (λ e. blame (reported_reply reply (Refused StoreFault) e))
+  query_answered d query reply none is answers held sound keeps store_fault_justified =
+      unsent_answered d (replied reply) none (of_query m m d reply query none is answers refl) held sound keeps (λ e. store_fault_justified (reported_reply reply (Refused StoreFault) e))
 
   pub plans_answered : (d : Data) (response : Response) → message_of d ≡ None → query_of d ≡ None → PlansStep m (plans_query_of d) response m
       → book.holds after m → IsSound json_texts m → ((left : book.Left) → book.may_leave after left → book.may_leave before left) → (response ≡ replied (Refused StoreFault) → StoreFailed (book.failed before) (book.failed after))
       → HasAnswered ValueStep message_of book before after m (d ∷ []) (response ∷ [])
-  plans_answered d response none nothing step held sound keeps blame = unsent_answered d response none (of_plans m m d response none nothing step) held sound keeps blame
+  plans_answered d response none nothing step held sound keeps store_fault_justified = unsent_answered d response none (of_plans m m d response none nothing step) held sound keeps store_fault_justified
 
   -- a line that is a value is answered as the value
   pub value_answered : (line : List ℕ) (d : Data) (response : Response) → data_of line ≡ Some d → HasAnswered ValueStep message_of book before after m (d ∷ []) (response ∷ [])
@@ -230,7 +230,7 @@ module _ {B : Type 0} (book : Ghosts B) (before after : B) (m : Content) where
         held = one.held;
         sound = one.sound;
         crash = subst (LeadsOne book before after m response one.next) (sym (ap (option_and_then message_of) is)) one.crash;
-        blame = one.blame;
+        store_fault_justified = one.store_fault_justified;
         account = subst (AccountOne m response one.next) (sym (ap (option_and_then message_of) is)) one.account;
       }
 

@@ -10,7 +10,7 @@ use Rattle.shop_forms.specs.Forms.{json_texts}
 use Rattle.shop_book.specs.declared.books.Book.{Ghosts}
 use Rattle.shop_book.specs.Kept.{OnContent, Unchanged}
 use Rattle.shop_desk.specs.Faults.{CountsUp, StoreFailed}
-use Rattle.shop_desk.proofs.Blame.{up_reply}
+use Rattle.shop_desk.proofs.Justified.{up_reply}
 use Rattle.shop_plans.specs.declared.queries.PlansQuery.{PlansQuery}
 use Rattle.shop_planning.specs.declared.task.PlanTask.{PlanTask}
 use Rattle.shop_planning.specs.Faults.{CountsRefusal}
@@ -42,8 +42,8 @@ up_plans (Ok x) a b is = inl (is.others (λ e. cc))
 up_plans (Err StoreFault) a b is = up_reply a b (Refused StoreFault) (is.store_fault refl)
 up_plans (Err _) a b is = inl (is.others (λ e. cc))
 
-pub plans_blame : (T : Type 0) (refusal : Refusal) (a b : ℕ) → refusal ≡ StoreFault → CountsRefusal {T = T} (Err refusal) a b → StoreFailed a b
-plans_blame T refusal a b is counts = store_failed a b (counts.store_fault (ap Err is))
+pub plans_justified : (T : Type 0) (refusal : Refusal) (a b : ℕ) → refusal ≡ StoreFault → CountsRefusal {T = T} (Err refusal) a b → StoreFailed a b
+plans_justified T refusal a b is counts = store_failed a b (counts.store_fault (ap Err is))
 
 -- what isn't read touches no store
 pub unread_counts : {B : Type 0} (T : Type 0) (refusal : Refusal) (o : Option B) (n : ℕ) → IsUnread refusal o → CountsRefusal {T = T} (Err refusal) n n
@@ -68,17 +68,17 @@ module _ {B : Type 0} (book : Ghosts B) (before after : B) (body : List ℕ) whe
 
   refused_served : (query : PlansQuery) (refusal : Refusal) (m : Content) → body_plans body ≡ Some query → AnswersPlans m query (Err refusal) → book.holds after m → IsSound json_texts m
       → ((left : book.Left) → book.may_leave after left → book.may_leave before left) → (refusal ≡ StoreFault → StoreFailed (book.failed before) (book.failed after)) → HasServedInput book before after m (asking Plans body) (replied (Refused refusal))
-  refused_served query refusal m asks answers held sound keeps blame =
+  refused_served query refusal m asks answers held sound keeps store_fault_justified =
       plans_served book before after m held sound keeps body (replied (Refused refusal))
       (plans_answered_to m (body_plans body) query (replied (Refused refusal)) asks (reports_refusal m query refusal (replied (Refused refusal)) refl answers))
-      (λ e. blame (reported_refusal refusal StoreFault (replied (Refused refusal)) refl e))
+      (λ e. store_fault_justified (reported_refusal refusal StoreFault (replied (Refused refusal)) refl e))
 
   pub posed_refused : (query : PlansQuery) (r : Result PlanTask Refusal) → body_plans body ≡ Some query
       → OnContent book before after (λ m. IfErr r (λ refusal. AnswersPlans m query (Err refusal))) → Unchanged book (CountsRefusal r) before after
       → IfErr r (λ refusal. OnContent book before after (λ m. IsSound json_texts m → HasServedInput book before after m (asking Plans body) (replied (Refused refusal))))
   posed_refused query (Ok task) asks answers keeps = tt
   posed_refused query (Err refusal) asks answers keeps = λ clean_disk m held sound.
-      refused_served query refusal m asks (answers clean_disk m held) (keeps.stays clean_disk m held) sound (keeps.crash clean_disk m held) (λ is. plans_blame PlanTask refusal (book.failed before) (book.failed after) is keeps.failures)
+      refused_served query refusal m asks (answers clean_disk m held) (keeps.stays clean_disk m held) sound (keeps.crash clean_disk m held) (λ is. plans_justified PlanTask refusal (book.failed before) (book.failed after) is keeps.failures)
 
   pub unread_served : (refusal : Refusal) (m : Content) → IsUnread refusal (body_plans body) → book.holds after m → IsSound json_texts m
       → ((left : book.Left) → book.may_leave after left → book.may_leave before left) → HasServedInput book before after m (asking Plans body) (replied (Refused refusal))

@@ -11,7 +11,7 @@ use Rattle.shop_records.specs.Messages.{Texts, pair_of}
 use Rattle.shop_records.specs.Content.{Content, kept_at}
 use Rattle.shop_records.specs.Soundness.{IsSound}
 use Rattle.shop_machine.specs.Machine.{Step, StepAgain, StepNew}
-use Rattle.shop_desk.specs.Handled.{LeftBy, LeftByNew, Leads}
+use Rattle.shop_desk.specs.Handled.{CrashStatesAfter, CrashStatesAfterNew, Leads}
 use Rattle.shop_desk.proofs.Steps.{left_more}
 use Rattle.shop_wire.specs.AnswerBytes.{replied}
 use Rattle.shop_wire.specs.Replays.{with_reply}
@@ -26,12 +26,12 @@ no_memory_step texts m message (Some row) = ((λ n s. absurd (n refl)), refl)
 module _ (texts : Texts) {Left : Type 0} (stands : Left → Content → Type 0) where
   -- one message
   pub leads_one : (before after : Left → Type 0) (old next : Content) (message : Message) (answer : Reply) → Step texts old message answer next
-      → ((left : Left) → after left → LeftBy texts stands before old message answer next left) → Leads texts stands before old (message ∷ []) (answer ∷ []) next after
+      → ((left : Left) → after left → CrashStatesAfter texts stands before old message answer next left) → Leads texts stands before old (message ∷ []) (answer ∷ []) next after
   leads_one before after old next message answer step crash = (next, step, (refl, crash))
 
   -- after lack of memory what could be left before
   left_refused : (before : Left → Type 0) (m : Content) (message : Message) (left : Left) (found : Option Kept) → before left
-      → MatchOption found (LeftByNew texts stands before m message (Refused NoMemory) m left) (λ (row : Kept). before left)
+      → MatchOption found (CrashStatesAfterNew texts stands before m message (Refused NoMemory) m left) (λ (row : Kept). before left)
   left_refused before m message left None it = inl it
   left_refused before m message left (Some row) it = it
 
@@ -54,7 +54,7 @@ module _ (texts : Texts) {Left : Type 0} (stands : Left → Content → Type 0) 
   leads_grow before mid after grows old new (m ∷ ms) (r ∷ rs) leads = (
     leads.0,
     leads.1,
-    leads_grow (LeftBy texts stands before old m r leads.0) (LeftBy texts stands mid old m r leads.0) after
+    leads_grow (CrashStatesAfter texts stands before old m r leads.0) (CrashStatesAfter texts stands mid old m r leads.0) after
         (left_more texts stands before mid grows old m r leads.0) leads.0 new ms rs leads.2,
   )
 
@@ -66,4 +66,4 @@ module _ (texts : Texts) {Left : Type 0} (stands : Left → Content → Type 0) 
       leads_grow before mid after first.1 old new (map (λ e. e.0) fs) (map (λ e. e.1) fs)
       (subst (λ (c : Content). Leads texts stands mid c (map (λ e. e.0) fs) (map (λ e. e.1) fs) new after) first.0 second)
   leads_join before mid after old at new (e ∷ es) fs first second =
-      (first.0, first.1, leads_join (LeftBy texts stands before old e.0 e.1 first.0) mid after first.0 at new es fs first.2 second)
+      (first.0, first.1, leads_join (CrashStatesAfter texts stands before old e.0 e.1 first.0) mid after first.0 at new es fs first.2 second)

@@ -23,7 +23,7 @@ module _ {B : Type 0} (book : Ghosts B) (before after : B) (clean_disk : book.ha
         bytes = r.bytes;
         reported = r.reported;
         written = r.written;
-        run = record { next = one.next; run = one.run; blame = λ reported. sure (one.blame reported); history = later.0; messages = later.1; account = later.2 };
+        run = record { next = one.next; run = one.run; store_fault_justified = λ reported. sure (one.store_fault_justified reported); history = later.0; messages = later.1; account = later.2 };
       }
 
   module _ (left held_old held_new : Option (List ℕ)) (result : Result ℕ ReplayFault) where

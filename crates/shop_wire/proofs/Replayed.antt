@@ -19,7 +19,7 @@ use Rattle.shop_wire.specs.Lines.{lines_of, AreLines, GivesLine, kept_of}
 use Rattle.shop_book.specs.declared.books.Book.{Ghosts}
 use Rattle.shop_desk.specs.Faults.{CountsUp, ReportOfFailures}
 use Rattle.shop_desk.specs.Handled.{HasAccount, OneByOne}
-use Rattle.shop_desk.proofs.Blame.{report_more}
+use Rattle.shop_desk.proofs.Justified.{report_more}
 use Rattle.shop_desk.proofs.Accounts.{account_same, account_more}
 use Rattle.shop_desk.proofs.Handling.{one_by_one as chained}
 use Rattle.shop_wire.specs.AnswerBytes.{Response}
@@ -45,7 +45,7 @@ module _ {X B : Type 0} (step : Content → X → Response → Content → Type 
 
   pub none_answered : (at : B) (m : Content) → book.holds at m → IsSound json_texts m → HasAnswered step message_in book at at m [] []
   none_answered at m held sound =
-      record { next = m; run = refl; held = held; sound = sound; crash = (refl, λ left it. it); blame = λ none. absurd none; account = account_same json_texts m m refl }
+      record { next = m; run = refl; held = held; sound = sound; crash = (refl, λ left it. it); store_fault_justified = λ none. absurd none; account = account_same json_texts m m refl }
 
   pub more_answered : (a b c : B) (m : Content) (xs more : List X) (responses later : List Response) → CountsUp (book.failed a) (book.failed b) → CountsUp (book.failed b) (book.failed c)
       → (one : HasAnswered step message_in book a b m xs responses) → HasAnswered step message_in book b c one.next more later → HasAnswered step message_in book a c m (xs ++ more) (responses ++ later)
@@ -57,8 +57,8 @@ module _ {X B : Type 0} (step : Content → X → Response → Content → Type 
         sound = two.sound;
         crash = subst (λ es. ExchangesLead book a c m es two.next) (sym (exchanges-append m one.next xs more responses later one.run))
             (leads_join json_texts book.stands (book.may_leave a) (book.may_leave b) (book.may_leave c) m one.next two.next (exchanges step message_in xs responses) (exchanges step message_in more later) one.crash two.crash);
-        blame = subst (λ rs. ReportOfFailures rs (book.failed a) (book.failed c)) (sym (filter_map-append reply_in responses later))
-            (report_more (book.failed a) (book.failed b) (book.failed c) (replies_in responses) (replies_in later) up next one.blame two.blame);
+        store_fault_justified = subst (λ rs. ReportOfFailures rs (book.failed a) (book.failed c)) (sym (filter_map-append reply_in responses later))
+            (report_more (book.failed a) (book.failed b) (book.failed c) (replies_in responses) (replies_in later) up next one.store_fault_justified two.store_fault_justified);
         account = subst (λ es. HasAccount json_texts m (map (λ (e : Message × Reply). e.0) es) (map (λ (e : Message × Reply). e.1) es) two.next) (sym (exchanges-append m one.next xs more responses later one.run))
             (account_more json_texts m one.next two.next (exchanges step message_in xs responses) (exchanges step message_in more later) one.account two.account);
       }
@@ -141,7 +141,7 @@ module _ {B : Type 0} (book : Ghosts B) where
         held = one.held;
         sound = one.sound;
         crash = subst (LeadsOne book before after m t one.next) (ap (option_and_then message_of) (data_of-kept_of whole)) one.crash;
-        blame = one.blame;
+        store_fault_justified = one.store_fault_justified;
         account = subst (AccountOne m t one.next) (ap (option_and_then message_of) (data_of-kept_of whole)) one.account;
       }
   answered_whole before after m whole (t ∷ s ∷ ts) one = absurd one.run.2

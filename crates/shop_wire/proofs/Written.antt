@@ -23,7 +23,7 @@ same_answer s t f g b d p q r =
 
 module _ {B : Type 0} (book : Ghosts B) (at : B) (a b : Option (List ℕ)) where
   silent_served : (m : Content) → book.holds at m → IsSound json_texts m → HasServedInput book at at m silent (replied (Refused BadMessage))
-  silent_served m held sound = record { next = m; step = refl; held = held; sound = sound; crash = (refl, λ left it. it); blame = λ e. absurd (cc e); account = account_same json_texts m m refl }
+  silent_served m held sound = record { next = m; step = refl; held = held; sound = sound; crash = (refl, λ left it. it); store_fault_justified = λ e. absurd (cc e); account = account_same json_texts m m refl }
 
   pub silent_reported : (parsed : ParseResult) → parsed ≡ silent → IsServedAs book at at a a parsed []
   silent_reported parsed is =
@@ -31,7 +31,7 @@ module _ {B : Type 0} (book : Ghosts B) (at : B) (a b : Option (List ℕ)) where
       (record { response = replied (Refused BadMessage); bytes = []; reported = refl; written = Appends-nil a; run = record { run = λ h m held sound. silent_served m held sound; keeps = λ h m held nothing. held } })
 
   fault_served : (f : RequestFault) (m : Content) → book.holds at m → IsSound json_texts m → HasServedInput book at at m (faulty f) (replied (Refused BadMessage))
-  fault_served f m held sound = record { next = m; step = refl; held = held; sound = sound; crash = (refl, λ left it. it); blame = λ e. absurd (cc e); account = account_same json_texts m m refl }
+  fault_served f m held sound = record { next = m; step = refl; held = held; sound = sound; crash = (refl, λ left it. it); store_fault_justified = λ e. absurd (cc e); account = account_same json_texts m m refl }
 
   fault_reported : (f : RequestFault) (parsed : ParseResult) → parsed ≡ faulty f → (done rest : List ℕ) → done ++ rest ≡ answer_bytes (fault_answer f) → Appends a b done → IsServedAs book at at a b parsed rest
   fault_reported f parsed is done rest reported written =

@@ -104,7 +104,7 @@ module _ {X : Type 0} (step : Content → X → Response → Content → Type 0)
     pub held : book.holds after next
     pub sound : IsSound json_texts next
     pub crash : ExchangesLead book before after old (exchanges asked responses) next
-    pub blame : ReportOfFailures (replies_in responses) (book.failed before) (book.failed after)
+    pub store_fault_justified : ReportOfFailures (replies_in responses) (book.failed before) (book.failed after)
     pub account : HasAccount json_texts old (map (λ e. e.0) (exchanges asked responses)) (map (λ e. e.1) (exchanges asked responses)) next
 
   -- All that is said of one that was asked and of what it was reported, from the book before it to the book after it: so a failed
@@ -125,7 +125,7 @@ module _ {X : Type 0} (step : Content → X → Response → Content → Type 0)
   pub record IsFromFresh (asked : List X) (responses : List Response) : Type 0 where
     pub next : Content
     pub run : InTurn fresh asked responses next
-    pub blame : IsIn (Refused StoreFault) (replies_in responses) → ⊥
+    pub store_fault_justified : IsIn (Refused StoreFault) (replies_in responses) → ⊥
     pub history : List Entry
     pub messages : messages_of history ≡ history_after [] (map (λ e. e.0) (exchanges asked responses)) (map (λ e. e.1) (exchanges asked responses))
     pub account : IsAccountOf json_texts history next

@@ -263,7 +263,7 @@ pub record HasServedInput {B : Type 0} (book : Ghosts B) (before after : B) (old
   pub held : book.holds after next
   pub sound : IsSound json_texts next
   pub crash : ExchangesLead book before after old (exchanged parsed response) next
-  pub blame : response ≡ replied (Refused StoreFault) → StoreFailed (book.failed before) (book.failed after)
+  pub store_fault_justified : response ≡ replied (Refused StoreFault) → StoreFailed (book.failed before) (book.failed after)
   pub account : HasAccount json_texts old (map (λ e. e.0) (exchanged parsed response)) (map (λ e. e.1) (exchanged parsed response)) next
 
 -- A message, where one came, was handled as one that was given this time: the book holds what such a step leaves of old.

@@ -10,7 +10,7 @@ use Rattle.shop_records.specs.declared.refusals.Refusal.TheVariants.{BadMessage}
 use Rattle.shop_records.specs.declared.messages.Reply.TheVariants.{Refused}
 use Rattle.shop_desk.specs.Faults.{CountsReply}
 use Rattle.shop_desk.specs.Handled.{IsHandledAt}
-use Rattle.shop_desk.proofs.Steps.{decided, faulted, committed, failed, counts_made, counted_made, counted_after, is_fault, no_other, to_commit_at, fits_committed, row_committed, blamed, commit_blamed, store_failed}
+use Rattle.shop_desk.proofs.Steps.{decided, faulted, committed, failed, counts_made, counted_made, counted_after, is_fault, no_other, to_commit_at, fits_committed, row_committed, justified, commit_justified, store_failed}
 use Rattle.shop_desk.proofs.Refusals.{none_refused}
 use Rattle.shop_desk.proofs.desk_calls.handle_new.Goals as goal
 
@@ -113,7 +113,7 @@ returns-in-Err-commit-clause-step g c =
 
 pub returns-in-Err-clause-store_fault : goal.returns-in-Err-clause-store_fault
 returns-in-Err-clause-store_fault g c =
-    λ is_message clean_disk m held sound is. blamed json_texts m c.args.message.now (g.B.Book.failed c.args.book.now) (g.B.Book.failed c.decide.new.book) c.in-Err.refusal sound (c.in-Err.ensures.decision clean_disk m held sound).blame is
+    λ is_message clean_disk m held sound is. justified json_texts m c.args.message.now (g.B.Book.failed c.args.book.now) (g.B.Book.failed c.decide.new.book) c.in-Err.refusal sound (c.in-Err.ensures.decision clean_disk m held sound).store_fault_justified is
 
 pub returns-in-Err-commit-clause-store_fault : goal.returns-in-Err-commit-clause-store_fault
 returns-in-Err-commit-clause-store_fault g c =
@@ -121,7 +121,7 @@ returns-in-Err-commit-clause-store_fault g c =
     let first = g.B.Book.failed c.args.book.now in
     let decided = g.B.Book.failed c.decide.new.book in
     let entered = g.B.Book.failed c.entered.new.book in
-    commit_blamed (Unit {0}) first entered (g.B.Book.failed c.commit.new.self) c.in-Err-commit.fault c.from.result
+    commit_justified (Unit {0}) first entered (g.B.Book.failed c.commit.new.self) c.in-Err-commit.fault c.from.result
     (c.in-Ok-entered.ensures.keeps.failures ∙ counted_made first decided c.in-Ok.change c.in-Ok.ensures.keeps.failures)
     c.in-Err-commit.ensures.failures c.from.ensures is
 

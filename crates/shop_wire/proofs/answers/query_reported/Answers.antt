@@ -6,7 +6,7 @@ use Rattle.shop_wire.specs.Replays.{ValueStep}
 use Rattle.shop_wire.specs.Responses.{response_of}
 use Rattle.shop_wire.proofs.Answered.{query_answered, plans_answered, plans_read, one_refused, of_no_memory}
 use Rattle.shop_wire.proofs.Meant.{nothing_there}
-use Rattle.shop_desk.proofs.Blame.{up_reply}
+use Rattle.shop_desk.proofs.Justified.{up_reply}
 use Rattle.shop_wire.proofs.answers.query_reported.Goals as goal
 
 pub returns-in-Ok-clause-step : goal.returns-in-Ok-clause-step

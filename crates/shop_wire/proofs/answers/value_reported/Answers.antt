@@ -1,7 +1,7 @@
 use Rattle.std.proofs.Common.{inl, refl}
 use Rattle.serde_json.specs.View.{view}
 use Rattle.shop_forms.specs.Forms.{message_of}
-use Rattle.shop_desk.proofs.Blame.{up_answer}
+use Rattle.shop_desk.proofs.Justified.{up_answer}
 use Rattle.shop_wire.specs.Replays.{ValueStep}
 use Rattle.shop_wire.specs.Responses.{response_of}
 use Rattle.shop_wire.proofs.Answered.{message_answered, one_refused, of_no_memory}

@@ -1,4 +1,4 @@
-use Rattle.shop_desk.proofs.Blame.{up_answer}
+use Rattle.shop_desk.proofs.Justified.{up_answer}
 use Rattle.shop_wire.specs.Replays.{line_message}
 use Rattle.shop_wire.proofs.Acted.{message_kept, message_served, message_refused, message_timed, unread_timed}
 use Rattle.shop_wire.proofs.asking.message_reply.Goals as goal

@@ -1,5 +1,5 @@
 use Rattle.std.proofs.Common.{sym, subst}
-use Rattle.shop_desk.proofs.Blame.{up_reply}
+use Rattle.shop_desk.proofs.Justified.{up_reply}
 use Rattle.shop_request.specs.Requests.{asking}
 use Rattle.shop_wire.specs.Serves.{HasServedInput, IsInputHandledAt, KeepsElse, parse_message}
 use Rattle.shop_wire.specs.Responses.{response_of}

@@ -4,7 +4,7 @@ use Rattle.std.specs.Io.KnownBytes.{prepend_known}
 use Rattle.shop_wire.specs.Lines.{pending}
 use Rattle.shop_wire.specs.Replays.{IsReplayed}
 use Rattle.shop_wire.specs.Streams.{CountTogether, TookBytes}
-use Rattle.shop_desk.proofs.Blame.{up_same, up_more}
+use Rattle.shop_desk.proofs.Justified.{up_same, up_more}
 use Rattle.shop_wire.proofs.Reading.{together_none, together_more, took_none, took_more}
 use Rattle.shop_wire.proofs.Replayed.{HasRead, none_read, line_read, all_read, some_read, first_read, none_replayed, more_held, passed_on, whole_replayed, part_replayed, work_before, for_each_fault, for_the_fault, not_read}
 use Rattle.shop_wire.proofs.replays.answer_lines.Goals as goal

@@ -67,5 +67,5 @@ report_more a b c (r ∷ rs) more up next first second (inr is) = report_more a 
 
 -- one reply
 pub report_one : (a b : ℕ) (answer : Reply) → (answer ≡ Refused StoreFault → StoreFailed a b) → ReportOfFailures (answer ∷ []) a b
-report_one a b answer blame (inl is) = blame (sym is)
-report_one a b answer blame (inr is) = absurd is
+report_one a b answer store_fault_justified (inl is) = store_fault_justified (sym is)
+report_one a b answer store_fault_justified (inr is) = absurd is
