@@ -115,6 +115,7 @@ CHANGES = [
     ("UPDATE jobs SET tree = 'x21 p2 r' WHERE job = 4", "jobs: 4 differs"),
     ("DELETE FROM imports WHERE ord = 'CG-1'", "imports: CG-1 differs"),
     ("UPDATE imports SET body = body || ' ' WHERE ord = 'A-3'", "imports: A-3 differs"),
+    ("UPDATE imports SET form = 9 WHERE ord = 'A-3'", "imports: A-3 differs"),
     ("UPDATE demands SET worth = worth + 1 WHERE number = 3", "demands: 3 differs"),
 ]
 

@@ -43,6 +43,8 @@ CHANGES = [
     ("DELETE FROM halts WHERE job = 2", "halts: 2 differs"),
     ("UPDATE halts SET body = '{\"cuts\":[0,2],\"lost\":1,\"rest\":4}' WHERE job = 2", "halts: 2 differs"),
     ("UPDATE halts SET body = '{\"cuts\":[0,2],\"lost\":1}' WHERE job = 2", "halts: 2 differs"),
+    ("UPDATE halts SET body = 'x' WHERE job = 5", "halts: 5 differs"),
+    ("UPDATE halts SET body = '' WHERE job = 2", "halts: 2 differs"),
     ("INSERT INTO halts VALUES (4, '{\"cuts\":1,\"lost\":false}')", "halts: 4 differs"),
     ("UPDATE demands SET wanted = 3 WHERE number = 4", "demands: 4 differs"),
     ("DELETE FROM begun WHERE job = 5", "begun: 5 differs"),

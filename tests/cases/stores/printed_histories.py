@@ -208,3 +208,22 @@ def no_terminal(trial):
     trial.shop("none.db").kill()
     trial.equal(reported(trial, "audit", ("--store", "none.db"), 600), (0, "entries 0\nwhole\n", ""))
     trial.equal(reported(trial, "history", ("--store", "none.db"), 600), (0, "", ""))
+
+
+@case(
+    "a history with a message that isn't kept",
+    "Of 250 entries, of which one's message was taken away, the query `history` reports 100 others at once and that more follow, page by page, and the order's story "
+    "the same of its entries.",
+)
+def without_message(trial):
+    path, journal = amended(trial, "missing.db", MANY)
+    tables.change(path, "DELETE FROM kept WHERE number = 3")
+    rest = [json.loads(line) for line in journal.lines().splitlines()]
+    rest = [it for it in rest if it["entry"] != 3]
+    shop = trial.shop("missing.db")
+    for query, entries in (({"ask": "history"}, rest), ({"ask": "story", "order": "A-1"}, [it for it in rest if it["entry"] > 1])):
+        for page in range(0, len(entries), 100):
+            after, shown = entries[page - 1]["entry"] if page else 0, entries[page : page + 100]
+            reply = json.loads(shop.reply(compact({**query, "after": after})))
+            trial.equal((reply["entries"], reply["more"]), (shown, page + 100 < len(entries)), (query, after))
+    shop.kill()
