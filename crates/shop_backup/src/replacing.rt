@@ -66,7 +66,7 @@ fn unread(error: &io::Error) -> RestoreFault {
     }
 }
 
-// What has this name, be it a link to nothing, if anything has it.
+// What has this name, if anything does. A link to nothing has one, too.
 fn found_at<R: Files>(rt: &R, path: &str) -> Result<Option<Metadata>, RestoreFault> {
     match fs::symlink_metadata(rt, path) {
         Ok(found) => Ok(Some(found)),
@@ -75,7 +75,7 @@ fn found_at<R: Files>(rt: &R, path: &str) -> Result<Option<Metadata>, RestoreFau
     }
 }
 
-// Whether something has this name, be it a link to nothing.
+// Whether anything has this name. A link to nothing has one, too.
 fn is_named<R: Files>(rt: &R, path: &str) -> Result<bool, RestoreFault> {
     Ok(found_at(rt, path)?.is_some())
 }
@@ -230,7 +230,7 @@ fn free_name<R: Files>(rt: &R, path: &str) -> Result<(), RestoreFault> {
     }
 }
 
-// What was tried, be it refused. Only that memory ran out is handed on.
+// What was tried, whether it was refused or not. Only that memory ran out is handed on.
 fn tried(done: io::Result<()>) -> io::Result<()> {
     match done {
         Err(error) if error.kind() == ErrorKind::OutOfMemory => Err(error),

@@ -29,7 +29,7 @@ use sqlite_disk::Disk;
 /// - `after`: a book that left a content alone had messages handled, whatever came of its disk (`Leads`, of `run`, of `replay`
 ///   and of what is served): the files show the content after the last answer, or one step further, by a message that was
 ///   refused.
-/// - `again`: files that show a content were opened as a book, be it in another run of the program: it holds that content.
+/// - `again`: files that show a content were opened as a book, perhaps in another run of the program: it holds that content.
 pub fn stopped_stores_are_found<D: Disk>()
     ensures only { (last : Held (StoreOf D D.Disk)) (m : Content) → HasCleanDisk (file_state last)
         → LeavesOnly (file_state last) m → (image : Image) → IsLeftOf last image

@@ -121,7 +121,7 @@ fn put_made<C>(client: &mut Client<C>, made: Made, now: Instant)
     }
 }
 
-// Takes what has come of a request, and has it answered, be it by a backup, or its query begun once it is whole.
+// Reads what has arrived of a request. Once it is whole, has it answered, by a backup too, or begins its query.
 fn ask<C: Connection, K: ServerClock, B: Book>(
     alloc: Global,
     site: &Site,
@@ -354,7 +354,7 @@ fn oldest<C>(clients: &Slab<Client<C>>) -> Option<usize>
     }
 }
 
-/// Whether one connection more may be open, be it in another's place.
+/// Whether one connection more may be open, perhaps in another's place.
 pub(crate) fn can_open_one<C>(clients: &Slab<Client<C>>) -> bool
     ensures { result ≡ true ↔ CanOpenOne clients.now }
 {
@@ -375,7 +375,8 @@ fn evict_oldest<C: Drop>(clients: &mut Slab<Client<C>>)
     }
 }
 
-/// Opens a connection, be it in another's place, and gives its key, under which it is registered. One that can't be is closed.
+/// Opens a connection, perhaps in another's place, and returns its key, under which it is registered. One that can't be opened
+/// is closed.
 pub(crate) fn open_client<C: Drop, P: Port<C>>(
     alloc: Global,
     port: &mut P,
