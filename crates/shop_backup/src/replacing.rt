@@ -43,6 +43,8 @@ struct Paths {
     new_log: String,
     old_store: String,
     old_log: String,
+    journal: String,
+    old_journal: String,
     folder: String,
 }
 
@@ -122,6 +124,8 @@ impl Paths {
             new_log: format!(in alloc; "{path}.new-wal")?,
             old_store: format!(in alloc; "{path}.before")?,
             old_log: format!(in alloc; "{path}.before-wal")?,
+            journal: format!(in alloc; "{path}-journal")?,
+            old_journal: format!(in alloc; "{path}.before-journal")?,
             folder: format!(in alloc; "{folder}")?,
             store,
         })
@@ -350,14 +354,19 @@ impl<'a, R: Files, J: Judges> Replacing<'a, R, J> {
         }
     }
 
+    // A store of its own may have the copies' names: it stays if a program has it open.
     fn look(&self) -> Result<(), RestoreFault> {
-        if is_named(self.rt, self.paths.old_store.as_str())?
-            || is_named(self.rt, self.paths.old_log.as_str())?
-        {
-            Err(RestoreFault::Before)
-        } else {
-            Ok(())
+        for path in [
+            self.paths.old_store.as_str(),
+            self.paths.old_log.as_str(),
+            self.paths.old_journal.as_str(),
+        ] {
+            if is_named(self.rt, path)? {
+                return Err(RestoreFault::Before);
+            }
         }
+        drop(lock(self.rt, self.paths.new_store.as_str())?);
+        Ok(())
     }
 
     // The owner and the permissions that the new files get: those of the old ones, or of the backup.
@@ -429,13 +438,22 @@ impl<'a, R: Files, J: Judges> Replacing<'a, R, J> {
 
     fn put_store_aside(&mut self) -> Result<(), RestoreFault> {
         self.is_replacing = true;
-        if !is_named(self.rt, self.paths.store.as_str())? {
+        if is_named(self.rt, self.paths.store.as_str())? {
+            if !self.is_shielded {
+                self.is_shielded = self.shield()?;
+            }
+            self.rename(self.paths.store.as_str(), self.paths.old_store.as_str())?;
+        }
+        self.put_journal_aside()
+    }
+
+    // A rollback journal belongs to the old store. Beside the new one it would undo there what another program began in the old one.
+    fn put_journal_aside(&self) -> Result<(), RestoreFault> {
+        let journal = self.paths.journal.as_str();
+        if !is_named(self.rt, journal)? {
             return Ok(());
         }
-        if !self.is_shielded {
-            self.is_shielded = self.shield()?;
-        }
-        self.rename(self.paths.store.as_str(), self.paths.old_store.as_str())
+        self.rename(journal, self.paths.old_journal.as_str())
     }
 
     fn put_log_aside(&self) -> Result<(), RestoreFault> {
@@ -477,12 +495,12 @@ impl<'a, R: Files, J: Judges> Place for Replacing<'a, R, J> {
     }
 }
 
-/// Puts a backup in the place of a store: the files that were there are `FILE.before` and `FILE.before-wal` then, where they were
-/// there. `FILE.new` and `FILE.new-wal` are copies of the backup's files before they get their names; of an earlier try they are
-/// taken away. The answer is what the backup's book reports about its entries.
+/// Puts a backup in the place of a store: the files that were there are `FILE.before`, `FILE.before-wal` and, of another program's
+/// rollback journal, `FILE.before-journal` then, where they were there. `FILE.new` and `FILE.new-wal` are copies of the backup's files
+/// before they get their names; of an earlier try they are taken away. The answer is what the backup's book reports about its entries.
 ///
-/// `Store(InUse)` where a program has the store open; `NoBackup` where the folder has no store with its log, or they hold no book;
-/// `Before` where `FILE.before` or `FILE.before-wal` is there. At these nothing was changed. `NoMemory`, and `Store` with another
+/// `Store(InUse)` where a program has the store, or `FILE.new`, open; `NoBackup` where the folder has no store with its log, or they
+/// hold no book; `Before` where a file has one of the names with `.before`. At these nothing was changed. `NoMemory`, and `Store` with another
 /// cause, because memory ran out and for what the system refuses. Before the old files are renamed the copies are taken away then; behind
 /// that what was done stays, and the next start finds the old files, the new ones, or some that it refuses.
 pub fn put_back<R: Files, J: Judges + Drop>(
