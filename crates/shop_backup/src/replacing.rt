@@ -161,6 +161,21 @@ fn lock<R: Files>(rt: &R, path: &str) -> Result<Option<HeldFile>, RestoreFault> 
     }
 }
 
+// Refuses a file that a program has open as its store. One that this account can't lock may be replaced.
+fn leave_open<R: Files>(rt: &R, path: &str) -> Result<(), RestoreFault> {
+    match found_at(rt, path)? {
+        Some(found) if found.is_file() => (),
+        _ => return Ok(()),
+    }
+    match HeldFile::lock(path) {
+        Err(HoldFault::InUse) => Err(RestoreFault::Store(StoreCause::InUse)),
+        Err(HoldFault::Failed(error)) if error.kind() == ErrorKind::OutOfMemory => {
+            Err(RestoreFault::NoMemory)
+        }
+        _ => Ok(()),
+    }
+}
+
 // Whether two names are of one file.
 fn are_one<R: Files>(rt: &R, first: &str, second: &str) -> Result<bool, RestoreFault> {
     match (found_at(rt, first)?, found_at(rt, second)?) {
@@ -365,8 +380,7 @@ impl<'a, R: Files, J: Judges> Replacing<'a, R, J> {
                 return Err(RestoreFault::Before);
             }
         }
-        drop(lock(self.rt, self.paths.new_store.as_str())?);
-        Ok(())
+        leave_open(self.rt, self.paths.new_store.as_str())
     }
 
     // The owner and the permissions that the new files get: those of the old ones, or of the backup.
