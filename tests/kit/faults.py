@@ -88,6 +88,11 @@ class Faults:
             file.seek(16)
             file.write((1).to_bytes(8, "little") + seconds.to_bytes(8, "little", signed=True))
 
+    def count_anew(self):
+        """Counts the calls from 0 again: the next one that fails is so many behind."""
+        with open(self.count_path, "r+b") as file:
+            file.write(bytes(8))
+
     def end(self):
         """Takes its count away."""
         with suppress(FileNotFoundError):

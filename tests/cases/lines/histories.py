@@ -481,6 +481,26 @@ def before_1970(trial):
 
 
 @case(
+    "a clock at its ends",
+    "Under a clock at the least and the greatest second of 64 bits, at the ends of 32 bits and of the year 9999, an entry has that second, or 0 below 0; "
+    "a later start whose clock goes right serves on with the greatest, and an audit calls the store whole.",
+)
+def ends_of_time(trial):
+    for number, date in enumerate((-(2**63), -1, 2**31 - 1, 2**31, 2**32, 253402300799, 253402300800, 2**53 + 1, 2**63 - 1)):
+        at, clock, store = max(date, 0), Faults(trial, date=date), f"clock-{number}.db"
+        shop = trial.shop(store, environment=clock.environment)
+        trial.holds(b'"ok"' in shop.reply(GLASS), date)
+        trial.equal(times_of(shop), [at], date)
+        asked(trial, shop, SHOP, compact({"began": at, "entries": 1, "last": at, "ok": "shop"}))
+        shop.kill()
+        shop = trial.shop(store, environment=Faults(trial, date=2000).environment)
+        trial.holds(b'"ok"' in shop.reply(SHEET), date)
+        trial.equal(times_of(shop), [at, max(at, 2000)], date)
+        shop.kill()
+        trial.ended(trial.run("audit", "--store", store), 0, b"entries 2\nwhole\n", sent=date)
+
+
+@case(
     "a clock that tells no date",
     "Where the seconds since 1970 can't be read a message is accepted with the time of the entry before, the first one with 0.",
 )

@@ -5,6 +5,7 @@ import os
 import shutil
 import sqlite3
 import stat
+import subprocess
 from contextlib import closing
 from functools import partial
 
@@ -352,3 +353,74 @@ def stopped_empty(trial):
     new = {STORE: content(trial.path(f"backups/1/{STORE}")), LOG: b"\0"}
     for lost in LOST:
         sweep(trial, 1, partial(disturbed, trial, terminal, kept, new, lost), {"stop": "kept"}, more_than=10)
+
+
+@case(
+    "a copy's name that is taken at a restore",
+    "Where FILE.new or FILE.new-wal is a link, a second name of another file, or a pipe, it is replaced: the store is restored, and the file that has "
+    "another name stays as it was.",
+)
+def taken_names(trial):
+    two_states(trial)
+    kept, wanted = held(trial, STORE, LOG), held(trial, f"backups/1/{STORE}", f"backups/1/{LOG}")
+    makers = {"link": lambda path: os.symlink("other.db", path), "name": lambda path: os.link(trial.path("other.db"), path), "pipe": os.mkfifo}
+    for name in ("shop.db.new", "shop.db.new-wal"):
+        for kind, make in makers.items():
+            trial.write("other.db", "another file")
+            for it, bytes_of in kept.items():
+                trial.write(it, bytes_of)
+            make(trial.path(name))
+            trial.ended(restore(trial), 0, out=RESTORED, sent=f"{name}, a {kind}")
+            trial.equal([content(trial.path(it)) for it in (STORE, LOG)], list(wanted.values()), f"{name}, a {kind}")
+            trial.equal(content(trial.path("other.db")), b"another file", f"{name}, a {kind}")
+            trial.equal(held(trial, "shop.db.before", "shop.db.before-wal"), {f"shop.db.before{it[7:]}": kept[it] for it in kept})
+            trial.equal(held(trial, "shop.db.new", "shop.db.new-wal"), {}, f"{name}, a {kind}")
+            for it in ("shop.db.before", "shop.db.before-wal"):
+                os.remove(trial.path(it))
+
+
+@case(
+    "restores at once",
+    "Of four restores of a store that begin together one is done, and each other one ends with status 1 and changes nothing: the store is the backup's, "
+    "and FILE.before what was there.",
+)
+def at_once(trial):
+    two_states(trial)
+    kept, wanted = held(trial, STORE, LOG), held(trial, f"backups/1/{STORE}", f"backups/1/{LOG}")
+    words = [trial.program, "restore", "--store", STORE, "--from", "backups/1"]
+    for turn in range(5):
+        for name, bytes_of in kept.items():
+            trial.write(name, bytes_of)
+        runs = [subprocess.Popen(words, cwd=trial.folder, stdin=subprocess.DEVNULL, stdout=subprocess.PIPE, stderr=subprocess.PIPE) for _ in range(4)]
+        found = sorted((*it.communicate(), it.returncode) for it in runs)
+        trial.equal([it[2] for it in found], [1, 1, 1, 0], f"turn {turn}: {found}")
+        trial.equal(found[3][:2], (RESTORED, b""), f"turn {turn}")
+        trial.equal([it[0] for it in found[:3]], [b""] * 3, f"turn {turn}")
+        trial.equal([content(trial.path(it)) for it in (STORE, LOG)], list(wanted.values()), f"turn {turn}")
+        trial.equal(held(trial, "shop.db.before", "shop.db.before-wal"), {f"shop.db.before{it[7:]}": kept[it] for it in kept}, f"turn {turn}")
+        trial.equal(held(trial, f"backups/1/{STORE}", f"backups/1/{LOG}"), wanted, f"turn {turn}")
+        for it in ("shop.db.before", "shop.db.before-wal"):
+            os.remove(trial.path(it))
+
+
+@case(
+    "standard streams that are closed at a restore",
+    "Whichever of the three streams are closed, no file of the store, of the backup or of what was there gets a byte that is meant for them; "
+    "without standard output the status is 1.",
+)
+def closed_streams(trial):
+    two_states(trial)
+    kept, wanted = held(trial, STORE, LOG), held(trial, f"backups/1/{STORE}", f"backups/1/{LOG}")
+    for closed in ((0,), (1,), (2,), (0, 1), (0, 2), (1, 2), (0, 1, 2)):
+        for name, bytes_of in kept.items():
+            trial.write(name, bytes_of)
+        for _ in range(2):
+            # (the second time it is refused, as FILE.before is there)
+            ran = restore(trial, prepare=lambda: [os.close(it) for it in closed])
+            trial.equal([content(trial.path(it)) for it in (STORE, LOG)], list(wanted.values()), closed)
+            trial.equal(held(trial, "shop.db.before", "shop.db.before-wal"), {f"shop.db.before{it[7:]}": kept[it] for it in kept}, closed)
+            trial.equal(held(trial, f"backups/1/{STORE}", f"backups/1/{LOG}"), wanted, closed)
+            wants = 1 if 1 in closed or _ else 0
+            trial.equal(ran.status, wants, closed)
+        for it in ("shop.db.before", "shop.db.before-wal"):
+            os.remove(trial.path(it))

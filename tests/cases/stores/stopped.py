@@ -1,12 +1,15 @@
 """Calls that change or read the store's files: each fails, or the program stops there; what was acknowledged is kept."""
 
 import errno
+import json
 import os
 import shutil
 
 from kit import tables
 from kit.case import case
 from kit.days import AMENDED, day_of
+from kit.faults import Faults
+from kit.shop import answer
 from kit.stops import Course, sweep_courses
 
 # The day whose calls are disturbed.
@@ -79,3 +82,48 @@ def stopped(how, says, seeds=(0,)):
 stopped("kept", "and all that was written stays")
 stopped("dropped", "and what wasn't synced is lost, new files too")
 stopped("torn", "and of what wasn't synced some sectors of 512 bytes stay", range(8))
+
+
+@case(
+    "a full disk that gets room within a message",
+    "From each call of two messages on the disk is full or over its quota, and has room again behind three messages: what was accepted before and behind "
+    "is kept with its reply, and at most one message more, which was refused; the store is whole, and a later start accepts all.",
+)
+def room_again(trial):
+    for error in (errno.ENOSPC, errno.EDQUOT):
+        at, is_disturbed = 1, True
+        while is_disturbed:
+            store = f"full-{error}-{at}.db"
+            faults = Faults(trial, "files", at=0, error=error, on=True, under=os.path.realpath(trial.path(store)))
+            shop = trial.shop(store, environment=faults.environment)
+            began = faults.calls()
+            shop.kill()
+            for end in ("", "-wal"):
+                os.remove(trial.path(store + end))
+            faults = Faults(trial, "files", at=began + at, error=error, on=True, under=os.path.realpath(trial.path(store)))
+            shop = trial.shop(store, environment=faults.environment)
+            accepted, refused = [], []
+            for turn in range(5):
+                if turn == 3:
+                    faults.count_anew()
+                line = json.dumps({"do": "material", "kerf": 1, "kind": "bar", "material": f"M-{turn}", "min_long": 1, "min_short": 1}
+                    | {"number": turn + 1, "terminal": 1}, sort_keys=True, separators=(",", ":"))
+                came = shop.send(line)
+                wanted = answer(200, f'{{"material":"M-{turn}","ok":"material"}}')
+                (accepted if came == wanted else refused).append((1, turn + 1, line, wanted.partition(b"\r\n\r\n")[2].decode()))
+                if came != wanted:
+                    trial.equal(came, answer(503, '{"name":"StoreFault","refused":99}'), f"{store}, message {turn + 1}")
+            shop.kill()
+            is_disturbed = len(accepted) < 5
+            ran = trial.run("audit", "--store", store)
+            trial.equal((ran.status, ran.out[-6:], ran.err), (0, b"whole\n", b""), store)
+            found = tables.rows(trial.path(store))["kept"]
+            trial.equal([it for it in accepted if it not in found], [], f"{store}: what was accepted and isn't kept")
+            more = [it for it in found if it not in accepted]
+            trial.holds(len(more) <= 1 and all(it in refused for it in more), f"{store}: {more} is kept and wasn't accepted")
+            shop = trial.shop(store)
+            for _, number, line, reply in sorted(accepted + refused):
+                trial.equal(shop.reply(line).decode(), reply, f"{store}, message {number} again")
+            shop.kill()
+            at += 1
+        trial.holds(at > 8, f"only {at} calls were disturbed")
