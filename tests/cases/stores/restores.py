@@ -424,3 +424,46 @@ def closed_streams(trial):
             trial.equal(ran.status, wants, closed)
         for it in ("shop.db.before", "shop.db.before-wal"):
             os.remove(trial.path(it))
+
+
+@case(
+    "a rollback journal beside a store at a restore",
+    "A rollback journal of the store that was there, in use by no program, lies beside FILE.before as FILE.before-journal behind a restore, so that the restored "
+    "store opens and stays; also where FILE isn't there. Where FILE.before-journal is there nothing is restored.",
+)
+def old_journal(trial):
+    terminal = two_states(trial)
+    kept, journal = held(trial, STORE, LOG), b"a journal of another program"
+    for lost, names in LOST.items():
+        for name, bytes_of in kept.items():
+            trial.write(name, bytes_of)
+        for name in names:
+            os.remove(trial.path(name))
+        trial.write("shop.db-journal", journal)
+        trial.ended(restore(trial), 0, out=RESTORED, sent=lost)
+        trial.equal(held(trial, "shop.db-journal", "shop.db.before-journal"), {"shop.db.before-journal": journal}, lost)
+        trial.equal(is_whole(trial, trial.path(STORE), [terminal]), [2], lost)
+        for name in ("shop.db.before", "shop.db.before-wal"):
+            if os.path.exists(trial.path(name)):
+                os.remove(trial.path(name))
+        now = held(trial, STORE, LOG)
+        trial.ended(restore(trial), 1, err="fault store\n", why="shop.db: put FILE.before away first")
+        trial.equal(held(trial, STORE, LOG), now, lost)
+        os.remove(trial.path("shop.db.before-journal"))
+
+
+@case(
+    "a served store under a copy's name at a restore",
+    "Where a program has FILE.new open as its store, nothing is restored and no file changes: the other store goes on, and has its messages.",
+)
+def served_copy(trial):
+    two_states(trial)
+    other, terminal = trial.shop("shop.db.new"), Terminal(1)
+    trial.equal(terminal.send_all(other, 2), None)
+    names = (STORE, LOG, "shop.db.new", "shop.db.new-wal")
+    before = held(trial, *names)
+    trial.ended(restore(trial), 1, err="fault store\n", why="shop.db: another program has it open")
+    trial.equal(held(trial, *names, "shop.db.before"), before)
+    trial.equal(terminal.send_all(other, 4), None)
+    other.kill()
+    trial.equal(is_whole(trial, other.store, [terminal]), [4])
