@@ -360,7 +360,7 @@ function promisedWords() {
 function questionOfAll(chosen) {
   const pieces = chosen.reduce((sum, row) => sum + leftOf(row), 0), stock = freeParts().filter(row => !isPartOut(row));
   if (!chosen.length) return shop.material && shop.partsOf && demandsToCut().some(row => leftOf(row)) ? tr`Nothing chosen is left to cut.` : "";
-  const words = [tr`${count(pieces, "piece")} of ${count(chosen.length, "kind")}, ${count(stock.length, "part")} to cut from.`];
+  const words = [tr`${count(pieces, "piece")} of ${count(chosen.length, isGerman ? "kind of pieces" : "kind", "kinds")}, ${count(stock.length, "part")} to cut from.`];
   if (chosen.length > MAX_KINDS) words.push(tr`They are planned ${MAX_KINDS} kinds at a time, the most urgent first.`);
   if (stock.length > MAX_PARTS || shop.moreParts) words.push(tr`At most ${MAX_PARTS} parts are taken at once, the oldest first.`);
   return words.join(" ");

@@ -168,7 +168,7 @@ function showMaterials() {
 }
 
 function materialWords(row) {
-  return tr`${word(row.kind)}, kerf ${mm(row.kerf)} mm, keeps from ${sizeText(row.kind, row.min_long, row.min_short)}`;
+  return tr`${word(row.kind)}, kerf ${mm(row.kerf)}\u00a0mm, keeps from ${sizeText(row.kind, row.min_long, row.min_short)}`;
 }
 
 function materialButton(row) {

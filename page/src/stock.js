@@ -267,7 +267,7 @@ function traceWords(chain) {
     returned: tr`returned to its supplier`,
     undone: tr`not cut, as job ${part.of} was taken back`
   }[part.state];
-  const at = kind === "bar" ? `${mm(part.x)} mm` : tr`${mm(part.x)} mm from the left, ${mm(part.y)} mm from the top`;
+  const at = kind === "bar" ? `${mm(part.x)}\u00a0mm` : tr`${mm(part.x)}\u00a0mm from the left, ${mm(part.y)}\u00a0mm from the top`;
   const where = chain.length === 1 ? tr`It is a unit as it was received.`
                                    : tr`It lay in unit ${unit.part} (${sizeText(kind, unit.w, unit.h)}) at ${at}.`;
   const came = chain.slice(0, -1)

@@ -233,6 +233,8 @@ function cutFromRows(choices) {
   ];
 }
 
+function fitWords(fits) { return fits === 1 ? tr`${count(1, ...KINDS)} fits` : tr`${count(fits, ...KINDS)} fit`; }
+
 // A part, or units of one size: a box takes them in or leaves them out, a button plans one of them alone.
 function partRow(part) {
   const size = sizeText(kindOf(shop.material), part.w, part.h), isChosen = part.part === toCut.part;
@@ -248,7 +250,7 @@ function partRow(part) {
       el("div", {}, el("span", {class: "tag", text: part.remnant ? tr`remnant` : count(part.units, "unit")}),
         el("div", {class: "quiet", text: tr`${part.part}, batch ${part.batch}`}), el("div", {
           class: "quiet",
-          text: part.fits ? tr`${count(part.fits, ...KINDS)} fit${part.fits === 1 ? "s" : ""}` : tr`nothing chosen fits`
+          text: part.fits ? fitWords(part.fits) : tr`nothing chosen fits`
         }))),
     el("button", {
       class: "small",

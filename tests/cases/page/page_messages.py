@@ -707,7 +707,7 @@ def new_material(trial):
         names = "[...document.querySelectorAll('#stock .materials button')].map(e => e.firstChild.data)"
         it.until(f"{names}.length === 2")
         words = "[...document.querySelectorAll('#stock .materials small')].map(e => e.textContent)"
-        steel, glass = "bar, kerf 2.5 mm, keeps from 300.0\u00a0mm", "sheet, kerf 3.0 mm, keeps from 300.0 × 100.0\u00a0mm"
+        steel, glass = "bar, kerf 2.5\u00a0mm, keeps from 300.0\u00a0mm", "sheet, kerf 3.0\u00a0mm, keeps from 300.0 × 100.0\u00a0mm"
         trial.equal(it.value(words), [glass, steel])
         shop.kill(signal.SIGKILL)
         it.until(f"{by_id('link')}.textContent === 'no connection'")
@@ -717,5 +717,5 @@ def new_material(trial):
         shop.process = subprocess.Popen(command, stdin=subprocess.DEVNULL, stdout=subprocess.PIPE, stderr=subprocess.PIPE)
         trial.equal(shop.process.stdout.readline(), f"listening on 127.0.0.1:{shop.port}\n".encode())
         it.until(f"{names}.join() === 'GLASS,STEEL,WIRE'", 60)
-        trial.equal(it.value(words), [glass, steel, "bar, kerf 0.0 mm, keeps from 10.0\u00a0mm"])
+        trial.equal(it.value(words), [glass, steel, "bar, kerf 0.0\u00a0mm, keeps from 10.0\u00a0mm"])
         trial.equal(it.text("link"), "connected")

@@ -821,7 +821,7 @@ def many_jobs(trial):
         it.begin(7)
         it.view("stock")
         it.material("stock", "GLASS")
-        lay = "It lay in unit 1/0 (1200.0 × 800.0\u00a0mm) at {} mm from the left, {} mm from the top."
+        lay = "It lay in unit 1/0 (1200.0 × 800.0\u00a0mm) at {}\u00a0mm from the left, {}\u00a0mm from the top."
         came = ["5/4 came of job 5, which cut 4/4", "4/4 came of job 4, which cut 3/4", "3/4 came of job 3, which cut 2/4"]
         came = "; ".join([*came, "2/4 came of job 2, which cut 1/0"]) + "."
         first, batch = "2/{} came of job 2, which cut 1/0.", "Batch G-1"

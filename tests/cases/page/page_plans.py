@@ -461,7 +461,7 @@ def what_is_left(trial):
         it.until(f"{rows}.length === 2 && {stands}.length === 5")
         trial.equal(it.value(rows), [["1", "500.0 × 200.0 ↻", "2 of 5", "1"], ["2", "400.0 × 240.0", "2 of 2", "2"]])
         button = "[...document.querySelectorAll('#tocut .materials button')].map(e => [...e.childNodes].map(e => e.textContent))"
-        trial.equal(it.value(button)[1], ["GLASS", "4 to cut", "sheet, kerf 3.0 mm, keeps from 300.0 × 100.0\u00a0mm"])
+        trial.equal(it.value(button)[1], ["GLASS", "4 to cut", "sheet, kerf 3.0\u00a0mm, keeps from 300.0 × 100.0\u00a0mm"])
         trial.equal(it.text("planWords"), "4 pieces of 2 kinds, 9 parts to cut from.")
         both, one, none = "2 kinds of pieces fit", "1 kind of pieces fits", "nothing chosen fits"
         wanted = [
