@@ -57,8 +57,7 @@ function percentOf(part, whole) { return whole ? (Math.floor(part * 1000 / whole
 
 // A day and a time, in German as TT.MM.JJJJ.
 function timeText(time) {
-  const two = "2-digit", how = {day: two, month: two, year: "numeric", hour: two, minute: two};
-  return new Date(time).toLocaleString(...isGerman ? ["de-DE", how] : []);
+  return new Date(time).toLocaleString(isGerman ? "de-DE" : navigator.language, {dateStyle: "medium", timeStyle: "short"});
 }
 
 // A day as the shop counts it, 20261203, as a text; and as a field of a form has it.

@@ -57,10 +57,12 @@ function yieldRow(row) {
       "aria-label": tr`Report of ${row.material}`,
       on: {click: () => openReport(row.material)}
     })),
-    el("div", {class: "figures"}, figure(used ? percent(row.pieces, used) : "–", tr`of what was used up is in pieces`),
-      figure(held ? percent(row.pieces, held) : "–", tr`of all is in pieces`)),
-    ...sharesOf(row, tr`Used up: ${heapText(row, used)}`, HEAPS.filter(([heap]) => USED.includes(heap)), used),
-    ...sharesOf(row, tr`All: ${heapText(row, held)}`, HEAPS, held));
+    ...row.received ? [
+      el("div", {class: "figures"}, figure(used ? percent(row.pieces, used) : "–", tr`of what was used up is in pieces`),
+        figure(held ? percent(row.pieces, held) : "–", tr`of all is in pieces`)),
+      ...sharesOf(row, tr`Used up: ${heapText(row, used)}`, HEAPS.filter(([heap]) => USED.includes(heap)), used),
+      ...sharesOf(row, tr`All: ${heapText(row, held)}`, HEAPS, held)
+    ] : [quiet(tr`Nothing yet.`)]);
 }
 
 // A picture of heaps of a material, and what each of them is of the whole.
@@ -97,7 +99,7 @@ function yieldTable(rows) {
     el("table", {id: "yieldTable"},
       el("thead", {}, el("tr", {}, ...heads.map((text, i) => el("th", {text, scope: "col", class: i ? "right" : ""})))),
       el("tbody", {}, ...rows.map(row => el("tr", {}, el("th", {text: row.material, scope: "row"}),
-                        ...cells(row).map(text => el("td", {class: "right", text})))))));
+                        ...cells(row).map((text, i) => el("td", {class: "right", text, "data-head": heads[i + 1]})))))));
 }
 
 // The report is made of a material's totals and its parts, as they are when it is asked for.

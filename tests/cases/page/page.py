@@ -164,7 +164,8 @@ def cut_bar(it):
 
 @case(
     "the page at two widths",
-    "Each view at 1280 and at 400 pixels shows what it has without scrolling sideways; the pictures are left to be looked at.",
+    "Each view at 1280 and at 400 pixels shows what it has without scrolling sideways, the table of yields and a line's material also between; "
+    "the pictures are left to be looked at.",
 )
 def widths(trial):
     with Terminal(trial, open_shop(trial)) as it:
@@ -207,6 +208,10 @@ def widths(trial):
         it.click("document.querySelector('#yieldBars [data-key=yGLASS]')")
         it.until("document.querySelector('#report table')")
         it.at_widths("yield")
+        for width in (1280, 1024, 768, 400):
+            it.size(width)
+            over = "(e => e.scrollWidth - e.clientWidth)(document.querySelector('#yieldBars .scroll'))"
+            trial.equal(it.value(over), 0, f"the table of yields is scrolled at {width} pixels")
         trial.equal(it.sheets("report"), 1, "the report is printed on one sheet")
         is_quiet(it)
 
