@@ -179,6 +179,9 @@ def widths(trial):
         order(it)
         it.until(f"{by_id('orderList')}.querySelector('form')")
         it.at_widths("orders")
+        for width in (1280, 1024, 768, 400):
+            it.size(width)
+            trial.holds(it.value("document.querySelector('#orderLines select').clientWidth >= 190"), f"a code is cut at {width} pixels")
         it.propose("GLASS")
         it.at_widths("to-cut")
         job = it.reserve()
