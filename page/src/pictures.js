@@ -81,7 +81,7 @@ function addWords(canvas, at, words) {
   for (const [size, lines] of [
          [14, words], [12, words], [10, words], [10, words.slice(0, 1).map(text => text.split(" ")[0])]]) {
     const fitting =
-      lines.filter(text => text.length * size * 0.6 + 8 <= room).slice(0, Math.floor((depth - 4) / (size * 1.25)));
+      lines.filter(text => text.length * size * 0.66 + 6 <= room).slice(0, Math.floor((depth - 4) / (size * 1.25)));
     if (!fitting.length || (size > 10 && fitting.length < words.length)) continue;
     const cx = at.x + at.width / 2, cy = at.y + at.height / 2;
     const group = svgEl("g", {

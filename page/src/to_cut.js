@@ -190,7 +190,7 @@ function demandRow(row) {
     title: tr`${progressWords(row)}; price for the planner ${grouped(row.worth)}${row.turn ? tr`; may turn` : ""}`,
     on: {click: event => event.target === box || box.click()}
   },
-    el("td", {}, box), right(String(row.line)),
+    el("td", {}, box), el("td", {text: String(row.line)}),
     el("td", {class: "number"}, el("b", {text: size.replace("\u00a0mm", "")}),
       row.turn ? el("span", {text: " ↻", "aria-label": tr`may turn`}) : null, isAllShown() ? el("div", {class: "quiet", text: row.material}) : null),
     right(tr`${grouped(leftOf(row))} of ${grouped(row.wanted)}`), right(String(row.demand)));
@@ -247,8 +247,8 @@ function partRow(part) {
       on: {change: event => passOverParts([part], !event.target.checked)}
     }),
       el("b", {class: "number", text: size}),
-      el("div", {}, el("span", {class: "tag", text: part.remnant ? tr`remnant` : count(part.units, "unit")}),
-        el("div", {class: "quiet", text: tr`${part.part}, batch ${part.batch}`}), el("div", {
+      el("span", {class: "tag", text: part.remnant ? tr`remnant` : count(part.units, "unit")}),
+      el("div", {}, el("div", {class: "quiet", text: tr`${part.part}, batch ${part.batch}`}), el("div", {
           class: "quiet",
           text: part.fits ? fitWords(part.fits) : tr`nothing chosen fits`
         }))),

@@ -448,6 +448,11 @@ def for_all_eyes(trial):
             trial.equal(heads, 0, f"{address}: a heading holds a button")
             bare = "[...document.querySelectorAll('svg')].filter(e => e.getAttribute('aria-hidden') !== 'true' && !e.getAttribute('aria-label')).length"
             trial.equal(it.value(bare), 0, f"{address}: a picture has no text")
+        it.value("(storage.write('cutshop.name', 'Glaserei Obermaier und Toechter'), showView())")
+        for width in (1024, 1280):
+            it.size(width, 768)
+            cut = "[...document.querySelectorAll('nav button, #terminalButton')].filter(e => e.scrollWidth > e.clientWidth || e.offsetHeight > 48)"
+            trial.equal(it.value(f"{cut}.map(e => e.textContent)"), [], f"cut at {width} pixels for the shop's name")
         it.size(999, 800)
         for address in VIEWS:
             it.value(f"void (location.hash = '{address}')")
