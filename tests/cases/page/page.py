@@ -162,6 +162,14 @@ def cut_bar(it):
     return told
 
 
+def yields_fit(it):
+    """The table of yields isn't scrolled sideways."""
+    over = "(e => e.scrollWidth - e.clientWidth)(document.querySelector('#yieldBars .scroll'))"
+    for width in (1280, 1024, 768, 400):
+        it.size(width)
+        it.trial.equal(it.value(over), 0, f"the table of yields at {width} pixels")
+
+
 @case(
     "the page at two widths",
     "Each view at 1280 and at 400 pixels shows what it has without scrolling sideways, the table of yields and a line's material also between; "
@@ -211,10 +219,7 @@ def widths(trial):
         it.click("document.querySelector('#yieldBars [data-key=yGLASS]')")
         it.until("document.querySelector('#report table')")
         it.at_widths("yield")
-        for width in (1280, 1024, 768, 400):
-            it.size(width)
-            over = "(e => e.scrollWidth - e.clientWidth)(document.querySelector('#yieldBars .scroll'))"
-            trial.equal(it.value(over), 0, f"the table of yields is scrolled at {width} pixels")
+        yields_fit(it)
         trial.equal(it.sheets("report"), 1, "the report is printed on one sheet")
         is_quiet(it)
 
@@ -671,6 +676,7 @@ def german(trial):
         it.click("document.querySelector('#yieldBars [data-key=yGLASS]')")
         it.until("document.querySelector('#report table')")
         is_german(it, "yield")
+        yields_fit(it)
         is_quiet(it)
 
 
