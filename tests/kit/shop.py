@@ -113,6 +113,8 @@ def request_of(line, reply=None):
 
 # Ports of shops, below those that the system gives to clients. Each run of the suite begins at another one.
 FIRST_PORT, LAST_PORT = 10000, 32000
+# The one of them that browsers open no page of.
+REFUSED_PORT = 10080
 PORTS = itertools.count(os.getpid() * 61)
 LOCK = threading.Lock()
 
@@ -122,6 +124,8 @@ def free_port():
     for _ in range(LAST_PORT - FIRST_PORT):
         with LOCK:
             port = FIRST_PORT + next(PORTS) % (LAST_PORT - FIRST_PORT)
+        if port == REFUSED_PORT:
+            continue
         with socket.socket() as it, suppress(OSError):
             it.setsockopt(socket.SOL_SOCKET, socket.SO_REUSEADDR, 1)
             it.bind(("127.0.0.1", port))
