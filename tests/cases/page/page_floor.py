@@ -146,6 +146,7 @@ def taken_back(trial):
         entry = "[...happenedList.querySelectorAll('button')].find(e => e.getAttribute('aria-label') === 'Take back job {}')"
         it.until(entry.format(job))
         it.value("(window.pass = refreshPass, refreshPass = () => {}, 0)")
+        it.until("!refresh.running")
         send(do="undo", job=job)
         it.click(entry.format(job))
         it.until("!terminal.kept().length")
