@@ -37,7 +37,9 @@ def template_end(text, place):
 
 
 def tight(code):
-    return re.sub(r"\s*([][(){},;:?<>*=+|&])\s*", r"\1", code)
+    """Code without spaces and semicolons that separate nothing, whose constants are declared by the shorter word."""
+    code = re.sub(r"\s*([][(){},;:?<>*=+|&!])\s*", r"\1", code).replace(";}", "}")
+    return re.sub(r" ([-/]) (?![-/])", r"\1", re.sub(r"\bconst\b", "let", code))
 
 
 def split_script(text):
@@ -65,7 +67,7 @@ def part(name):
 
 # Names that cases call in a browser, and of what browsers keep: these stay.
 CALLED = set(
-    """adaptLines addOrderLine areaText askCalmly atSaw chosenDemands chosenPlan clickCut codeOfName countOf csvForm cutsOf
+    """adaptLines addOrderLine areaText askCalmly atSaw chosenDemands drawAllAnew dropNotices fillOrder fillReceipt chosenPlan clickCut codeOfName countOf csvForm cutsOf
     demandsToCut factOf faultWords foldJobs foldNotices forgetRead forgetShop importsOf inOrders isFree isLost isOld isStaleBy keyOf
     leftOf lineFaults lookAtShop makeBackup metresText momentText openJob pauseOf piecesOf planAgain planAll
     planWords plansByMaterial plansQuestion MAX_CALLS problemFault readJobCells readOrderFile readReply readShown readTickets

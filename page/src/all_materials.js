@@ -70,7 +70,7 @@ function showAllMaterials() {
   empty("planFigures", "boundSays", "missing");
   const isSent = founds.some(found => found.sent) && !shop.promisedParts.size && !isPlanning;
   fill($("nextStep"), () => isSent ? [stepButton([tr`To the saw`, () => go(addressOfView("saw"))])] : []);
-  showFault("planFault", [...its.map(it => it.fault), ...stale].filter(Boolean).join(" "));
+  showFault("planFault", [...new Set([...its.map(it => it.fault), ...stale])].filter(Boolean).join(" "));
   $("planNow").textContent = now ? tr`${now.code} is planned…` : isFound ? tr`${count(founds.length, "material")} planned` : "";
   $("planProgress").classList.toggle("idle", !now && !isFound);
   [$("planBar").max, $("planBar").value] = [Math.max(1, founds.length + (now && !now.found ? 1 : 0)), founds.length];

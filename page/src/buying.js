@@ -64,10 +64,8 @@ function buyPanel(found) {
 
 // Opens the stock with what was bought filled in.
 function receiveBought(code, {w, h}, units) {
-  $("receiveMaterial").value = code;
-  [$("receiveW").value, $("receiveH").value, $("receiveCount").value] = [mm(w), mm(h), String(Math.min(units, MAX_RECEIVED))];
+  fillReceipt([code, $("receiveBatch").value, mm(w), mm(h), String(Math.min(units, MAX_RECEIVED))]);
   go(`stock/${code}`);
-  adaptReceive();
 }
 
 function planBuying(event, code) {

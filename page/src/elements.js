@@ -96,6 +96,11 @@ function focusHeading(panel) {
   heading.focus({preventScroll: true});
 }
 
+// A table's heads, which may be there for those alone who hear them.
+function headRow(texts, given = {}) { return el("thead", given, el("tr", {}, ...texts.map(text => el("th", {text, scope: "col"})))); }
+
+const HEARD = {class: "unseen"};
+
 function quiet(text) { return el("p", {class: "quiet", text}); }
 
 // A button that opens another view.

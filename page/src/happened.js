@@ -169,7 +169,7 @@ function entryWords(message, reply) {
 
 function breakSentence(job, {made, lost, rest}) {
   const wrong = lost === null ? "" : tr`, cut ${lost + 1} went wrong`;
-  return tr`job ${job} broken off, ${count(made.size, "cut")} made${wrong}${rest ? tr`, rest ${mm(rest)} mm` : ""}`;
+  return tr`job ${job} broken off, ${count(made.size, "cut")} made${wrong}${rest ? tr`, rest ${mm(rest)}\u00a0mm` : ""}`;
 }
 
 // The jobs that were taken back, as far as entries tell it.

@@ -83,6 +83,11 @@ function showCsvFile() {
   showCodes();
 }
 
+// The heads of the preview's columns.
+const FILE_LINE = tr`line of\u00a0the\u00a0file`;
+
+function columnHead(name) { return SIDES.includes(name) ? `${fieldWords(name)} mm` : fieldWords(name); }
+
 // So many rows of a file are drawn, and of those behind so many bad ones.
 const MAX_DRAWN = 400, MAX_BAD_DRAWN = 50;
 
@@ -90,14 +95,12 @@ function drawCsvFile(file) {
   const {rows, bad} = file, behind = new Set(rows.slice(MAX_DRAWN));
   const shown = [...rows.slice(0, MAX_DRAWN), ...bad.filter(row => behind.has(row)).slice(0, MAX_BAD_DRAWN)];
   const lines = count(file.rows.length, "line"), orders = file.texts.length;
-  const names = FIELDS.map(name => SIDES.includes(name) ? `${fieldWords(name)} mm` : fieldWords(name));
-  const head = [tr`line of\u00a0the\u00a0file`, ...names];
   return [
     el("p", file.fault ? {class: "fault", text: file.fault} : {text: readWords(file)}), materialQuestion(file),
     unitQuestion(file), csvQuestion(file), roundQuestion(file), csvColumns(file), ...leftRows(file),
     file.bad.length ? el("p", {class: "fault", text: badWords(file)}) : "",
     el("div", {class: "scroll", tabindex: "0", role: "region", "aria-label": tr`Rows of the file`},
-      el("table", {}, el("thead", {}, el("tr", {}, ...head.map(text => el("th", {text})))),
+      el("table", {}, headRow([FILE_LINE, ...FIELDS.map(columnHead)]),
         el("tbody", {}, ...shown.flatMap(csvRows)))),
     rows.length > shown.length ? quiet(tr`and ${rows.length - shown.length} more`) : "", csvSaid(file),
     el("div", {class: "buttons"}, csvButton("sendCsv", orders > 1 ? tr`Order ${lines} as ${orders} orders` : tr`Order ${lines}${""}`, () => sendCsv()),
@@ -272,7 +275,7 @@ function badWords({bad}) {
 // A row of the file, and below it what is wrong with its fields. What no column has is told above the rows.
 function csvRows(row) {
   const {at, faults} = row, words = Object.entries(faults).map(([name, fault]) => `${fieldWords(name)} ${fault}`);
-  const shown = el("tr", {}, el("th", {text: String(at)}), ...FIELDS.map((name, i) => csvCell(row, name, i)));
+  const shown = el("tr", {}, el("th", {text: String(at), scope: "row", "data-head": FILE_LINE}), ...FIELDS.map((name, i) => csvCell(row, name, i)));
   const leave = el("button", {
     class: "small",
     text: tr`Leave out`,
@@ -290,7 +293,8 @@ function csvCell({at, fields, cells, texts, faults}, name, i) {
   const read = name === "turn" ? word(texts[i]) : texts[i];
   const was = cell === cell?.trim() ? shortened(cell) : quoted(cell ?? ""), isOther = cell !== null && read !== cell;
   const from = () => el("span", {class: "turned", text: was ? `← ${was}` : tr`← empty`});
-  if (!fault && !isMended) return el("td", {text: shortened(read)}, isOther ? from() : null);
+  const head = {"data-head": columnHead(name)};
+  if (!fault && !isMended) return el("td", {...head, text: shortened(read)}, isOther ? from() : null);
   const field = el("input", {
     value: cell ?? "",
     "data-key": `csv ${at} ${name}`,
@@ -299,7 +303,7 @@ function csvCell({at, fields, cells, texts, faults}, name, i) {
     "aria-describedby": fault ? `csv-${at}` : "",
     on: {change: () => mendCell(at, name, field.value)}
   });
-  return el("td", {class: fault ? "badfield" : "", text: fault ? "✗ " : isOther ? `${shortened(read)} ← ` : ""}, field);
+  return el("td", {...head, class: fault ? "badfield" : "", text: fault ? "✗ " : isOther ? `${shortened(read)} ← ` : ""}, field);
 }
 
 // Which orders a file becomes, and a moment later which of them are there already.

@@ -110,8 +110,7 @@ async function sendKept() {
   sending.last = null;
   try {
     await alone(async () => {
-      while (terminal.kept().length && await sendFirst())
-        ;
+      while (terminal.kept().length && await sendFirst()) {}
     });
     terminal.isSpent = false;
   } catch (error) {
@@ -264,7 +263,7 @@ function tellAnswer({mark, words, reply, many, isSame}) {
 function givenBack(isEmpty, fillIn) {
   const view = viewName(), place = scrollY;
   return () => {
-    if (!isEmpty()) return {words: tr`Take back what was typed`, go: fillIn};
+    if (!isEmpty()) return {words: tr`Take back what was typed`, go: fillIn, isTyped: true};
     fillIn();
     if (viewName() === view) scrollTo(0, place);
     return null;

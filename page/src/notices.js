@@ -22,6 +22,14 @@ function forgetRead() {
   if (left.length) inNotices.timer = setTimeout(forgetRead, Math.max(200, Math.min(...left.map(goes)) - now));
 }
 
+// What a notice offers is of the shop that told it: behind another shop's those stay alone that bring back what was typed, or offer
+// nothing.
+function dropNotices() {
+  for (const notice of $("lastNotice").querySelectorAll(".notice:not(.typed)"))
+    if (notice.querySelector("button:not(.close)")) notice.remove();
+  foldNotices();
+}
+
 // Which notices are shown, and how many more there are.
 function foldNotices() {
   const notices = [...$("lastNotice").querySelectorAll(".notice")].sort((a, b) => b.dataset.nth - a.dataset.nth);
@@ -56,7 +64,7 @@ function tell(words, how, link) {
   const close = button("✕", null, {class: "small close", "aria-label": tr`Close`, title: tr`Close`});
   const mark = isRefused ? "✗" : "✓";
   const notice = el("div",
-    {class: `notice ${how}`, "data-nth": String(inNotices.told++), "data-goes": String(now + READING)},
+    {class: `notice ${how}${link?.isTyped ? " typed" : ""}`, "data-nth": String(inNotices.told++), "data-goes": String(now + READING)},
     el("span", {text: `${mark} ${words}`, title: words}), link ? button(link.words, link.go) : null, close);
   for (const same of [...holder.children].filter(other => other.textContent === notice.textContent)) same.remove();
   holder.prepend(notice);

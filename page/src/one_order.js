@@ -10,7 +10,11 @@ const MAX_SAID = 200;
 
 function bytesOf(text) { return new TextEncoder().encode(text).length; }
 
-function bytesLeftWords(text) { return tr`${MAX_SAID - bytesOf(text.trim())} of ${MAX_SAID} bytes left`; }
+// How much of a text's room is left, or by how much it is too long.
+function bytesLeftWords(text) {
+  const left = MAX_SAID - bytesOf(text.trim());
+  return left < 0 ? tr`${count(-left, "byte")} too long` : tr`${left} of ${MAX_SAID} bytes left`;
+}
 
 function saidFault(text) {
   if (/[\u0000-\u001f\u007f-\u009f]/.test(text)) return tr`has a control character`;
@@ -114,9 +118,10 @@ function whereFrom() {
 // What can be done with an order: it is planned alone, lines are added.
 function orderActs(order, lines) {
   const act = (text, key, words, go) => el("button", {type: "button", class: "small", text, "data-key": `${key}${order}`, "aria-label": words, on: {click: go}});
-  return el("div", {class: "buttons"},
+  return [
     lines.some(row => leftOf(row) > 0) ? act(tr`Cut now`, "cutnow", tr`Plan order ${order} alone`, () => cutNow(order, lines)) : null,
-    lines.length < MAX_LINES ? act(tr`Add lines`, "extend", tr`Add lines to order ${order}`, () => extendByHand(order)) : null);
+    lines.length < MAX_LINES ? act(tr`Add lines`, "extend", tr`Add lines to order ${order}`, () => extendByHand(order)) : null
+  ];
 }
 
 // Plans an order alone: of each of its materials, one behind another.
@@ -137,6 +142,7 @@ function extendByHand(order) {
 
 function showHand() {
   const {extending} = oneOrder;
+  markField($("orderCode"), "");
   $("handTitle").textContent = extending ? tr`Add lines to order ${extending}` : tr`New order by hand`;
   $("sendOrder").textContent = extending ? tr`Add lines` : tr`Order`;
   $("codeField").hidden = Boolean(extending);

@@ -113,12 +113,14 @@ function sortRows(how, without) {
   return {lines, left, sums};
 }
 
-// The cells of a row by field, as they were mended; null where the file has no column. A cell with two sides has both.
+// The cells of a row by field, as they were mended; null where the file has no column. A cell with two sides has both, unless another
+// width stands beside it.
 function cellsOf({at, fields}, {columns, mended}) {
   const own = mended[at] || {}, isBoth = columns.width === columns.length;
   const cells = FIELDS.map(name => own[name] ?? (typeof columns[name] === "number" ? fields[columns[name]] ?? "" : null));
-  const sides = cells[2] === null ? null : sidesOfCell(plainCell(cells[2]));
-  if (sides) [cells[2], cells[3]] = [sides[0], (!isBoth && cells[3]?.trim()) || (own.width ?? sides[1])];
+  const sides = cells[2] === null ? null : sidesOfCell(plainCell(cells[2])), number = text => Number(text.replace(",", "."));
+  const beside = isBoth || own.width !== undefined ? "" : cells[3]?.trim();
+  if (sides && (!beside || number(beside) === number(sides[1]))) [cells[2], cells[3]] = [sides[0], own.width ?? sides[1]];
   else if (isBoth) cells[3] = own.width ?? "";
   return cells;
 }

@@ -104,8 +104,8 @@ function foundRows() {
   const {found, note} = inOrders, lines = linesOf(found);
   if (!found) return note ? [el("p", {class: note === "…" ? "quiet" : "fault", text: note})] : [];
   if (!lines) return [quiet("…")];
-  const card = orderCard(sumsOf(found, lines), true, tr`Order ${found}`, null, "f");
-  card.append(orderActs(found, lines), alsoJob(), ...orderJobs(), ...whereFrom().filter(Boolean));
+  const card = orderCard(sumsOf(found, lines), true, tr`Order ${found}`, null, "f", orderActs(found, lines));
+  card.append(alsoJob(), ...orderJobs(), ...whereFrom().filter(Boolean));
   return [card];
 }
 
@@ -134,15 +134,23 @@ async function unfold(order, isOpen) {
 }
 
 // An order: its state, what is said of it, its sums, and where it is unfolded its lines.
-function orderCard(row, isOpen, title, fold, key) {
+function orderCard(row, isOpen, title, fold, key, acts = []) {
   const {order} = row, lines = isOpen && linesOf(order), sums = lines ? sumsOf(order, lines) : row;
-  const shown = lines ? lines.map(line => lineForm(line, key)) : isOpen ? [quiet("…")] : [], go = () => cancelOrder(order);
+  const shown = lines ? lineForms(order, lines, key, !fold) : isOpen ? [quiet("…")] : [], go = () => cancelOrder(order);
   const words = [stateOf(sums), saidOf(order)].filter(Boolean).join(" · ");
   return el("div", {class: "ordered"},
     el("div", {class: "orderedhead"}, fold || el("h3", {text: title}), el("span", {class: "quiet", text: words}),
       leftOf(sums) ? cancelButton(`${key}o${order}`, tr`Cancel order`, tr`Cancel order ${order}`, go) : null),
     drawProgress(sums), quiet(progressWords(sums)), isOpen ? noteForm(order, key) : null, ...shown,
-    isOpen ? el("div", {class: "buttons"}, fold ? linkTo(`order/${order}`, tr`Jobs, batches, more lines`, tr`Order ${order}`) : null, storyLink("order", order)) : null);
+    isOpen ? el("div", {class: "buttons"}, ...acts, fold ? linkTo(`order/${order}`, tr`Jobs, batches, more lines`, tr`Order ${order}`) : null, storyLink("order", order)) : null);
+}
+
+// The lines of an order; many are folded where other things stand behind them.
+function lineForms(order, lines, key, hasMore) {
+  const forms = lines.map(line => lineForm(line, key)), name = `lines ${order}`;
+  if (!hasMore || lines.length <= MAX_OPEN) return forms;
+  return [el("details", {class: "fold", open: inOrders.folds.get(name) ?? false, on: {toggle: ({target}) => inOrders.folds.set(name, target.open)}},
+    el("summary", {text: count(lines.length, "line"), "data-key": name}), ...forms)];
 }
 
 function cancelButton(key, text, words, go) {
@@ -276,7 +284,7 @@ async function showOrder(text) {
   if (place && !(told.found && place.startsWith("saw/"))) return go(place);
   showOrders();
   refreshNow();
-  if (!told.found && !told.note) markField($("findOrder"), tr`“${text}” is no code of an order or a batch, and no number of pieces wanted, a job or a part`);
+  if (!told.found && !told.note) markField($("findOrder"), tr`${quoted(text)} is no code of an order or a batch, and no number of pieces wanted, a job or a part`);
   if (!goToFault($("findForm")) && window.innerWidth < NARROW) $("findForm").scrollIntoView({block: "center"});
 }
 

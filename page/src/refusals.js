@@ -7,7 +7,7 @@ const REFUSALS = {
   20: tr`there is no such material`,
   21: tr`the material is known with other values`,
   22: tr`a material of this kind can't have these limits`,
-  30: tr`this material can't have these sides: nothing is over 20000.0 × 6000.0 mm`,
+  30: tr`this material can't have these sides: nothing is over 20000.0\u00a0×\u00a06000.0\u00a0mm`,
   31: tr`1 to 100 units are received at a time`,
   32: tr`that is more of the material than the books can count`,
   33: tr`the shop's numbers are spent`,

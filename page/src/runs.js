@@ -75,6 +75,7 @@ function forgetShop() {
   Object.assign(atSaw, {key: "", opening: 0, breaking: false, lost: null, canvas: null});
   seek("");
   leaveHappened();
+  dropNotices();
   owner.report = held.target = null;
   refresh.lost = true;
   toCut.all?.abort();

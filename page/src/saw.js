@@ -447,7 +447,7 @@ function piecesTable(kind, boxes, restWords) {
   });
   const kept = boxes.filter(box => box.fate === "kept").map(box => el("tr", {}, right(tr`rest`),
                       right(sizeText(kind, box.w, box.h)), el("td", {text: restWords(box)})));
-  return [el("table", {}, el("tbody", {}, ...rows, ...kept))];
+  return [el("table", {}, headRow([tr`Times`, tr`Size in mm`, ORDER], HEARD), el("tbody", {}, ...rows, ...kept))];
 }
 
 function cutWords(cut, told) {
@@ -594,6 +594,7 @@ function restFault() {
 function showBreakWords(made) {
   const fault = restFault(), words = fault ? tr`Rest measured: ${fault}` : breakWords(made), field = $("breakRest");
   if ($("breakWords").textContent !== words) $("breakWords").textContent = words;
+  $("breakWords").classList.toggle("fault", Boolean(fault));
   $("restField").hidden = atSaw.lost === null;
   field.classList.toggle("badfield", Boolean(fault));
   field.setAttribute("aria-invalid", String(Boolean(fault)));

@@ -44,6 +44,7 @@ function listenToSaw() {
   onClick("nextJob", () => openJob(jobBehind().job));
   onClick("printJob", () => window.print());
   PRINT_WAITING.forEach((id, i) => onClick(id, () => printSheets(() => readTickets($("jobMaterial").value), PAPERS[i])));
+  window.addEventListener("beforeprint", nameView);
   window.addEventListener("afterprint", () => document.body.classList.remove("sheets"));
 }
 

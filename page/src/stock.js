@@ -191,6 +191,7 @@ function receive(event) {
 const RECEIPT_FIELDS = ["receiveMaterial", "receiveBatch", "receiveW", "receiveH", "receiveCount"];
 
 function fillReceipt(texts) {
+  markFields($("receiveForm"), {});
   RECEIPT_FIELDS.forEach((id, i) => {
     $(id).value = texts[i];
   });
@@ -275,7 +276,7 @@ function traceWords(chain) {
                  .join("; ");
   return [
     el("p", {}, el("b", {text: `${part.part}, ${sizeText(kind, part.w, part.h)}: ${state}.`})),
-    el("p", {text: where}), linkTo(`batch/${part.batch}`, tr`Batch ${part.batch}`), came ? quiet(`${came}.`) : "",
+    el("p", {text: where}), came ? quiet(`${came}.`) : "", linkTo(`batch/${part.batch}`, tr`Batch ${part.batch}`),
     part.state === "piece" ? linkTo(`order/${order}`, tr`Order ${order}`) : "",
     ["reserved", "cut"].includes(part.state) ? linkTo(`saw/${part.of}`, tr`Job ${part.of}`) : "", storyLink("part", part.part)
   ];

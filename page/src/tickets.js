@@ -42,9 +42,17 @@ async function printSheets(read, build) {
 }
 
 // What stands on each page: the shop's name, the day and the material.
-function pageWords(material) { return `${document.title} · ${timeText(Date.now())} · ${material}`; }
+function pageWords(material) { return [document.title, timeText(Date.now()), material].filter(Boolean).join(" · "); }
 
-function workSheets(kinds) {
+// The same above a view that is printed as it stands; a ticket and a report have their own.
+function nameView() {
+  const view = viewName();
+  $("viewPage").hidden = ["saw", "yield"].includes(view);
+  $("viewPage").textContent = pageWords(["tocut", "stock"].includes(view) && !isAllShown() && shop.material);
+}
+
+async function workSheets(kinds) {
+  await readTexts([...new Set(kinds.flatMap(([told]) => ordersOfJob(told)))]);
   const [bars, sheets] = ["bar", "sheet"].map(kind => kinds.filter(([told]) => told.kind === kind));
   const small = sheets.filter(([told]) => told.root.cuts <= HALF_CUTS), large = sheets.filter(kind => !small.includes(kind));
   return [...groupsOf(bars, ([told]) => told.material).map(barList), ...[...small, ...large].map(ticketSheet)];
@@ -96,10 +104,12 @@ function ticketSheet(jobs) {
   drawPlan(holder, root, limits,
     {wordsOf: pieceWords, restName: box => namesIn(told, box), made: work.made, room: 720});
   const isMany = jobs.length > 1, many = isMany ? `${jobs.length} × ` : "";
+  const saids = ordersOfJob(told).map(order => [order, saidOf(order)]).filter(([, said]) => said);
   const name = isMany ? tr`Jobs ${told.jobs.join(", ")}` : tr`Job ${told.job}`;
   return el("section", {class: `ticket ${isHalf ? "half" : linesClass(root)}`}, el("p", {class: "pagehead", text: pageWords(material)}),
     el("h2", {text: `${many}${material} ${sizeText(kind, w, h)}`}),
-    el("p", {text: `${name} (${namesOf(jobs)}), ${count(root.cuts, "cut")}  ${jobs.map(() => "☐").join(" ")}`}), holder,
+    el("p", {text: `${name} (${namesOf(jobs)}), ${count(root.cuts, "cut")}  ${jobs.map(() => "☐").join(" ")}`}),
+    saids.length ? el("p", {class: "said", text: saids.map(([order, said]) => `${order}: ${said}`).join("; ")}) : null, holder,
     el("div", {class: "pieces"}, ...jobPieces(work)), el("div", {class: `cutlines ${linesClass(root)}`}, ...cutLines(work)));
 }
 
@@ -140,7 +150,7 @@ async function labelPages(kinds) {
 
 // The same as one list; its head stands on each page.
 async function labelList(kinds) {
-  const labels = await labelsOf(kinds), heads = [tr`Order`, tr`Line`, tr`Size in mm`, tr`Piece`, tr`Job`, tr`Text`];
+  const labels = await labelsOf(kinds), heads = [ORDER, tr`Line`, tr`Size in mm`, tr`Piece`, tr`Job`, tr`Text`];
   const rows = labels.map(({order, line, size, nth, job, said}) => el("tr", {}, ...[order, line, size, nth, job, said].map(text => el("td", {text: String(text)}))));
   return [el("section", {class: "barlist labellist"}, paperTable(materialsOf(labels), heads.map(text => el("th", {text, scope: "col"})), rows))];
 }

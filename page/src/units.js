@@ -10,7 +10,7 @@ const $ = id => document.getElementById(id);
 
 function mm(tenths) { return `${Math.floor(tenths / 10)}${POINT}${tenths % 10}`; }
 
-function sizeText(kind, w, h) { return kind === "bar" ? `${mm(w)}\u00a0mm` : `${mm(w)} × ${mm(h)}\u00a0mm`; }
+function sizeText(kind, w, h) { return kind === "bar" ? `${mm(w)}\u00a0mm` : `${mm(w)}\u00a0×\u00a0${mm(h)}\u00a0mm`; }
 
 // Tenths that a typed length says, or null. A decimal comma is taken for a point.
 function readMm(text) {
@@ -75,6 +75,9 @@ function readDay(text) { return Number(text.replaceAll("-", "")) || 0; }
 function byDay(a, b) { return (a.due || Infinity) - (b.due || Infinity) || 0; }
 
 function count(number, one, many = one + "s") { return `${grouped(number)} ${word(number === 1 ? one : many)}`; }
+
+// An order, as a column's head. (The button that orders has the same word in English.)
+const ORDER = tr`Order${""}`;
 
 // What people call demands.
 const KINDS = ["kind of pieces", "kinds of pieces"], OTHER_KINDS = ["other kind of pieces", "other kinds of pieces"];

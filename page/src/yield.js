@@ -118,7 +118,7 @@ async function openReport(code) {
 const MANY_PARTS = 30;
 
 function reportRows({material, kind, totals, parts, more, at}) {
-  const right = text => el("td", {class: "right", text}), held = heldOf(totals), heap = cells => heapText({...totals, kind}, cells);
+  const right = text => el("td", {class: "right", text}), head = text => el("th", {text, scope: "row"}), held = heldOf(totals), heap = cells => heapText({...totals, kind}, cells);
   const rows =
     ["received", "returned", "stock", "rack", "pieces", "kerf", "scrap"].filter(heap => totals[heap] !== undefined);
   return [
@@ -128,16 +128,16 @@ function reportRows({material, kind, totals, parts, more, at}) {
     el("h2", {text: tr`Yield of ${material} (${word(kind)}), ${at}`}),
     el("table", {},
       el("tbody", {},
-        ...rows.map(name => el("tr", {}, el("th", {text: word(name)}), right(heap(totals[name])),
+        ...rows.map(name => el("tr", {}, head(word(name)), right(heap(totals[name])),
                       right(["received", "returned"].includes(name) ? "" : percent(totals[name], held)))),
-        el("tr", {}, el("th", {text: tr`used up: pieces, kerf and scrap`}), right(heap(usedOf(totals))), right("")),
-        el("tr", {}, el("th", {text: tr`pieces of what was used up`}), right(""),
+        el("tr", {}, head(tr`used up: pieces, kerf and scrap`), right(heap(usedOf(totals))), right("")),
+        el("tr", {}, head(tr`pieces of what was used up`), right(""),
           right(usedOf(totals) ? percent(totals.pieces, usedOf(totals)) : "–")),
-        el("tr", {}, el("th", {text: tr`yield: pieces of all that came and wasn't returned`}), right(""),
+        el("tr", {}, head(tr`yield: pieces of all that came and wasn't returned`), right(""),
           right(percent(totals.pieces, held))))),
     el("h3", {text: tr`${count(parts.length, "part")}${more ? tr` and more` : ""} standing or reserved`}),
     el("table", {}, parts.length > MANY_PARTS ? el("thead", {class: "printonly"}, el("tr", {}, el("th", {colspan: "4", class: "pagehead", text: pageWords(material)}))) : null,
-      el("tbody", {},
+      headRow([tr`Part's name`, tr`Size in mm`, tr`Kind`, tr`state`], HEARD), el("tbody", {},
         ...parts.map(part => el("tr", {}, el("td", {text: part.part}), right(sizeText(kind, part.w, part.h)),
                        el("td", {text: isRemnant(part) ? tr`remnant` : tr`unit`}),
                        el("td", {text: part.state === "reserved" ? tr`reserved, job ${part.of}` : tr`standing`})))))

@@ -37,7 +37,7 @@ use Rattle.shop_records.specs.declared.messages.Reply.{Reply}
 use Rattle.shop_records.specs.declared.messages.Reply.TheVariants as reply
 use Rattle.shop_records.specs.Same.{same_code}
 use Rattle.shop_records.specs.Columns.{is_free}
-use Rattle.shop_records.specs.Messages.{Texts, pair_of}
+use Rattle.shop_records.specs.Messages.{Texts, message_id_of}
 use Rattle.shop_records.specs.Readings.{Reading, unread, Plan, Lines, Problem, Again}
 use Rattle.shop_records.specs.Content.{Content, material_at, part_at, demand_at, kept_at, material_of}
 use Rattle.shop_machine.specs.Decisions.{first_of}
@@ -46,7 +46,7 @@ use Rattle.shop_machine.specs.Reserving.{IsReading, HasNoPiece, fits_demand, lea
 use Rattle.shop_answers.specs.Planning.{are_bad_numbers, is_demand_number, demand_refusal, demands_refusal, numbers_refusal, left_of, want_of, wants_of, planned_size, planning_refusal, IsProposed, HasManyCuts, IsPlanned, IsPlanAnswer, planner_refusal}
 use Rattle.shop_machine.specs.Machine.{Reads, refusal_of, Refuses, Step, StepNew}
 use Rattle.shop_answers.specs.Queries.{Answers}
-use Rattle.shop_records.specs.Soundness.{IsSound}
+use Rattle.shop_records.specs.WellFormed.{IsWellFormed}
 use Rattle.shop_records.specs.Elements.{IsIn}
 use Rattle.shop_records.proofs.Basics.{all_in, same_some}
 use Rattle.shop_machine.proofs.Allowed.{none_of, or_none}
@@ -237,7 +237,7 @@ module _ (ceiling dropped : ℕ) (text : List ℕ) (worth : ℕ) where
 
   -- ---- the same text sent as a reservation
 
-  module _ (texts : Texts) (m : Content) (part : Name) (numbers : List ℕ) (step : ℕ) (sound : IsSound texts m) (answered : Answers m (query.Plan part numbers step) answer) where
+  module _ (texts : Texts) (m : Content) (part : Name) (numbers : List ℕ) (step : ℕ) (well_formed : IsWellFormed texts m) (answered : Answers m (query.Plan part numbers step) answer) where
     rows : HasRows (part_at m part) (material_of m (part_at m part)) (demand_at m) numbers
     rows = rows_of (part_at m part) (material_of m (part_at m part)) (demand_at m) numbers step (answered (λ e. cc) (λ e. cc))
 
@@ -253,7 +253,7 @@ module _ (ceiling dropped : ℕ) (text : List ℕ) (worth : ℕ) where
       where
         by : (kind : Kind) → rows.material.kind ≡ kind → planned_size kind rows.row.size ≡ rows.row.size
         by Bar e =
-            let flat : rows.row.size.h ≡ 1 = (sound.parts part rows.row rows.here).flat rows.material known e in
+            let flat : rows.row.size.h ≡ 1 = (well_formed.parts part rows.row rows.here).flat rows.material known e in
             ap (λ n. (let s : Extent = record { w = rows.row.size.w; h = n } in s)) (sym flat)
         by Sheet e = refl
 
@@ -348,7 +348,7 @@ module _ (ceiling dropped : ℕ) (text : List ℕ) (worth : ℕ) where
         refused_for refusal
         (sym reserved ∙ ap (λ p. reserve_refusal (part_at m part) (material_of m (part_at m part)) (Some p) (demand_at m) act) (sym (same_reading q reads)) ∙ e)
 
-    pub reserve_refused : (message : Message) (next : Content) (refusal : Refusal) → message.command ≡ Reserve part text → kept_at m (pair_of message) ≡ None
+    pub reserve_refused : (message : Message) (next : Content) (refusal : Refusal) → message.command ≡ Reserve part text → kept_at m (message_id_of message) ≡ None
         → Step texts m message (reply.Refused refusal) next → refusal ≢ NoMemory → refusal ≢ StoreFault
         → (refusal ≡ NumbersSpent) ⊎ ((refusal ≡ BadTree) × HasNoPiece m part text)
     reserve_refused message next refusal command none step n s =

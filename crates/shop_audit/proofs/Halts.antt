@@ -5,7 +5,7 @@ use Rattle.std.specs.Cmp.{nat_cmp_total}
 use Rattle.std.specs.FinMap.{len, nat_cmp-IsAntisymmetric}
 use Rattle.shop_records.specs.Content.{Content}
 use Rattle.shop_records.specs.Messages.{Texts}
-use Rattle.shop_records.specs.Soundness.{IsSound}
+use Rattle.shop_records.specs.WellFormed.{IsWellFormed}
 use Rattle.shop_audit.specs.Compared.{HaltAlikeBelow, HaveSameHalts, IsHaltAlike}
 use Rattle.shop_audit.proofs.Within.{Within, as_many_within}
 
@@ -24,11 +24,11 @@ one_more m c k before one n least less =
       | inr same ↦ subst (IsHaltAlike m c) (sym same) one
     ]
 
-pub halts_same : (texts : Texts) (m c : Content) → IsSound texts c → len m.halts ≡ len c.halts → HaveSameHalts m c → m.halts ≡ c.halts
-halts_same texts m c sound many alike =
+pub halts_same : (texts : Texts) (m c : Content) → IsWellFormed texts c → len m.halts ≡ len c.halts → HaveSameHalts m c → m.halts ≡ c.halts
+halts_same texts m c well_formed many alike =
     let within : Within c.halts m.halts = λ number row is.
-    let halted = sound.halts number row is in
-    let job = sound.jobs number halted.job halted.found in
+    let halted = well_formed.halts number row is in
+    let job = well_formed.jobs number halted.job halted.found in
     let so_far = job.so_far in
     alike number job.least (omega (arith, so_far)) row is in
     as_many_within nat_cmp_total nat_cmp-IsAntisymmetric (len c.halts) c.halts m.halts refl many within

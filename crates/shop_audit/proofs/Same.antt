@@ -5,7 +5,7 @@ use Rattle.std.specs.FinMap.{len, nat_cmp-IsAntisymmetric}
 use Rattle.shop_records.specs.Content.{Content}
 use Rattle.shop_records.specs.Messages.{Texts}
 use Rattle.shop_records.proofs.Basics.{codes_same, codes_total}
-use Rattle.shop_records.proofs.Puts.{pairs_exact, pairs_total}
+use Rattle.shop_records.proofs.Puts.{message_ids_exact, message_ids_total}
 use Rattle.shop_book.specs.Ledgers.{bare}
 use Rattle.shop_audit.specs.Compared.{HaveSameTexts}
 use Rattle.shop_audit.specs.Whole.{IsGiven, IsWithin}
@@ -21,10 +21,10 @@ module _ (texts : Texts) (m c : Content) (count : ℕ) (same : HaveSameTexts m c
   many = kept_many texts given.history c given.gives ∙ same.many.other
 
   kept_same : m.kept ≡ c.kept
-  kept_same = as_many_within pairs_total pairs_exact count c.kept m.kept many (same.many.kept ∙ many) within.kept
+  kept_same = as_many_within message_ids_total message_ids_exact count c.kept m.kept many (same.many.kept ∙ many) within.kept
 
   imports_within : Within c.imports m.imports
-  imports_within code row is = same.imports code (given.sound.imports code row is).ordered ∙ is
+  imports_within code row is = same.imports code (given.well_formed.imports code row is).ordered ∙ is
 
   imports_same : m.imports ≡ c.imports
   imports_same = as_many_within codes_total codes_same (len c.imports) c.imports m.imports refl same.many.imports imports_within
@@ -35,7 +35,7 @@ module _ (texts : Texts) (m c : Content) (count : ℕ) (same : HaveSameTexts m c
         materials = (e i).materials;
         parts = (e i).parts;
         jobs = (e i).jobs;
-        halts = halts_same texts m c given.sound same.many.halts same.halts i;
+        halts = halts_same texts m c given.well_formed same.many.halts same.halts i;
         begun = (e i).begun;
         orders = (e i).orders;
         notes = (e i).notes;

@@ -2,7 +2,7 @@
 
 ghost use Rattle.std.specs.Prelude.{◌≡◌, ℕ, ◌+◌, IfOk, None, Some, true};
 ghost use Rattle.shop_records.specs.Content.{Content, entry_at, fresh, kept_at};
-ghost use Rattle.shop_records.specs.Messages.{pair_of, refusal_in};
+ghost use Rattle.shop_records.specs.Messages.{message_id_of, refusal_in};
 ghost use Rattle.shop_forms.specs.Forms.{json_texts};
 ghost use Rattle.shop_book.specs.Equal.{same_entry};
 ghost use Rattle.shop_book.specs.Kept.{OnContent};
@@ -87,7 +87,7 @@ fn is_reported(
 // Whether nothing is kept of a message yet.
 fn is_new<F: Book>(alloc: Global, anew: &mut F, message: &Message) -> Result<bool, BookFault>
     ensures given { F.has_clean_disk anew.new → (c : Content) → F.holds anew.old c
-        → F.holds anew.new c × IfOk result (λ new. new ≡ true → kept_at c (pair_of message.now) ≡ None) }
+        → F.holds anew.new c × IfOk result (λ new. new ≡ true → kept_at c (message_id_of message.now) ≡ None) }
     ensures clean_disk { F.has_clean_disk anew.new → F.has_clean_disk anew.old }
 {
     let kept = anew.kept(alloc, message.terminal, message.number)?;
@@ -98,7 +98,7 @@ fn is_same_entry(a: &Entry, b: &Entry) -> bool
     ensures { result ≡ same_entry a.now b.now }
 {
     a.number == b.number
-        && a.pair == b.pair
+        && a.message_id == b.message_id
         && a.at == b.at
         && a.word.name() == b.word.name()
         && a.act == b.act
@@ -145,10 +145,10 @@ fn has_kept<F: Book>(
     kept: &Kept,
 ) -> Result<bool, BookFault>
     ensures same { OnContent F.Book anew.old anew.new
-        (λ c. IfOk result (λ same. same ≡ true → kept_at c entry.now.pair ≡ Some kept.now)) }
+        (λ c. IfOk result (λ same. same ≡ true → kept_at c entry.now.message_id ≡ Some kept.now)) }
     ensures keeps { IsLookedAt F.Book anew.old anew.new }
 {
-    let found = anew.kept(alloc, entry.pair.terminal, entry.pair.number)?;
+    let found = anew.kept(alloc, entry.message_id.terminal, entry.message_id.number)?;
     Ok(is_kept(&found, kept))
 }
 
@@ -161,7 +161,7 @@ fn written<F: Book>(
     kept: &Kept,
 ) -> Result<Found, BookFault>
     ensures same { OnContent F.Book anew.old anew.new (λ c. IfOk result (λ found. found ≡ Same
-        → (entry_at c number ≡ Some entry.now) × (kept_at c entry.now.pair ≡ Some kept.now))) }
+        → (entry_at c number ≡ Some entry.now) × (kept_at c entry.now.message_id ≡ Some kept.now))) }
     ensures keeps { IsLookedAt F.Book anew.old anew.new }
 {
     let entered = has_entry(anew, number, entry)?;
@@ -186,7 +186,7 @@ fn does_again<F: Book>(
     kept: &Kept,
 ) -> Result<Found, BookFault>
     ensures given { F.has_clean_disk anew.new → (m : Content) (count : ℕ) → number ≡ count + 1
-        → entry_at m number ≡ Some entry.now → kept_at m entry.now.pair ≡ Some kept.now
+        → entry_at m number ≡ Some entry.now → kept_at m entry.now.message_id ≡ Some kept.now
         → HoldsPart json_texts F.Book m anew.old count
         → IfOk result (λ found. found ≡ Same → HoldsPart json_texts F.Book m anew.new number) }
     ensures clean_disk { F.has_clean_disk anew.new → F.has_clean_disk anew.old }
@@ -219,7 +219,7 @@ fn is_again<B: Book, F: Book>(
     let Some(entry) = book.entry(number)? else {
         return Ok(Found::Other);
     };
-    let Some(kept) = book.kept(alloc, entry.pair.terminal, entry.pair.number)? else {
+    let Some(kept) = book.kept(alloc, entry.message_id.terminal, entry.message_id.number)? else {
         return Ok(Found::Other);
     };
     let Some(message) = kept_message(alloc, kept.command.as_str())? else {

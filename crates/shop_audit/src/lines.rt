@@ -65,7 +65,7 @@ fn reported_at<B: Book>(
     let Some(entry) = book.entry(number)? else {
         return Ok(None);
     };
-    match book.kept(alloc, entry.pair.terminal, entry.pair.number)? {
+    match book.kept(alloc, entry.message_id.terminal, entry.message_id.number)? {
         Some(Kept { command, reply }) => Ok(Some(ReportedEntry {
             at: entry.at,
             entry: entry.number,

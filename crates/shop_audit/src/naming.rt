@@ -4,7 +4,7 @@ use crate::compared::unread;
 use crate::rows::Row;
 use cut_measure::{Code, MAX_NUMBERS, PartName};
 use shop_book::{Book, BookFault, Ledger, StrayUse, is_same_halt};
-use shop_records::{Entry, Job, JobHalt, Material, Pair};
+use shop_records::{Entry, Job, JobHalt, Material, MessageId};
 use std::alloc::{AllocError, Global};
 use std::cmp::Ordering;
 
@@ -181,18 +181,18 @@ fn first_entry<B: Book, F: Book>(
     Ok(None)
 }
 
-// The pair that stands first, of one that was found and of one that may differ.
-fn earlier(found: Option<Pair>, pair: Pair) -> Pair {
+// The message ID that stands first, of one that was found and of one that may differ.
+fn earlier(found: Option<MessageId>, message_id: MessageId) -> MessageId {
     let Some(least) = found else {
-        return pair;
+        return message_id;
     };
-    if least.terminal < pair.terminal {
+    if least.terminal < message_id.terminal {
         return least;
     }
-    if least.terminal == pair.terminal && least.number < pair.number {
+    if least.terminal == message_id.terminal && least.number < message_id.number {
         return least;
     }
-    pair
+    message_id
 }
 
 // Whether the books don't keep the same of an entry's message.
@@ -200,10 +200,10 @@ fn is_kept_otherwise<B: Book, F: Book>(
     alloc: Global,
     book: &mut B,
     anew: &mut F,
-    pair: Pair,
+    message_id: MessageId,
 ) -> Result<bool, BookFault> {
-    let one = book.kept(alloc, pair.terminal, pair.number)?;
-    let other = anew.kept(alloc, pair.terminal, pair.number)?;
+    let one = book.kept(alloc, message_id.terminal, message_id.number)?;
+    let other = anew.kept(alloc, message_id.terminal, message_id.number)?;
     Ok(one != other)
 }
 
@@ -212,14 +212,14 @@ fn least_kept<B: Book, F: Book>(
     alloc: Global,
     book: &mut B,
     anew: &mut F,
-    found: Option<Pair>,
+    found: Option<MessageId>,
     entry: Option<Entry>,
-) -> Result<Option<Pair>, BookFault> {
+) -> Result<Option<MessageId>, BookFault> {
     let Some(entry) = entry else {
         return Ok(found);
     };
-    if is_kept_otherwise(alloc, book, anew, entry.pair)? {
-        return Ok(Some(earlier(found, entry.pair)));
+    if is_kept_otherwise(alloc, book, anew, entry.message_id)? {
+        return Ok(Some(earlier(found, entry.message_id)));
     }
     Ok(found)
 }
@@ -236,7 +236,7 @@ fn first_kept<B: Book, F: Book>(
         found = least_kept(alloc, book, anew, found, entry)?;
     }
     match found {
-        Some(pair) => Ok(Some(Row::Kept(pair))),
+        Some(message_id) => Ok(Some(Row::Kept(message_id))),
         None => Ok(None),
     }
 }

@@ -5,7 +5,7 @@ ghost use Rattle.std.specs.Fmt.{decimal};
 ghost use Rattle.shop_audit.specs.Rows.{row_key, row_table};
 
 use cut_measure::{Code, PartName};
-use shop_records::Pair;
+use shop_records::MessageId;
 use std::alloc::AllocError;
 
 /// A row of a store's tables, by its key.
@@ -25,7 +25,7 @@ pub enum Row {
     Job(u32),
     /// The entry of this number.
     Journal(u64),
-    Kept(Pair),
+    Kept(MessageId),
     Material(Code),
     /// The last number of an act.
     LastAct,
@@ -89,7 +89,7 @@ impl Row {
             Row::OtherImport => text.push_str("an order that isn't there"),
             Row::Job(number) => write!(text, "{number}"),
             Row::Journal(number) => write!(text, "{number}"),
-            Row::Kept(pair) => write!(text, "{}/{}", pair.terminal, pair.number),
+            Row::Kept(message_id) => write!(text, "{}/{}", message_id.terminal, message_id.number),
             Row::Material(code) => code.write(text),
             Row::LastAct => text.push_str("act"),
             Row::LastDemand => text.push_str("demand"),

@@ -17,18 +17,18 @@ use Rattle.shop_records.specs.declared.records.JobHalt.{JobHalt}
 use Rattle.shop_records.specs.declared.records.JobBegin.{JobBegin}
 use Rattle.shop_records.specs.declared.notes.OrderNote.{OrderNote}
 use Rattle.shop_records.specs.declared.records.Demand.{Demand}
-use Rattle.shop_records.specs.Content.{Content, pair_cmp, cells_in, with_material, with_parts, with_job, with_halt, with_begun, with_note, with_demands, with_entry, with_kept, with_import, with_number}
-use Rattle.shop_records.specs.Soundness.{IsInRange}
+use Rattle.shop_records.specs.Content.{Content, message_id_cmp, cells_in, with_material, with_parts, with_job, with_halt, with_begun, with_note, with_demands, with_entry, with_kept, with_import, with_number}
+use Rattle.shop_records.specs.WellFormed.{IsInRange}
 use Rattle.std.specs.Cmp.{IsTotalOrder}
 use Rattle.std.specs.BTreeMap.{insert_entry}
 use Rattle.std.specs.FinMap.{FinMap, empty, insert, from_sorted, find, put, is_sorted, get, get-from_sorted, values, entries-from_sorted, entries-insert, same_entries_map, len, len-entries, empty_of_len}
 use Rattle.std.specs.FinMap.Entries.{by_order, is_sorted-put}
 use Rattle.shop_records.specs.declared.imports.ImportRow.{ImportRow}
 use Rattle.shop_records.specs.declared.journal.Entry.{Entry}
-use Rattle.shop_records.specs.declared.texts.Pair.{Pair}
+use Rattle.shop_records.specs.declared.texts.MessageId.{MessageId}
 use Rattle.shop_records.specs.declared.texts.Kept.{Kept}
 use Rattle.shop_records.specs.declared.texts.KeptMessage.{KeptMessage}
-use Rattle.shop_book.specs.Memory.{put_kept, pairs_total}
+use Rattle.shop_book.specs.Memory.{put_kept, message_ids_total}
 use Rattle.shop_rows.specs.Keys.{material_key, part_key, job_key, halt_key, begin_key, note_key, demand_key, entry_key, import_key}
 use Rattle.shop_rows.specs.Rows.{entries_of, rise, row_at, put_each, map_of, with_rows, ArePut}
 use Rattle.std.specs.Bool.{Decides}
@@ -158,14 +158,14 @@ pub demands_after : (rows : List Demand) (m : FinMap nat_cmp Demand) → with_ro
 demands_after [] m = refl
 demands_after (row ∷ rows) m = demands_after rows (insert m row.number row)
 
-pub kept_after : (message : Option KeptMessage) (old new : List (Pair × Kept)) → is_sorted pair_cmp old ≡ true → new ≡ put_kept message old
-    → from_sorted {R = pair_cmp} new ≡ with_kept message (from_sorted old)
-kept_after None old new up is = ap (from_sorted {R = pair_cmp}) is
-kept_after (Some message) old new up is = put_is_insert pair_cmp pairs_total message.pair message.kept old new up is
+pub kept_after : (message : Option KeptMessage) (old new : List (MessageId × Kept)) → is_sorted message_id_cmp old ≡ true → new ≡ put_kept message old
+    → from_sorted {R = message_id_cmp} new ≡ with_kept message (from_sorted old)
+kept_after None old new up is = ap (from_sorted {R = message_id_cmp}) is
+kept_after (Some message) old new up is = put_is_insert message_id_cmp message_ids_total message.message_id message.kept old new up is
 
-pub kept_sorted : (message : Option KeptMessage) (old new : List (Pair × Kept)) → is_sorted pair_cmp old ≡ true → new ≡ put_kept message old → is_sorted pair_cmp new ≡ true
-kept_sorted None old new up is = ap (is_sorted pair_cmp) is ∙ up
-kept_sorted (Some message) old new up is = sorted_after pair_cmp pairs_total message.pair message.kept old new up is
+pub kept_sorted : (message : Option KeptMessage) (old new : List (MessageId × Kept)) → is_sorted message_id_cmp old ≡ true → new ≡ put_kept message old → is_sorted message_id_cmp new ≡ true
+kept_sorted None old new up is = ap (is_sorted message_id_cmp) is ∙ up
+kept_sorted (Some message) old new up is = sorted_after message_id_cmp message_ids_total message.message_id message.kept old new up is
 
 pub number_after : (number : Option ℕ) (last : ℕ) → unwrap_or number last ≡ with_number number last
 number_after None last = refl

@@ -9,7 +9,7 @@ use Rattle.std.specs.FinMap.{get, nat_cmp-IsAntisymmetric}
 use Rattle.shop_records.specs.Content.{Content, demand_at}
 use Rattle.shop_records.specs.Elements.{IsIn}
 use Rattle.shop_records.specs.Lists.{AreLines}
-use Rattle.shop_records.specs.Soundness.{AreDifferent}
+use Rattle.shop_records.specs.WellFormed.{AreDifferent}
 use Rattle.shop_records.specs.declared.records.Demand.{Demand}
 use Rattle.shop_records.proofs.Basics.{at_in}
 use Rattle.shop_rows.specs.Keys.{demand_key}

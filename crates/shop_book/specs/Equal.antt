@@ -28,13 +28,13 @@ use Rattle.shop_records.specs.declared.notes.OrderNote.{OrderNote}
 use Rattle.cut_tree.specs.declared.halts.Halt.{Halt}
 use Rattle.cut_tree.specs.declared.halts.Halt.TheVariants.{First, Listed}
 use Rattle.shop_records.specs.declared.records.Demand.{Demand}
-use Rattle.shop_records.specs.declared.texts.Pair.{Pair}
+use Rattle.shop_records.specs.declared.texts.MessageId.{MessageId}
 use Rattle.shop_records.specs.declared.texts.Kept.{Kept}
 use Rattle.shop_records.specs.declared.imports.Form.{Form}
 use Rattle.shop_records.specs.declared.imports.Form.TheVariants.{Csv, Cgcut}
 use Rattle.shop_records.specs.declared.imports.ImportRow.{ImportRow}
 use Rattle.shop_records.specs.Content.{Content}
-use Rattle.shop_records.specs.Same.{same_name, same_pair}
+use Rattle.shop_records.specs.Same.{same_name, same_message_id}
 use Rattle.shop_records.specs.contracts.records.MaterialPartialEq.TheImpl as material_eq
 use Rattle.cut_measure.specs.contracts.sizes.KindPartialEq.TheImpl as kind_eq
 use Rattle.shop_records.specs.contracts.records.JobPartialEq.TheImpl as job_eq
@@ -93,7 +93,7 @@ same_word v w = pointwise nat_eq (word_name v) (word_name w)
 abbrev pub same_entry : Entry → Entry → Bool
 same_entry a b =
     a.number == b.number
-    && (same_pair a.pair b.pair
+    && (same_message_id a.message_id b.message_id
     && (a.at == b.at && (same_word a.word b.word && (a.act == b.act && (a.job == b.job && (option_eq (pointwise nat_eq) a.order b.order && option_eq same_name a.part b.part))))))
 
 -- whether two maps have the same entries
@@ -113,7 +113,7 @@ same_content m n =
     && (same_entries nat_eq same_begin m.begun n.begun
     && (same_codes m.orders n.orders
     && (same_entries (pointwise nat_eq) same_note m.notes n.notes
-    && (same_entries nat_eq same_demand m.demands n.demands && (same_entries same_pair same_kept m.kept n.kept
+    && (same_entries nat_eq same_demand m.demands n.demands && (same_entries same_message_id same_kept m.kept n.kept
     && (same_entries (pointwise nat_eq) same_import m.imports n.imports
     && (same_entries nat_eq same_entry m.entries n.entries && (m.last_act == n.last_act && m.last_demand == n.last_demand)))))))))))
 
@@ -242,8 +242,8 @@ demand_decides a b =
     (Decides-and _ _ (unsigned_Decides a.worth b.worth)
     (Decides-and _ _ (unsigned_Decides a.wanted b.wanted) (Decides-and _ _ (unsigned_Decides a.reserved b.reserved) (unsigned_Decides a.made b.made))))))))))
 
-pub pair_decides : (a b : Pair) → Decides (same_pair a b) (a ≡ b)
-pair_decides a b =
+pub message_id_decides : (a b : MessageId) → Decides (same_message_id a b) (a ≡ b)
+message_id_decides a b =
     Decides-like _ (λ p i. record { terminal = p.0 i; number = p.1 i }) (λ p. (ap (λ n. n.terminal) p, ap (λ n. n.number) p)) (Decides-and _ _ (unsigned_Decides a.terminal b.terminal) (unsigned_Decides a.number b.number))
 
 pub kept_decides : (a b : Kept) → Decides (same_kept a b) (a ≡ b)
@@ -343,10 +343,10 @@ note_decides a b =
 pub entry_decides : (a b : Entry) → Decides (same_entry a b) (a ≡ b)
 entry_decides a b =
     Decides-like _
-    (λ p i. record { number = p.0 i; pair = p.1.0 i; at = p.1.1.0 i; word = p.1.1.1.0 i; act = p.1.1.1.1.0 i; job = p.1.1.1.1.1.0 i; order = p.1.1.1.1.1.1.0 i; part = p.1.1.1.1.1.1.1 i })
-    (λ p. (ap (λ e. e.number) p, (ap (λ e. e.pair) p, (ap (λ e. e.at) p, (ap (λ e. e.word) p, (ap (λ e. e.act) p, (ap (λ e. e.job) p, (ap (λ e. e.order) p, ap (λ e. e.part) p))))))))
+    (λ p i. record { number = p.0 i; message_id = p.1.0 i; at = p.1.1.0 i; word = p.1.1.1.0 i; act = p.1.1.1.1.0 i; job = p.1.1.1.1.1.0 i; order = p.1.1.1.1.1.1.0 i; part = p.1.1.1.1.1.1.1 i })
+    (λ p. (ap (λ e. e.number) p, (ap (λ e. e.message_id) p, (ap (λ e. e.at) p, (ap (λ e. e.word) p, (ap (λ e. e.act) p, (ap (λ e. e.job) p, (ap (λ e. e.order) p, ap (λ e. e.part) p))))))))
     (Decides-and _ _ (unsigned_Decides a.number b.number)
-    (Decides-and _ _ (pair_decides a.pair b.pair)
+    (Decides-and _ _ (message_id_decides a.message_id b.message_id)
     (Decides-and _ _ (unsigned_Decides a.at b.at)
     (Decides-and _ _ (words_decide a.word b.word)
     (Decides-and _ _ (unsigned_Decides a.act b.act)
@@ -395,6 +395,6 @@ content_decides m n =
     (Decides-and _ _ (codes_decide m.orders n.orders)
     (Decides-and _ _ (maps_decide bytes_decides note_decides m.notes n.notes)
     (Decides-and _ _ (maps_decide unsigned_Decides demand_decides m.demands n.demands)
-    (Decides-and _ _ (maps_decide pair_decides kept_decides m.kept n.kept)
+    (Decides-and _ _ (maps_decide message_id_decides kept_decides m.kept n.kept)
     (Decides-and _ _ (maps_decide bytes_decides import_decides m.imports n.imports)
     (Decides-and _ _ (maps_decide unsigned_Decides entry_decides m.entries n.entries) (Decides-and _ _ (unsigned_Decides m.last_act n.last_act) (unsigned_Decides m.last_demand n.last_demand)))))))))))))

@@ -3,7 +3,7 @@ use Rattle.std.specs.Prelude.{◌≡◌}
 use Rattle.std.specs.FinMap as map
 use Rattle.std.specs.Ordering.{nat_cmp}
 use Rattle.cut_measure.specs.Codes.{code_cmp}
-use Rattle.shop_records.specs.Content.{Content, pair_cmp}
+use Rattle.shop_records.specs.Content.{Content, message_id_cmp}
 use Rattle.shop_records.specs.declared.imports.ImportRow.{ImportRow}
 use Rattle.shop_records.specs.declared.journal.Entry.{Entry}
 use Rattle.shop_records.specs.declared.records.JobHalt.{JobHalt}
@@ -12,7 +12,7 @@ use Rattle.shop_rows.specs.Keys.{entry_key, halt_key, import_key}
 use Rattle.shop_rows.specs.Rows.{map_of}
 use Rattle.shop_book.specs.declared.mem_storage.MemStorage.{MemStorage}
 
-abbrev pub kept_in : MemStorage → map.FinMap pair_cmp Kept
+abbrev pub kept_in : MemStorage → map.FinMap message_id_cmp Kept
 kept_in storage = map.from_sorted storage.kept.entries
 
 abbrev pub imports_in : MemStorage → map.FinMap code_cmp ImportRow

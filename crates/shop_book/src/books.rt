@@ -3,7 +3,7 @@
 ghost use Rattle.std.specs.Prelude.{◌≡◌, ◌+◌, ◌≤◌, ◌⊎◌, ℕ, IfOk, IfSome, OnOk, OnErr, map, option_map, take};
 ghost use Rattle.shop_records.specs.Content.{Content, material_at, part_at, job_at, has_order, demand_at, kept_at, import_at, halt_at, begun_at, note_at, entry_at, entry_count, last_time, of_found, totals_of, parts_of as listed_parts, parts_named, changed};
 ghost use Rattle.shop_records.specs.Lists.{AreLines, IsLastNumber, due_of, end_entry, entries_about, entries_behind, materials_of, orders_after, parts_after, open_demands, waiting_jobs};
-ghost use Rattle.shop_records.specs.Soundness.{Fits};
+ghost use Rattle.shop_records.specs.WellFormed.{Fits};
 ghost use Rattle.shop_records.specs.declared.journal.Entry.{Entry as EntryOf};
 ghost use Rattle.shop_records.specs.declared.records.Job.{Job as JobOf};
 ghost use Rattle.shop_book.specs.Failures.{CountsFailure};
@@ -210,7 +210,7 @@ pub trait Book {
         ensures keeps { Keeps has_clean_disk holds may_leave failed
             (CountsFailure result) self.old self.new };
 
-    /// What is kept of the accepted message with this pair.
+    /// What is kept of the accepted message with this ID.
     fn kept(&mut self, alloc: Global, terminal: u32, number: u32) -> Result<Option<Kept>, BookFault>
         ensures row { has_clean_disk self.new → (m : Content) → holds self.old m
             → IfOk result (λ row. row

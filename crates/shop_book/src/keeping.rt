@@ -3,10 +3,10 @@
 ghost use Rattle.std.specs.Prelude.{◌≡◌, ◌⊎◌, ◌<◌, ◌≤◌, ◌^◌, ℕ, IfNone, IfOk, IfSome, IsSome, None, false, length};
 ghost use Rattle.std.specs.FinMap.{find as find_entry};
 ghost use Rattle.std.specs.Ordering.{is_lt};
-ghost use Rattle.shop_records.specs.Content.{pair_cmp};
-ghost use Rattle.shop_records.specs.declared.texts.Pair.{Pair as PairOf};
+ghost use Rattle.shop_records.specs.Content.{message_id_cmp};
+ghost use Rattle.shop_records.specs.declared.texts.MessageId.{MessageId as MessageIdOf};
 
-use shop_records::{Kept, Pair, Text};
+use shop_records::{Kept, MessageId, Text};
 use std::alloc::{AllocError, Global};
 use std::collections::BTreeMap;
 use std::marker::Model;
@@ -103,8 +103,8 @@ impl PartialEq for KeptText {
 
 /// The same messages.
 pub(crate) fn copy_kept(
-    kept: &BTreeMap<Pair, KeptText>,
-) -> Result<BTreeMap<Pair, KeptText>, AllocError>
+    kept: &BTreeMap<MessageId, KeptText>,
+) -> Result<BTreeMap<MessageId, KeptText>, AllocError>
     ensures { IfOk result (λ copy. copy.entries ≡ kept.now.entries) }
 {
     let copy = kept.clone()?;
@@ -112,21 +112,21 @@ pub(crate) fn copy_kept(
 }
 
 /// How many messages are kept.
-pub(crate) fn count_kept(kept: &BTreeMap<Pair, KeptText>) -> u64
+pub(crate) fn count_kept(kept: &BTreeMap<MessageId, KeptText>) -> u64
     ensures { result ≡ length kept.now.entries }
 {
     kept.len() as u64
 }
 
-/// What is kept under a pair.
+/// What is kept under a message ID.
 pub(crate) fn find_kept(
     alloc: Global,
-    kept: &BTreeMap<Pair, KeptText>,
-    pair: Pair,
+    kept: &BTreeMap<MessageId, KeptText>,
+    message_id: MessageId,
 ) -> Result<Option<Kept>, AllocError>
-    ensures { IfOk result (λ row. row ≡ find_entry pair_cmp pair kept.now.entries) }
+    ensures { IfOk result (λ row. row ≡ find_entry message_id_cmp message_id kept.now.entries) }
 {
-    match kept.get(&pair) {
+    match kept.get(&message_id) {
         None => Ok(None),
         Some(row) => {
             let copy = row.kept(alloc)?;
@@ -143,66 +143,66 @@ fn in_bits(number: u32) -> u32
     number
 }
 
-// The same pair, of a terminal that 32 bits hold.
-fn read_pair(pair: &Pair) -> Pair
-    ensures same { result ≡ pair.now }
+// The same message ID, of a terminal that 32 bits hold.
+fn read_message_id(message_id: &MessageId) -> MessageId
+    ensures same { result ≡ message_id.now }
     ensures fits { result.terminal < 2 ^ 32 }
 {
-    let terminal = in_bits(pair.terminal);
-    Pair {
+    let terminal = in_bits(message_id.terminal);
+    MessageId {
         terminal,
-        number: pair.number,
+        number: message_id.number,
     }
 }
 
-// The greatest of all pairs under which messages are kept.
-fn last_of_all(kept: &BTreeMap<Pair, KeptText>) -> Option<Pair>
+// The greatest of all message IDs under which messages are kept.
+fn last_of_all(kept: &BTreeMap<MessageId, KeptText>) -> Option<MessageId>
     ensures none { IfNone result
-        ((pair : PairOf) → find_entry pair_cmp pair kept.now.entries ≡ None) }
-    ensures kept { IfSome result (λ last. IsSome (find_entry pair_cmp last kept.now.entries)) }
+        ((message_id : MessageIdOf) → find_entry message_id_cmp message_id kept.now.entries ≡ None) }
+    ensures kept { IfSome result (λ last. IsSome (find_entry message_id_cmp last kept.now.entries)) }
     ensures greatest { IfSome result
-        (λ last. (pair : PairOf) → IsSome (find_entry pair_cmp pair kept.now.entries)
-        → is_lt (pair_cmp last pair) ≡ false) }
+        (λ last. (message_id : MessageIdOf) → IsSome (find_entry message_id_cmp message_id kept.now.entries)
+        → is_lt (message_id_cmp last message_id) ≡ false) }
     ensures fits { IfSome result (λ last. last.terminal < 2 ^ 32) }
 {
     match kept.last_key_value() {
-        Some((pair, _)) => Some(read_pair(pair)),
+        Some((message_id, _)) => Some(read_message_id(message_id)),
         None => None,
     }
 }
 
-// The greatest pair of the terminals below this one.
-fn last_below(kept: &BTreeMap<Pair, KeptText>, terminal: u32) -> Option<Pair>
+// The greatest message ID of the terminals below this one.
+fn last_below(kept: &BTreeMap<MessageId, KeptText>, terminal: u32) -> Option<MessageId>
     ensures none { IfNone result
-        ((pair : PairOf) → pair.terminal < terminal
-        → find_entry pair_cmp pair kept.now.entries ≡ None) }
-    ensures kept { IfSome result (λ last. IsSome (find_entry pair_cmp last kept.now.entries)) }
+        ((message_id : MessageIdOf) → message_id.terminal < terminal
+        → find_entry message_id_cmp message_id kept.now.entries ≡ None) }
+    ensures kept { IfSome result (λ last. IsSome (find_entry message_id_cmp last kept.now.entries)) }
     ensures greatest { IfSome result
-        (λ last. (pair : PairOf) → pair.terminal < terminal
-        → IsSome (find_entry pair_cmp pair kept.now.entries)
-        → is_lt (pair_cmp last pair) ≡ false) }
+        (λ last. (message_id : MessageIdOf) → message_id.terminal < terminal
+        → IsSome (find_entry message_id_cmp message_id kept.now.entries)
+        → is_lt (message_id_cmp last message_id) ≡ false) }
     ensures below { IfSome result (λ last. last.terminal < terminal) }
 {
-    let end = Pair {
+    let end = MessageId {
         terminal,
         number: 0,
     };
     match kept.range(..end).next_back() {
-        Some((pair, _)) => Some(*pair),
+        Some((message_id, _)) => Some(*message_id),
         None => None,
     }
 }
 
-// The greatest pair of the terminals up to this one.
-fn last_upto(kept: &BTreeMap<Pair, KeptText>, terminal: u32) -> Option<Pair>
+// The greatest message ID of the terminals up to this one.
+fn last_upto(kept: &BTreeMap<MessageId, KeptText>, terminal: u32) -> Option<MessageId>
     ensures none { IfNone result
-        ((pair : PairOf) → pair.terminal ≤ terminal
-        → find_entry pair_cmp pair kept.now.entries ≡ None) }
-    ensures kept { IfSome result (λ last. IsSome (find_entry pair_cmp last kept.now.entries)) }
+        ((message_id : MessageIdOf) → message_id.terminal ≤ terminal
+        → find_entry message_id_cmp message_id kept.now.entries ≡ None) }
+    ensures kept { IfSome result (λ last. IsSome (find_entry message_id_cmp last kept.now.entries)) }
     ensures greatest { IfSome result
-        (λ last. (pair : PairOf) → pair.terminal ≤ terminal
-        → IsSome (find_entry pair_cmp pair kept.now.entries)
-        → is_lt (pair_cmp last pair) ≡ false) }
+        (λ last. (message_id : MessageIdOf) → message_id.terminal ≤ terminal
+        → IsSome (find_entry message_id_cmp message_id kept.now.entries)
+        → is_lt (message_id_cmp last message_id) ≡ false) }
     ensures upto { IfSome result (λ last. last.terminal ≤ terminal) }
 {
     match terminal.checked_add(1) {
@@ -212,13 +212,13 @@ fn last_upto(kept: &BTreeMap<Pair, KeptText>, terminal: u32) -> Option<Pair>
 }
 
 /// The greatest number under which a message of a terminal is kept, 0 where none is.
-pub(crate) fn last_kept(kept: &BTreeMap<Pair, KeptText>, terminal: u32) -> u32
+pub(crate) fn last_kept(kept: &BTreeMap<MessageId, KeptText>, terminal: u32) -> u32
     ensures greatest { (number : ℕ)
-        → IsSome (find_entry pair_cmp
+        → IsSome (find_entry message_id_cmp
         (record { terminal = terminal; number = number }) kept.now.entries)
         → number ≤ result }
     ensures kept { (result ≡ 0)
-        ⊎ IsSome (find_entry pair_cmp
+        ⊎ IsSome (find_entry message_id_cmp
         (record { terminal = terminal; number = result }) kept.now.entries) }
 {
     let Some(last) = last_upto(kept, terminal) else {

@@ -20,7 +20,7 @@ use crate::storage::{Storage, StorageFault};
 use crate::uses::StrayUse;
 use cut_measure::Code;
 use shop_records::{
-    Change, Entry, EntryRows, ImportRow, JobHalt, Kept, KeptMessage, Pair, Subject,
+    Change, Entry, EntryRows, ImportRow, JobHalt, Kept, KeptMessage, MessageId, Subject,
 };
 use shop_rows::{copy_rows, entries_after, find, first_rows, put_copy, put_some, reserve_rows};
 use std::alloc::{AllocError, Global};
@@ -134,7 +134,7 @@ fn copy_halt(alloc: Global, row: &Option<JobHalt>) -> Result<Option<JobHalt>, Al
 // Keeps a message, if there is one, in one text. An `Err` keeps nothing.
 fn keep_text(
     alloc: Global,
-    kept: &mut BTreeMap<Pair, KeptText>,
+    kept: &mut BTreeMap<MessageId, KeptText>,
     message: &Option<KeptMessage>,
 ) -> Result<(), AllocError>
     ensures ok { OnOk result (kept.new.entries ≡ put_kept message.now kept.old.entries) }
@@ -142,7 +142,7 @@ fn keep_text(
 {
     if let Some(message) = message {
         let exact = KeptText::of(alloc, &message.kept)?;
-        kept.insert(message.pair, exact)?;
+        kept.insert(message.message_id, exact)?;
     }
     Ok(())
 }
@@ -207,7 +207,7 @@ impl Storage for MemStorage {
         terminal: u32,
         number: u32,
     ) -> Result<Option<Kept>, StorageFault> {
-        let row = find_kept(alloc, &self.kept, Pair { terminal, number })?;
+        let row = find_kept(alloc, &self.kept, MessageId { terminal, number })?;
         Ok(row)
     }
 

@@ -11,7 +11,7 @@ fn is_same(a: &Entry, b: &Entry) -> bool
     ensures { result ≡ same_entry a.now b.now }
 {
     a.number == b.number
-        && a.pair == b.pair
+        && a.message_id == b.message_id
         && a.at == b.at
         && a.word.name() == b.word.name()
         && a.act == b.act

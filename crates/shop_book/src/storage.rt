@@ -3,7 +3,7 @@
 ghost use Rattle.std.specs.Prelude.{◌≡◌, ◌++◌, ◌∷◌, [], ◌⊎◌, Bool, IfErr, IfOk, IsOk, List, OnOk, OnErr, drop, false, length, take};
 ghost use Rattle.shop_records.specs.Content.{Content, kept_at, import_at, halt_at, entry_at, entry_count, last_time, changed, of_found};
 ghost use Rattle.shop_records.specs.Lists.{IsLastNumber, end_entry, entries_behind};
-ghost use Rattle.shop_records.specs.Soundness.{Fits};
+ghost use Rattle.shop_records.specs.WellFormed.{Fits};
 ghost use Rattle.shop_records.specs.declared.journal.Entry.{Entry as EntryOf};
 ghost use Rattle.shop_book.specs.FiledEntries.{SkipsNone};
 ghost use Rattle.shop_book.specs.Storages.{IsRead};
@@ -59,7 +59,7 @@ pub trait Storage {
     /// So far the disk returned what the storage wrote.
     ghost has_clean_disk: { Self → Type 0 };
 
-    /// What is kept of the accepted message with this pair.
+    /// What is kept of the accepted message with this ID.
     fn kept(
         &mut self,
         alloc: Global,

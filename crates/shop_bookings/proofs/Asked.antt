@@ -19,7 +19,7 @@ use Rattle.shop_records.specs.Content.{Content, demand_at, part_at, is_listed, p
 use Rattle.shop_records.specs.Lists.{open_demands, parts_after, is_after, is_asked_for, is_open}
 use Rattle.shop_records.specs.Messages.{Texts}
 use Rattle.shop_records.specs.Same.{same_code}
-use Rattle.shop_records.specs.Soundness.{IsSound}
+use Rattle.shop_records.specs.WellFormed.{IsWellFormed}
 use Rattle.shop_records.proofs.Basics.{names_total, same_some}
 use Rattle.shop_machine.proofs.Allowed.{none_of, or_none}
 use Rattle.shop_answers.specs.declared.planning.FoundDemand.{FoundDemand}
@@ -88,7 +88,7 @@ module _ (m : Content) (code : List ℕ) where
           let other = none_of (not (same_code d.material code)) WrongMaterial _ more.1 in
           record { demand = d; is = is; found = is; of = not-false (same_code d.material code) other.0 }
 
-  module _ (texts : Texts) (sound : IsSound texts m) where
+  module _ (texts : Texts) (well_formed : IsWellFormed texts m) where
     -- open demands of the material
     open_found : All (λ (d : Demand). IsFound m code (with_row d)) (open_demands m 0 (Some code))
     open_found =
@@ -102,7 +102,7 @@ module _ (m : Content) (code : List ℕ) where
           of = (and_parts (nat_lt 0 d.number) (same_code d.material code) (and_parts (nat_lt 0 d.number && same_code d.material code) (is_open d) is).0).1;
         })
         (open_demands m 0 (Some code))
-        (All-filter asked Kept (values m.demands) (each_found nat_cmp_total m.demands Kept (λ n d is. ap (demand_at m) (sound.demands n d is).numbered ∙ is)))
+        (All-filter asked Kept (values m.demands) (each_found nat_cmp_total m.demands Kept (λ n d is. ap (demand_at m) (well_formed.demands n d is).numbered ∙ is)))
         (filter_passes asked (values m.demands))
 
     pub wants_found : (named : Option (List ℕ)) → found_refusal code (demands_for m code named) ≡ None → All (IsWantOf m code) (found_wants (demands_for m code named))
@@ -144,7 +144,7 @@ module _ (m : Content) (code : List ℕ) (kind : Kind) where
       All-cons (IsPartOf m code kind) (stock_part kind remnant place p) (parts_from kind remnant (place + 1) rows)
       (record { row = p; found = found; free = free; of = of; size = refl }) (all_parts remnant (place + 1) rows all.1)
 
-  module _ (texts : Texts) (sound : IsSound texts m) where
+  module _ (texts : Texts) (well_formed : IsWellFormed texts m) where
     named_used : (ns : List Name) → parts_refusal code (map (part_at m) ns) ≡ None → AllByRecursion (IsUsed m code) (map (part_at m) ns)
     named_used [] e = tt
     named_used (n ∷ ns) e =
@@ -159,7 +159,7 @@ module _ (m : Content) (code : List ℕ) (kind : Kind) where
             record {
               part = p;
               is = is;
-              found = ap (part_at m) (sound.parts n p is).named ∙ is;
+              found = ap (part_at m) (well_formed.parts n p is).named ∙ is;
               free = not-false (is_free p.state) free.0;
               of = not-false (same_code p.material code) of.0;
             }
@@ -174,7 +174,7 @@ module _ (m : Content) (code : List ℕ) (kind : Kind) where
         (all_both Kept (λ (p : Part). is_listed code p ≡ true) IsHere
         (λ p found is. (found, (and_parts (same_code p.material code) (is_there p.state) is).0))
         (parts_of m code)
-        (All-filter (is_listed code) Kept (values m.parts) (each_found names_total m.parts Kept (λ n p is. ap (part_at m) (sound.parts n p is).named ∙ is)))
+        (All-filter (is_listed code) Kept (values m.parts) (each_found names_total m.parts Kept (λ n p is. ap (part_at m) (well_formed.parts n p is).named ∙ is)))
         (filter_passes (is_listed code) (values m.parts)))
 
     first_used : AllByRecursion (IsUsed m code) (parts_for m code kind None)

@@ -21,8 +21,8 @@ use Rattle.shop_records.specs.declared.messages.Message.{Message}
 use Rattle.shop_records.specs.declared.messages.Reply.{Reply}
 use Rattle.shop_records.specs.Content.{Content, demand_at}
 use Rattle.shop_records.specs.Elements.{IsIn}
-use Rattle.shop_records.specs.Messages.{Texts, pair_of}
-use Rattle.shop_records.specs.Soundness.{IsSound}
+use Rattle.shop_records.specs.Messages.{Texts, message_id_of}
+use Rattle.shop_records.specs.WellFormed.{IsWellFormed}
 use Rattle.shop_records.proofs.Basics.{all_in, any_in, in_map, map_in, same_some}
 use Rattle.shop_records.proofs.Puts.{Pairwise, all_from, pairs_from, pairs_in}
 use Rattle.shop_answers.specs.Planning.{found_refusal, left_of}
@@ -97,7 +97,7 @@ record IsShare (wants : List Want) (kerf : ℕ) (sizes : List StockSize) (unit :
   there : slice_get sizes unit.place ≡ Some stock
   planned : IsPlanFor wants kerf stock.size unit.plan
 
-module _ (texts : Texts) (m : Content) (sound : IsSound texts m) (q : PlansQuery) (instance : PlanInstance) (asks : IsInstance m q instance) (reply : PlansReply) (answer : IsPlansReply instance reply) where
+module _ (texts : Texts) (m : Content) (well_formed : IsWellFormed texts m) (q : PlansQuery) (instance : PlanInstance) (asks : IsInstance m q instance) (reply : PlansReply) (answer : IsPlansReply instance reply) where
   abbrev material : Material
   material = asks.material
 
@@ -122,13 +122,13 @@ module _ (texts : Texts) (m : Content) (sound : IsSound texts m) (q : PlansQuery
   wants_are : All (IsWantOf m q.material) wants
   wants_are =
       subst (All (IsWantOf m q.material)) (sym asks.is.wants)
-      (wants_found m q.material texts sound q.demands (or_none (found_refusal q.material (demands_for m q.material q.demands)) _ rows_allowed).0)
+      (wants_found m q.material texts well_formed q.demands (or_none (found_refusal q.material (demands_for m q.material q.demands)) _ rows_allowed).0)
 
   parts_are : All (IsPartOf m q.material material.kind) answer.plans.ranked
   parts_are =
       All-permutation (IsPartOf m q.material material.kind) instance.parts.items answer.plans.ranked answer.plans.parts.all
       (subst (All (IsPartOf m q.material material.kind)) (sym asks.is.parts)
-      (parts_found m q.material material.kind texts sound q.remnant q.parts
+      (parts_found m q.material material.kind texts well_formed q.remnant q.parts
       (or_none (parts_refusal q.material (parts_for m q.material material.kind q.parts)) _ (or_none (found_refusal q.material (demands_for m q.material q.demands)) _ rows_allowed).1).0))
 
   planned : All (IsPlannedUnit wants material.limits.kerf sizes) units
@@ -174,9 +174,9 @@ module _ (texts : Texts) (m : Content) (sound : IsSound texts m) (q : PlansQuery
           is_message = by.is_message;
           command = by.command ∙ ap (λ n. Reserve n by.text) (sym slot.2) ∙ ap (Reserve slot.0.part.name) slot.3;
           unkept = by.unkept;
-          reading = fitting.reading texts m sound q.material material asks.known wants wants_are slot.0.part part share.stock.size sides.0 sides.1 slot.0.unit.plan share.planned;
-          some_piece = fitting.some_piece texts m sound q.material material asks.known wants wants_are slot.0.part part share.stock.size sides.0 sides.1 slot.0.unit.plan share.planned;
-          taken = fitting.taken texts m sound q.material material asks.known wants wants_are slot.0.part part share.stock.size sides.0 sides.1 slot.0.unit.plan share.planned;
+          reading = fitting.reading texts m well_formed q.material material asks.known wants wants_are slot.0.part part share.stock.size sides.0 sides.1 slot.0.unit.plan share.planned;
+          some_piece = fitting.some_piece texts m well_formed q.material material asks.known wants wants_are slot.0.part part share.stock.size sides.0 sides.1 slot.0.unit.plan share.planned;
+          taken = fitting.taken texts m well_formed q.material material asks.known wants wants_are slot.0.part part share.stock.size sides.0 sides.1 slot.0.unit.plan share.planned;
         };
         slot = slot.0;
         there = slot.1;
@@ -201,12 +201,12 @@ module _ (texts : Texts) (m : Content) (sound : IsSound texts m) (q : PlansQuery
         parts_apart m bookings each
         (unmapped ReserveOthers (λ (b : Booking). b.message) bookings (subst (Pairwise ReserveOthers) (sym (sent_same m slots messages all)) (pairs_in ReserveOthers messages by.parts)))
 
-    abbrev OfOtherPair : Message → Message → Type 0
-    OfOtherPair a b = pair_of a ≢ pair_of b
+    abbrev OfOtherMessage : Message → Message → Type 0
+    OfOtherMessage a b = message_id_of a ≢ message_id_of b
 
-    other_pairs : Pairwise (λ (a b : Booking). pair_of a.message ≢ pair_of b.message) bookings
-    other_pairs =
-        unmapped OfOtherPair (λ (b : Booking). b.message) bookings (subst (Pairwise OfOtherPair) (sym (sent_same m slots messages all)) (pairs_in OfOtherPair messages by.pairs))
+    other_message_ids : Pairwise (λ (a b : Booking). message_id_of a.message ≢ message_id_of b.message) bookings
+    other_message_ids =
+        unmapped OfOtherMessage (λ (b : Booking). b.message) bookings (subst (Pairwise OfOtherMessage) (sym (sent_same m slots messages all)) (pairs_in OfOtherMessage messages by.message_ids))
 
     left : (number : ℕ) (d : Demand) → demand_at m number ≡ Some d → d.reserved + d.made + booked number bookings ≤ d.wanted
     left number d found =
@@ -223,7 +223,7 @@ module _ (texts : Texts) (m : Content) (sound : IsSound texts m) (q : PlansQuery
         let same = shared f units in
         let all_units = planned_all f units in
         let last = few_pieces wants material.limits.kerf sizes units planned m q.material wants_are answer.answers.planned.plan.no_more number d found in
-        let within = (sound.demands number d found).counted.few in
+        let within = (well_formed.demands number d found).counted.few in
         by_sums slotted few same all_units last within
       where
         by_sums : {a b c e p : ℕ} → a ≤ b → b ≤ c → c ≡ e → p ≡ e → p ≤ left_of d → d.reserved + d.made ≤ d.wanted → d.reserved + d.made + a ≤ d.wanted
@@ -233,10 +233,10 @@ module _ (texts : Texts) (m : Content) (sound : IsSound texts m) (q : PlansQuery
     are_bookable = record {
       each = all_from (IsBookable m) bookings each;
       parts = pairs_from (λ (a b : Booking). a.part ≢ b.part) bookings apart;
-      pairs = pairs_from (λ (a b : Booking). pair_of a.message ≢ pair_of b.message) bookings other_pairs;
+      message_ids = pairs_from (λ (a b : Booking). message_id_of a.message ≢ message_id_of b.message) bookings other_message_ids;
       left = left;
     }
 
     pub booked_together : (new : Content) (answers : List Reply) → Run texts m messages answers new → All OnlySpent answers
     booked_together new answers run =
-        stand_together texts m new bookings answers sound are_bookable (subst (λ ms. Run texts m ms answers new) (sym (sent_same m slots messages all)) run)
+        stand_together texts m new bookings answers well_formed are_bookable (subst (λ ms. Run texts m ms answers new) (sym (sent_same m slots messages all)) run)

@@ -25,7 +25,7 @@ use Rattle.shop_records.specs.declared.refusals.Refusal.TheVariants.{WrongMateri
 use Rattle.shop_records.specs.Content.{Content, demand_at, material_at}
 use Rattle.shop_records.specs.Messages.{Texts}
 use Rattle.shop_records.specs.Same.{same_code}
-use Rattle.shop_records.specs.Soundness.{IsSound}
+use Rattle.shop_records.specs.WellFormed.{IsWellFormed}
 use Rattle.shop_records.proofs.Basics.{codes_same}
 use Rattle.shop_records.proofs.Puts.{equal}
 use Rattle.shop_answers.specs.Planning.{planned_size}
@@ -51,13 +51,13 @@ flat_size Sheet size flat = (refl, refl)
 same_codes : (a b : List ℕ) → same_code a b ≡ true → a ≡ b
 same_codes a b e = codes_same a b (equal _ e)
 
-module _ (texts : Texts) (m : Content) (sound : IsSound texts m) (code : List ℕ) (material : Material) (known : material_at m code ≡ Some material)
+module _ (texts : Texts) (m : Content) (well_formed : IsWellFormed texts m) (code : List ℕ) (material : Material) (known : material_at m code ≡ Some material)
     (wants : List Want) (are : All (IsWantOf m code) wants) where
   numbered : AreDemands wants
   numbered =
       All-weaker (IsWantOf m code) (λ (x : Want). (1 ≤ x.demand) × (x.demand ≤ MAX_NUMBERS)) (λ x w.
-      let d = sound.demands x.demand w.demand w.found in
-      let last = sound.in_range.last_demand in
+      let d = well_formed.demands x.demand w.demand w.found in
+      let last = well_formed.in_range.last_demand in
       let so_far = d.so_far in
       (d.least, omega (arith, last, so_far))) wants are
 
@@ -72,12 +72,12 @@ module _ (texts : Texts) (m : Content) (sound : IsSound texts m) (code : List �
     pub as_wide : plan.w ≡ is.row.size.w
     as_wide =
         suits.wide ∙ sym wide ∙ ap (λ (s : Extent). s.w) is.size
-        ∙ (flat_size material.kind is.row.size (λ bar. (sound.parts part.name is.row is.found).flat material its bar)).0
+        ∙ (flat_size material.kind is.row.size (λ bar. (well_formed.parts part.name is.row is.found).flat material its bar)).0
 
     pub as_high : plan.h ≡ is.row.size.h
     as_high =
         suits.high ∙ sym high ∙ ap (λ (s : Extent). s.h) is.size
-        ∙ (flat_size material.kind is.row.size (λ bar. (sound.parts part.name is.row is.found).flat material its bar)).1
+        ∙ (flat_size material.kind is.row.size (λ bar. (well_formed.parts part.name is.row is.found).flat material its bar)).1
 
     legal : Legal wants plan.kerf plan.tree plan.w plan.h
     legal =
@@ -86,7 +86,7 @@ module _ (texts : Texts) (m : Content) (sound : IsSound texts m) (code : List �
 
     pub is_plan : IsPlan plan
     is_plan =
-        let placed = sound.parts part.name is.row is.found in
+        let placed = well_formed.parts part.name is.row is.found in
         let width = as_wide in
         let height = as_high in
         let kerf = suits.sawn in
@@ -94,7 +94,7 @@ module _ (texts : Texts) (m : Content) (sound : IsSound texts m) (code : List �
         let some_height = placed.some_height in
         let right = placed.right in
         let bottom = placed.bottom in
-        let ruled = (sound.materials code material known).ruled in
+        let ruled = (well_formed.materials code material known).ruled in
         let thin = narrow material.kind material.limits.kerf material.limits.min_long material.limits.min_short ruled in
         record {
           shaped = shaped_of wants plan.kerf plan.tree plan.w plan.h legal;

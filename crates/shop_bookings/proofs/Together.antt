@@ -26,11 +26,11 @@ use Rattle.shop_records.specs.declared.refusals.Refusal.TheVariants.{NumbersSpen
 use Rattle.shop_records.specs.Columns.{is_free}
 use Rattle.shop_records.specs.Content.{Content, part_at, material_at, demand_at, changed, in_state, material_of}
 use Rattle.shop_records.specs.Elements.{IsIn}
-use Rattle.shop_records.specs.Messages.{Texts, refusal_in, pair_of}
+use Rattle.shop_records.specs.Messages.{Texts, refusal_in, message_id_of}
 use Rattle.shop_records.specs.Readings.{Reading, unread, Plan, Lines, Problem, Again}
-use Rattle.shop_records.specs.Soundness.{IsSound}
+use Rattle.shop_records.specs.WellFormed.{IsWellFormed}
 use Rattle.shop_records.proofs.Basics.{names_total, names_same, get_other, same_some, all_in}
-use Rattle.shop_records.proofs.Puts.{Pairwise, pairs_in, pairs_total, pairs_exact, some_known, is_known}
+use Rattle.shop_records.proofs.Puts.{Pairwise, pairs_in, message_ids_total, message_ids_exact, some_known, is_known}
 use Rattle.shop_machine.specs.Decisions.{first_of}
 use Rattle.shop_machine.specs.Recounts.{AreRecounted, plan_leaves, with_reserved}
 use Rattle.shop_machine.specs.Reserving.{IsReading, IsReservation, leaf_refusal, leaves_refusal, is_over, is_too_many, plan_refusal, reserve_refusal, reserve_change}
@@ -38,7 +38,7 @@ use Rattle.shop_machine.specs.Machine.{Accepts, Reads, Refuses, Makes, Run, Step
 use Rattle.shop_machine.proofs.Allowed.{or_none}
 use Rattle.shop_machine.proofs.Moved.{recount_of, demand_there, no_reserved}
 use Rattle.shop_machine.proofs.ReservingStep.{reading}
-use Rattle.shop_machine.proofs.Sound.{sound_entered}
+use Rattle.shop_machine.proofs.StaysWellFormed.{well_formed_entered}
 use Rattle.shop_bookings.specs.Bookings.{Booking, IsBookable, AreBookable, booked, sent_by, OnlySpent}
 
 -- ---- what is refused of one
@@ -103,10 +103,10 @@ module _ (row : Part) (material : Material) (plan : Pattern) (at : ℕ → Optio
 record Holds (m : Content) (bookings : List Booking) : Type 0 where
   each : (b : Booking) → IsIn b bookings → IsBookable m b
   parts : Pairwise (λ (a b : Booking). a.part ≢ b.part) bookings
-  pairs : Pairwise (λ (a b : Booking). pair_of a.message ≢ pair_of b.message) bookings
+  message_ids : Pairwise (λ (a b : Booking). message_id_of a.message ≢ message_id_of b.message) bookings
   left : (number : ℕ) (demand : Demand) → demand_at m number ≡ Some demand → demand.reserved + demand.made + booked number bookings ≤ demand.wanted
 
-module _ (texts : Texts) (m : Content) (b : Booking) (bookings : List Booking) (sound : IsSound texts m) (holds : Holds m (b ∷ bookings)) where
+module _ (texts : Texts) (m : Content) (b : Booking) (bookings : List Booking) (well_formed : IsWellFormed texts m) (holds : Holds m (b ∷ bookings)) where
   first : IsBookable m b
   first = holds.each b (inl refl)
 
@@ -118,7 +118,7 @@ module _ (texts : Texts) (m : Content) (b : Booking) (bookings : List Booking) (
   others = record {
     each = λ c i. holds.each c (inr i);
     parts = holds.parts.1;
-    pairs = holds.pairs.1;
+    message_ids = holds.message_ids.1;
     left = λ number demand is.
         let free = holds.left number demand is in
         let sum = split number in
@@ -160,7 +160,7 @@ module _ (texts : Texts) (m : Content) (b : Booking) (bookings : List Booking) (
 
     part_stays : (name : Name) → (name ≡ b.part → ⊥) → part_at after name ≡ part_at m name
     part_stays name other =
-        get_other names_total names_same m.parts row.name (in_state (Reserved (m.last_act + 1)) row) name (λ e. other (e ∙ (sound.parts b.part row there).named))
+        get_other names_total names_same m.parts row.name (in_state (Reserved (m.last_act + 1)) row) name (λ e. other (e ∙ (well_formed.parts b.part row there).named))
 
     leaf_stays : (code : List ℕ) (leaf : Leaf) → leaf_refusal code leaf (demand_at m leaf.demand) ≡ None → leaf_refusal code leaf (demand_at after leaf.demand) ≡ None
     leaf_stays code leaf allowed = by (demand_at m leaf.demand) refl allowed
@@ -187,7 +187,7 @@ module _ (texts : Texts) (m : Content) (b : Booking) (bookings : List Booking) (
         record {
           is_message = was.is_message;
           command = was.command;
-          unkept = get_other pairs_total pairs_exact m.kept (pair_of b.message) _ (pair_of c.message) (λ e. holds.pairs.0 c i (sym e)) ∙ was.unkept;
+          unkept = get_other message_ids_total message_ids_exact m.kept (message_id_of b.message) _ (message_id_of c.message) (λ e. holds.message_ids.0 c i (sym e)) ∙ was.unkept;
           reading = record {
             row = was.reading.row;
             found = part_stays c.part (λ e. holds.parts.0 c i (sym e)) ∙ was.reading.found;
@@ -208,7 +208,7 @@ module _ (texts : Texts) (m : Content) (b : Booking) (bookings : List Booking) (
     holds_after = record {
       each = still;
       parts = holds.parts.1;
-      pairs = holds.pairs.1;
+      message_ids = holds.message_ids.1;
       left = λ number demand is.
           let was = recount_of m.demands with_reserved b.plan.tree rows recounted (no_reserved m.demands b.plan.tree) number demand is in
           let free = holds.left number was.before was.was in
@@ -236,15 +236,15 @@ module _ (texts : Texts) (m : Content) (b : Booking) (bookings : List Booking) (
 
 -- ---- one after another
 
-only_spent : (texts : Texts) (m new : Content) (bookings : List Booking) (answers : List Reply) → IsSound texts m → Holds m bookings → Run texts m (sent_by bookings) answers new
+only_spent : (texts : Texts) (m new : Content) (bookings : List Booking) (answers : List Reply) → IsWellFormed texts m → Holds m bookings → Run texts m (sent_by bookings) answers new
     → AllByRecursion OnlySpent answers
-only_spent texts m new [] [] sound holds run = tt
-only_spent texts m new [] (a ∷ answers) sound holds run = absurd run
-only_spent texts m new (b ∷ bookings) [] sound holds run = absurd run
-only_spent texts m new (b ∷ bookings) (a ∷ answers) sound holds (mid, step, more) =
-    by (λ c still others onward. only_spent texts c new bookings answers still others onward) (refusal_in a) refl (new_step texts m b bookings sound holds a mid step)
+only_spent texts m new [] [] well_formed holds run = tt
+only_spent texts m new [] (a ∷ answers) well_formed holds run = absurd run
+only_spent texts m new (b ∷ bookings) [] well_formed holds run = absurd run
+only_spent texts m new (b ∷ bookings) (a ∷ answers) well_formed holds (mid, step, more) =
+    by (λ c still others onward. only_spent texts c new bookings answers still others onward) (refusal_in a) refl (new_step texts m b bookings well_formed holds a mid step)
   where
-    by : ((c : Content) → IsSound texts c → Holds c bookings → Run texts c (sent_by bookings) answers new → AllByRecursion OnlySpent answers)
+    by : ((c : Content) → IsWellFormed texts c → Holds c bookings → Run texts c (sent_by bookings) answers new → AllByRecursion OnlySpent answers)
         → (o : Option Refusal) → refusal_in a ≡ o
         → MatchOption o ((read : Reading) × Accepts texts m b.message read a mid) (λ refusal. Refuses texts m b.message.command refusal × (mid ≡ m))
         → OnlySpent a × AllByRecursion OnlySpent answers
@@ -252,22 +252,22 @@ only_spent texts m new (b ∷ bookings) (a ∷ answers) sound holds (mid, step, 
         let accepts = new_one.1 in (
           subst (λ o. IfSome o (λ refusal. refusal ≢ NoMemory → refusal ≢ StoreFault → refusal ≡ NumbersSpent)) (sym is) tt,
           next mid
-              (subst (IsSound texts) (sym accepts.becomes)
-              (sound_entered texts m b.message new_one.0 accepts.change accepts.at sound accepts.reads accepts.allowed accepts.makes (holds.each b (inl refl)).is_message))
-              (subst (λ c. Holds c bookings) (sym accepts.becomes) (accepted texts m b bookings sound holds accepts.at new_one.0 accepts.change accepts.reads accepts.makes)) more,
+              (subst (IsWellFormed texts) (sym accepts.becomes)
+              (well_formed_entered texts m b.message new_one.0 accepts.change accepts.at well_formed accepts.reads accepts.allowed accepts.makes (holds.each b (inl refl)).is_message))
+              (subst (λ c. Holds c bookings) (sym accepts.becomes) (accepted texts m b bookings well_formed holds accepts.at new_one.0 accepts.change accepts.reads accepts.makes)) more,
         )
     by next (Some r) is none = (
       subst (λ o. IfSome o (λ refusal. refusal ≢ NoMemory → refusal ≢ StoreFault → refusal ≡ NumbersSpent)) (sym is)
-          (λ memory store. refused texts m b bookings sound holds r none.0 memory store),
-      next m sound (others texts m b bookings sound holds) (subst (λ c. Run texts c (sent_by bookings) answers new) none.1 more),
+          (λ memory store. refused texts m b bookings well_formed holds r none.0 memory store),
+      next m well_formed (others texts m b bookings well_formed holds) (subst (λ c. Run texts c (sent_by bookings) answers new) none.1 more),
     )
 
-pub stand_together : (texts : Texts) (m new : Content) (bookings : List Booking) (answers : List Reply) → IsSound texts m → AreBookable m bookings
+pub stand_together : (texts : Texts) (m new : Content) (bookings : List Booking) (answers : List Reply) → IsWellFormed texts m → AreBookable m bookings
     → Run texts m (sent_by bookings) answers new → All OnlySpent answers
-stand_together texts m new bookings answers sound are run =
-    All-from_recursion OnlySpent answers (only_spent texts m new bookings answers sound (record {
+stand_together texts m new bookings answers well_formed are run =
+    All-from_recursion OnlySpent answers (only_spent texts m new bookings answers well_formed (record {
       each = λ b i. all_in (IsBookable m) bookings are.each b i;
       parts = pairs_in (λ (a b : Booking). a.part ≢ b.part) bookings are.parts;
-      pairs = pairs_in (λ (a b : Booking). pair_of a.message ≢ pair_of b.message) bookings are.pairs;
+      message_ids = pairs_in (λ (a b : Booking). message_id_of a.message ≢ message_id_of b.message) bookings are.message_ids;
       left = are.left;
     }) run)

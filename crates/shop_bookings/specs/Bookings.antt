@@ -9,7 +9,7 @@ use Rattle.shop_records.specs.declared.messages.Message.{Message}
 use Rattle.shop_records.specs.declared.messages.Reply.{Reply}
 use Rattle.shop_records.specs.declared.refusals.Refusal.TheVariants.{NumbersSpent, NoMemory, StoreFault}
 use Rattle.shop_records.specs.Content.{Content, kept_at, demand_at}
-use Rattle.shop_records.specs.Messages.{IsMessage, refusal_in, pair_of}
+use Rattle.shop_records.specs.Messages.{IsMessage, refusal_in, message_id_of}
 use Rattle.shop_machine.specs.Recounts.{plan_leaves}
 use Rattle.shop_machine.specs.Reserving.{IsReading, leaves_refusal}
 
@@ -25,7 +25,7 @@ pub record Booking : Type 0 where
 pub record IsBookable (content : Content) (booking : Booking) : Type 0 where
   pub is_message : IsMessage booking.message
   pub command : booking.message.command ≡ Reserve booking.part booking.text
-  pub unkept : kept_at content (pair_of booking.message) ≡ None
+  pub unkept : kept_at content (message_id_of booking.message) ≡ None
   pub reading : IsReading content booking.part booking.text booking.plan
   pub some_piece : 1 ≤ length (plan_leaves booking.plan)
   pub taken : leaves_refusal (demand_at content) reading.row.material (plan_leaves booking.plan) ≡ None
@@ -34,11 +34,11 @@ pub record IsBookable (content : Content) (booking : Booking) : Type 0 where
 abbrev pub booked : ℕ → List Booking → ℕ
 booked number bookings = sum_by (λ (b : Booking). count_of b.plan.tree number) bookings
 
--- Of different parts and pairs, and with no more pieces of a demand than are left of it.
+-- Of different parts and message IDs, and with no more pieces of a demand than are left of it.
 pub record AreBookable (content : Content) (bookings : List Booking) : Type 0 where
   pub each : All (IsBookable content) bookings
   pub parts : AllPairs (λ a b. a.part ≢ b.part) bookings
-  pub pairs : AllPairs (λ a b. pair_of a.message ≢ pair_of b.message) bookings
+  pub message_ids : AllPairs (λ a b. message_id_of a.message ≢ message_id_of b.message) bookings
   pub left : (number : ℕ) (demand : Demand) → demand_at content number ≡ Some demand
       → demand.reserved + demand.made + booked number bookings ≤ demand.wanted
 

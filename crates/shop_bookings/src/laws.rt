@@ -5,7 +5,7 @@ ghost use Rattle.shop_records.specs.declared.messages.Message.{Message};
 ghost use Rattle.shop_records.specs.declared.messages.Reply.{Reply};
 ghost use Rattle.shop_records.specs.Content.{Content};
 ghost use Rattle.shop_records.specs.Messages.{Texts};
-ghost use Rattle.shop_records.specs.Soundness.{IsSound};
+ghost use Rattle.shop_records.specs.WellFormed.{IsWellFormed};
 ghost use Rattle.shop_machine.specs.Machine.{Run};
 ghost use Rattle.shop_plans.specs.declared.answers.PlansReply.{PlansReply};
 ghost use Rattle.shop_plans.specs.declared.queries.PlansQuery.{PlansQuery};
@@ -20,7 +20,7 @@ ghost use Rattle.shop_bookings.specs.Reported.{AreBookedBy};
 /// which numbers are spent.
 pub fn bookings_stand_together()
     ensures { (texts : Texts) (old new : Content) (bookings : List Booking) (answers : List Reply)
-        → IsSound texts old → AreBookable old bookings
+        → IsWellFormed texts old → AreBookable old bookings
         → Run texts old (sent_by bookings) answers new → All OnlySpent answers }
 {}
 
@@ -29,7 +29,7 @@ pub fn bookings_stand_together()
 pub fn reported_plans_are_reserved()
     ensures { (texts : Texts) (old new : Content) (q : PlansQuery) (instance : InstanceOfQuery)
         (reply : PlansReply) (messages : List Message) (answers : List Reply)
-        → IsSound texts old → IsInstance old q instance → IsPlansReply instance reply
+        → IsWellFormed texts old → IsInstance old q instance → IsPlansReply instance reply
         → AreBookedBy old reply messages → Run texts old messages answers new
         → All OnlySpent answers }
 {}

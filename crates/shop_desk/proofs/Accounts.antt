@@ -3,10 +3,10 @@ use Rattle.std.proofs.Common.{◌≡◌, List, [], ◌∷◌, ◌++◌, map, ref
 use Rattle.std.specs.Prelude.{not, ◌&&◌, if◌then◌else◌}
 use Rattle.shop_records.specs.declared.messages.Message.{Message}
 use Rattle.shop_records.specs.declared.messages.Reply.{Reply}
-use Rattle.shop_records.specs.Messages.{Texts, IsMessage, is_accepted, pair_of}
+use Rattle.shop_records.specs.Messages.{Texts, IsMessage, is_accepted, message_id_of}
 use Rattle.shop_records.specs.Content.{Content}
 use Rattle.shop_machine.specs.Machine.{Step}
-use Rattle.shop_machine.specs.History.{IsAccountOf, messages_of, history_after, has_pair}
+use Rattle.shop_machine.specs.History.{IsAccountOf, messages_of, history_after, has_message_id}
 use Rattle.shop_machine.proofs.Runs.{gives_step}
 use Rattle.shop_machine.proofs.Owners.{account_of}
 use Rattle.shop_desk.specs.Handled.{HasAccount}
@@ -25,7 +25,7 @@ module _ (texts : Texts) where
   history_more : (history : List Message) (es fs : List (Message × Reply))
       → history_after history (map (λ e. e.0) (es ++ fs)) (map (λ e. e.1) (es ++ fs)) ≡ history_after (history_after history (map (λ e. e.0) es) (map (λ e. e.1) es)) (map (λ e. e.0) fs) (map (λ e. e.1) fs)
   history_more history [] fs = refl
-  history_more history (e ∷ es) fs = history_more (if is_accepted e.1 && not (has_pair (pair_of e.0) history) then e.0 ∷ history else history) es fs
+  history_more history (e ∷ es) fs = history_more (if is_accepted e.1 && not (has_message_id (message_id_of e.0) history) then e.0 ∷ history else history) es fs
 
   pub account_more : (old mid next : Content) (es fs : List (Message × Reply)) → HasAccount texts old (map (λ e. e.0) es) (map (λ e. e.1) es) mid → HasAccount texts mid (map (λ e. e.0) fs) (map (λ e. e.1) fs) next
       → HasAccount texts old (map (λ e. e.0) (es ++ fs)) (map (λ e. e.1) (es ++ fs)) next

@@ -8,8 +8,8 @@ use Rattle.shop_records.specs.declared.messages.Reply.{Reply}
 use Rattle.shop_records.specs.Messages.{Texts}
 use Rattle.shop_records.specs.declared.journal.Entry.{Entry}
 use Rattle.shop_records.specs.declared.texts.Kept.{Kept}
-use Rattle.shop_records.specs.Content.{Content, entry_count, fresh, pair_cmp}
-use Rattle.shop_records.specs.Soundness.{IsSound}
+use Rattle.shop_records.specs.Content.{Content, entry_count, fresh, message_id_cmp}
+use Rattle.shop_records.specs.WellFormed.{IsWellFormed}
 use Rattle.shop_machine.specs.Machine.{Run, Step}
 use Rattle.shop_machine.proofs.Newest.{all_of_it, one_each_after}
 use Rattle.shop_machine.proofs.Runs.{AreMessages, gives_after}
@@ -28,7 +28,7 @@ account_after texts old new messages answers are run history given =
 -- ---- entries of all messages that are kept
 
 fresh_entries : (m : Content) → m ≡ fresh → HasAllEntries m
-fresh_entries m same = ap (λ (c : Content). len c.kept) same ∙ len-empty pair_cmp Kept ∙ sym (len-empty nat_cmp Entry) ∙ sym (ap (λ (c : Content). entry_count c) same)
+fresh_entries m same = ap (λ (c : Content). len c.kept) same ∙ len-empty message_id_cmp Kept ∙ sym (len-empty nat_cmp Entry) ∙ sym (ap (λ (c : Content). entry_count c) same)
 
 -- a fresh content has none, as it keeps no message
 all_entries : (m : Content) → (m ≡ fresh) ⊎ HasAllEntries m → HasAllEntries m
@@ -39,10 +39,10 @@ entries_are : (texts : Texts) (m : Content) → HasEntries texts m m
 entries_are texts m first = let all = all_entries m first in (all, λ history given. all_of_it texts history m given all)
 
 -- a step, and what comes after it
-entries_step : (texts : Texts) (old mid next : Content) (message : Message) (answer : Reply) → IsSound texts old → Step texts old message answer mid → HasEntries texts mid next → HasEntries texts old next
-entries_step texts old mid next message answer sound step more first =
+entries_step : (texts : Texts) (old mid next : Content) (message : Message) (answer : Reply) → IsWellFormed texts old → Step texts old message answer mid → HasEntries texts mid next → HasEntries texts old next
+entries_step texts old mid next message answer well_formed step more first =
     let all : len old.kept ≡ entry_count old = all_entries old first in
-    let each = one_each_after texts old mid message answer sound step in
+    let each = one_each_after texts old mid message answer well_formed step in
     let after : len mid.kept ≡ entry_count mid = omega (arith, all, each) in
     more (inr after)
 
@@ -94,38 +94,38 @@ module _ {B : Type 0} (texts : Texts) (book : Ghosts B) where
 
   -- a content that the first book held was run through the machine
   pub handled_run : (before after : B) (messages : List Message) (answers : List Reply) → AreHandled texts book before messages answers after → book.has_clean_disk after
-      → (m : Content) → book.holds before m → IsSound texts m → HasRun texts book before after m messages answers
-  handled_run before after [] [] same clean_disk m held sound =
+      → (m : Content) → book.holds before m → IsWellFormed texts m → HasRun texts book before after m messages answers
+  handled_run before after [] [] same clean_disk m held well_formed =
       record {
         next = m;
         run = refl;
         held = subst (λ b. book.holds b m) (sym same) held;
-        sound = sound;
+        well_formed = well_formed;
         crash = (refl, λ left it. subst (λ b. book.may_leave b left) same it);
         store_fault_justified = λ none. absurd none;
         account = account_after texts m m [] [] tt refl;
         entries = entries_are texts m;
       }
-  handled_run before after [] (r ∷ rs) handled clean_disk m held sound = absurd handled
-  handled_run before after (message ∷ ms) [] handled clean_disk m held sound = absurd handled
-  handled_run before after (message ∷ ms) (answer ∷ rs) handled clean_disk m held sound =
+  handled_run before after [] (r ∷ rs) handled clean_disk m held well_formed = absurd handled
+  handled_run before after (message ∷ ms) [] handled clean_disk m held well_formed = absurd handled
+  handled_run before after (message ∷ ms) (answer ∷ rs) handled clean_disk m held well_formed =
       let mid = handled.0 in
       let at_mid = handled_clean_disk mid after ms rs handled.2 clean_disk in
-      let one = handled.1.step at_mid m held sound in
-      let more = handled_run mid after ms rs handled.2 clean_disk one.next one.held one.sound in
+      let one = handled.1.step at_mid m held well_formed in
+      let more = handled_run mid after ms rs handled.2 clean_disk one.next one.held one.well_formed in
       let run : Run texts m (message ∷ ms) (answer ∷ rs) more.next = (one.next, one.step, more.run) in
       record {
         next = more.next;
         run = run;
         held = more.held;
-        sound = more.sound;
+        well_formed = more.well_formed;
         crash = (
           one.next,
           one.step,
           leads_grow texts book.stands (CrashStatesAfter texts book.stands (book.may_leave before) m message answer one.next) (book.may_leave mid) (book.may_leave after) one.crash one.next more.next ms rs more.crash,
         );
         store_fault_justified = report_more (book.failed before) (book.failed mid) (book.failed after) (answer ∷ []) rs (up_answer (book.failed before) (book.failed mid) answer handled.1.failures) (handled_up mid after ms rs handled.2)
-            (report_one (book.failed before) (book.failed mid) answer (handled.1.store_fault at_mid m held sound)) more.store_fault_justified;
+            (report_one (book.failed before) (book.failed mid) answer (handled.1.store_fault at_mid m held well_formed)) more.store_fault_justified;
         account = account_after texts m more.next (message ∷ ms) (answer ∷ rs) (are_messages before after (message ∷ ms) (answer ∷ rs) handled) run;
-        entries = entries_step texts m one.next more.next message answer sound one.step more.entries;
+        entries = entries_step texts m one.next more.next message answer well_formed one.step more.entries;
       }

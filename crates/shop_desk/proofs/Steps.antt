@@ -15,13 +15,13 @@ use Rattle.shop_records.specs.declared.refusals.Refusal.{Refusal}
 use Rattle.shop_records.specs.declared.refusals.Refusal.TheVariants.{NoMemory, StoreFault, NumberReused}
 use Rattle.shop_records.specs.declared.messages.Reply.{Reply}
 use Rattle.shop_records.specs.declared.messages.Reply.TheVariants.{Refused}
-use Rattle.shop_records.specs.Messages.{Texts, IsMessage, IsMade, refusal_in, is_accepted, pair_of}
+use Rattle.shop_records.specs.Messages.{Texts, IsMessage, IsMade, refusal_in, is_accepted, message_id_of}
 use Rattle.shop_records.specs.Readings.{Reading}
 use Rattle.shop_records.specs.Content.{Content, entry_count, kept_at, last_time, changed}
 use Rattle.shop_machine.specs.Machine.{Accepts, AcceptsAt, Reads, Makes, Refuses, StepNew, StepNewAt, StepAgain, StepAt, entering, refusal_of, keeping_at}
 use Rattle.shop_records.specs.Keeping.{KeepsReply}
-use Rattle.shop_records.specs.Soundness.{IsSound, Fits}
-use Rattle.shop_machine.proofs.Sound.{reports_accepted, sound_entered, fits_entered, agrees}
+use Rattle.shop_records.specs.WellFormed.{IsWellFormed, Fits}
+use Rattle.shop_machine.proofs.StaysWellFormed.{reports_accepted, well_formed_entered, fits_entered, agrees}
 use Rattle.shop_machine.proofs.Timeless.{untimed}
 use Rattle.shop_desk.specs.Faults.{CountsRefusal, CountsReply, StoreFailed}
 use Rattle.shop_desk.specs.Decided.{JustifiesStoreFault, Contradicts, CountsOrDisagrees}
@@ -63,17 +63,17 @@ commit_justified T before mid after fault.WrongVersion refusal same counts is re
 pub counted_after : (before mid after : ℕ) (refusal : Refusal) → mid ≡ before → CountsRefusal refusal mid after → CountsRefusal refusal before after
 counted_after before mid after refusal same counts = subst (λ n. CountsRefusal refusal n after) same counts
 
--- on a sound content a decision blames the store only where it failed
-pub justified : (texts : Texts) (m : Content) (message : Message) (before after : ℕ) (refusal : Refusal) → IsSound texts m
+-- on a well-formed content a decision blames the store only where it failed
+pub justified : (texts : Texts) (m : Content) (message : Message) (before after : ℕ) (refusal : Refusal) → IsWellFormed texts m
     → JustifiesStoreFault texts m message.command before (Err refusal) after → Refused refusal ≡ Refused StoreFault → StoreFailed before after
-justified texts m message before after refusal sound justifies is = by (justifies (same refusal is))
+justified texts m message before after refusal well_formed justifies is = by (justifies (same refusal is))
   where
     same : (refusal : Refusal) → Refused refusal ≡ Refused StoreFault → refusal ≡ StoreFault
     same refusal e = cc
 
     by : StoreFailed before after ⊎ Contradicts texts m message.command → StoreFailed before after
     by (inl failed) = failed
-    by (inr rows) = absurd (agrees texts m message rows.0 sound rows.1 rows.2)
+    by (inr rows) = absurd (agrees texts m message rows.0 well_formed rows.1 rows.2)
 
 module _ (texts : Texts) where
   -- a reply that an accepted message can get reports no refusal
@@ -105,12 +105,12 @@ module _ (texts : Texts) where
       by (Some refusal) step = step
 
   -- a step of a message that isn't kept
-  pub step_new : (at : ℕ) (old : Content) (message : Message) (answer : Reply) (new : Content) → kept_at old (pair_of message) ≡ None → StepNewAt texts at old message answer new → StepAt texts at old message answer new
+  pub step_new : (at : ℕ) (old : Content) (message : Message) (answer : Reply) (new : Content) → kept_at old (message_id_of message) ≡ None → StepNewAt texts at old message answer new → StepAt texts at old message answer new
   step_new at old message answer new none step =
       subst (λ o. MatchOption o (StepNewAt texts at old message answer new) (λ row. StepAgain texts row message answer × (new ≡ old))) (sym none) step
 
   -- a step of one that is
-  pub step_again : (at : ℕ) (old : Content) (message : Message) (answer : Reply) (row : Kept) → kept_at old (pair_of message) ≡ Some row → StepAgain texts row message answer → StepAt texts at old message answer old
+  pub step_again : (at : ℕ) (old : Content) (message : Message) (answer : Reply) (row : Kept) → kept_at old (message_id_of message) ≡ Some row → StepAgain texts row message answer → StepAt texts at old message answer old
   step_again at old message answer row some step =
       subst (λ o. MatchOption o (StepNewAt texts at old message answer old) (λ row. StepAgain texts row message answer × (old ≡ old))) (sym some) (step, refl)
 
@@ -134,7 +134,7 @@ module _ (texts : Texts) where
   to_commit message made text reported answer = record made {
     begun = option_map (λ (row : JobBegin). record row { terminal = message.terminal }) made.begun;
     import = option_map (λ (row : ImportRow). record row { reply = reported }) made.import;
-    kept = Some (record { pair = pair_of message; kept = record { command = text; reply = reported } });
+    kept = Some (record { message_id = message_id_of message; kept = record { command = text; reply = reported } });
     reply = answer;
   }
 
@@ -172,10 +172,10 @@ module _ (texts : Texts) where
       })
 
   pub fits_committed : (at : ℕ) (m : Content) (message : Message) (read : Reading) (made : Change) (text reported : List ℕ) (answer : Reply) → reported ≡ texts.of_reply made.reply
-      → kept_at m (pair_of message) ≡ None → IsSound texts m → Reads texts m message.command read → refusal_of m message.command read ≡ None → Makes m message.command read made
+      → kept_at m (message_id_of message) ≡ None → IsWellFormed texts m → Reads texts m message.command read → refusal_of m message.command read ≡ None → Makes m message.command read made
       → Fits m (to_commit_at at m message made text reported answer)
-  fits_committed at m message read made text reported answer is none sound reads allowed makes =
-      fits_kept at m message made text reported answer is (fits_entered texts m message read made at sound reads allowed makes none)
+  fits_committed at m message read made text reported answer is none well_formed reads allowed makes =
+      fits_kept at m message made text reported answer is (fits_entered texts m message read made at well_formed reads allowed makes none)
 
   -- and makes of the content what the change that keeps the message makes of it
   pub row_committed : (at : ℕ) (m : Content) (message : Message) (made : Change) (text reported : List ℕ) (answer : Reply) → text ≡ texts.of_message message → reported ≡ texts.of_reply made.reply
@@ -189,7 +189,7 @@ module _ (texts : Texts) where
     left_made before old message answer next left made it =
         subst (λ (o : Option Refusal). MatchOption o (stands left next) (λ refusal. before left ⊎ ((other : Reply) × (made : Content) × StepNew texts old message other made × stands left made))) (sym (none_made answer made)) it
 
-    left_new : (before : Left → Type 0) (old : Content) (message : Message) (answer : Reply) (next : Content) (left : Left) → kept_at old (pair_of message) ≡ None
+    left_new : (before : Left → Type 0) (old : Content) (message : Message) (answer : Reply) (next : Content) (left : Left) → kept_at old (message_id_of message) ≡ None
         → CrashStatesAfterNew texts stands before old message answer next left → CrashStatesAfter texts stands before old message answer next left
     left_new before old message answer next left none it =
         subst (λ o. MatchOption o (CrashStatesAfterNew texts stands before old message answer next left) (λ (row : Kept). before left)) (sym none) it
@@ -219,35 +219,35 @@ module _ (texts : Texts) where
     -- what may be left grows with what could be left before
     pub left_more : (before mid : Left → Type 0) → ((left : Left) → mid left → before left)
         → (old : Content) (message : Message) (answer : Reply) (next : Content) (left : Left) → CrashStatesAfter texts stands mid old message answer next left → CrashStatesAfter texts stands before old message answer next left
-    left_more before mid grows old message answer next left it = more_by before mid grows old message answer next left (kept_at old (pair_of message)) it
+    left_more before mid grows old message answer next left it = more_by before mid grows old message answer next left (kept_at old (message_id_of message)) it
 
     -- a step with a time
     handled_at : (at : ℕ) (before after : Left → Type 0) (holds : Content → Type 0) (m : Content) (message : Message) (answer : Reply) (next : Content) → StepAt texts at m message answer next
-        → holds next → IsSound texts next → ((left : Left) → after left → CrashStatesAfter texts stands before m message answer next left) → IsHandledAt texts stands at before after holds m message answer
-    handled_at at before after holds m message answer next step held sound crash =
-        record { handled = record { next = next; step = untimed texts at m next message answer step; held = held; sound = sound; crash = crash }; timed = step }
+        → holds next → IsWellFormed texts next → ((left : Left) → after left → CrashStatesAfter texts stands before m message answer next left) → IsHandledAt texts stands at before after holds m message answer
+    handled_at at before after holds m message answer next step held well_formed crash =
+        record { handled = record { next = next; step = untimed texts at m next message answer step; held = held; well_formed = well_formed; crash = crash }; timed = step }
 
     -- refused because memory ran out or by a failed store
     pub faulted : (at : ℕ) (before after : Left → Type 0) (holds : Content → Type 0) (m : Content) (message : Message) (refusal : Refusal) → ((refusal ≢ NoMemory) → (refusal ≢ StoreFault) → ⊥)
-        → IsSound texts m → holds m → ((left : Left) → after left → before left) → IsHandledAt texts stands at before after holds m message (Refused refusal)
-    faulted at before after holds m message refusal fault sound held crash =
-        handled_at at before after holds m message (Refused refusal) m (fault_step at m message refusal (kept_at m (pair_of message)) fault) held sound
-        (λ left it. left_refused before m message refusal m left (kept_at m (pair_of message)) (crash left it))
+        → IsWellFormed texts m → holds m → ((left : Left) → after left → before left) → IsHandledAt texts stands at before after holds m message (Refused refusal)
+    faulted at before after holds m message refusal fault well_formed held crash =
+        handled_at at before after holds m message (Refused refusal) m (fault_step at m message refusal (kept_at m (message_id_of message)) fault) held well_formed
+        (λ left it. left_refused before m message refusal m left (kept_at m (message_id_of message)) (crash left it))
 
     -- decided against
     pub decided : (at : ℕ) (before after : Left → Type 0) (holds : Content → Type 0) (m : Content) (message : Message) (refusal : Refusal)
-        → Refuses texts m message.command refusal → kept_at m (pair_of message) ≡ None
-        → IsSound texts m → holds m → ((left : Left) → after left → before left) → IsHandledAt texts stands at before after holds m message (Refused refusal)
-    decided at before after holds m message refusal refused none sound held crash =
-        handled_at at before after holds m message (Refused refusal) m (step_new at m message (Refused refusal) m none (refused, refl)) held sound
-        (λ left it. left_refused before m message refusal m left (kept_at m (pair_of message)) (crash left it))
+        → Refuses texts m message.command refusal → kept_at m (message_id_of message) ≡ None
+        → IsWellFormed texts m → holds m → ((left : Left) → after left → before left) → IsHandledAt texts stands at before after holds m message (Refused refusal)
+    decided at before after holds m message refusal refused none well_formed held crash =
+        handled_at at before after holds m message (Refused refusal) m (step_new at m message (Refused refusal) m none (refused, refl)) held well_formed
+        (λ left it. left_refused before m message refusal m left (kept_at m (message_id_of message)) (crash left it))
 
     -- answered again
     pub repeated : (at : ℕ) (before after : Left → Type 0) (holds : Content → Type 0) (m : Content) (message : Message) (answer : Reply) (row : Kept)
-        → kept_at m (pair_of message) ≡ Some row → StepAgain texts row message answer
-        → IsSound texts m → holds m → ((left : Left) → after left → before left) → IsHandledAt texts stands at before after holds m message answer
-    repeated at before after holds m message answer row some step sound held crash =
-        handled_at at before after holds m message answer m (step_again at m message answer row some step) held sound
+        → kept_at m (message_id_of message) ≡ Some row → StepAgain texts row message answer
+        → IsWellFormed texts m → holds m → ((left : Left) → after left → before left) → IsHandledAt texts stands at before after holds m message answer
+    repeated at before after holds m message answer row some step well_formed held crash =
+        handled_at at before after holds m message answer m (step_again at m message answer row some step) held well_formed
         (λ left it. subst (λ o. MatchOption o (CrashStatesAfterNew texts stands before m message answer m left) (λ (row : Kept). before left)) (sym some) (crash left it))
 
     -- handled after a reading
@@ -260,20 +260,20 @@ module _ (texts : Texts) where
             next = one.next;
             step = one.step;
             held = one.held;
-            sound = one.sound;
+            well_formed = one.well_formed;
             crash = λ left it. left_more before mid grows m message answer one.next left (one.crash left it);
           };
           timed = is.timed;
         }
 
     module _ (at : ℕ) (before mid after : Left → Type 0) (holds : Content → Type 0) (m : Content) (message : Message) (read : Reading) (change made : Change) (is_message : IsMessage message)
-        (none : kept_at m (pair_of message) ≡ None) (sound : IsSound texts m) (reads : Reads texts m message.command read) (allowed : refusal_of m message.command read ≡ None) (makes : Makes m message.command read made)
+        (none : kept_at m (message_id_of message) ≡ None) (well_formed : IsWellFormed texts m) (reads : Reads texts m message.command read) (allowed : refusal_of m message.command read ≡ None) (makes : Makes m message.command read made)
         (row : changed m change ≡ changed m (keeping_at texts at m message made)) where
       abbrev next : Content
       next = changed m (keeping_at texts at m message made)
 
       is_made : IsMade made.reply
-      is_made = reports_accepted texts m message read made sound reads allowed makes is_message
+      is_made = reports_accepted texts m message read made well_formed reads allowed makes is_message
 
       abbrev accepted : Accepts texts m message read made.reply next
       accepted = record { reads = reads; allowed = allowed; change = made; makes = makes; answered = refl; at = at; becomes = refl }
@@ -285,14 +285,14 @@ module _ (texts : Texts) where
       pub committed : holds (changed m change) → ((left : Left) → after left → stands left (changed m change)) → IsHandledAt texts stands at before after holds m message made.reply
       committed held lasts =
           handled_at at before after holds m message made.reply next (step_new at m message made.reply next none made_step) (subst holds row held)
-          (sound_entered texts m message read made at sound reads allowed makes is_message)
+          (well_formed_entered texts m message read made at well_formed reads allowed makes is_message)
           (λ left it. left_new before m message made.reply next left none (left_made before m message made.reply next left is_made (subst (stands left) row (lasts left it))))
 
       -- the commit failed
       pub failed : (refusal : Refusal) → ((refusal ≢ NoMemory) → (refusal ≢ StoreFault) → ⊥) → holds m → ((left : Left) → mid left → before left)
           → ((left : Left) → after left → mid left ⊎ stands left (changed m change)) → IsHandledAt texts stands at before after holds m message (Refused refusal)
       failed refusal fault held crash_first crash =
-          handled_at at before after holds m message (Refused refusal) m (step_new at m message (Refused refusal) m none (λ n s. absurd (fault n s), refl)) held sound
+          handled_at at before after holds m message (Refused refusal) m (step_new at m message (Refused refusal) m none (λ n s. absurd (fault n s), refl)) held well_formed
           (λ left it. left_new before m message (Refused refusal) m left none (elim (crash left it) [
             | inl was ↦ inl (crash_first left was)
             | inr new ↦ inr (made.reply, next, new_untimed at m message made.reply next made_step, subst (stands left) row new)

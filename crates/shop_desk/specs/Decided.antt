@@ -13,7 +13,7 @@ use Rattle.shop_records.specs.declared.refusals.Refusal.TheVariants.{StoreFault}
 use Rattle.shop_records.specs.Messages.{Texts}
 use Rattle.shop_records.specs.Readings.{Reading}
 use Rattle.shop_records.specs.Content.{Content, material_at, job_at, demand_at, part_of_job, material_of, totals_of, totals_for, halt_at, parts_named}
-use Rattle.shop_records.specs.Soundness.{IsSound}
+use Rattle.shop_records.specs.WellFormed.{IsWellFormed}
 use Rattle.shop_machine.specs.Recounts.{AreDemandsFound}
 use Rattle.shop_machine.specs.Machine.{Reads, refusal_of, Makes, Refuses}
 use Rattle.shop_book.specs.declared.books.Book.{Ghosts}
@@ -40,10 +40,10 @@ pub record IsJudged (texts : Texts) (m : Content) (command : Command) (before : 
   pub decision : IsDecided texts m command result
   pub store_fault_justified : JustifiesStoreFault texts m command before result after
 
--- what is decided on a command over a book, for each sound content that it held
+-- what is decided on a command over a book, for each well-formed content that it held
 abbrev pub Judges : {B : Type 0} → Ghosts B → Texts → Command → B → Result Change Refusal → B → Type 0
 Judges book texts command old result new =
-    OnContent book old new (λ m. IsSound texts m → IsJudged texts m command (book.failed old) result (book.failed new))
+    OnContent book old new (λ m. IsWellFormed texts m → IsJudged texts m command (book.failed old) result (book.failed new))
 
 -- the failures that a decision goes with: where rows contradict each other the store didn't fail, and none is counted
 abbrev pub CountsOrDisagrees : Result Change Refusal → ℕ → ℕ → Type 0

@@ -5,11 +5,11 @@ use Rattle.shop_records.specs.declared.messages.Message.{Message}
 use Rattle.shop_records.specs.declared.messages.Reply.{Reply}
 use Rattle.shop_records.specs.declared.messages.Reply.TheVariants.{Refused}
 use Rattle.shop_records.specs.declared.refusals.Refusal.TheVariants.{StoreFault}
-use Rattle.shop_records.specs.Messages.{Texts, IsMessage, refusal_in, pair_of}
+use Rattle.shop_records.specs.Messages.{Texts, IsMessage, refusal_in, message_id_of}
 use Rattle.shop_records.specs.Content.{Content, entry_count, fresh, kept_at}
 use Rattle.shop_machine.specs.Machine.{StepNew, Step, StepAt, Run}
-use Rattle.shop_machine.specs.History.{Entry, entered_pairs, messages_of, pairs_of, Gives, IsAccountOf, history_after}
-use Rattle.shop_records.specs.Soundness.{IsSound}
+use Rattle.shop_machine.specs.History.{Entry, entered_message_ids, messages_of, message_ids_of, Gives, IsAccountOf, history_after}
+use Rattle.shop_records.specs.WellFormed.{IsWellFormed}
 use Rattle.shop_book.specs.declared.books.Book.{Ghosts}
 use Rattle.shop_book.specs.Kept.{OnContent}
 use Rattle.shop_desk.specs.Faults.{StoreFailed, ReportOfFailures, CountsOrContradicts}
@@ -26,14 +26,14 @@ module _ (texts : Texts) {Left : Type 0} (stands : Left → Content → Type 0) 
   -- after a message that was kept, what could be left before
   abbrev pub CrashStatesAfter : (Left → Type 0) → Content → Message → Reply → Content → Left → Type 0
   CrashStatesAfter before old message answer next left =
-      MatchOption (kept_at old (pair_of message)) (CrashStatesAfterNew before old message answer next left) (λ row. before left)
+      MatchOption (kept_at old (message_id_of message)) (CrashStatesAfterNew before old message answer next left) (λ row. before left)
 
   -- The book held old and holds next, a step of the machine later.
   pub record IsHandled (before after : Left → Type 0) (holds : Content → Type 0) (old : Content) (message : Message) (answer : Reply) : Type 0 where
     pub next : Content
     pub step : Step texts old message answer next
     pub held : holds next
-    pub sound : IsSound texts next
+    pub well_formed : IsWellFormed texts next
     pub crash : (left : Left) → after left → CrashStatesAfter before old message answer next left
 
   -- the same of a message that was given this time
@@ -49,22 +49,22 @@ module _ (texts : Texts) {Left : Type 0} (stands : Left → Content → Type 0) 
   Leads before old [] (answer ∷ answers) new after = ⊥
   Leads before old (message ∷ messages) [] new after = ⊥
 
--- each sound content that a book with a clean disk held led to one a step of the machine later, which it holds
+-- each well-formed content that a book with a clean disk held led to one a step of the machine later, which it holds
 abbrev pub Handles : {B : Type 0} → Texts → Ghosts B → B → B → Message → Reply → Type 0
 Handles texts book before after message answer =
-    OnContent book before after (λ m. IsSound texts m
+    OnContent book before after (λ m. IsWellFormed texts m
     → IsHandled texts book.stands (book.may_leave before) (book.may_leave after) (book.holds after) m message answer)
 
 -- the same of a message that was given this time
 abbrev pub HandlesAt : {B : Type 0} → Texts → (at : ℕ) → Ghosts B → B → B → Message → Reply → Type 0
 HandlesAt texts at book before after message answer =
-    OnContent book before after (λ m. IsSound texts m
+    OnContent book before after (λ m. IsWellFormed texts m
     → IsHandledAt texts book.stands at (book.may_leave before) (book.may_leave after) (book.holds after) m message answer)
 
 -- over such a content a failed store is reported only where it failed
 abbrev pub JustifiesStoreFault : {B : Type 0} → Texts → Ghosts B → B → B → Reply → Type 0
 JustifiesStoreFault texts book before after answer =
-    OnContent book before after (λ m. IsSound texts m → answer ≡ Refused StoreFault → StoreFailed (book.failed before) (book.failed after))
+    OnContent book before after (λ m. IsWellFormed texts m → answer ≡ Refused StoreFault → StoreFailed (book.failed before) (book.failed after))
 
 -- a refusal leaves each content that a book with a clean disk held, whether a history gives it or not
 abbrev pub RefusalKeeps : {B : Type 0} → Ghosts B → B → B → Reply → Type 0
@@ -110,11 +110,11 @@ abbrev pub HasAllEntries : Content → Type 0
 HasAllEntries content = len content.kept ≡ entry_count content
 
 -- Where old is fresh, or has an entry for each message that is kept, next has one too, and of each history that gives next the
--- pairs of its messages, the newest first, are those of its entries.
+-- message IDs of its messages, the newest first, are those of its entries.
 abbrev pub HasEntries : Texts → (old next : Content) → Type 0
 HasEntries texts old next =
     ((old ≡ fresh) ⊎ HasAllEntries old)
-    → HasAllEntries next × ((history : List Entry) → Gives texts history next → pairs_of history ≡ entered_pairs next)
+    → HasAllEntries next × ((history : List Entry) → Gives texts history next → message_ids_of history ≡ entered_message_ids next)
 
 -- The book held old and holds next, a run of the machine later, with its account and its entries, and reports a failed store
 -- only where it failed.
@@ -122,7 +122,7 @@ pub record HasRun {B : Type 0} (texts : Texts) (book : Ghosts B) (before after :
   pub next : Content
   pub run : Run texts old messages answers next
   pub held : book.holds after next
-  pub sound : IsSound texts next
+  pub well_formed : IsWellFormed texts next
   pub crash : Leads texts book.stands (book.may_leave before) old messages answers next (book.may_leave after)
   pub store_fault_justified : ReportOfFailures answers (book.failed before) (book.failed after)
   pub account : HasAccount texts old messages answers next

@@ -474,7 +474,7 @@ pub fn keeping_message(
     message: KeptMessage,
 ) -> Result<(Change, Reply), AllocError>
     ensures change { IfOk result (λ kept. kept.0 ≡ record change {
-      begun = option_map (λ (r : JobBeginOf). record r { terminal = message.pair.terminal }) change.begun;
+      begun = option_map (λ (r : JobBeginOf). record r { terminal = message.message_id.terminal }) change.begun;
       import = option_map (λ (r : ImportRowOf). record r { reply = message.kept.reply })
           change.import;
       kept = Some message;
@@ -503,7 +503,7 @@ pub fn keeping_message(
         reply,
     } = change;
     let import = response(alloc, import, &message.kept.reply)?;
-    let begun = begun_by(begun, message.pair.terminal);
+    let begun = begun_by(begun, message.message_id.terminal);
     let kept = Change {
         material,
         parts,

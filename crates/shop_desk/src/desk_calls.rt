@@ -3,11 +3,11 @@
 ghost use Rattle.std.specs.Prelude.{◌≡◌, ◌≢◌, ◌⊎◌, IfErr, IfOk, IfSome, OnErr, None, true, false};
 ghost use Rattle.shop_records.specs.Content.{Content, demand_at, entry_count, kept_at, last_time, material_at, material_of, part_at, parts_of, rack_rows};
 ghost use Rattle.shop_answers.specs.Planning.{AreAsked};
-ghost use Rattle.shop_records.specs.Messages.{IsMessage, pair_of};
+ghost use Rattle.shop_records.specs.Messages.{IsMessage, message_id_of};
 ghost use Rattle.shop_machine.specs.Machine.{StepAgain, entering};
 ghost use Rattle.shop_answers.specs.Queries.{Answers};
-ghost use Rattle.shop_records.specs.Soundness.{IsSound, IsKept};
-ghost use Rattle.shop_records.specs.declared.texts.Pair.{Pair as PairOf};
+ghost use Rattle.shop_records.specs.WellFormed.{IsWellFormed, IsKept};
+ghost use Rattle.shop_records.specs.declared.texts.MessageId.{MessageId as MessageIdOf};
 ghost use Rattle.shop_records.specs.declared.messages.Message.{Message as MessageOf};
 ghost use Rattle.shop_records.specs.declared.messages.Query.TheVariants.{Totals, Rack, Trace, Demand, Plan, Bound};
 ghost use Rattle.shop_records.specs.declared.messages.Reply.TheVariants.{Refused, Rack as RackParts};
@@ -28,8 +28,9 @@ use crate::racks::RackTaker;
 use cut_measure::PartName;
 use shop_book::{Book, BookFault};
 use shop_rules::{
-    Change, Code, FoundList, Kept, KeptMessage, Material, Message, Pair, Part, Query, RackList,
-    Refusal, Reply, Text, answer_bound, answer_plan, enter, kept_reply, message_text, reply_text,
+    Change, Code, FoundList, Kept, KeptMessage, Material, Message, MessageId, Part, Query,
+    RackList, Refusal, Reply, Text, answer_bound, answer_plan, enter, kept_reply, message_text,
+    reply_text,
 };
 use std::alloc::{AllocError, Global};
 
@@ -41,10 +42,10 @@ fn is_same(a: &Text, b: &Text) -> bool
     a.as_str() == b.as_str()
 }
 
-// What is answered to a message whose pair is kept. The text is the message's.
+// What is answered to a message whose ID is kept. The text is the message's.
 fn answer_again(alloc: Global, text: &Text, kept: &Kept) -> Reply
-    ensures { (message : MessageOf) → text.now ≡ json_texts.of_message message → (pair : PairOf)
-        → IsKept json_texts pair kept.now
+    ensures { (message : MessageOf) → text.now ≡ json_texts.of_message message → (message_id : MessageIdOf)
+        → IsKept json_texts message_id kept.now
         → StepAgain json_texts kept.now message result × (result ≢ Refused StoreFault) }
 {
     if !is_same(&kept.command, text) {
@@ -90,7 +91,7 @@ fn entered<B: Book>(
     }
 }
 
-// Handles a message whose pair isn't kept. The text is the message's.
+// Handles a message whose ID isn't kept. The text is the message's.
 fn handle_new<B: Book>(
     alloc: Global,
     book: &mut B,
@@ -100,7 +101,7 @@ fn handle_new<B: Book>(
 ) -> (Reply, Option<Text>)
     ensures step { text ≡ json_texts.of_message message.now → IsMessage message.now
         → B.has_clean_disk book.new → (m : Content) → B.holds book.old m
-        → IsSound json_texts m → kept_at m (pair_of message.now) ≡ None
+        → IsWellFormed json_texts m → kept_at m (message_id_of message.now) ≡ None
         → IsHandledAt json_texts B.stands at (B.may_leave book.old) (B.may_leave book.new)
         (B.holds book.new) m message.now result.0 }
     ensures refused { RefusalKeeps B.Book book.old book.new result.0 }
@@ -108,7 +109,7 @@ fn handle_new<B: Book>(
     ensures clean_disk { B.has_clean_disk book.new → B.has_clean_disk book.old }
     ensures failures { CountsOrContradicts result.0 (B.failed book.old) (B.failed book.new) }
     ensures store_fault { IsMessage message.now → B.has_clean_disk book.new → (m : Content)
-        → B.holds book.old m → IsSound json_texts m
+        → B.holds book.old m → IsWellFormed json_texts m
         → result.0 ≡ Refused StoreFault → StoreFailed (B.failed book.old) (B.failed book.new) }
 {
     let change = match decide(alloc, book, &message.command) {
@@ -119,7 +120,7 @@ fn handle_new<B: Book>(
         return (Reply::Refused(Refusal::NoMemory), None);
     };
     let copy = reported.copy(alloc).ok();
-    let pair = Pair {
+    let message_id = MessageId {
         terminal: message.terminal,
         number: message.number,
     };
@@ -127,7 +128,8 @@ fn handle_new<B: Book>(
         command: text,
         reply: reported,
     };
-    let Ok((change, reply)) = keeping_message(alloc, change, KeptMessage { pair, kept }) else {
+    let Ok((change, reply)) = keeping_message(alloc, change, KeptMessage { message_id, kept })
+    else {
         return (Reply::Refused(Refusal::NoMemory), None);
     };
     let change = match entered(book, message, at, change) {
@@ -166,7 +168,7 @@ fn handle_message<B: Book>(
 }
 
 /// Handles a message that was given this time, in seconds since 1970-01-01 00:00 UTC, or 0 without a time: one step of the
-/// machine. A message whose pair is kept gets the kept reply, or 11 where it is another command; one that is accepted is
+/// machine. A message whose ID is kept gets the kept reply, or 11 where it is another command; one that is accepted is
 /// kept with its reply, and its entry is written, with the time, or the last entry's where that is greater. Beside the
 /// reply its text, where it was written to be kept and there was memory for a copy.
 pub fn handle_with_text_at<B: Book>(
@@ -200,7 +202,7 @@ pub fn handle_at<B: Book>(alloc: Global, book: &mut B, message: &Message, at: u6
     handle_with_text_at(alloc, book, message, at).0
 }
 
-/// Handles a message without a time: one step of the machine. A message whose pair is kept gets the kept reply, or 11 where
+/// Handles a message without a time: one step of the machine. A message whose ID is kept gets the kept reply, or 11 where
 /// it is another command; one that is accepted is kept with its reply. Beside the reply its text, where it was written to be
 /// kept and there was memory for a copy.
 pub fn handle_with_text<B: Book>(
@@ -474,7 +476,7 @@ pub fn run_at<B: Book>(
     at: u64,
 ) -> Result<Vec<Reply>, AllocError>
     ensures run { OnContent B.Book book.old book.new
-        (λ m. IsSound json_texts m
+        (λ m. IsWellFormed json_texts m
         → IfOk result (λ replies.
         HasRun json_texts B.Book book.old book.new m messages.now replies.items)) }
     ensures handled { IfOk result (λ replies.
@@ -502,7 +504,7 @@ pub fn run<B: Book>(
     messages: &[Message],
 ) -> Result<Vec<Reply>, AllocError>
     ensures run { OnContent B.Book book.old book.new
-        (λ m. IsSound json_texts m
+        (λ m. IsWellFormed json_texts m
         → IfOk result (λ replies.
         HasRun json_texts B.Book book.old book.new m messages.now replies.items)) }
     ensures handled { IfOk result

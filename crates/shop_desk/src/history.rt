@@ -17,8 +17,8 @@ ghost use Rattle.shop_desk.specs.ReportedEntries.{ShowsOrHides, Reports, Reports
 use cut_measure::{Code, PartName};
 use shop_book::{Book, BookFault};
 use shop_rules::{
-    Entry, EntryList, EntryRows, Kept, MAX_LISTED, Pair, Refusal, Reply, ReportedEntry, Subject,
-    bytes_with, is_full,
+    Entry, EntryList, EntryRows, Kept, MAX_LISTED, MessageId, Refusal, Reply, ReportedEntry,
+    Subject, bytes_with, is_full,
 };
 use std::alloc::{AllocError, Global};
 
@@ -91,14 +91,14 @@ fn reported_entry<B: Book>(
 {
     let Entry {
         number,
-        pair,
+        message_id,
         at,
         ..
     } = entry;
-    let Pair {
+    let MessageId {
         terminal,
         number: sent,
-    } = pair;
+    } = message_id;
     match book.kept(alloc, *terminal, *sent)? {
         Some(Kept { command, reply }) => Ok(Some(ReportedEntry {
             at: *at,

@@ -13,7 +13,7 @@ ghost use Rattle.shop_records.specs.declared.messages.Reply.{Reply as ReplyOf};
 ghost use Rattle.shop_records.specs.Messages.{IsMade, is_accepted};
 ghost use Rattle.shop_records.specs.Content.{Content, import_at};
 ghost use Rattle.shop_machine.specs.Importing.{IsRepeat};
-ghost use Rattle.shop_records.specs.Soundness.{IsSound};
+ghost use Rattle.shop_records.specs.WellFormed.{IsWellFormed};
 ghost use Rattle.shop_forms.specs.Forms.{json_texts};
 ghost use Rattle.shop_book.specs.Failures.{CountsFailure};
 ghost use Rattle.shop_book.specs.Kept.{Unchanged, OnContent};
@@ -159,7 +159,7 @@ fn accepted(reported: Option<Reply>) -> Option<Reply>
 // Imports once more what a kept row was imported from.
 fn import_again(alloc: Global, row: &ImportRow) -> Result<Change, Refusal>
     ensures decision { (m : Content) → (order : List ℕ) → (form : FormOf) → (text : List ℕ)
-        → (before after : ℕ) → IsSound json_texts m
+        → (before after : ℕ) → IsWellFormed json_texts m
         → import_at m order ≡ Some row.now → IsRepeat form text row.now
         → IsJudged json_texts m (Import order form text) before result after }
     ensures reported { IfOk result (λ change. IsTrue (is_accepted change.reply)) }
@@ -199,7 +199,7 @@ fn import_known<B: Book>(
     text: &Text,
 ) -> Result<Change, Refusal>
     ensures decision { OnContent B.Book book.old book.new
-        (λ m. IsSound json_texts m → import_at m order ≡ Some row.now
+        (λ m. IsWellFormed json_texts m → import_at m order ≡ Some row.now
         → IsJudged json_texts m (Import order form.now text.now) (B.failed book.old) result
         (B.failed book.new)) }
     ensures keeps { Unchanged B.Book (CountsOrDisagrees result) book.old book.new }

@@ -17,10 +17,10 @@ use Rattle.shop_records.specs.declared.records.Column.{Column}
 use Rattle.shop_records.specs.declared.records.Column.TheVariants.{Received, Stock, Rack, Pieces, Kerf, Scrap, Returned}
 use Rattle.shop_records.specs.declared.messages.Message.{Message}
 use Rattle.shop_records.specs.declared.refusals.Refusal.TheVariants.{BadMaterial, MaterialExists}
-use Rattle.shop_records.specs.Messages.{Texts, pair_of, IsMade}
+use Rattle.shop_records.specs.Messages.{Texts, message_id_of, IsMade}
 use Rattle.shop_records.specs.Content.{Content, material_at, part_at, kept_at, changed, cells_in, totals_of, no_totals}
 use Rattle.shop_records.specs.Columns.{is_counted}
-use Rattle.shop_records.specs.Soundness.{IsKnown, Fits, with_totals, IsSound}
+use Rattle.shop_records.specs.WellFormed.{IsKnown, Fits, with_totals, IsWellFormed}
 use Rattle.shop_records.specs.declared.changes.Change.{Change}
 use Rattle.shop_records.specs.Same.{same_kind}
 use Rattle.shop_machine.specs.Adding.{material_refusal, material_change, is_other, same_rule}
@@ -31,7 +31,7 @@ use Rattle.shop_records.proofs.Puts.{found_one, still_there, equal, not_both, so
 use Rattle.shop_machine.proofs.AddedUp.{cells_as}
 use Rattle.shop_machine.proofs.Tallied.{same_totals}
 use Rattle.shop_machine.proofs.Allowed.{none_of}
-use Rattle.shop_machine.proofs.Grown.{IsStock, Grows, placed_more, job_more, demand_more, no_pairs, same_stock, nothing_fits}
+use Rattle.shop_machine.proofs.Grown.{IsStock, Grows, placed_more, job_more, demand_more, no_message_ids, same_stock, nothing_fits}
 use Rattle.shop_machine.proofs.Agreeing.{NoFault, nothing, other}
 use Rattle.shop_machine.proofs.Accounts.{Follows, row_later}
 use Rattle.shop_machine.proofs.Steps.{After}
@@ -89,15 +89,15 @@ module _ (texts : Texts) (message : Message) (m : Content) (code : List ℕ) (ki
           ∙ sym (ap (λ b. if b then no_totals else totals_of m c) e)
       by false e = sym (ap (λ b. if b then no_totals else totals_of m c) e)
 
-  pub material_fits : IsStock m → (known : Option Material) → material_at m code ≡ known → kept_at m (pair_of message) ≡ None
+  pub material_fits : IsStock m → (known : Option Material) → material_at m code ≡ known → kept_at m (message_id_of message) ≡ None
       → Fits m (keeping texts message (material_change known code kind rule))
   material_fits stock None is new = record {
     material = is;
     parts = All-nil _;
-    rising = no_pairs (λ (a b : Part). name_cmp a.name b.name ≡ Less);
+    rising = no_message_ids (λ (a b : Part). name_cmp a.name b.name ≡ Less);
     moved = tt;
     undone = All-nil _;
-    apart = no_pairs (λ (a b : Part). name_cmp a.name b.name ≡ Less);
+    apart = no_message_ids (λ (a b : Part). name_cmp a.name b.name ≡ Less);
     halt = tt;
     begun = tt;
     extended = tt;
@@ -106,7 +106,7 @@ module _ (texts : Texts) (message : Message) (m : Content) (code : List ℕ) (ki
     order = tt;
     demands = All-nil _;
     wanted = All-nil _;
-    once = no_pairs (λ (a b : Demand). a.number ≡ b.number → ⊥);
+    once = no_message_ids (λ (a b : Demand). a.number ≡ b.number → ⊥);
     lines = tt;
     totals = refl;
     sums = none_yet stock is;
@@ -147,9 +147,9 @@ known_rule m kind rule e =
     let same = not-false (same_kind m.kind kind && same_rule m.limits rule) known.0 in
     same_rules m.limits rule (and_parts (same_kind m.kind kind) (same_rule m.limits rule) same).1
 
-module _ (texts : Texts) (message : Message) (earlier : List Effect) (old : Content) (sound : IsSound texts old) (f : Follows earlier old) where
+module _ (texts : Texts) (message : Message) (earlier : List Effect) (old : Content) (well_formed : IsWellFormed texts old) (f : Follows earlier old) where
   abbrev Next : Effect → Change → Type 0
-  Next = After texts message earlier old sound f
+  Next = After texts message earlier old well_formed f
 
   module _ (material : List ℕ) (kind : Kind) (kerf min_long min_short : ℕ) where
     abbrev rule : Rule

@@ -1,4 +1,4 @@
--- Rows of a sound content never contradict each other.
+-- Rows of a well-formed content never contradict each other.
 use Rattle.std.proofs.Common.{◌≡◌, Bool, true, false}
 use Rattle.std.specs.Prelude.{Option, Some, None, not, if◌then◌else◌}
 use Rattle.std.specs.Option.{option_or}

@@ -12,10 +12,10 @@ use Rattle.shop_records.specs.declared.records.Part.{Part}
 use Rattle.shop_records.specs.declared.records.Demand.{Demand}
 use Rattle.shop_records.specs.declared.messages.Message.{Message}
 use Rattle.shop_records.specs.declared.refusals.Refusal.TheVariants.{BadLine, TooMany}
-use Rattle.shop_records.specs.Messages.{Texts, pair_of}
+use Rattle.shop_records.specs.Messages.{Texts, message_id_of}
 use Rattle.shop_records.specs.Content.{Content, material_at, demand_at, kept_at, changed}
 use Rattle.shop_records.specs.Elements.{IsIn}
-use Rattle.shop_records.specs.Soundness.{IsDemand, IsMovedDemand, Fits, IsSound}
+use Rattle.shop_records.specs.WellFormed.{IsDemand, IsMovedDemand, Fits, IsWellFormed}
 use Rattle.shop_records.specs.declared.changes.Change.{Change}
 use Rattle.shop_records.specs.declared.messages.Command.TheVariants.{Amend}
 use Rattle.shop_records.specs.Readings.{Reading}
@@ -26,7 +26,7 @@ use Rattle.shop_records.proofs.Basics.{nat_cases, get_same, get_other}
 use Rattle.shop_records.proofs.Puts.{all_from, pairs_from, found_one, is_known}
 use Rattle.shop_machine.proofs.Agreeing.{NoFault, nothing, other}
 use Rattle.shop_machine.proofs.Allowed.{none_of}
-use Rattle.shop_machine.proofs.Grown.{IsStock, Grows, placed_more, job_more, demand_more, different_more, no_pairs}
+use Rattle.shop_machine.proofs.Grown.{IsStock, Grows, placed_more, job_more, demand_more, different_more, no_message_ids}
 use Rattle.shop_machine.proofs.OrderedLines.{lines_amended, line_amended}
 use Rattle.shop_machine.proofs.Accounts.{Follows, row_later}
 use Rattle.shop_machine.proofs.Steps.{After, AfterAll}
@@ -106,14 +106,14 @@ module _ (m : Content) (stock : IsStock m) (number : ℕ) (row : Demand) (found 
   put_row P is x (inl e) = subst P (sym e) is
   put_row P is x (inr none) = absurd none
 
-  pub amend_fits : kept_at m (pair_of message) ≡ None → Fits m (keeping texts message (amend_change row wanted))
+  pub amend_fits : kept_at m (message_id_of message) ≡ None → Fits m (keeping texts message (amend_change row wanted))
   amend_fits new = record {
     material = tt;
     parts = All-nil _;
-    rising = no_pairs (λ (a b : Part). name_cmp a.name b.name ≡ Less);
+    rising = no_message_ids (λ (a b : Part). name_cmp a.name b.name ≡ Less);
     moved = tt;
     undone = All-nil _;
-    apart = no_pairs (λ (a b : Part). name_cmp a.name b.name ≡ Less);
+    apart = no_message_ids (λ (a b : Part). name_cmp a.name b.name ≡ Less);
     halt = tt;
     begun = tt;
     extended = tt;
@@ -136,9 +136,9 @@ module _ (m : Content) (stock : IsStock m) (number : ℕ) (row : Demand) (found 
 
 -- ---- what is done to cells
 
-module _ (texts : Texts) (message : Message) (earlier : List Effect) (old : Content) (sound : IsSound texts old) (f : Follows earlier old) where
+module _ (texts : Texts) (message : Message) (earlier : List Effect) (old : Content) (well_formed : IsWellFormed texts old) (f : Follows earlier old) where
   by_amendment : (row : Demand) (wanted : ℕ) → demand_at old row.number ≡ Some row
-      → After texts message earlier old sound f (Amends row.number wanted) (amend_change row wanted)
+      → After texts message earlier old well_formed f (Amends row.number wanted) (amend_change row wanted)
   by_amendment row wanted found = record {
     acts = (let e : old.last_act ≡ acts_of earlier = f.acts in omega arith);
     numbers = f.numbers ∙ sym (lines_amended row.number wanted (ordered_lines earlier));
@@ -152,9 +152,9 @@ module _ (texts : Texts) (message : Message) (earlier : List Effect) (old : Cont
   }
 
   pub amends : (demand wanted : ℕ) (read : Reading) (change : Change) (row : Demand) → demand_at old demand ≡ Some row → change ≡ amend_change row wanted
-      → AfterAll texts message earlier old sound f (effects (Amend demand wanted) read) change
+      → AfterAll texts message earlier old well_formed f (effects (Amend demand wanted) read) change
   amends demand wanted read change row found is =
-      let same : row.number ≡ demand = (sound.demands demand row found).numbered in
-      subst (λ n. AfterAll texts message earlier old sound f (effects (Amend n wanted) read) change) same
-      (subst (AfterAll texts message earlier old sound f (effects (Amend row.number wanted) read)) (sym is)
+      let same : row.number ≡ demand = (well_formed.demands demand row found).numbered in
+      subst (λ n. AfterAll texts message earlier old well_formed f (effects (Amend n wanted) read) change) same
+      (subst (AfterAll texts message earlier old well_formed f (effects (Amend row.number wanted) read)) (sym is)
       (by_amendment row wanted (ap (demand_at old) same ∙ found)))

@@ -19,7 +19,7 @@ use Rattle.shop_records.specs.Same.{same_name}
 use Rattle.shop_records.specs.Columns.{is_whole, is_there, is_piece, is_kerf, is_scrap, is_returned, is_counted}
 use Rattle.shop_records.specs.Messages.{Texts}
 use Rattle.shop_records.specs.Content.{Content, cells_in}
-use Rattle.shop_records.specs.Soundness.{IsSound}
+use Rattle.shop_records.specs.WellFormed.{IsWellFormed}
 use Rattle.shop_machine.specs.Machine.{Effect, Receives}
 use Rattle.shop_machine.specs.History.{acts_of, ReceivedUnit, units_in, units_of, Owner, owner_of, is_gone, standing_as, IsOwner, OneOwner, counts_cell, cells_of_column, TotalsAreCounts}
 use Rattle.shop_records.specs.Elements.{IsIn}
@@ -303,7 +303,7 @@ and_yes : (a b : Bool) → b ≡ true → a && b ≡ a
 and_yes true b e = e
 and_yes false b e = refl
 
-module _ (texts : Texts) (effects : List Effect) (content : Content) (sound : IsSound texts content) (s : Follows effects content) where
+module _ (texts : Texts) (effects : List Effect) (content : Content) (well_formed : IsWellFormed texts content) (s : Follows effects content) where
   has_unit : (v : Part) → IsIn v (values content.parts) → HasUnit (units_of effects) v
   has_unit = each_value content.parts (HasUnit (units_of effects)) (λ k v g.
       let r : IsRow effects v = s.rows k v g in
@@ -317,7 +317,7 @@ module _ (texts : Texts) (effects : List Effect) (content : Content) (sound : Is
       (λ k r g other. mark_out (is_counted c r && same_name r.root u.name) r.x r.y r.size.w r.size.h x y (λ t left right top bottom.
       let root : r.root ≡ u.name = same_is r.root u.name (and_parts (is_counted c r) (same_name r.root u.name) t).1 in
       let same : r ≡ p = o.alone k r g (record { root = root; whole = by.uncut r (and_parts (is_counted c r) (same_name r.root u.name) t).0; right = left; left = right; below = top; above = bottom }) in
-      other (sym (sound.parts k r g).named ∙ ap (λ (v : Part). v.name) same)))
+      other (sym (well_formed.parts k r g).named ∙ ap (λ (v : Part). v.name) same)))
       ∙ mark_in (is_counted c p && same_name p.root u.name) p.x p.y p.size.w p.size.h x y o.holds.right o.holds.left o.holds.below o.holds.above
       ∙ ap bit (and_yes (is_counted c p) (same_name p.root u.name) (same_yes p.root u.name o.holds.root) ∙ by.as_owner u.name x y o.owner p o.holds.root o.same ∙ ap (counts_cell c u.name) (sym o.owned))
 
@@ -327,12 +327,12 @@ module _ (texts : Texts) (effects : List Effect) (content : Content) (sound : Is
       let whole : IsWhole content.parts u = s.wholes u i in
       let p : Part = whole.row in
       let px : p.x ≡ 0 = whole.x in let py : p.y ≡ 0 = whole.y in let pw : p.size.w ≡ u.size.w = ap (λ (e : Extent). e.w) whole.size in let ph : p.size.h ≡ u.size.h = ap (λ (e : Extent). e.h) whole.size in
-      let name : p.name ≡ u.name = (sound.parts u.name p whole.kept).named in
+      let name : p.name ≡ u.name = (well_formed.parts u.name p whole.kept).named in
       sum_values-one content.parts (λ v. mark (is_whole v && same_name v.root u.name) v x y) u.name p whole.kept
       (λ k r g other. mark_out (is_whole r && same_name r.root u.name) r.x r.y r.size.w r.size.h x y (λ t left right top bottom.
       let root : r.root ≡ u.name = same_is r.root u.name (and_parts (is_whole r) (same_name r.root u.name) t).1 in
       let own : r.name ≡ r.root = same_is r.name r.root (and_parts (is_whole r) (same_name r.root u.name) t).0 in
-      other (sym (sound.parts k r g).named ∙ own ∙ root)))
+      other (sym (well_formed.parts k r g).named ∙ own ∙ root)))
       ∙ mark_in (is_whole p && same_name p.root u.name) p.x p.y p.size.w p.size.h x y (omega arith) (omega arith) (omega arith) (omega arith)
       ∙ ap bit (and_yes (is_whole p) (same_name p.root u.name) (same_yes p.root u.name whole.root) ∙ same_yes p.name p.root (name ∙ sym whole.root))
 

@@ -29,7 +29,7 @@ use Rattle.shop_records.specs.Columns.{is_waiting, state_of}
 use Rattle.shop_records.specs.Content.{Content, material_at, part_at, job_at, in_state, demand_at, with_parts, totals_of}
 use Rattle.shop_machine.specs.Ending.{release_change, row_part, ended_state, end_change, IsEnd, IsDone, IsBroken, IsRelease, end_refusal, IsWork}
 use Rattle.shop_machine.specs.Recounts.{AreRecounted, with_freed, with_laid, pieces_in}
-use Rattle.shop_records.specs.Soundness.{IsSound, IsWaiting}
+use Rattle.shop_records.specs.WellFormed.{IsWellFormed, IsWaiting}
 use Rattle.shop_machine.specs.Machine.{Effect, nothing, Ends, effects}
 use Rattle.shop_machine.specs.History.{ReceivedUnit, acts_of, ordered_lines, material_rule, owner_of, owner_before, is_gone, HasCellOf, IsOwner, standing_as, HasOwner, unit_material, Reservation, Owner, stands_as, owner_at, cut_owner, OneOwner}
 use Rattle.shop_records.specs.Elements.{IsIn}
@@ -44,7 +44,7 @@ use Rattle.shop_machine.proofs.Inside.{row_inside}
 use Rattle.shop_machine.proofs.EndingStep.{job_waits, no_wait}
 use Rattle.shop_machine.proofs.Steps.{After, AfterAll, named, job_restated, rows_restated, cut_restated, whole_restated, still_over}
 
-module _ (texts : Texts) (message : Message) (earlier : List Effect) (old : Content) (sound : IsSound texts old) (f : Follows earlier old)
+module _ (texts : Texts) (message : Message) (earlier : List Effect) (old : Content) (well_formed : IsWellFormed texts old) (f : Follows earlier old)
     (j : Job) (row : Part) (material : Material) (found : job_at old j.act ≡ Some j) (waits : IsWaiting old j) (waits_now : is_waiting j.state ≡ true) (kept : part_at old j.part ≡ Some row) (known : material_at old row.material ≡ Some material) (outcome : ℕ → Outcome)
   where
     same_row : waits.on.row ≡ row
@@ -57,7 +57,7 @@ module _ (texts : Texts) (message : Message) (earlier : List Effect) (old : Cont
     reserved = ap (λ (q : Part). q.state) (sym same_row) ∙ waits.reserved
 
     row_named : row.name ≡ j.part
-    row_named = named texts message earlier old sound f j.part row kept
+    row_named = named texts message earlier old well_formed f j.part row kept
 
     pub kept_row : part_at old row.name ≡ Some row
     kept_row = ap (get old.parts) row_named ∙ kept
@@ -96,7 +96,7 @@ module _ (texts : Texts) (message : Message) (earlier : List Effect) (old : Cont
       new_parts = with_parts (map (row_part row material.limits j.act) laid) (insert old.parts row.name (in_state (Cut j.act) row))
 
       all_named : Named old.parts
-      all_named = named texts message earlier old sound f
+      all_named = named texts message earlier old well_formed f
 
       cases : (n : Name) (q : Part) → get new_parts n ≡ Some q
           → ((r : Row) × IsIn r laid × (q ≡ row_part row material.limits j.act r) × (q.name ≡ n)) ⊎ (((n ≡ row.name) × (q ≡ in_state (Cut j.act) row)) ⊎ ((n ≡ row.name → ⊥) × (get old.parts n ≡ Some q)))
@@ -197,7 +197,7 @@ module _ (texts : Texts) (message : Message) (earlier : List Effect) (old : Cont
 
       few_laid : (d : ℕ) → pieces_in d laid ≤ count_of j.plan.tree d
       few_laid d =
-          let plan = (sound.jobs j.act j found).plan in
+          let plan = (well_formed.jobs j.act j found).plan in
           let wide : j.plan.w ≡ row.size.w = waits.on.width ∙ ap (λ (q : Part). q.size.w) same_row in
           let high : j.plan.h ≡ row.size.h = waits.on.height ∙ ap (λ (q : Part). q.size.h) same_row in
           let kerf : j.plan.kerf ≡ material.limits.kerf = waits.on.kerf ∙ ap (λ (m : Material). m.limits.kerf) same_material in
@@ -206,15 +206,15 @@ module _ (texts : Texts) (message : Message) (earlier : List Effect) (old : Cont
           (subst (λ w. IsLaid j.plan.tree w row.size.h material.limits.kerf outcome laid) (sym wide) is_laid)) in
           laid_few j.plan.tree j.plan.w j.plan.h j.plan.kerf outcome laid d plan.shaped plan.some_width plan.some_height in_plan
 
-      pub by_end : (stop : Stop) (t : Totals) → AreRecounted (demand_at old) (with_laid laid) j.plan.tree rows → After texts message earlier old sound f done (end_change stop j row material.limits t laid rows)
+      pub by_end : (stop : Stop) (t : Totals) → AreRecounted (demand_at old) (with_laid laid) j.plan.tree rows → After texts message earlier old well_formed f done (end_change stop j row material.limits t laid rows)
       by_end stop t recounted = record {
         acts = (let e : old.last_act ≡ acts_of earlier = f.acts in omega arith);
         numbers = f.numbers;
         lines = lines_recounted (ordered_lines earlier) old.demands (with_laid laid) j.plan.tree rows recounted
-            (no_laid old.demands j.plan.tree laid few_laid (λ number d is. (sound.demands number d is).numbered)) (λ n d. refl) f.lines;
+            (no_laid old.demands j.plan.tree laid few_laid (λ number d is. (well_formed.demands number d is).numbered)) (λ n d. refl) f.lines;
         rules = f.rules;
         rows = rows_after;
-        jobs = job_restated texts message earlier old sound f j (ended_state stop) found;
+        jobs = job_restated texts message earlier old well_formed f j (ended_state stop) found;
         wholes = λ unit i. whole_after unit (f.wholes unit i);
         cells = λ unit i x y across down. cell_after unit.name x y (f.cells unit i x y across down);
         over = λ n q job k is. elim (cases n q k) [
@@ -227,16 +227,16 @@ module _ (texts : Texts) (message : Message) (earlier : List Effect) (old : Cont
                   found = ap (get (insert old.jobs j.act (record j { state = ended_state stop }))) (sym own) ∙ get_same nat_cmp_total nat_cmp-IsAntisymmetric old.jobs j.act (record j { state = ended_state stop });
                   over = no_wait stop;
                 })
-            | inr c ↦ still_over texts message earlier old sound f j (ended_state stop) (no_wait stop) job (f.over n q job c.1 is)
+            | inr c ↦ still_over texts message earlier old well_formed f j (ended_state stop) (no_wait stop) job (f.over n q job c.1 is)
           ]
         ];
       }
 
 -- ---- each end
 
-module _ (texts : Texts) (message : Message) (earlier : List Effect) (old : Content) (sound : IsSound texts old) (f : Follows earlier old) where
+module _ (texts : Texts) (message : Message) (earlier : List Effect) (old : Content) (well_formed : IsWellFormed texts old) (f : Follows earlier old) where
   abbrev Next : Effect → Change → Type 0
-  Next = After texts message earlier old sound f
+  Next = After texts message earlier old well_formed f
 
   pub by_release : (j : Job) (row : Part) (rows : List Demand) → AreRecounted (demand_at old) with_freed j.plan.tree rows → job_at old j.act ≡ Some j → part_at old row.name ≡ Some row → row.state ≡ Reserved j.act
       → Next nothing (release_change j row rows)
@@ -245,25 +245,25 @@ module _ (texts : Texts) (message : Message) (earlier : List Effect) (old : Cont
     numbers = f.numbers;
     lines = lines_recounted (ordered_lines earlier) old.demands with_freed j.plan.tree rows recounted (no_freed old.demands j.plan.tree) (λ n d. refl) f.lines;
     rules = f.rules;
-    rows = rows_restated texts message earlier old sound f row Standing refl kept nothing (λ p job x y is. refl);
-    jobs = job_restated texts message earlier old sound f j job_state.Released found;
-    wholes = λ unit i. whole_restated texts message earlier old sound f row Standing refl kept unit (f.wholes unit i);
+    rows = rows_restated texts message earlier old well_formed f row Standing refl kept nothing (λ p job x y is. refl);
+    jobs = job_restated texts message earlier old well_formed f j job_state.Released found;
+    wholes = λ unit i. whole_restated texts message earlier old well_formed f row Standing refl kept unit (f.wholes unit i);
     cells = λ unit i x y across down.
-        restated old.parts (named texts message earlier old sound f) row.name row kept (ap is_gone reserved) Standing refl (ap standing_as (sym reserved)) (owner_of earlier unit.name x y) unit.name x y
+        restated old.parts (named texts message earlier old well_formed f) row.name row kept (ap is_gone reserved) Standing refl (ap standing_as (sym reserved)) (owner_of earlier unit.name x y) unit.name x y
         (f.cells unit i x y across down);
     over = λ n q job k cut.
-        still_over texts message earlier old sound f j job_state.Released refl job
-        (f.over n q job (cut_restated texts message earlier old sound f row Standing refl kept n q job k cut) cut);
+        still_over texts message earlier old well_formed f j job_state.Released refl job
+        (f.over n q job (cut_restated texts message earlier old well_formed f row Standing refl kept n q job k cut) cut);
   }
 
   abbrev Then : Command → Reading → Change → Type 0
-  Then command read change = AfterAll texts message earlier old sound f (effects command read) change
+  Then command read change = AfterAll texts message earlier old well_formed f (effects command read) change
 
   waiting : (stop : Stop) (number : ℕ) (j : Job) → job_at old number ≡ Some j → end_refusal old stop (job_at old number) ≡ None → IsWaiting old j
-  waiting stop number j found allowed = (sound.jobs number j found).waits (job_waits old stop number j found allowed)
+  waiting stop number j found allowed = (well_formed.jobs number j found).waits (job_waits old stop number j found allowed)
 
   numbered : (number : ℕ) (j : Job) → job_at old number ≡ Some j → j.act ≡ number
-  numbered number j found = (sound.jobs number j found).numbered
+  numbered number j found = (well_formed.jobs number j found).numbered
 
   ended : (stop : Stop) (number : ℕ) (change : Change) (j : Job) (part : Part) (material : Material) → end_refusal old stop (job_at old number) ≡ None
       → IsWork old number j part material → IsEnd stop j part material.limits (totals_of old part.material) (demand_at old) change → Next (Ends number (outcome_of stop)) change
@@ -274,8 +274,8 @@ module _ (texts : Texts) (message : Message) (earlier : List Effect) (old : Cont
       let found : job_at old j.act ≡ Some j = ap (job_at old) is ∙ work.found in
       subst (λ n. Next (Ends n (outcome_of stop)) change) is
       (subst (Next (Ends j.act (outcome_of stop))) (sym made.is)
-      (by_end texts message earlier old sound f j part material found waits now work.on work.of (outcome_of stop) made.rows made.laid
-      (on_part texts message earlier old sound f j part material found waits now work.on work.of (outcome_of stop) made.laid made.is_laid)
+      (by_end texts message earlier old well_formed f j part material found waits now work.on work.of (outcome_of stop) made.rows made.laid
+      (on_part texts message earlier old well_formed f j part material found waits now work.on work.of (outcome_of stop) made.laid made.is_laid)
       stop (totals_of old part.material) made.recounted))
 
   pub ends : (number : ℕ) (read : Reading) (change : Change) (j : Job) (part : Part) (material : Material) → end_refusal old stop.All (job_at old number) ≡ None
@@ -296,5 +296,5 @@ module _ (texts : Texts) (message : Message) (earlier : List Effect) (old : Cont
       subst (λ n. Then (Release n) read change) is
       (subst (Then (Release j.act) read) (sym made.is)
       (by_release j part made.rows made.recounted found
-      (kept_row texts message earlier old sound f j part material found waits now work.on work.of (outcome_of stop.All))
-      (reserved texts message earlier old sound f j part material found waits now work.on work.of (outcome_of stop.All))))
+      (kept_row texts message earlier old well_formed f j part material found waits now work.on work.of (outcome_of stop.All))
+      (reserved texts message earlier old well_formed f j part material found waits now work.on work.of (outcome_of stop.All))))

@@ -42,7 +42,7 @@ use Rattle.shop_records.specs.declared.messages.Reply.TheVariants as reply
 use Rattle.shop_records.specs.declared.refusals.Refusal.TheVariants.{JobOver, BadCut, StoreFault}
 use Rattle.shop_records.specs.declared.records.Column.{Column}
 use Rattle.shop_records.specs.declared.records.Column.TheVariants as column
-use Rattle.shop_records.specs.Messages.{Texts, pair_of, IsMade, IsNumber, IsWide}
+use Rattle.shop_records.specs.Messages.{Texts, message_id_of, IsMade, IsNumber, IsWide}
 use Rattle.shop_records.specs.Same.{same_name}
 use Rattle.shop_records.specs.Columns.{is_there, is_piece_for, is_waiting, state_of, is_reserved_for, is_counted}
 use Rattle.shop_records.specs.Content.{Content, part_at, job_at, halt_at, with_halt, demand_at, kept_at, changed, in_state, material_of, part_of_job, totals_of, totals_for}
@@ -51,7 +51,7 @@ use Rattle.shop_machine.specs.Ending.{IsWork, state_after_cut, row_part, ended_s
 use Rattle.shop_machine.specs.Moving.{cells_counted, tally, has_cells, moved_totals}
 use Rattle.shop_machine.specs.Machine.{keeping}
 use Rattle.shop_records.specs.Elements.{IsIn}
-use Rattle.shop_records.specs.Soundness.{IsPlaced, IsWaiting, IsJob, IsHalted, IsCounted, IsMovedJob, Fits, reserved_in}
+use Rattle.shop_records.specs.WellFormed.{IsPlaced, IsWaiting, IsJob, IsHalted, IsCounted, IsMovedJob, Fits, reserved_in}
 use Rattle.shop_records.proofs.Basics.{in_map, same_some, map_in, earlier_node, none_at, get_same}
 use Rattle.shop_machine.proofs.Inside.{row_inside}
 use Rattle.shop_records.proofs.Puts.{pairs_in, pairs_more, map_pairs, in_counted, sum_map, sum_as, sum_none, is_known, sum_over, some_known, found_one}
@@ -243,7 +243,7 @@ module _ (m : Content) (stock : IsStock m) (number : ℕ) (j : Job) (part : Part
       (λ number kept is. halts_kept m released refl number kept (stock.halts number kept is))
       released_counts
 
-  pub release_fits : kept_at m (pair_of message) ≡ None → Fits m (keeping texts message (release_change j part rows))
+  pub release_fits : kept_at m (message_id_of message) ≡ None → Fits m (keeping texts message (release_change j part rows))
   release_fits =
       step_fits m stock part state.Standing [] None released release_step with_freed j.plan.tree (no_freed m.demands j.plan.tree) freed_keeps rows recounted None None texts message (reply.Release j.act)
       (job_fits m stock number j part material work waits job.Released refl) tt tt
@@ -470,7 +470,7 @@ module _ (m : Content) (stock : IsStock m) (number : ℕ) (j : Job) (part : Part
         (halted_after m stock j stop is_over)
         end_counts
 
-    pub end_fits : kept_at m (pair_of message) ≡ None → Fits m (keeping texts message (end_change stop j part material.limits (totals_of m part.material) laid rows))
+    pub end_fits : kept_at m (message_id_of message) ≡ None → Fits m (keeping texts message (end_change stop j part material.limits (totals_of m part.material) laid rows))
     end_fits =
         step_fits m stock part (state.Cut j.act) made None over end_step (with_laid laid) j.plan.tree others_left laid_keeps rows recounted totals_reply (kept_halt stop j.act) texts message answer
         (job_fits m stock number j part material work waits (ended_state stop) is_over) (unhalted m j none_kept stop) (placed m stock number j part material work waits).known

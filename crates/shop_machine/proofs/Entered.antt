@@ -7,10 +7,10 @@ use Rattle.std.specs.Ordering.{nat_cmp}
 use Rattle.std.specs.FinMap.{FinMap, empty, get, get-empty, insert, len, len-empty, len-insert, nat_cmp-IsAntisymmetric}
 use Rattle.shop_records.specs.declared.journal.Entry.{Entry as EntryRow}
 use Rattle.shop_records.specs.declared.records.JobHalt.{JobHalt}
-use Rattle.shop_records.specs.declared.texts.Pair.{Pair}
+use Rattle.shop_records.specs.declared.texts.MessageId.{MessageId}
 use Rattle.shop_records.specs.Messages.{Texts}
 use Rattle.shop_records.specs.Content.{Content, kept_at, entry_at, entry_count, last_entry, last_time, of_found, forgotten}
-use Rattle.shop_records.specs.Soundness.{IsEntry, AreEntries, IsHalted, IsSound}
+use Rattle.shop_records.specs.WellFormed.{IsEntry, AreEntries, IsHalted, IsWellFormed}
 use Rattle.shop_records.proofs.Basics.{none_at, get_same, get_other, none_some}
 use Rattle.shop_records.proofs.Puts.{found_one, some_known, is_known, still_there}
 use Rattle.shop_machine.proofs.Grown.{Grows, IsStock, stock_of, placed_more, job_more, demand_more}
@@ -23,7 +23,7 @@ with_entries entries content = record content { entries = entries }
 abbrev pub with_rest : FinMap nat_cmp JobHalt → FinMap nat_cmp EntryRow → Content → Content
 with_rest halts entries content = record content { halts = halts; entries = entries }
 
--- ---- a sound content is sound but for its entries
+-- ---- a well-formed content is well-formed but for its entries
 
 stock_entries : (m : Content) (halts : FinMap nat_cmp JobHalt) (entries : FinMap nat_cmp EntryRow)
     → ((number : ℕ) (row : JobHalt) → get halts number ≡ Some row → IsHalted m.jobs number row) → IsStock m → IsStock (with_rest halts entries m)
@@ -42,28 +42,28 @@ stock_entries m halts entries halted stock =
       lines = stock.lines;
     }
 
-sound_rest : (texts : Texts) (m : Content) (halts : FinMap nat_cmp JobHalt) (entries : FinMap nat_cmp EntryRow)
-    → ((number : ℕ) (row : JobHalt) → get halts number ≡ Some row → IsHalted m.jobs number row) → IsSound texts m → AreEntries (with_rest halts entries m)
-    → IsSound texts (with_rest halts entries m)
-sound_rest texts m halts entries halted sound are =
-    let stock = stock_entries m halts entries halted (stock_of texts m sound) in
+well_formed_rest : (texts : Texts) (m : Content) (halts : FinMap nat_cmp JobHalt) (entries : FinMap nat_cmp EntryRow)
+    → ((number : ℕ) (row : JobHalt) → get halts number ≡ Some row → IsHalted m.jobs number row) → IsWellFormed texts m → AreEntries (with_rest halts entries m)
+    → IsWellFormed texts (with_rest halts entries m)
+well_formed_rest texts m halts entries halted well_formed are =
+    let stock = stock_entries m halts entries halted (stock_of texts m well_formed) in
     record {
       in_range = stock.in_range;
       materials = stock.materials;
       parts = stock.parts;
       jobs = stock.jobs;
       halts = stock.halts;
-      begun = sound.begun;
-      notes = sound.notes;
+      begun = well_formed.begun;
+      notes = well_formed.notes;
       demands = stock.demands;
       lines = stock.lines;
-      kept = sound.kept;
-      imports = λ code row is. let i = sound.imports code row is in record { ordered = i.ordered; answer = i.answer; reports = i.reports };
+      kept = well_formed.kept;
+      imports = λ code row is. let i = well_formed.imports code row is in record { ordered = i.ordered; answer = i.answer; reports = i.reports };
       entries = are;
     }
 
-pub sound_entries : (texts : Texts) (m : Content) (entries : FinMap nat_cmp EntryRow) → IsSound texts m → AreEntries (with_entries entries m) → IsSound texts (with_entries entries m)
-sound_entries texts m entries sound are = sound_rest texts m m.halts entries sound.halts sound are
+pub well_formed_entries : (texts : Texts) (m : Content) (entries : FinMap nat_cmp EntryRow) → IsWellFormed texts m → AreEntries (with_entries entries m) → IsWellFormed texts (with_entries entries m)
+well_formed_entries texts m entries well_formed are = well_formed_rest texts m m.halts entries well_formed.halts well_formed are
 
 -- ---- no entries
 
@@ -76,14 +76,14 @@ no_entries_at content none = record {
   rising = λ a b one other is is_too le. absurd (none_some one (sym (get-empty nat_cmp a) ∙ sym (ap (λ (es : FinMap nat_cmp EntryRow). get es a) none) ∙ is));
 }
 
--- a sound content that forgets its entries, and where the work on its jobs halted, is sound
-pub sound_forgotten : (texts : Texts) (m : Content) → IsSound texts m → IsSound texts (forgotten m)
-sound_forgotten texts m sound = sound_rest texts m empty empty (λ number row is. absurd (none_some row (sym (get-empty nat_cmp number) ∙ is))) sound (no_entries_at (forgotten m) refl)
+-- a well-formed content that forgets its entries, and where the work on its jobs halted, is well-formed
+pub well_formed_forgotten : (texts : Texts) (m : Content) → IsWellFormed texts m → IsWellFormed texts (forgotten m)
+well_formed_forgotten texts m well_formed = well_formed_rest texts m empty empty (λ number row is. absurd (none_some row (sym (get-empty nat_cmp number) ∙ is))) well_formed (no_entries_at (forgotten m) refl)
 
 -- ---- entries that stay
 
 -- the same entries, where what was kept is kept
-pub entries_stay : (m after : Content) → after.entries ≡ m.entries → ((pair : Pair) → IsSome (kept_at m pair) → IsSome (kept_at after pair)) → AreEntries m → AreEntries after
+pub entries_stay : (m after : Content) → after.entries ≡ m.entries → ((message_id : MessageId) → IsSome (kept_at m message_id) → IsSome (kept_at after message_id)) → AreEntries m → AreEntries after
 entries_stay m after same kept are = record {
   each = λ number entry is.
       let old = are.each number entry (sym (ap (λ (es : FinMap nat_cmp EntryRow). get es number) same) ∙ is) in
@@ -91,7 +91,7 @@ entries_stay m after same kept are = record {
         numbered = old.numbered;
         least = old.least;
         so_far = subst (λ (es : FinMap nat_cmp EntryRow). number ≤ len es) (sym same) old.so_far;
-        kept = kept entry.pair old.kept;
+        kept = kept entry.message_id old.kept;
       };
   no_gap = λ number least most.
       subst (λ (es : FinMap nat_cmp EntryRow). IsSome (get es number)) (sym same) (are.no_gap number least (subst (λ (es : FinMap nat_cmp EntryRow). number ≤ len es) same most));
@@ -132,7 +132,7 @@ module _ (m : Content) (are : AreEntries m) where
         ∙ ap (λ (found : Option EntryRow). cond (is_some found) (entry_count m) (entry_count m + 1)) none_yet
 
     module _ (after : Content) (same : after.entries ≡ insert m.entries entry.number entry) (later : last_time m ≤ entry.at)
-        (kept : (pair : Pair) → IsSome (kept_at m pair) → IsSome (kept_at after pair)) (of : IsSome (kept_at after entry.pair)) where
+        (kept : (message_id : MessageId) → IsSome (kept_at m message_id) → IsSome (kept_at after message_id)) (of : IsSome (kept_at after entry.message_id)) where
       found_after : (number : ℕ) (found : EntryRow) → entry_at after number ≡ Some found → get (insert m.entries entry.number entry) number ≡ Some found
       found_after number found is = sym (ap (λ (es : FinMap nat_cmp EntryRow). get es number) same) ∙ is
 
@@ -148,12 +148,12 @@ module _ (m : Content) (are : AreEntries m) where
                   numbered = ap (λ (e : EntryRow). e.number) q.1 ∙ sym q.0;
                   least = omega (arith, here, next);
                   so_far = omega (arith, here, next, so_many);
-                  kept = subst (λ (e : EntryRow). IsSome (kept_at after e.pair)) (sym q.1) of;
+                  kept = subst (λ (e : EntryRow). IsSome (kept_at after e.message_id)) (sym q.1) of;
                 }
             | inr q ↦
                 let old = are.each number found q.1 in
                 let most = old.so_far in
-                record { numbered = old.numbered; least = old.least; so_far = omega (arith, most, so_many); kept = kept found.pair old.kept }
+                record { numbered = old.numbered; least = old.least; so_far = omega (arith, most, so_many); kept = kept found.message_id old.kept }
           ]
 
       there_after : (number : ℕ) → 1 ≤ number → number ≤ entry_count after → IsSome (get (insert m.entries entry.number entry) number)

@@ -24,7 +24,7 @@ use Rattle.shop_machine.specs.History.{Entry, effects_of, Owner, acts_of, owner_
 use Rattle.shop_records.specs.Messages.{Texts}
 use Rattle.shop_records.specs.Content.{Content, demand_at, no_totals}
 use Rattle.shop_records.specs.declared.records.Totals.{Totals}
-use Rattle.shop_records.specs.Soundness.{reserved_in, made_in}
+use Rattle.shop_records.specs.WellFormed.{reserved_in, made_in}
 
 steel : Material
 steel = record { code = codes "STEEL"; kind = Bar; limits = record { kerf = 3; min_long = 20; min_short = 1 } }

@@ -18,9 +18,9 @@ use Rattle.shop_records.specs.declared.texts.Kept.{Kept}
 use Rattle.shop_records.specs.declared.imports.ImportRow.{ImportRow}
 use Rattle.shop_records.specs.declared.messages.Message.{Message}
 use Rattle.shop_records.specs.declared.refusals.Refusal.TheVariants.{NumbersSpent, NoOrder, BadLine}
-use Rattle.shop_records.specs.Messages.{Texts, pair_of}
-use Rattle.shop_records.specs.Content.{Content, pair_cmp, material_at, has_order, demand_at, demands_of, last_line, kept_at, changed}
-use Rattle.shop_records.specs.Soundness.{Fits}
+use Rattle.shop_records.specs.Messages.{Texts, message_id_of}
+use Rattle.shop_records.specs.Content.{Content, message_id_cmp, material_at, has_order, demand_at, demands_of, last_line, kept_at, changed}
+use Rattle.shop_records.specs.WellFormed.{Fits}
 use Rattle.shop_machine.specs.Ordering.{lines_refusal}
 use Rattle.shop_machine.specs.Extending.{extend_change, extend_refusal}
 use Rattle.shop_machine.specs.Machine.{keeping, Effect, Orders}
@@ -29,7 +29,7 @@ use Rattle.shop_machine.specs.History.{acts_of, ordered_lines}
 use Rattle.shop_records.proofs.Basics.{codes_total, codes_same, tied}
 use Rattle.shop_records.proofs.LineCounts.{below_last, passes, value_of}
 use Rattle.shop_machine.proofs.Allowed.{none_of, or_none}
-use Rattle.shop_machine.proofs.Grown.{with_messages, IsStock, no_pairs}
+use Rattle.shop_machine.proofs.Grown.{with_messages, IsStock, no_message_ids}
 use Rattle.shop_machine.proofs.Agreeing.{NoFault, either, nothing, other}
 use Rattle.shop_machine.proofs.OrderedLines.{lines_put, lines_more}
 use Rattle.shop_machine.proofs.OrderingStep.{AreMore, lines_after, lines_agree, lines_known, lines_rise, more_stock, rows_apart, rows_fit, rows_once, rows_wanted}
@@ -83,20 +83,20 @@ extended_of m stock order lines e =
 -- ---- the content after it
 
 module _ (m : Content) (stock : IsStock m) (order : List ℕ) (lines : List OrderLine) (extended : IsExtended m order lines) where
-  pub extend_stock : (kept : FinMap pair_cmp Kept) (imports : FinMap code_cmp ImportRow) → IsStock (with_messages kept imports (changed m (extend_change order lines (m.last_demand + 1))))
+  pub extend_stock : (kept : FinMap message_id_cmp Kept) (imports : FinMap code_cmp ImportRow) → IsStock (with_messages kept imports (changed m (extend_change order lines (m.last_demand + 1))))
   extend_stock kept imports = more_stock m stock order lines extended.more None extended.ordered kept imports
 
-  pub extend_fits : (texts : Texts) (message : Message) → kept_at m (pair_of message) ≡ None → Fits m (keeping texts message (extend_change order lines (m.last_demand + 1)))
+  pub extend_fits : (texts : Texts) (message : Message) → kept_at m (message_id_of message) ≡ None → Fits m (keeping texts message (extend_change order lines (m.last_demand + 1)))
   extend_fits texts message new =
       let some = extended.more.some in
       let numbers = extended.more.numbers in
       record {
         material = tt;
         parts = All-nil _;
-        rising = no_pairs (λ (a b : Part). name_cmp a.name b.name ≡ Less);
+        rising = no_message_ids (λ (a b : Part). name_cmp a.name b.name ≡ Less);
         moved = tt;
         undone = All-nil _;
-        apart = no_pairs (λ (a b : Part). name_cmp a.name b.name ≡ Less);
+        apart = no_message_ids (λ (a b : Part). name_cmp a.name b.name ≡ Less);
         halt = tt;
         begun = tt;
         extended = (extended.ordered, refl);
@@ -125,7 +125,7 @@ extend_agrees known at there lines first =
 
 -- ---- what is done to cells
 
-module _ (earlier : List Effect) (old : Content) (f : Follows earlier old) (kept : FinMap pair_cmp Kept) (imports : FinMap code_cmp ImportRow) where
+module _ (earlier : List Effect) (old : Content) (f : Follows earlier old) (kept : FinMap message_id_cmp Kept) (imports : FinMap code_cmp ImportRow) where
   pub by_lines : (order : List ℕ) (lines : List OrderLine)
       → Follows (Orders order lines ∷ earlier) (with_messages kept imports (changed old (extend_change order lines (old.last_demand + 1))))
   by_lines order lines = record {

@@ -14,18 +14,18 @@ use Rattle.shop_records.specs.Messages.{Texts}
 use Rattle.shop_records.specs.Readings.{Reading}
 use Rattle.shop_records.specs.Content.{Content, fresh, changed, forgotten}
 use Rattle.shop_machine.specs.Machine.{Reads, refusal_of, Makes, keeping, keeping_at, Effect, effects}
-use Rattle.shop_records.specs.Soundness.{IsSound}
+use Rattle.shop_records.specs.WellFormed.{IsWellFormed}
 use Rattle.shop_machine.specs.History.{Entry, effects_of, Gives, MayForget, nth_line}
 use Rattle.shop_records.proofs.Basics.{none_some}
 use Rattle.shop_machine.proofs.OrderedLines.{ordered_as}
 use Rattle.shop_machine.proofs.Entered.{with_entries}
 use Rattle.shop_machine.proofs.Accounts.{Follows}
-use Rattle.shop_machine.proofs.Sound.{by_message}
+use Rattle.shop_machine.proofs.StaysWellFormed.{by_message}
 
-module _ (texts : Texts) (message : Message) (earlier : List Effect) (old : Content) (sound : IsSound texts old) (f : Follows earlier old) where
+module _ (texts : Texts) (message : Message) (earlier : List Effect) (old : Content) (well_formed : IsWellFormed texts old) (f : Follows earlier old) where
   pub by_entry : (read : Reading) (change : Change) (command : Command) → Reads texts old command read → refusal_of old command read ≡ None → Makes old command read change
       → Follows (effects command read ++ earlier) (changed old (keeping texts message change))
-  by_entry read change command reads allowed makes = by_message texts message earlier old sound f command read change reads allowed makes
+  by_entry read change command reads allowed makes = by_message texts message earlier old well_formed f command read change reads allowed makes
 
 no_line : (number : ℕ) → nth_line number [] ≡ None
 no_line zero = refl
@@ -76,8 +76,8 @@ follows_left : (done : List Effect) (left content : Content) → MayForget left 
 follows_left done left content (inl same) f = subst (Follows done) (sym same) f
 follows_left done left content (inr same) f = subst (Follows done) (sym same) (follows_forgotten done left f)
 
--- where each content that a history gives is sound
-module _ (texts : Texts) (sound : (history : List Entry) (content : Content) → Gives texts history content → IsSound texts content) where
+-- where each content that a history gives is well-formed
+module _ (texts : Texts) (well_formed : (history : List Entry) (content : Content) → Gives texts history content → IsWellFormed texts content) where
   pub follows : (history : List Entry) (content : Content) → Gives texts history content → Follows (effects_of history) content
   follows [] content given = subst (Follows []) (sym given) from_start
   follows (entry ∷ earlier) content (before, answer, given, is_message, new, left, accepts, forgets) =
@@ -85,5 +85,5 @@ module _ (texts : Texts) (sound : (history : List Entry) (content : Content) →
       (subst (Follows (effects_of (entry ∷ earlier))) (sym accepts.becomes)
       (follows_entries (effects_of (entry ∷ earlier)) (changed before (keeping texts entry.message accepts.change))
       (changed before (keeping_at texts accepts.at before entry.message accepts.change)).entries
-      (by_entry texts entry.message (effects_of earlier) before (sound earlier before given) (follows earlier before given)
+      (by_entry texts entry.message (effects_of earlier) before (well_formed earlier before given) (follows earlier before given)
       entry.read accepts.change entry.message.command accepts.reads accepts.allowed accepts.makes)))

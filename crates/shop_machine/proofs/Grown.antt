@@ -15,11 +15,11 @@ use Rattle.shop_records.specs.declared.records.State.{State}
 use Rattle.shop_records.specs.declared.records.Job.{Job}
 use Rattle.shop_records.specs.declared.records.JobHalt.{JobHalt}
 use Rattle.shop_records.specs.declared.records.Demand.{Demand}
-use Rattle.shop_records.specs.Content.{Content, pair_cmp, material_at, part_at, job_at, halt_at, has_order, demand_at, kept_at, in_state}
-use Rattle.shop_records.specs.Soundness.{IsInRange, IsKnown, IsPlaced, IsOnPart, IsWaiting, IsJob, IsHalted, IsDemand, IsCounted, AreDifferent, IsSound, Fits}
+use Rattle.shop_records.specs.Content.{Content, message_id_cmp, material_at, part_at, job_at, halt_at, has_order, demand_at, kept_at, in_state}
+use Rattle.shop_records.specs.WellFormed.{IsInRange, IsKnown, IsPlaced, IsOnPart, IsWaiting, IsJob, IsHalted, IsDemand, IsCounted, AreDifferent, IsWellFormed, Fits}
 use Rattle.shop_records.specs.declared.messages.Message.{Message}
 use Rattle.shop_records.specs.declared.messages.Reply.{Reply}
-use Rattle.shop_records.specs.Messages.{Texts, pair_of}
+use Rattle.shop_records.specs.Messages.{Texts, message_id_of}
 use Rattle.shop_machine.specs.Decisions.{no_change}
 use Rattle.shop_machine.specs.Machine.{keeping}
 use Rattle.shop_records.proofs.Basics.{same_some, none_at, nat_cases, get_same, get_other}
@@ -27,7 +27,7 @@ use Rattle.shop_records.specs.Columns.{is_waiting}
 use Rattle.shop_records.proofs.Puts.{some_known, is_known}
 
 -- a content with other kept messages and imports
-abbrev pub with_messages : FinMap pair_cmp Kept → FinMap code_cmp ImportRow → Content → Content
+abbrev pub with_messages : FinMap message_id_cmp Kept → FinMap code_cmp ImportRow → Content → Content
 with_messages kept imports content = record content { kept = kept; imports = imports }
 
 -- a part is there, in some state
@@ -42,7 +42,7 @@ pub record Grows (old new : Content) : Type 0 where
   pub orders : (code : List ℕ) → has_order old code ≡ true → has_order new code ≡ true
   pub acts : old.last_act ≤ new.last_act
 
--- what a sound content has besides the messages and the imports that it keeps
+-- what a well-formed content has besides the messages and the imports that it keeps
 pub record IsStock (content : Content) : Type 0 where
   pub in_range : IsInRange content
   pub materials : (code : List ℕ) (material : Material) → material_at content code ≡ Some material → IsKnown code material
@@ -166,15 +166,15 @@ different_more old new was different a b one other is is_too orders lines =
     let q = was b other is_too in
     different a b p.0 q.0 p.1 q.1 (sym p.2 ∙ orders ∙ q.2) (sym p.3 ∙ lines ∙ q.3)
 
-pub no_pairs : {X : Type 0} (R : X → X → Type 0) → AllPairs R []
-no_pairs R i j d before within = absurd (omega arith)
+pub no_message_ids : {X : Type 0} (R : X → X → Type 0) → AllPairs R []
+no_message_ids R i j d before within = absurd (omega arith)
 
-pub stock_of : (texts : Texts) (m : Content) → IsSound texts m → IsStock m
-stock_of texts m sound = record { in_range = sound.in_range; materials = sound.materials; parts = sound.parts; jobs = sound.jobs; halts = sound.halts; demands = sound.demands; lines = sound.lines }
+pub stock_of : (texts : Texts) (m : Content) → IsWellFormed texts m → IsStock m
+stock_of texts m well_formed = record { in_range = well_formed.in_range; materials = well_formed.materials; parts = well_formed.parts; jobs = well_formed.jobs; halts = well_formed.halts; demands = well_formed.demands; lines = well_formed.lines }
 
 -- ---- what changes nothing but messages
 
-pub same_stock : (m : Content) (kept : FinMap pair_cmp Kept) (imports : FinMap code_cmp ImportRow) → IsStock m → IsStock (with_messages kept imports m)
+pub same_stock : (m : Content) (kept : FinMap message_id_cmp Kept) (imports : FinMap code_cmp ImportRow) → IsStock m → IsStock (with_messages kept imports m)
 same_stock m kept imports stock =
     let after : Content = with_messages kept imports m in
     let grows : Grows m after = record { materials = λ code x is. is; parts = λ name p is. (p.state, is); demands = λ number h. h; orders = λ code is. is; acts = omega arith } in
@@ -190,14 +190,14 @@ same_stock m kept imports stock =
       lines = stock.lines;
     }
 
-pub nothing_fits : (m : Content) (texts : Texts) (message : Message) (answer : Reply) → kept_at m (pair_of message) ≡ None → Fits m (keeping texts message (no_change answer))
+pub nothing_fits : (m : Content) (texts : Texts) (message : Message) (answer : Reply) → kept_at m (message_id_of message) ≡ None → Fits m (keeping texts message (no_change answer))
 nothing_fits m texts message answer new = record {
   material = tt;
   parts = All-nil _;
-  rising = no_pairs (λ (a b : Part). name_cmp a.name b.name ≡ Less);
+  rising = no_message_ids (λ (a b : Part). name_cmp a.name b.name ≡ Less);
   moved = tt;
   undone = All-nil _;
-  apart = no_pairs (λ (a b : Part). name_cmp a.name b.name ≡ Less);
+  apart = no_message_ids (λ (a b : Part). name_cmp a.name b.name ≡ Less);
   job = tt;
   halt = tt;
   begun = tt;
@@ -206,7 +206,7 @@ nothing_fits m texts message answer new = record {
   order = tt;
   demands = All-nil _;
   wanted = All-nil _;
-  once = no_pairs (λ (a b : Demand). a.number ≡ b.number → ⊥);
+  once = no_message_ids (λ (a b : Demand). a.number ≡ b.number → ⊥);
   lines = tt;
   totals = tt;
   sums = λ c. refl;

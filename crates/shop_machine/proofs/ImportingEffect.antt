@@ -10,7 +10,7 @@ use Rattle.shop_records.specs.Readings.{Reading}
 use Rattle.shop_records.specs.Content.{Content, material_at, has_order, import_at, totals_of}
 use Rattle.shop_machine.specs.Decisions.{no_change}
 use Rattle.shop_machine.specs.Importing.{IsImportReading, import_refusal, ImportMakes}
-use Rattle.shop_records.specs.Soundness.{IsSound}
+use Rattle.shop_records.specs.WellFormed.{IsWellFormed}
 use Rattle.shop_machine.specs.Machine.{Effect, nothing, Orders, Receives, import_effects}
 use Rattle.shop_machine.specs.History.{acts_of}
 use Rattle.shop_machine.proofs.Accounts.{Follows, row_later}
@@ -19,9 +19,9 @@ use Rattle.shop_machine.proofs.OrderingStep.{by_order}
 use Rattle.shop_machine.proofs.ReceivingEffect.{by_receipt}
 use Rattle.shop_machine.proofs.ImportingStep.{IsAccepted, accepted, after_receipt}
 
-module _ (texts : Texts) (message : Message) (earlier : List Effect) (old : Content) (sound : IsSound texts old) (f : Follows earlier old) where
+module _ (texts : Texts) (message : Message) (earlier : List Effect) (old : Content) (well_formed : IsWellFormed texts old) (f : Follows earlier old) where
   abbrev Next : List Effect → Change → Type 0
-  Next = AfterAll texts message earlier old sound f
+  Next = AfterAll texts message earlier old well_formed f
 
   by_again : (answer : Reply) → Next (nothing ∷ []) (no_change answer)
   by_again answer = record {
@@ -42,7 +42,7 @@ module _ (texts : Texts) (message : Message) (earlier : List Effect) (old : Cont
   by_accepted order form text read change (inr (inl a)) =
       subst (λ d. Next d change) (sym a.done) (subst (Next (Orders order a.lines ∷ [])) (sym a.is) (by_order earlier old f _ _ order a.lines))
   by_accepted order form text read change (inr (inr a)) =
-      let received = by_receipt earlier old sound.in_range f old.kept old.imports a.material order a.size.w a.size.h 1 in
+      let received = by_receipt earlier old well_formed.in_range f old.kept old.imports a.material order a.size.w a.size.h 1 in
       let both = Orders order a.lines ∷ Receives a.material order a.size 1 ∷ [] in
       subst (λ d. Next d change) (sym a.done)
       (subst (Next both) (sym a.is)

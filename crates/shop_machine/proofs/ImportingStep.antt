@@ -13,7 +13,7 @@ use Rattle.shop_records.specs.declared.changes.Change.{Change}
 use Rattle.shop_records.specs.declared.messages.Message.{Message}
 use Rattle.shop_records.specs.declared.messages.Reply.{Reply}
 use Rattle.shop_records.specs.declared.refusals.Refusal.TheVariants.{OrderExists}
-use Rattle.shop_records.specs.Messages.{Texts, IsMade, pair_of}
+use Rattle.shop_records.specs.Messages.{Texts, IsMade, message_id_of}
 use Rattle.shop_records.specs.Readings.{Reading, unread, Plan, Lines, Problem, Again}
 use Rattle.shop_records.specs.Content.{Content, material_at, has_order, import_at, kept_at, totals_of, changed}
 use Rattle.shop_machine.specs.Decisions.{first_of, no_change}
@@ -22,7 +22,7 @@ use Rattle.shop_machine.specs.Ordering.{lines_refusal}
 use Rattle.shop_machine.specs.Importing.{IsRepeat, IsImportReading, problem_lines, unit_refusal, problem_refusal, import_refusal, unread_refusal, lines_change, problem_change, ImportMakes}
 use Rattle.shop_records.specs.Keeping.{StoresReply}
 use Rattle.shop_machine.specs.Machine.{keeping, nothing, Orders, Receives, import_effects}
-use Rattle.shop_records.specs.Soundness.{Fits}
+use Rattle.shop_records.specs.WellFormed.{Fits}
 use Rattle.shop_records.proofs.Basics.{none_at}
 use Rattle.shop_machine.proofs.Agreeing.{NoFault, either, other, nothing as none}
 use Rattle.shop_machine.proofs.Allowed.{or_none}
@@ -119,7 +119,7 @@ module _ (texts : Texts) (m : Content) (order : List ℕ) where
 
   pub import_fits : (message : Message) (form : Form) (text : List ℕ) (read : Reading) (change : Change) → IsStock m
       → ((row : ImportRow) → import_at m order ≡ Some row → has_order m order ≡ true) → IsAccepted form text read change
-      → kept_at m (pair_of message) ≡ None → Fits m (keeping texts message change)
+      → kept_at m (message_id_of message) ≡ None → Fits m (keeping texts message change)
   import_fits message form text read change stock used (inl a) new =
       subst (λ (c : Change). Fits m (keeping texts message c)) (sym a.is) (nothing_fits m texts message a.answer new)
   import_fits message form text read change stock used (inr (inl a)) new =

@@ -55,7 +55,7 @@ pub mod ExtendingStep
 -- what is said of an order, and who has begun a job
 pub mod SayingStep
 -- every command, every history and every run
-pub mod Sound
+pub mod StaysWellFormed
 pub mod Given
 pub mod CellCounts
 pub mod Owners

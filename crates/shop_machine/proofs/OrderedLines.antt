@@ -15,7 +15,7 @@ use Rattle.shop_machine.specs.Ordering.{new_demand, new_demands}
 use Rattle.shop_machine.specs.Amending.{amended}
 use Rattle.shop_machine.specs.Machine.{Effect}
 use Rattle.shop_machine.specs.History.{OrderedLine, with_count, amended_after, amended_lines, ordered_lines, nth_line, demand_of, DemandsAreLines}
-use Rattle.shop_records.specs.Soundness.{IsDemand, reserved_in, made_in}
+use Rattle.shop_records.specs.WellFormed.{IsDemand, reserved_in, made_in}
 use Rattle.shop_records.proofs.Basics.{nat_cases, get_same, get_other, demand_cases}
 use Rattle.shop_machine.proofs.Moved.{LeavesOthers, row_recount}
 

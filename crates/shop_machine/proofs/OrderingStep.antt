@@ -21,11 +21,11 @@ use Rattle.shop_records.specs.declared.imports.ImportRow.{ImportRow}
 use Rattle.shop_records.specs.declared.messages.Message.{Message}
 use Rattle.shop_records.specs.declared.records.Material.{Material}
 use Rattle.shop_records.specs.declared.refusals.Refusal.TheVariants.{NumbersSpent, OrderExists, BadLine}
-use Rattle.shop_records.specs.Messages.{Texts, pair_of}
+use Rattle.shop_records.specs.Messages.{Texts, message_id_of}
 use Rattle.shop_records.specs.Columns.{is_piece_for, is_waiting}
-use Rattle.shop_records.specs.Content.{Content, pair_cmp, material_at, has_order, demand_at, kept_at, with_order, with_demands, changed}
+use Rattle.shop_records.specs.Content.{Content, message_id_cmp, material_at, has_order, demand_at, kept_at, with_order, with_demands, changed}
 use Rattle.shop_records.specs.Elements.{IsIn}
-use Rattle.shop_records.specs.Soundness.{IsDemand, IsNewDemand, AreDifferent, Fits, reserved_in, made_in}
+use Rattle.shop_records.specs.WellFormed.{IsDemand, IsNewDemand, AreDifferent, Fits, reserved_in, made_in}
 use Rattle.shop_machine.specs.Ordering.{new_demand, new_demands, order_change, order_refusal, line_refusal, lines_refusal, is_good_line}
 use Rattle.shop_machine.specs.Machine.{keeping, Effect, Orders}
 use Rattle.shop_machine.specs.Decisions.{first_of}
@@ -34,7 +34,7 @@ use Rattle.shop_records.proofs.Basics.{names_total, names_same, same_some, none_
 use Rattle.shop_records.proofs.LinesKept.{order_kept, order_there}
 use Rattle.shop_records.proofs.Puts.{Pairwise, all_from, pairs_from, not_both, is_known, some_known, sum_no_rows}
 use Rattle.shop_machine.proofs.Allowed.{none_of, or_none}
-use Rattle.shop_machine.proofs.Grown.{with_messages, IsStock, Grows, placed_more, job_more, demand_more, no_pairs}
+use Rattle.shop_machine.proofs.Grown.{with_messages, IsStock, Grows, placed_more, job_more, demand_more, no_message_ids}
 use Rattle.shop_machine.proofs.Agreeing.{NoFault, either, nothing, other}
 use Rattle.shop_machine.proofs.OrderedLines.{lines_put, lines_more}
 use Rattle.shop_machine.proofs.Accounts.{Follows, row_later}
@@ -198,7 +198,7 @@ module _ (m : Content) (stock : IsStock m) (order : List ℕ) (lines : List Orde
       let there = some_known (demand_at m number) ((stock.parts k p is).asked number piece) in
       not_both (demand_at m number) there.0 (none_later number later) there.1))
 
-  module _ (kept : FinMap pair_cmp Kept) (imports : FinMap code_cmp ImportRow) where
+  module _ (kept : FinMap message_id_cmp Kept) (imports : FinMap code_cmp ImportRow) where
     abbrev after : Content
     after = with_messages kept imports (record m {
       orders = with_order new m.orders;
@@ -342,20 +342,20 @@ module _ (m : Content) (stock : IsStock m) (order : List ℕ) (lines : List Orde
         absurd (true≢false (sym yes ∙ no));
   }
 
-  pub order_stock : (kept : FinMap pair_cmp Kept) (imports : FinMap code_cmp ImportRow) → IsStock (with_messages kept imports (changed m (order_change order lines (m.last_demand + 1))))
+  pub order_stock : (kept : FinMap message_id_cmp Kept) (imports : FinMap code_cmp ImportRow) → IsStock (with_messages kept imports (changed m (order_change order lines (m.last_demand + 1))))
   order_stock kept imports = more_stock m stock order lines first_lines (Some order) (order_there m order) kept imports
 
-  pub order_fits : (texts : Texts) (message : Message) → kept_at m (pair_of message) ≡ None → Fits m (keeping texts message (order_change order lines (m.last_demand + 1)))
+  pub order_fits : (texts : Texts) (message : Message) → kept_at m (message_id_of message) ≡ None → Fits m (keeping texts message (order_change order lines (m.last_demand + 1)))
   order_fits texts message new =
       let some = ordered.some in
       let numbers = ordered.numbers in
       record {
         material = tt;
         parts = All-nil _;
-        rising = no_pairs (λ (a b : Part). name_cmp a.name b.name ≡ Less);
+        rising = no_message_ids (λ (a b : Part). name_cmp a.name b.name ≡ Less);
         moved = tt;
         undone = All-nil _;
-        apart = no_pairs (λ (a b : Part). name_cmp a.name b.name ≡ Less);
+        apart = no_message_ids (λ (a b : Part). name_cmp a.name b.name ≡ Less);
         halt = tt;
         begun = tt;
         extended = tt;
@@ -392,7 +392,7 @@ order_agrees used at lines first =
 
 -- ---- what is done to cells
 
-module _ (earlier : List Effect) (old : Content) (f : Follows earlier old) (kept : FinMap pair_cmp Kept) (imports : FinMap code_cmp ImportRow) where
+module _ (earlier : List Effect) (old : Content) (f : Follows earlier old) (kept : FinMap message_id_cmp Kept) (imports : FinMap code_cmp ImportRow) where
   pub by_order : (order : List ℕ) (lines : List OrderLine)
       → Follows (Orders order lines ∷ earlier) (with_messages kept imports (changed old (order_change order lines (old.last_demand + 1))))
   by_order order lines = record {

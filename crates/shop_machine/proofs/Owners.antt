@@ -3,10 +3,10 @@ use Rattle.std.proofs.Common.{◌≡◌, List, sym, ap, ◌∙◌, subst, arith}
 use Rattle.shop_records.specs.declared.records.Part.{Part}
 use Rattle.shop_records.specs.Messages.{Texts}
 use Rattle.shop_records.specs.Content.{Content}
-use Rattle.shop_records.specs.Soundness.{IsSound}
+use Rattle.shop_records.specs.WellFormed.{IsWellFormed}
 use Rattle.shop_machine.specs.Machine.{Effect}
 use Rattle.shop_machine.specs.History.{Entry, effects_of, Gives, HasCellOf, IsOwner, EachPartOwnsItsCells, IsAccountOf, owner_of}
-use Rattle.shop_machine.proofs.Sound.{gives_sound}
+use Rattle.shop_machine.proofs.StaysWellFormed.{gives_well_formed}
 use Rattle.shop_machine.proofs.Accounts.{Follows}
 use Rattle.shop_machine.proofs.OrderedLines.{demands_are_lines}
 use Rattle.shop_machine.proofs.Given.{follows}
@@ -21,12 +21,12 @@ parts_own effects content says name part found x y holds =
     let same : part ≡ cell.part = cell.alone name part found (subst (λ unit. HasCellOf unit x y part) (sym root) holds) in
     (cell.owner, ap (λ unit. owner_of effects unit x y) (sym root) ∙ cell.owned, subst (λ (p : Part). IsOwner cell.owner x y p) (sym same) cell.same)
 
--- where each content that a history gives is sound
-pub account_from : ((texts : Texts) (history : List Entry) (content : Content) → Gives texts history content → IsSound texts content)
+-- where each content that a history gives is well-formed
+pub account_from : ((texts : Texts) (history : List Entry) (content : Content) → Gives texts history content → IsWellFormed texts content)
     → (texts : Texts) (history : List Entry) (content : Content) → Gives texts history content → IsAccountOf texts history content
-account_from sound texts history content given =
-    let is : IsSound texts content = sound texts history content given in
-    let says : Follows (effects_of history) content = follows texts (sound texts) history content given in
+account_from well_formed texts history content given =
+    let is : IsWellFormed texts content = well_formed texts history content given in
+    let says : Follows (effects_of history) content = follows texts (well_formed texts) history content given in
     record {
       given = given;
       owners = says.cells;
@@ -41,4 +41,4 @@ account_from sound texts history content given =
 
 -- the account of any history
 pub account_of : (texts : Texts) (history : List Entry) (content : Content) → Gives texts history content → IsAccountOf texts history content
-account_of = account_from gives_sound
+account_of = account_from gives_well_formed

@@ -18,19 +18,19 @@ use Rattle.shop_records.specs.declared.changes.Change.{Change}
 use Rattle.shop_records.specs.declared.changes.MaterialTotals.{MaterialTotals}
 use Rattle.shop_records.specs.declared.messages.Message.{Message}
 use Rattle.shop_records.specs.declared.messages.Reply.{Reply}
-use Rattle.shop_records.specs.Messages.{Texts, pair_of}
+use Rattle.shop_records.specs.Messages.{Texts, message_id_of}
 use Rattle.shop_records.specs.Columns.{is_there, is_piece_for}
 use Rattle.shop_records.specs.Content.{Content, material_at, part_at, job_at, halt_at, has_order, demand_at, kept_at, changed, with_number, in_state, totals_of}
 use Rattle.shop_machine.specs.Recounts.{AreRecounted}
 use Rattle.shop_machine.specs.Machine.{keeping}
 use Rattle.shop_records.specs.Elements.{IsIn}
-use Rattle.shop_records.specs.Soundness.{IsPlaced, IsWaiting, IsJob, IsHalted, IsDemand, IsCounted, IsNewPart, IsNewJob, IsMovedJob, IsMovedDemand, TotalsFit, with_totals, Fits}
+use Rattle.shop_records.specs.WellFormed.{IsPlaced, IsWaiting, IsJob, IsHalted, IsDemand, IsCounted, IsNewPart, IsNewJob, IsMovedJob, IsMovedDemand, TotalsFit, with_totals, Fits}
 use Rattle.shop_records.proofs.Basics.{names_total, same_some}
 use Rattle.shop_records.proofs.Puts.{Pairwise, all_from, pairs_from, pairs_more, not_both, found_one}
 use Rattle.shop_machine.proofs.AddedUp.{cells_as, cells_left, is_uncut}
 use Rattle.shop_machine.proofs.Moved.{LeavesOthers, IsRecount, row_recount, recount_of, demand_there, found_moved, still_moved, other_moved, received_moved, adds_up_moved, made_moved}
 use Rattle.std.proofs.lemmas.List.Elements.{All-nil}
-use Rattle.shop_machine.proofs.Grown.{IsStock, Grows, Untouched, placed_more, job_more, different_more, no_pairs}
+use Rattle.shop_machine.proofs.Grown.{IsStock, Grows, Untouched, placed_more, job_more, different_more, no_message_ids}
 
 standing_no_piece : (s : State) → is_there s ≡ true → (number : ℕ) → is_piece_for number s ≡ false
 standing_no_piece state.Standing e number = refl
@@ -243,14 +243,14 @@ module _ (m : Content) (stock : IsStock m) (row : Part) (s : State) (made : List
           subst (λ (d : Demand). d.reserved + d.made ≤ d.wanted) (sym r.now) (counts x.number r.before r.was).few,
         )
 
-    pub step_fits : kept_at m (pair_of message) ≡ None → Fits m (keeping texts message step_change)
+    pub step_fits : kept_at m (message_id_of message) ≡ None → Fits m (keeping texts message step_change)
     step_fits new = record {
       material = tt;
       parts = all_from (IsNewPart m) made (λ x i. record { new = step.new x i; known = (step.placed x i).known });
       rising = pairs_from (λ (a b : Part). name_cmp a.name b.name ≡ Less) made step.rising;
       moved = record { before = row; found = step.there; is = refl; known = (stock.parts row.name row step.there).known };
       undone = All-nil _;
-      apart = no_pairs (λ (a b : Part). name_cmp a.name b.name ≡ Less);
+      apart = no_message_ids (λ (a b : Part). name_cmp a.name b.name ≡ Less);
       halt = halt_fits;
       begun = tt;
       extended = tt;

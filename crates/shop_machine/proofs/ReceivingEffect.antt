@@ -10,9 +10,9 @@ use Rattle.cut_measure.specs.Codes.{code_cmp}
 use Rattle.shop_records.specs.declared.texts.Kept.{Kept}
 use Rattle.shop_records.specs.declared.imports.ImportRow.{ImportRow}
 use Rattle.shop_records.specs.declared.changes.Change.{Change}
-use Rattle.shop_records.specs.Content.{Content, pair_cmp, totals_of, changed}
+use Rattle.shop_records.specs.Content.{Content, message_id_cmp, totals_of, changed}
 use Rattle.shop_machine.specs.Receiving.{receive_change, unit_part}
-use Rattle.shop_records.specs.Soundness.{IsInRange}
+use Rattle.shop_records.specs.WellFormed.{IsInRange}
 use Rattle.shop_machine.specs.Machine.{Effect, Receives}
 use Rattle.shop_machine.specs.History.{ReceivedUnit, acts_of, units_of, owner_of, is_gone, HasOwner}
 use Rattle.shop_records.proofs.Basics.{in_append, in_first, in_map, map_in}
@@ -20,7 +20,7 @@ use Rattle.shop_machine.proofs.Cells.{after_receipt, received_cases, found_unit,
 use Rattle.shop_machine.proofs.Grown.{with_messages}
 use Rattle.shop_machine.proofs.Accounts.{IsRow, IsWhole, Follows, unit_of, unit_acts, if_yes, if_no, never_cut, row_later}
 
-module _ (earlier : List Effect) (old : Content) (range : IsInRange old) (f : Follows earlier old) (kept : FinMap pair_cmp Kept) (imports : FinMap code_cmp ImportRow) where
+module _ (earlier : List Effect) (old : Content) (range : IsInRange old) (f : Follows earlier old) (kept : FinMap message_id_cmp Kept) (imports : FinMap code_cmp ImportRow) where
   abbrev Next : Effect → Change → Type 0
   Next done change = Follows (done ∷ earlier) (with_messages kept imports (changed old change))
 

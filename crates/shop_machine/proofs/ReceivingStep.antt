@@ -27,20 +27,20 @@ use Rattle.shop_records.specs.declared.imports.ImportRow.{ImportRow}
 use Rattle.shop_records.specs.declared.messages.Message.{Message}
 use Rattle.shop_records.specs.declared.refusals.Refusal.TheVariants.{BadSize, BadCount, TooMuch, NumbersSpent}
 use Rattle.shop_records.specs.declared.messages.Command.TheVariants.{Receive}
-use Rattle.shop_records.specs.Messages.{Texts, pair_of}
+use Rattle.shop_records.specs.Messages.{Texts, message_id_of}
 use Rattle.shop_records.specs.Same.{same_name}
 use Rattle.shop_records.specs.Columns.{is_piece_for, is_counted}
-use Rattle.shop_records.specs.Content.{Content, pair_cmp, material_at, part_at, kept_at, changed, cells_in, totals_in, totals_of, AddsUp}
+use Rattle.shop_records.specs.Content.{Content, message_id_cmp, material_at, part_at, kept_at, changed, cells_in, totals_in, totals_of, AddsUp}
 use Rattle.shop_machine.specs.Receiving.{unit_part, unit_parts, receive_change, receive_refusal, received_totals}
 use Rattle.shop_machine.specs.Machine.{keeping, refusal_of}
 use Rattle.shop_records.specs.Elements.{IsIn}
-use Rattle.shop_records.specs.Soundness.{IsPlaced, IsNewPart, Fits, made_in, with_totals}
+use Rattle.shop_records.specs.WellFormed.{IsPlaced, IsNewPart, Fits, made_in, with_totals}
 use Rattle.shop_records.specs.Readings.{Reading}
 use Rattle.shop_records.proofs.Basics.{in_map, in_append, codes_same, same_some, put_cases, earlier_node}
 use Rattle.shop_records.proofs.Puts.{Pairwise, all_from, pairs_from, pairs_more, map_pairs, sum_as, is_known, equal, put_other, sum_parts}
 use Rattle.shop_machine.proofs.Allowed.{none_of, IsSized, sized, flat}
 use Rattle.shop_machine.proofs.AddedUp.{cells_as, cells_left, adds_up, adds_up_so}
-use Rattle.shop_machine.proofs.Grown.{with_messages, IsStock, IsStill, Grows, placed_more, job_more, none_later, demand_more, no_pairs}
+use Rattle.shop_machine.proofs.Grown.{with_messages, IsStock, IsStill, Grows, placed_more, job_more, none_later, demand_more, no_message_ids}
 use Rattle.shop_machine.proofs.Tallied.{own, same_totals, same_sums}
 use Rattle.shop_machine.proofs.Agreeing.{NoFault, other, no_such}
 
@@ -137,7 +137,7 @@ module _ (m : Content) (stock : IsStock m) (material batch : List ℕ) (w h coun
       map_pairs (λ (a b : Part). a.name ≡ b.name → ⊥) (unit_part material batch size act) (below count)
       (pairs_more (λ (a b : ℕ). a < b) _ (λ a b less e. let same : a ≡ b = ap (λ (n : Name). n.node) e in omega (arith, less, same)) (below count) (below_rises count))
 
-  module _ (kept : FinMap pair_cmp Kept) (imports : FinMap code_cmp ImportRow) where
+  module _ (kept : FinMap message_id_cmp Kept) (imports : FinMap code_cmp ImportRow) where
     abbrev after : Content
     after = with_messages kept imports (changed m (receive_change material batch size act count (totals_of m material)))
 
@@ -334,7 +334,7 @@ module _ (m : Content) (stock : IsStock m) (material batch : List ℕ) (w h coun
             same_sums code (values after.parts) (values m.parts) (λ c. stays c code e)
             ∙ sym (ap (λ b. if b then received_totals (w * h * count) (totals_of m material) else totals_of m code) e)
 
-  pub receive_fits : (texts : Texts) (message : Message) → kept_at m (pair_of message) ≡ None → Fits m (keeping texts message (receive_change material batch size act count (totals_of m material)))
+  pub receive_fits : (texts : Texts) (message : Message) → kept_at m (message_id_of message) ≡ None → Fits m (keeping texts message (receive_change material batch size act count (totals_of m material)))
   receive_fits texts message new = record {
     material = tt;
     parts = all_from (IsNewPart m) units
@@ -345,7 +345,7 @@ module _ (m : Content) (stock : IsStock m) (material batch : List ℕ) (w h coun
     rising = pairs_from (λ (a b : Part). name_cmp a.name b.name ≡ Less) units units_rise;
     moved = tt;
     undone = All-nil _;
-    apart = no_pairs (λ (a b : Part). name_cmp a.name b.name ≡ Less);
+    apart = no_message_ids (λ (a b : Part). name_cmp a.name b.name ≡ Less);
     halt = tt;
     begun = tt;
     extended = tt;
@@ -354,7 +354,7 @@ module _ (m : Content) (stock : IsStock m) (material batch : List ℕ) (w h coun
     order = tt;
     demands = All-nil _;
     wanted = All-nil _;
-    once = no_pairs (λ (a b : Demand). a.number ≡ b.number → ⊥);
+    once = no_message_ids (λ (a b : Demand). a.number ≡ b.number → ⊥);
     lines = tt;
     totals = is_known (material_at m material) receipt.material receipt.is_known;
     sums = sums_after m.kept m.imports;

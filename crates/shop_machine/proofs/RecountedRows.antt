@@ -197,12 +197,12 @@ any_left rows more n any =
 
 once_push : (rows : List Demand) (row : Demand) → AllPairs (λ (a b : Demand). a.number ≢ b.number) rows → All (λ (other : Demand). other.number ≢ row.number) rows
     → AllPairs (λ (a b : Demand). a.number ≢ b.number) (rows ++ row ∷ [])
-once_push rows row pairs none i j d before within =
+once_push rows row message_ids none i j d before within =
     let count = length-append rows (row ∷ []) in
     let first : i < length rows = omega (arith, count) in
     rw (get_or_append_left rows (row ∷ []) d i first)
     (elim (cases_lt j (length rows)) [
-      | inl less ↦ rw (get_or_append_left rows (row ∷ []) d j less) (pairs i j d before less)
+      | inl less ↦ rw (get_or_append_left rows (row ∷ []) d j less) (message_ids i j d before less)
       | inr last ↦
           let at : j ≡ length rows = omega (arith, count) in
           let end : get_or (rows ++ row ∷ []) j d ≡ row =

@@ -19,7 +19,7 @@ use Rattle.shop_records.specs.Content.{Content, part_at, demand_at}
 use Rattle.shop_machine.specs.Reserving.{reserve_change, IsReading, IsReservation}
 use Rattle.shop_machine.specs.Machine.{Reads, Effect, Reserves, effects}
 use Rattle.shop_machine.specs.Recounts.{AreRecounted, with_reserved}
-use Rattle.shop_records.specs.Soundness.{IsSound}
+use Rattle.shop_records.specs.WellFormed.{IsWellFormed}
 use Rattle.shop_machine.specs.History.{acts_of, ordered_lines, job_of, owner_of, is_gone, standing_as}
 use Rattle.shop_records.specs.Columns.{is_free}
 use Rattle.shop_records.specs.Readings.{Reading, Plan}
@@ -31,13 +31,13 @@ use Rattle.shop_machine.proofs.Accounts.{reservation, Follows, if_yes, if_no}
 use Rattle.shop_machine.proofs.Allowed.{free_stands}
 use Rattle.shop_machine.proofs.Steps.{After, AfterAll, named, rows_restated, cut_restated, whole_restated}
 
-module _ (texts : Texts) (message : Message) (earlier : List Effect) (old : Content) (sound : IsSound texts old) (f : Follows earlier old) where
+module _ (texts : Texts) (message : Message) (earlier : List Effect) (old : Content) (well_formed : IsWellFormed texts old) (f : Follows earlier old) where
   abbrev Next : Effect → Change → Type 0
-  Next = After texts message earlier old sound f
+  Next = After texts message earlier old well_formed f
 
   module _ (part : Name) (row : Part) (plan : Pattern) (rows : List Demand) (kept : part_at old part ≡ Some row) (stands : row.state ≡ Standing) where
     kept_row : part_at old row.name ≡ Some row
-    kept_row = ap (get old.parts) (named texts message earlier old sound f part row kept) ∙ kept
+    kept_row = ap (get old.parts) (named texts message earlier old well_formed f part row kept) ∙ kept
 
     abbrev new_job : Job
     new_job = record { act = acts_of earlier + 1; part = row.name; kerf = plan.kerf; plan = plan; state = job_state.Waiting }
@@ -48,22 +48,22 @@ module _ (texts : Texts) (message : Message) (earlier : List Effect) (old : Cont
       numbers = f.numbers;
       lines = lines_recounted (ordered_lines earlier) old.demands with_reserved plan.tree rows recounted (no_reserved old.demands plan.tree) (λ n d. refl) f.lines;
       rules = f.rules;
-      rows = rows_restated texts message earlier old sound f row (Reserved (acts_of earlier + 1)) refl kept_row (Reserves part plan.tree) (λ p job x y is. refl);
+      rows = rows_restated texts message earlier old well_formed f row (Reserved (acts_of earlier + 1)) refl kept_row (Reserves part plan.tree) (λ p job x y is. refl);
       jobs = λ k job g. elim (nat_cases k (acts_of earlier + 1)) [
         | inl y ↦ (
             let is : job ≡ new_job = same_some job new_job (sym g ∙ ap (get (insert old.jobs (acts_of earlier + 1) new_job)) y.0 ∙ get_same nat_cmp_total nat_cmp-IsAntisymmetric old.jobs (acts_of earlier + 1) new_job) in
             if_yes k (acts_of earlier + 1) (Some (record { part = part; tree = plan.tree })) (job_of earlier k) y.0
-            ∙ ap (λ v. Some (record { part = v; tree = plan.tree })) (sym (named texts message earlier old sound f part row kept)) ∙ ap (λ (v : Job). Some (reservation v)) (sym is))
+            ∙ ap (λ v. Some (record { part = v; tree = plan.tree })) (sym (named texts message earlier old well_formed f part row kept)) ∙ ap (λ (v : Job). Some (reservation v)) (sym is))
         | inr n ↦ if_no k (acts_of earlier + 1) (Some (record { part = part; tree = plan.tree })) (job_of earlier k) n.0
             ∙ f.jobs k job (sym (get_other nat_cmp_total nat_cmp-IsAntisymmetric old.jobs (acts_of earlier + 1) new_job k n.0) ∙ g)
       ];
-      wholes = λ unit i. whole_restated texts message earlier old sound f row (Reserved (acts_of earlier + 1)) refl kept_row unit (f.wholes unit i);
+      wholes = λ unit i. whole_restated texts message earlier old well_formed f row (Reserved (acts_of earlier + 1)) refl kept_row unit (f.wholes unit i);
       cells = λ unit i x y across down.
-          restated old.parts (named texts message earlier old sound f) row.name row kept_row (ap is_gone stands) (Reserved (acts_of earlier + 1)) refl (ap standing_as (sym stands)) (owner_of earlier unit.name x y) unit.name x y
+          restated old.parts (named texts message earlier old well_formed f) row.name row kept_row (ap is_gone stands) (Reserved (acts_of earlier + 1)) refl (ap standing_as (sym stands)) (owner_of earlier unit.name x y) unit.name x y
           (f.cells unit i x y across down);
       over = λ n q job k cut.
-          let was = f.over n q job (cut_restated texts message earlier old sound f row (Reserved (acts_of earlier + 1)) refl kept_row n q job k cut) cut in
-          let so_far = (sound.jobs job was.job was.found).so_far in
+          let was = f.over n q job (cut_restated texts message earlier old well_formed f row (Reserved (acts_of earlier + 1)) refl kept_row n q job k cut) cut in
+          let so_far = (well_formed.jobs job was.job was.found).so_far in
           let e : old.last_act ≡ acts_of earlier = f.acts in
           record {
             job = was.job;
@@ -76,7 +76,7 @@ module _ (texts : Texts) (message : Message) (earlier : List Effect) (old : Cont
     by_reservation recounted = subst (λ n. Next (Reserves part plan.tree) (reserve_change row plan (n + 1) rows)) (sym f.acts) (by_part recounted)
 
   abbrev Then : Command → Reading → Change → Type 0
-  Then command read change = AfterAll texts message earlier old sound f (effects command read) change
+  Then command read change = AfterAll texts message earlier old well_formed f (effects command read) change
 
   pub reserves : (part : Name) (text : List ℕ) (read : Reading) (change : Change) (row : Part) (plan : Pattern) → part_at old part ≡ Some row → read ≡ Plan plan
       → Reads texts old (Reserve part text) read → IsReservation row plan (demand_at old) (old.last_act + 1) change → Then (Reserve part text) read change

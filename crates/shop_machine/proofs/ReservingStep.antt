@@ -26,13 +26,13 @@ use Rattle.shop_records.specs.declared.records.Material.{Material}
 use Rattle.shop_records.specs.declared.records.State.TheVariants.{Cut, Piece}
 use Rattle.shop_records.specs.declared.refusals.Refusal.TheVariants.{NumbersSpent, NotStanding, BadTree, WrongMaterial, TooMany, StoreFault}
 use Rattle.shop_records.specs.declared.messages.Command.TheVariants.{Reserve}
-use Rattle.shop_records.specs.Messages.{Texts, pair_of}
+use Rattle.shop_records.specs.Messages.{Texts, message_id_of}
 use Rattle.shop_records.specs.Columns.{is_there, is_free, is_waiting}
 use Rattle.shop_records.specs.Content.{Content, material_at, part_at, job_at, halt_at, demand_at, kept_at, changed, in_state, material_of}
 use Rattle.shop_machine.specs.Recounts.{AreRecounted, with_reserved, plan_leaves}
 use Rattle.shop_machine.specs.Reserving.{IsReading, reserve_change, reserve_refusal, plan_refusal, leaf_refusal, leaves_refusal, is_too_many, is_over, fits_demand}
 use Rattle.shop_machine.specs.Machine.{keeping, refusal_of, Reads}
-use Rattle.shop_records.specs.Soundness.{IsWaiting, IsJob, IsHalted, IsCounted, Fits, reserved_in, made_in, IsOnPart}
+use Rattle.shop_records.specs.WellFormed.{IsWaiting, IsJob, IsHalted, IsCounted, Fits, reserved_in, made_in, IsOnPart}
 use Rattle.shop_machine.specs.Decisions.{first_of}
 use Rattle.shop_records.specs.Same.{same_code}
 use Rattle.shop_records.specs.Elements.{IsIn}
@@ -300,7 +300,7 @@ module _ (m : Content) (stock : IsStock m) (name : Name) (text : List ℕ) (row 
       halted_after
       counts
 
-  pub reserve_fits : kept_at m (pair_of message) ≡ None → Fits m (keeping texts message (reserve_change row plan act rows))
+  pub reserve_fits : kept_at m (message_id_of message) ≡ None → Fits m (keeping texts message (reserve_change row plan act rows))
   reserve_fits =
       step_fits m stock row (state.Reserved act) [] (Some act) new_job step with_reserved plan.tree (no_reserved m.demands plan.tree) keeps rows recounted None None texts message (reply.Reserve (cut_count plan.tree) act)
       (record { numbered = refl; new = no_job; on = on_part; kerf = refl }) tt tt

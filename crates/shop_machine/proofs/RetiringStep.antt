@@ -14,11 +14,11 @@ use Rattle.shop_records.specs.declared.records.Totals.{Totals}
 use Rattle.shop_records.specs.declared.messages.Message.{Message}
 use Rattle.shop_records.specs.declared.messages.Reply.{Reply}
 use Rattle.shop_records.specs.declared.refusals.Refusal.TheVariants.{NotStanding}
-use Rattle.shop_records.specs.Messages.{Texts, pair_of}
+use Rattle.shop_records.specs.Messages.{Texts, message_id_of}
 use Rattle.shop_records.specs.Columns.{is_whole, is_there, is_free, is_piece_for}
 use Rattle.shop_records.specs.Content.{Content, part_at, kept_at, changed, in_state, totals_of, totals_for}
 use Rattle.shop_records.specs.Elements.{IsIn}
-use Rattle.shop_records.specs.Soundness.{IsPlaced, IsWaiting, Fits, made_in, IsSound}
+use Rattle.shop_records.specs.WellFormed.{IsPlaced, IsWaiting, Fits, made_in, IsWellFormed}
 use Rattle.shop_records.specs.declared.records.State.TheVariants as state
 use Rattle.shop_records.specs.declared.changes.Change.{Change}
 use Rattle.shop_records.specs.declared.messages.Command.{Command}
@@ -35,7 +35,7 @@ use Rattle.shop_machine.proofs.AddedUp.{is_uncut}
 use Rattle.shop_machine.proofs.Moved.{found_moved, still_moved, other_moved, received_moved, adds_up_moved, made_moved}
 use Rattle.shop_machine.proofs.Agreeing.{NoFault, other, no_such}
 use Rattle.shop_machine.proofs.Allowed.{none_of, free_stands}
-use Rattle.shop_machine.proofs.Grown.{IsStock, Grows, Untouched, placed_more, job_more, demand_more, no_pairs}
+use Rattle.shop_machine.proofs.Grown.{IsStock, Grows, Untouched, placed_more, job_more, demand_more, no_message_ids}
 use Rattle.shop_machine.proofs.Tallied.{sums_move, held}
 use Rattle.shop_machine.proofs.ReservingStep.{left_as_before}
 use Rattle.shop_machine.proofs.Cells.{turned}
@@ -153,14 +153,14 @@ module _ (m : Content) (stock : IsStock m) (name : Name) (row : Part) (found : p
     lines = stock.lines;
   }
 
-  pub state_fits : kept_at m (pair_of message) ≡ None → Fits m (keeping texts message (state_change s row (totals_of m row.material) answer))
+  pub state_fits : kept_at m (message_id_of message) ≡ None → Fits m (keeping texts message (state_change s row (totals_of m row.material) answer))
   state_fits new = record {
     material = tt;
     parts = All-nil _;
-    rising = no_pairs (λ (a b : Part). name_cmp a.name b.name ≡ Less);
+    rising = no_message_ids (λ (a b : Part). name_cmp a.name b.name ≡ Less);
     moved = record { before = row; found = there; is = refl; known = (stock.parts row.name row there).known };
     undone = All-nil _;
-    apart = no_pairs (λ (a b : Part). name_cmp a.name b.name ≡ Less);
+    apart = no_message_ids (λ (a b : Part). name_cmp a.name b.name ≡ Less);
     halt = tt;
     begun = tt;
     extended = tt;
@@ -169,7 +169,7 @@ module _ (m : Content) (stock : IsStock m) (name : Name) (row : Part) (found : p
     order = tt;
     demands = All-nil _;
     wanted = All-nil _;
-    once = no_pairs (λ (a b : Demand). a.number ≡ b.number → ⊥);
+    once = no_message_ids (λ (a b : Demand). a.number ≡ b.number → ⊥);
     lines = tt;
     totals = (stock.parts row.name row there).known;
     sums = sums_move m.parts row s [] there none_new tt (λ x i. absurd i) (λ code. refl) (tally (in_state s row ∷ []))
@@ -183,33 +183,33 @@ module _ (m : Content) (stock : IsStock m) (name : Name) (row : Part) (found : p
 
 -- ---- what is done to cells
 
-module _ (texts : Texts) (message : Message) (earlier : List Effect) (old : Content) (sound : IsSound texts old) (f : Follows earlier old) where
+module _ (texts : Texts) (message : Message) (earlier : List Effect) (old : Content) (well_formed : IsWellFormed texts old) (f : Follows earlier old) where
   -- a standing part as a whole gets a state that stays
   by_state : (s : State) (row : Part) (answer : Reply) → is_gone s ≡ false → standing_as s ≡ s → part_at old row.name ≡ Some row → row.state ≡ Standing
-      → After texts message earlier old sound f (SetsState row.name s) (state_change s row (totals_of old row.material) answer)
+      → After texts message earlier old well_formed f (SetsState row.name s) (state_change s row (totals_of old row.material) answer)
   by_state s row answer whole stays kept stands = record {
     acts = (let e : old.last_act ≡ acts_of earlier = f.acts in omega arith);
     numbers = f.numbers;
     lines = f.lines;
     rules = f.rules;
-    rows = rows_restated texts message earlier old sound f row s whole kept (SetsState row.name s) (λ p job x y is. refl);
+    rows = rows_restated texts message earlier old well_formed f row s whole kept (SetsState row.name s) (λ p job x y is. refl);
     jobs = f.jobs;
-    wholes = λ unit i. whole_restated texts message earlier old sound f row s whole kept unit (f.wholes unit i);
+    wholes = λ unit i. whole_restated texts message earlier old well_formed f row s whole kept unit (f.wholes unit i);
     cells = λ unit i x y across down.
-        turned old.parts (named texts message earlier old sound f) row.name row kept (ap is_gone stands) s whole stays (owner_of earlier unit.name x y) (owner_with_state row.name s (owner_of earlier unit.name x y)) unit.name x y
+        turned old.parts (named texts message earlier old well_formed f) row.name row kept (ap is_gone stands) s whole stays (owner_of earlier unit.name x y) (owner_with_state row.name s (owner_of earlier unit.name x y)) unit.name x y
         (λ w e name state. ap (owner_with_state row.name s) e ∙ ap (λ b. if b then Some (record w { state = s }) else Some w) (stands_yes row.name w name (sym state ∙ ap standing_as stands)))
         (λ w e other. ap (owner_with_state row.name s) e ∙ ap (λ b. if b then Some (record w { state = s }) else Some w) (stands_no row.name w other))
         (f.cells unit i x y across down);
-    over = λ n q job k cut. f.over n q job (cut_restated texts message earlier old sound f row s whole kept n q job k cut) cut;
+    over = λ n q job k cut. f.over n q job (cut_restated texts message earlier old well_formed f row s whole kept n q job k cut) cut;
   }
 
   abbrev Then : Command → Reading → Change → Type 0
-  Then command read change = AfterAll texts message earlier old sound f (effects command read) change
+  Then command read change = AfterAll texts message earlier old well_formed f (effects command read) change
 
   pub scraps : (part : Name) (read : Reading) (change : Change) (row : Part) → scrap_refusal (part_at old part) (totals_for old (part_at old part)) ≡ None → part_at old part ≡ Some row
       → change ≡ state_change state.Scrap row (totals_of old row.material) (reply.Scrap row.name) → Then (Scrap part) read change
   scraps part read change row allowed found is =
-      let same : row.name ≡ part = named texts message earlier old sound f part row found in
+      let same : row.name ≡ part = named texts message earlier old well_formed f part row found in
       subst (λ n. Then (Scrap n) read change) same
       (subst (Then (Scrap row.name) read) (sym is)
       (by_state state.Scrap row (reply.Scrap row.name) refl refl (ap (part_at old) same ∙ found) (scrap_stands (part_at old part) row (totals_for old (part_at old part)) found allowed)))
@@ -217,7 +217,7 @@ module _ (texts : Texts) (message : Message) (earlier : List Effect) (old : Cont
   pub gives_back : (part : Name) (read : Reading) (change : Change) (row : Part) → return_refusal (part_at old part) (totals_for old (part_at old part)) ≡ None → part_at old part ≡ Some row
       → change ≡ state_change state.Returned row (totals_of old row.material) (reply.GiveBack row.name) → Then (GiveBack part) read change
   gives_back part read change row allowed found is =
-      let same : row.name ≡ part = named texts message earlier old sound f part row found in
+      let same : row.name ≡ part = named texts message earlier old well_formed f part row found in
       subst (λ n. Then (GiveBack n) read change) same
       (subst (Then (GiveBack row.name) read) (sym is)
       (by_state state.Returned row (reply.GiveBack row.name) refl refl (ap (part_at old) same ∙ found) (returned_stands (part_at old part) row (totals_for old (part_at old part)) found allowed)))

@@ -16,17 +16,17 @@ use Rattle.shop_records.specs.declared.notes.OrderNote.{OrderNote}
 use Rattle.shop_records.specs.declared.messages.Message.{Message}
 use Rattle.shop_records.specs.declared.refusals.Refusal.TheVariants.{NoOrder, BadNote}
 use Rattle.shop_records.specs.Columns.{is_waiting}
-use Rattle.shop_records.specs.Messages.{Texts, pair_of}
+use Rattle.shop_records.specs.Messages.{Texts, message_id_of}
 use Rattle.shop_records.specs.Notes.{is_note}
 use Rattle.shop_records.specs.Content.{Content, has_order, job_at, kept_at}
-use Rattle.shop_records.specs.Soundness.{IsSound, Fits}
+use Rattle.shop_records.specs.WellFormed.{IsWellFormed, Fits}
 use Rattle.shop_machine.specs.Noting.{note_refusal, note_change}
 use Rattle.shop_machine.specs.Beginning.{begin_refusal, begin_change}
 use Rattle.shop_machine.specs.Machine.{keeping, Effect, nothing as no_effect}
 use Rattle.shop_machine.specs.History.{acts_of}
 use Rattle.shop_machine.proofs.Allowed.{none_of}
 use Rattle.shop_machine.proofs.Agreeing.{NoFault, nothing, other}
-use Rattle.shop_machine.proofs.Grown.{IsStock, Grows, placed_more, job_more, demand_more, no_pairs}
+use Rattle.shop_machine.proofs.Grown.{IsStock, Grows, placed_more, job_more, demand_more, no_message_ids}
 use Rattle.shop_machine.proofs.Accounts.{Follows, row_later}
 use Rattle.shop_machine.proofs.Steps.{AfterAll}
 
@@ -64,15 +64,15 @@ is_there (Some j) e = refl
 
 -- ---- changes that fit
 
-module _ (m : Content) (texts : Texts) (message : Message) (new : kept_at m (pair_of message) ≡ None) where
+module _ (m : Content) (texts : Texts) (message : Message) (new : kept_at m (message_id_of message) ≡ None) where
   pub note_fits : (order : List ℕ) (due : ℕ) (text : List ℕ) → has_order m order ≡ true → Fits m (keeping texts message (note_change order due text))
   note_fits order due text known = record {
     material = tt;
     parts = All-nil _;
-    rising = no_pairs (λ (a b : Part). name_cmp a.name b.name ≡ Less);
+    rising = no_message_ids (λ (a b : Part). name_cmp a.name b.name ≡ Less);
     moved = tt;
     undone = All-nil _;
-    apart = no_pairs (λ (a b : Part). name_cmp a.name b.name ≡ Less);
+    apart = no_message_ids (λ (a b : Part). name_cmp a.name b.name ≡ Less);
     job = tt;
     halt = tt;
     begun = tt;
@@ -81,7 +81,7 @@ module _ (m : Content) (texts : Texts) (message : Message) (new : kept_at m (pai
     note = known;
     demands = All-nil _;
     wanted = All-nil _;
-    once = no_pairs (λ (a b : Demand). a.number ≡ b.number → ⊥);
+    once = no_message_ids (λ (a b : Demand). a.number ≡ b.number → ⊥);
     lines = tt;
     totals = tt;
     sums = λ c. refl;
@@ -96,10 +96,10 @@ module _ (m : Content) (texts : Texts) (message : Message) (new : kept_at m (pai
   begin_fits number before there = record {
     material = tt;
     parts = All-nil _;
-    rising = no_pairs (λ (a b : Part). name_cmp a.name b.name ≡ Less);
+    rising = no_message_ids (λ (a b : Part). name_cmp a.name b.name ≡ Less);
     moved = tt;
     undone = All-nil _;
-    apart = no_pairs (λ (a b : Part). name_cmp a.name b.name ≡ Less);
+    apart = no_message_ids (λ (a b : Part). name_cmp a.name b.name ≡ Less);
     job = tt;
     halt = tt;
     begun = there;
@@ -108,7 +108,7 @@ module _ (m : Content) (texts : Texts) (message : Message) (new : kept_at m (pai
     note = tt;
     demands = All-nil _;
     wanted = All-nil _;
-    once = no_pairs (λ (a b : Demand). a.number ≡ b.number → ⊥);
+    once = no_message_ids (λ (a b : Demand). a.number ≡ b.number → ⊥);
     lines = tt;
     totals = tt;
     sums = λ c. refl;
@@ -130,8 +130,8 @@ begin_agrees (Some j) = other (not (is_waiting j.state)) _ _ (λ e. cc) nothing
 
 -- ---- what is done to cells
 
-module _ (texts : Texts) (message : Message) (earlier : List Effect) (old : Content) (sound : IsSound texts old) (f : Follows earlier old) where
-  pub by_note : (order : List ℕ) (due : ℕ) (text : List ℕ) → AfterAll texts message earlier old sound f (no_effect ∷ []) (note_change order due text)
+module _ (texts : Texts) (message : Message) (earlier : List Effect) (old : Content) (well_formed : IsWellFormed texts old) (f : Follows earlier old) where
+  pub by_note : (order : List ℕ) (due : ℕ) (text : List ℕ) → AfterAll texts message earlier old well_formed f (no_effect ∷ []) (note_change order due text)
   by_note order due text = record {
     acts = (let e : old.last_act ≡ acts_of earlier = f.acts in omega arith);
     numbers = f.numbers;
@@ -144,7 +144,7 @@ module _ (texts : Texts) (message : Message) (earlier : List Effect) (old : Cont
     over = f.over;
   }
 
-  pub by_begin : (number : ℕ) (before : Option JobBegin) → AfterAll texts message earlier old sound f (no_effect ∷ []) (begin_change number before)
+  pub by_begin : (number : ℕ) (before : Option JobBegin) → AfterAll texts message earlier old well_formed f (no_effect ∷ []) (begin_change number before)
   by_begin number before = record {
     acts = (let e : old.last_act ≡ acts_of earlier = f.acts in omega arith);
     numbers = f.numbers;

@@ -15,13 +15,13 @@ use Rattle.shop_records.specs.declared.messages.Message.{Message}
 use Rattle.shop_records.specs.Messages.{Texts}
 use Rattle.shop_records.specs.Content.{Content, part_at, job_at, changed, in_state}
 use Rattle.shop_machine.specs.Machine.{keeping, Effect}
-use Rattle.shop_records.specs.Soundness.{IsSound}
+use Rattle.shop_records.specs.WellFormed.{IsWellFormed}
 use Rattle.shop_machine.specs.History.{ReceivedUnit, job_of, is_gone}
 use Rattle.shop_records.proofs.Basics.{names_total, names_same, nat_cases, name_cases, same_some, get_same, get_other}
 use Rattle.shop_machine.proofs.Cells.{Named}
 use Rattle.shop_machine.proofs.Accounts.{IsRow, IsWhole, reservation, Follows, EndsNot, IsOver, row_later, row_restated}
 
-module _ (texts : Texts) (message : Message) (earlier : List Effect) (old : Content) (sound : IsSound texts old) (f : Follows earlier old) where
+module _ (texts : Texts) (message : Message) (earlier : List Effect) (old : Content) (well_formed : IsWellFormed texts old) (f : Follows earlier old) where
   abbrev pub After : Effect → Change → Type 0
   After done change = Follows (done ∷ earlier) (changed old (keeping texts message change))
 
@@ -30,7 +30,7 @@ module _ (texts : Texts) (message : Message) (earlier : List Effect) (old : Cont
   AfterAll done change = Follows (done ++ earlier) (changed old (keeping texts message change))
 
   pub named : Named old.parts
-  named n p k = (sound.parts n p k).named
+  named n p k = (well_formed.parts n p k).named
 
   -- ---- a part whose state changes
 

@@ -20,7 +20,7 @@ use Rattle.shop_records.specs.Columns.{is_there, is_counted}
 use Rattle.shop_records.specs.Content.{Content, part_at, cells_in, counts_for, totals_in, totals_of, in_state}
 use Rattle.shop_machine.specs.Moving.{cells_counted, tally, can_move, has_cells, moved_totals, AreFew}
 use Rattle.shop_records.specs.Elements.{IsIn}
-use Rattle.shop_records.specs.Soundness.{with_totals}
+use Rattle.shop_records.specs.WellFormed.{with_totals}
 use Rattle.shop_records.proofs.Basics.{codes_total, codes_same, names_total, names_same, tied}
 use Rattle.shop_records.proofs.Puts.{Pairwise, equal, sum_as, sum_none, sum_over}
 use Rattle.shop_machine.proofs.AddedUp.{cells_as}

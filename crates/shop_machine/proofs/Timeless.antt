@@ -13,18 +13,18 @@ use Rattle.shop_records.specs.declared.texts.Kept.{Kept}
 use Rattle.shop_records.specs.declared.messages.Message.{Message}
 use Rattle.shop_records.specs.declared.messages.Reply.{Reply}
 use Rattle.shop_records.specs.declared.refusals.Refusal.{Refusal}
-use Rattle.shop_records.specs.Messages.{Texts, refusal_in, pair_of}
+use Rattle.shop_records.specs.Messages.{Texts, refusal_in, message_id_of}
 use Rattle.shop_records.specs.Readings.{Reading}
 use Rattle.shop_records.specs.Journal.{word_of}
 use Rattle.shop_records.specs.Content.{Content, kept_at, entry_at, entry_count, last_time, forgotten, timeless, without_times, with_material, with_parts, with_moved, with_job, with_halt, with_begun, with_order, with_note, with_demands, with_import, with_number, halt_at, fresh}
-use Rattle.shop_records.specs.Soundness.{AreEntries, IsSound}
+use Rattle.shop_records.specs.WellFormed.{AreEntries, IsWellFormed}
 use Rattle.shop_machine.specs.Machine.{Accepts, AcceptsAt, Refuses, StepNew, StepNewAt, StepAgain, Step, StepAt, Makes, entry_of, entry_part, entry_job}
 use Rattle.shop_machine.specs.History.{Entry, Gives, GivesAll, MayForget}
 use Rattle.shop_records.proofs.Basics.{nat_cases, none_some, same_some, get_same, get_other}
 use Rattle.shop_records.proofs.Puts.{found_one, some_known}
 use Rattle.shop_machine.proofs.Entered.{with_rest}
 use Rattle.shop_machine.proofs.OneResult.{IsSame, one_change}
-use Rattle.shop_machine.proofs.Sound.{gives_sound}
+use Rattle.shop_machine.proofs.StaysWellFormed.{gives_well_formed}
 use Rattle.shop_machine.proofs.Newest.{all_gives}
 
 -- ---- entries without their times
@@ -119,7 +119,7 @@ module _ (texts : Texts) (a b : Content) (message : Message) (read : Reading) (o
     orders = with_order accepts.change.order a.orders;
     notes = with_note accepts.change.note a.notes;
     demands = with_demands accepts.change.demands a.demands;
-    kept = insert a.kept (pair_of message) (record { command = texts.of_message message; reply = texts.of_reply accepts.change.reply });
+    kept = insert a.kept (message_id_of message) (record { command = texts.of_message message; reply = texts.of_reply accepts.change.reply });
     imports = with_import (option_map (reported accepts.change.reply) accepts.change.import) a.imports;
     entries = empty;
     last_act = with_number accepts.change.act a.last_act;
@@ -136,7 +136,7 @@ module _ (texts : Texts) (a b : Content) (message : Message) (read : Reading) (o
     orders = with_order again.change.order a.orders;
     notes = with_note again.change.note a.notes;
     demands = with_demands again.change.demands a.demands;
-    kept = insert a.kept (pair_of message) (record { command = texts.of_message message; reply = texts.of_reply again.change.reply });
+    kept = insert a.kept (message_id_of message) (record { command = texts.of_message message; reply = texts.of_reply again.change.reply });
     imports = with_import (option_map (reported again.change.reply) again.change.import) a.imports;
     entries = empty;
     last_act = with_number again.change.act a.last_act;
@@ -153,7 +153,7 @@ module _ (texts : Texts) (a b : Content) (message : Message) (read : Reading) (o
     orders = with_order (same.order i) a.orders;
     notes = with_note (same.note i) a.notes;
     demands = same.demands a.demands i;
-    kept = insert a.kept (pair_of message) (record { command = texts.of_message message; reply = texts.of_reply (same.answer i) });
+    kept = insert a.kept (message_id_of message) (record { command = texts.of_message message; reply = texts.of_reply (same.answer i) });
     imports = with_import (option_map (reported (same.answer i)) (same.import i)) a.imports;
     entries = empty;
     last_act = with_number (same.act i) a.last_act;
@@ -171,7 +171,7 @@ module _ (texts : Texts) (a b : Content) (message : Message) (read : Reading) (o
     orders = with_order again.change.order c.orders;
     notes = with_note again.change.note c.notes;
     demands = with_demands again.change.demands c.demands;
-    kept = insert c.kept (pair_of message) (record { command = texts.of_message message; reply = texts.of_reply again.change.reply });
+    kept = insert c.kept (message_id_of message) (record { command = texts.of_message message; reply = texts.of_reply again.change.reply });
     imports = with_import (option_map (reported again.change.reply) again.change.import) c.imports;
     entries = empty;
     last_act = with_number again.change.act c.last_act;
@@ -219,7 +219,7 @@ module _ (texts : Texts) (a b : Content) (message : Message) (read : Reading) (o
     same_written : timeless written ≡ timeless rewritten
     same_written = λ i. record {
       number = count i + 1;
-      pair = pair_of message;
+      message_id = message_id_of message;
       at = 0;
       word = word_of message.command;
       act = with_number (same.act i) 0;
@@ -259,13 +259,13 @@ module _ (texts : Texts) (a b : Content) (message : Message) (read : Reading) (o
     still_like = record { rows = same_rows; halts = same_halts; entered = λ n. ap (option_map timeless) (at_new n) ∙ put_both n ∙ sym (ap (option_map timeless) (at_also n)) }
 
 -- of the same message on contents that differ in times alone, with the same reading
-pub one_step : (texts : Texts) (a b : Content) (message : Message) (read : Reading) (one other : Reply) (new also : Content) → IsSound texts a → IsSound texts b
+pub one_step : (texts : Texts) (a b : Content) (message : Message) (read : Reading) (one other : Reply) (new also : Content) → IsWellFormed texts a → IsWellFormed texts b
     → without_times a ≡ without_times b → Accepts texts a message read one new → Accepts texts b message read other also → (one ≡ other) × (without_times new ≡ without_times also)
-one_step texts a b message read one other new also sound again_sound same accepts again =
+one_step texts a b message read one other new also well_formed again_well_formed same accepts again =
     let like = is_like a b same in
     let agree : HaltsAgree a b = λ n r s p q. same_some r s (sym p ∙ ap (λ (m : FinMap nat_cmp JobHalt). get m n) like.halts ∙ q) in (
       same_answer texts a b message read one other new also accepts again like.rows agree,
-      same_times new also (still_like texts a b message read one other new also accepts again like.rows agree sound.entries again_sound.entries like),
+      same_times new also (still_like texts a b message read one other new also accepts again like.rows agree well_formed.entries again_well_formed.entries like),
     )
 
 -- of one history
@@ -273,7 +273,7 @@ pub one_history : (texts : Texts) (history : List Entry) (a b : Content) → Giv
 one_history texts [] a b given again = ap without_times given ∙ sym (ap without_times again)
 one_history texts (entry ∷ earlier) a b (before, answer, given, is_message, new, accepts) (before', answer', given', is_message', new', accepts') =
     (one_step texts before before' entry.message entry.read answer answer' a b
-    (gives_sound texts earlier before (all_gives texts earlier before given)) (gives_sound texts earlier before' (all_gives texts earlier before' given'))
+    (gives_well_formed texts earlier before (all_gives texts earlier before given)) (gives_well_formed texts earlier before' (all_gives texts earlier before' given'))
     (one_history texts earlier before before' given given') accepts accepts').1
 
 rows_left : (left content : Content) → MayForget left content → forgotten content ≡ forgotten left
@@ -319,7 +319,7 @@ module _ (texts : Texts) (at : ℕ) (old new : Content) (message : Message) (ans
 
   -- a step with a time is a step
   pub untimed : StepAt texts at old message answer new → Step texts old message answer new
-  untimed step = by_row (kept_at old (pair_of message)) step
+  untimed step = by_row (kept_at old (message_id_of message)) step
 
 module _ (texts : Texts) (old new : Content) (message : Message) (answer : Reply) where
   new_timed : (o : Option Refusal) → refusal_in answer ≡ o
@@ -335,4 +335,4 @@ module _ (texts : Texts) (old new : Content) (message : Message) (answer : Reply
 
   -- each step is one with some time
   pub timed : Step texts old message answer new → (at : ℕ) × StepAt texts at old message answer new
-  timed step = row_timed (kept_at old (pair_of message)) step
+  timed step = row_timed (kept_at old (message_id_of message)) step

@@ -21,7 +21,7 @@ use Rattle.shop_records.specs.Messages.{Texts}
 use Rattle.shop_records.specs.Readings.{Reading}
 use Rattle.shop_records.specs.Content.{Content, part_at, job_at, halt_at, demand_at, in_state, with_parts, with_demands, totals_of, changed}
 use Rattle.shop_records.specs.Elements.{IsIn}
-use Rattle.shop_records.specs.Soundness.{IsSound}
+use Rattle.shop_records.specs.WellFormed.{IsWellFormed}
 use Rattle.shop_machine.specs.Ending.{row_part, IsWork}
 use Rattle.shop_machine.specs.Machine.{Effect, Undoes, effects, keeping}
 use Rattle.shop_machine.specs.Recounts.{AreRecounted, pieces_in, with_unmade}
@@ -43,13 +43,13 @@ no_unmade old tree laid few numbered number d is gone =
     let own : count_of tree d.number ≡ count_of tree number = ap (count_of tree) (numbered number d is) in
     same_demand (with_unmade laid 0 d) d refl refl refl refl refl refl refl refl refl (omega (arith, less, own, gone))
 
-module _ (texts : Texts) (message : Message) (earlier : List Effect) (old : Content) (sound : IsSound texts old) (f : Follows earlier old)
+module _ (texts : Texts) (message : Message) (earlier : List Effect) (old : Content) (well_formed : IsWellFormed texts old) (f : Follows earlier old)
     (j : Job) (row : Part) (material : Material) (outcome : ℕ → Outcome) (laid : List Row) (u : IsUndoable old j row material outcome laid) where
   abbrev done : Effect
   done = Undoes j.act
 
   all_named : (n : Name) (p : Part) → get old.parts n ≡ Some p → p.name ≡ n
-  all_named = named texts message earlier old sound f
+  all_named = named texts message earlier old well_formed f
 
   here : (r : Row) → IsIn r laid → part_at old (record { act = j.act; node = r.node }) ≡ Some (row_part row material.limits j.act r)
   here = there old all_named j row material outcome laid u
@@ -81,7 +81,7 @@ module _ (texts : Texts) (message : Message) (earlier : List Effect) (old : Cont
         | inl c ↦ absurd (undone_cut j.act job (sym (ap (λ (p : Part). p.state) c.1.2) ∙ cut))
         | inr c ↦ elim c [
           | inl d ↦ absurd (true≢false (ap is_gone (sym cut ∙ ap (λ (p : Part). p.state) d.1)))
-          | inr d ↦ still_over texts message earlier old sound f j job_state.Undone refl job (f.over n q job d.1.1 cut)
+          | inr d ↦ still_over texts message earlier old well_formed f j job_state.Undone refl job (f.over n q job d.1.1 cut)
         ]
       ]
 
@@ -124,10 +124,10 @@ module _ (texts : Texts) (message : Message) (earlier : List Effect) (old : Cont
         acts = (let e : old.last_act ≡ acts_of earlier = f.acts in omega arith);
         numbers = f.numbers;
         lines = lines_recounted (ordered_lines earlier) old.demands (with_unmade laid) j.plan.tree rows recounted
-            (no_unmade old.demands j.plan.tree laid u.few (λ number d is. (sound.demands number d is).numbered)) (λ n d. refl) f.lines;
+            (no_unmade old.demands j.plan.tree laid u.few (λ number d is. (well_formed.demands number d is).numbered)) (λ n d. refl) f.lines;
         rules = f.rules;
         rows = rows_after;
-        jobs = job_restated texts message earlier old sound f j job_state.Undone u.found;
+        jobs = job_restated texts message earlier old well_formed f j job_state.Undone u.found;
         wholes = λ unit i. whole_after unit (f.wholes unit i);
         cells = λ unit i x y across down. cell_after unit.name x y (f.cells unit i x y across down);
         over = over_after;
@@ -135,14 +135,14 @@ module _ (texts : Texts) (message : Message) (earlier : List Effect) (old : Cont
 
 -- ---- the command
 
-module _ (texts : Texts) (message : Message) (earlier : List Effect) (old : Content) (sound : IsSound texts old) (f : Follows earlier old) where
+module _ (texts : Texts) (message : Message) (earlier : List Effect) (old : Content) (well_formed : IsWellFormed texts old) (f : Follows earlier old) where
   pub undoes : (number : ℕ) (read : Reading) (change : Change) (j : Job) (part : Part) (material : Material) → undo_refusal old (job_at old number) ≡ None
       → IsWork old number j part material → IsUndo j (halt_at old j.act) part material.limits (totals_of old part.material) (demand_at old) change
-      → AfterAll texts message earlier old sound f (effects (Undo number) read) change
+      → AfterAll texts message earlier old well_formed f (effects (Undo number) read) change
   undoes number read change j part material allowed work made =
-      let is : j.act ≡ number = (sound.jobs number j work.found).numbered in
-      subst (λ n. AfterAll texts message earlier old sound f (effects (Undo n) read) change) is
-      (subst (AfterAll texts message earlier old sound f (effects (Undo j.act) read)) (sym made.is)
-      (follows_undo texts message earlier old sound f j part material (outcome_of made.end) (laid_by made.end j)
-      (undoable old (stock_of texts old sound) number j part material work made.end made.ended allowed) made.rows made.recounted
+      let is : j.act ≡ number = (well_formed.jobs number j work.found).numbered in
+      subst (λ n. AfterAll texts message earlier old well_formed f (effects (Undo n) read) change) is
+      (subst (AfterAll texts message earlier old well_formed f (effects (Undo j.act) read)) (sym made.is)
+      (follows_undo texts message earlier old well_formed f j part material (outcome_of made.end) (laid_by made.end j)
+      (undoable old (stock_of texts old well_formed) number j part material work made.end made.ended allowed) made.rows made.recounted
       (changed old (keeping texts message (undo_change made.end j part material.limits (totals_of old part.material) made.rows))) refl))

@@ -31,11 +31,11 @@ use Rattle.shop_records.specs.declared.records.Column.{Column}
 use Rattle.shop_records.specs.declared.records.Column.TheVariants.{Received, Stock, Rack, Pieces, Kerf, Scrap, Returned}
 use Rattle.shop_records.specs.declared.messages.Message.{Message}
 use Rattle.shop_records.specs.declared.refusals.Refusal.TheVariants.{PartsMoved, StoreFault}
-use Rattle.shop_records.specs.Messages.{Texts, pair_of}
+use Rattle.shop_records.specs.Messages.{Texts, message_id_of}
 use Rattle.shop_records.specs.Columns.{is_waiting, is_piece_for, is_reserved_for, is_counted}
 use Rattle.shop_records.specs.Content.{Content, material_at, part_at, job_at, halt_at, has_order, demand_at, kept_at, changed, in_state, material_of, parts_named, totals_of, totals_for, totals_in, cells_in, with_parts}
 use Rattle.shop_records.specs.Elements.{IsIn}
-use Rattle.shop_records.specs.Soundness.{IsPlaced, IsWaiting, IsJob, IsDemand, IsCounted, IsMovedPart, IsMovedDemand, with_totals, Fits, made_in}
+use Rattle.shop_records.specs.WellFormed.{IsPlaced, IsWaiting, IsJob, IsDemand, IsCounted, IsMovedPart, IsMovedDemand, with_totals, Fits, made_in}
 use Rattle.shop_records.proofs.Basics.{same_some, in_map, codes_same}
 use Rattle.shop_records.proofs.Puts.{all_from, pairs_from, map_pairs, not_both, found_one, is_known, some_known, sum_over, sum_map, sum_none, equal}
 use Rattle.shop_machine.specs.Ending.{row_part, state_after_cut, IsWork, fits_part}
@@ -48,7 +48,7 @@ use Rattle.shop_machine.proofs.AddedUp.{cells_as, cells_left, adds_up, adds_up_s
 use Rattle.shop_machine.proofs.Agreeing.{NoFault, other, no_such}
 use Rattle.shop_machine.proofs.Allowed.{all_true, leaf_counts}
 use Rattle.shop_machine.proofs.Cells.{Named}
-use Rattle.shop_machine.proofs.Grown.{IsStock, Grows, Untouched, placed_more, on_more, job_more, different_more, no_pairs, halts_kept}
+use Rattle.shop_machine.proofs.Grown.{IsStock, Grows, Untouched, placed_more, on_more, job_more, different_more, no_message_ids, halts_kept}
 use Rattle.shop_machine.proofs.Moved.{LeavesOthers, IsRecount, row_recount, recount_of, demand_there}
 use Rattle.shop_machine.proofs.PutBack.{back_cases, back_named, back_same, back_still}
 use Rattle.shop_machine.proofs.Tallied.{same_totals, of_material, of_one, own, moves, six}
@@ -400,11 +400,11 @@ module _ (m : Content) (stock : IsStock m) (j : Job) (row : Part) (material : Ma
         own_name : (n : Name) (q : Part) → get after.parts n ≡ Some q → q.name ≡ n
         own_name = back_named m.parts named row.name row u.on j.act u.cut material.limits j.plan.tree (outcome_of end) laid u.is_laid here theirs
 
-    pub undo_fits : kept_at m (pair_of message) ≡ None → Fits m (keeping texts message (undo_change end j row material.limits (totals_of m row.material) rows))
+    pub undo_fits : kept_at m (message_id_of message) ≡ None → Fits m (keeping texts message (undo_change end j row material.limits (totals_of m row.material) rows))
     undo_fits new = record {
       material = tt;
       parts = All-nil _;
-      rising = no_pairs (λ (a b : Part). name_cmp a.name b.name ≡ Less);
+      rising = no_message_ids (λ (a b : Part). name_cmp a.name b.name ≡ Less);
       moved = record { before = row; found = u.on; is = refl; known = is_known (material_at m row.material) material u.known };
       undone = all_from (IsMovedPart m) gone
           (λ x i.

@@ -15,20 +15,20 @@ use Rattle.shop_records.specs.declared.records.Column.{Column}
 use Rattle.shop_records.specs.declared.records.Column.TheVariants.{Received, Stock, Rack, Pieces, Kerf, Scrap, Returned}
 use Rattle.shop_records.specs.declared.records.State.{State}
 use Rattle.shop_records.specs.declared.records.State.TheVariants as state
-use Rattle.shop_records.specs.declared.texts.Pair.{Pair}
+use Rattle.shop_records.specs.declared.texts.MessageId.{MessageId}
 use Rattle.shop_records.specs.declared.journal.Entry.{Entry as EntryRow}
 use Rattle.shop_records.specs.declared.messages.Message.{Message}
 use Rattle.shop_files.specs.declared.orders.OrderLine.{OrderLine}
 use Rattle.shop_records.specs.declared.messages.Reply.{Reply}
-use Rattle.shop_records.specs.Same.{same_pair, same_name, same_code}
+use Rattle.shop_records.specs.Same.{same_message_id, same_name, same_code}
 use Rattle.shop_records.specs.Columns.{is_there, is_piece, is_kerf, is_scrap, is_returned, is_free}
 use Rattle.shop_records.specs.Elements.{IsIn}
-use Rattle.shop_records.specs.Messages.{Texts, IsMessage, is_accepted, pair_of}
+use Rattle.shop_records.specs.Messages.{Texts, IsMessage, is_accepted, message_id_of}
 use Rattle.shop_records.specs.Readings.{Reading}
 use Rattle.shop_records.specs.Content.{Content, fresh, part_at, demand_at, kept_at, entry_at, entry_count, forgotten, totals_of, AddsUp}
 use Rattle.shop_machine.specs.Machine.{Accepts, Effect, Rules, Receives, Orders, Reserves, Ends, SetsState, Amends, effects, Undoes}
 use Rattle.shop_machine.specs.Ending.{state_after_cut}
-use Rattle.shop_records.specs.Soundness.{IsCounted, reserved_in, made_in}
+use Rattle.shop_records.specs.WellFormed.{IsCounted, reserved_in, made_in}
 
 -- what was done: an accepted message, and what its text was read as
 pub record Entry : Type 0 where
@@ -38,10 +38,10 @@ pub record Entry : Type 0 where
 abbrev pub messages_of : List Entry → List Message
 messages_of history = map (λ (entry : Entry). entry.message) history
 
--- the pair of an entry that is there, before others
-abbrev pub pair_before : Option EntryRow → List Pair → List Pair
-pair_before None pairs = pairs
-pair_before (Some entry) pairs = entry.pair ∷ pairs
+-- the message ID of an entry that is there, before others
+abbrev pub message_id_before : Option EntryRow → List MessageId → List MessageId
+message_id_before None message_ids = message_ids
+message_id_before (Some entry) message_ids = entry.message_id ∷ message_ids
 
 -- A content that a message left is as it was left, or it forgot its entries, all of them at once, as one that was taken over from
 -- an earlier version.
@@ -54,7 +54,7 @@ abbrev pub Gives : Texts → List Entry → Content → Type 0
 Gives texts [] content = content ≡ fresh
 Gives texts (entry ∷ earlier) content =
     (before : Content) × (answer : Reply) × Gives texts earlier before × IsMessage entry.message
-    × (kept_at before (pair_of entry.message) ≡ None)
+    × (kept_at before (message_id_of entry.message) ≡ None)
     × (left : Content) × Accepts texts before entry.message entry.read answer left × MayForget left content
 
 -- the same, and no entry was forgotten
@@ -62,31 +62,31 @@ abbrev pub GivesAll : Texts → List Entry → Content → Type 0
 GivesAll texts [] content = content ≡ fresh
 GivesAll texts (entry ∷ earlier) content =
     (before : Content) × (answer : Reply) × GivesAll texts earlier before × IsMessage entry.message
-    × (kept_at before (pair_of entry.message) ≡ None) × Accepts texts before entry.message entry.read answer content
+    × (kept_at before (message_id_of entry.message) ≡ None) × Accepts texts before entry.message entry.read answer content
 
--- the pairs of a history's messages, the newest first
-abbrev pub pairs_of : List Entry → List Pair
-pairs_of history = map pair_of (messages_of history)
+-- the message IDs of a history's messages, the newest first
+abbrev pub message_ids_of : List Entry → List MessageId
+message_ids_of history = map message_id_of (messages_of history)
 
--- the pairs of a content's entries of these numbers, from n down to 1
-abbrev pub pairs_to : (n : ℕ) → Content → List Pair
-pairs_to zero content = []
-pairs_to (suc n) content = pair_before (entry_at content (suc n)) (pairs_to n content)
+-- the message IDs of a content's entries of these numbers, from n down to 1
+abbrev pub message_ids_to : (n : ℕ) → Content → List MessageId
+message_ids_to zero content = []
+message_ids_to (suc n) content = message_id_before (entry_at content (suc n)) (message_ids_to n content)
 
--- the pairs of all entries of a content, the newest first
-abbrev pub entered_pairs : Content → List Pair
-entered_pairs content = pairs_to (entry_count content) content
+-- the message IDs of all entries of a content, the newest first
+abbrev pub entered_message_ids : Content → List MessageId
+entered_message_ids content = message_ids_to (entry_count content) content
 
 -- The entries are the newest part of the history, and as many messages are kept as were accepted: so where as many entries are
 -- there as messages are kept, they are all of it.
 pub record AreNewest (history : List Entry) (content : Content) : Type 0 where
-  pub earlier : List Pair
-  pub newest : pairs_of history ≡ entered_pairs content ++ earlier
+  pub earlier : List MessageId
+  pub newest : message_ids_of history ≡ entered_message_ids content ++ earlier
   pub kept : maps.len content.kept ≡ length history
 
--- a message with this pair was accepted before
-abbrev pub has_pair : Pair → List Message → Bool
-has_pair pair history = list_any (λ message. same_pair (pair_of message) pair) history
+-- a message with this ID was accepted before
+abbrev pub has_message_id : MessageId → List Message → Bool
+has_message_id message_id history = list_any (λ message. same_message_id (message_id_of message) message_id) history
 
 -- The messages of the history after a list of messages with these replies: each message once, so the list without the
 -- refused messages and without the repeats comes to them.
@@ -94,7 +94,7 @@ abbrev pub history_after : List Message → List Message → List Reply → List
 history_after history [] replies = history
 history_after history (message ∷ messages) [] = history
 history_after history (message ∷ messages) (answer ∷ answers) =
-    history_after (if is_accepted answer && not (has_pair (pair_of message) history) then message ∷ history else history) messages answers
+    history_after (if is_accepted answer && not (has_message_id (message_id_of message) history) then message ∷ history else history) messages answers
 
 -- ---- received units
 

@@ -29,7 +29,7 @@ use Rattle.shop_records.specs.declared.refusals.Refusal.{Refusal}
 use Rattle.shop_records.specs.declared.refusals.Refusal.TheVariants.{NumberReused, NoMemory, StoreFault}
 use Rattle.shop_records.specs.declared.messages.Reply.{Reply}
 use Rattle.shop_records.specs.declared.messages.Reply.TheVariants as reply
-use Rattle.shop_records.specs.Messages.{Texts, refusal_in, pair_of}
+use Rattle.shop_records.specs.Messages.{Texts, refusal_in, message_id_of}
 use Rattle.shop_records.specs.Journal.{word_of}
 use Rattle.shop_records.specs.Readings.{Reading, unread, Plan, Lines, Problem, plan_in}
 use Rattle.shop_records.specs.Keeping.{KeepsReply}
@@ -247,7 +247,7 @@ abbrev pub entry_of : (number at : ℕ) → Message → Change → Entry
 entry_of number at message change =
     record {
       number = number;
-      pair = pair_of message;
+      message_id = message_id_of message;
       at = at;
       word = word_of message.command;
       act = with_number change.act 0;
@@ -270,7 +270,7 @@ abbrev pub keeping : Texts → Message → Change → Change
 keeping texts message change = record change {
   begun = option_map (λ (row : JobBegin). record row { terminal = message.terminal }) change.begun;
   import = option_map (λ (row : ImportRow). record row { reply = texts.of_reply change.reply }) change.import;
-  kept = Some (record { pair = pair_of message; kept = record { command = texts.of_message message; reply = texts.of_reply change.reply } });
+  kept = Some (record { message_id = message_id_of message; kept = record { command = texts.of_message message; reply = texts.of_reply change.reply } });
 }
 
 -- the change that keeps the message and writes its entry behind the last one of the content
@@ -297,14 +297,14 @@ abbrev pub Refuses : Texts → Content → Command → Refusal → Type 0
 Refuses texts old command refusal =
     refusal ≢ NoMemory → refusal ≢ StoreFault → (read : Reading) × Reads texts old command read × (refusal_of old command read ≡ Some refusal)
 
--- From old, what the machine may answer to a message whose pair isn't kept, and go on to new.
+-- From old, what the machine may answer to a message whose ID isn't kept, and go on to new.
 abbrev pub StepNew : Texts → Content → Message → Reply → Content → Type 0
 StepNew texts old message answer new =
     MatchOption (refusal_in answer)
     ((read : Reading) × Accepts texts old message read answer new)
     (λ refusal. Refuses texts old message.command refusal × (new ≡ old))
 
--- What it may answer to a message whose pair is kept: the kept reply to the kept message, and to another one that its
+-- What it may answer to a message whose ID is kept: the kept reply to the kept message, and to another one that its
 -- number is reused.
 abbrev pub StepAgain : Texts → Kept → Message → Reply → Type 0
 StepAgain texts row message answer =
@@ -315,7 +315,7 @@ StepAgain texts row message answer =
 -- From old, the machine may give this reply to the message and go on to new.
 abbrev pub Step : Texts → Content → Message → Reply → Content → Type 0
 Step texts old message answer new =
-    MatchOption (kept_at old (pair_of message))
+    MatchOption (kept_at old (message_id_of message))
     (StepNew texts old message answer new)
     (λ row. StepAgain texts row message answer × (new ≡ old))
 
@@ -328,7 +328,7 @@ StepNewAt texts at old message answer new =
 
 abbrev pub StepAt : Texts → (at : ℕ) → Content → Message → Reply → Content → Type 0
 StepAt texts at old message answer new =
-    MatchOption (kept_at old (pair_of message))
+    MatchOption (kept_at old (message_id_of message))
     (StepNewAt texts at old message answer new)
     (λ row. StepAgain texts row message answer × (new ≡ old))
 

@@ -5,7 +5,7 @@ ghost use Rattle.shop_records.specs.declared.refusals.Refusal.TheVariants.{Store
 ghost use Rattle.shop_machine.specs.Machine.{entry_order, entry_part, first_order, changed_job, entry_job, entry_of, entering};
 
 use cut_measure::{Code, PartName};
-use shop_records::{Change, Command, Demand, Entry, Job, Message, Pair, Refusal, word_of};
+use shop_records::{Change, Command, Demand, Entry, Job, Message, MessageId, Refusal, word_of};
 
 // The code of the first demand's order.
 fn first_order(demands: &[Demand]) -> Option<Code>
@@ -68,7 +68,7 @@ fn entry_of(number: u64, at: u64, message: &Message, change: &Change) -> Entry
 {
     Entry {
         number,
-        pair: Pair {
+        message_id: MessageId {
             terminal: message.terminal,
             number: message.number,
         },

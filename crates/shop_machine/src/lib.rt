@@ -31,8 +31,8 @@ pub use shop_files::MAX_LINES;
 pub use shop_records::{
     Change, CodeList, Column, Command, Demand, DemandList, DemandRow, DemandRows, Entry, Form,
     ImportRow, Job, JobBegin, JobHalt, JobList, JobRow, JobState, Kept, KeptMessage, LineList,
-    Material, MaterialList, MaterialTotals, Message, NumberList, OrderLine, OrderList, OrderNote,
-    OrderRow, Pair, Part, PartList, PartVisitor, PieceList, PieceRow, PieceSource, Query, RackList,
-    RackRow, Refusal, Reply, RowList, State, StateWord, StepList, StepRow, Text, Totals, Word,
-    no_totals, word_of,
+    Material, MaterialList, MaterialTotals, Message, MessageId, NumberList, OrderLine, OrderList,
+    OrderNote, OrderRow, Part, PartList, PartVisitor, PieceList, PieceRow, PieceSource, Query,
+    RackList, RackRow, Refusal, Reply, RowList, State, StateWord, StepList, StepRow, Text, Totals,
+    Word, no_totals, word_of,
 };

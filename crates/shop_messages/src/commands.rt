@@ -75,7 +75,7 @@ pub fn write_message(
     ensures value { OnOk result (AddsValue writer.old writer.new (message_data message.now)) }
     ensures message { IsMessage message.now }
 {
-    let pair = (wide(message.terminal), wide(message.number));
+    let message_id = (wide(message.terminal), wide(message.number));
     match &message.command {
         Command::AddMaterial {
             material,
@@ -83,47 +83,51 @@ pub fn write_message(
             kerf,
             min_long,
             min_short,
-        } => write_material(writer, pair, material, *kind, *kerf, *min_long, *min_short),
+        } => write_material(
+            writer, message_id, material, *kind, *kerf, *min_long, *min_short,
+        ),
         Command::Receive {
             material,
             batch,
             w,
             h,
             count,
-        } => write_receive(writer, pair, material, batch, *w, *h, *count),
+        } => write_receive(writer, message_id, material, batch, *w, *h, *count),
         Command::AddOrder { order, lines } => {
             see_lines(lines.as_slice());
             write_order(
                 alloc,
                 writer,
-                pair,
+                message_id,
                 "order",
                 order.as_str(),
                 lines.as_slice(),
             )
         }
-        Command::Reserve { part, tree } => write_reserve(alloc, writer, pair, part, tree),
-        Command::Done { job } => write_end(writer, pair, "done", *job),
-        Command::Break { job, halt, rest } => write_break(writer, pair, *job, halt, *rest),
-        Command::Release { job } => write_end(writer, pair, "release", *job),
-        Command::Scrap { part } => write_turned(alloc, writer, pair, "scrap", part),
-        Command::GiveBack { part } => write_turned(alloc, writer, pair, "return", part),
-        Command::Import { order, form, text } => write_import(writer, pair, order, form, text),
-        Command::Amend { demand, wanted } => write_amend(writer, pair, *demand, *wanted),
-        Command::Undo { job } => write_end(writer, pair, "undo", *job),
-        Command::Note { order, due, text } => write_note(writer, pair, order, *due, text),
+        Command::Reserve { part, tree } => write_reserve(alloc, writer, message_id, part, tree),
+        Command::Done { job } => write_end(writer, message_id, "done", *job),
+        Command::Break { job, halt, rest } => write_break(writer, message_id, *job, halt, *rest),
+        Command::Release { job } => write_end(writer, message_id, "release", *job),
+        Command::Scrap { part } => write_turned(alloc, writer, message_id, "scrap", part),
+        Command::GiveBack { part } => write_turned(alloc, writer, message_id, "return", part),
+        Command::Import { order, form, text } => write_import(
+            writer, message_id, order, form, text,
+        ),
+        Command::Amend { demand, wanted } => write_amend(writer, message_id, *demand, *wanted),
+        Command::Undo { job } => write_end(writer, message_id, "undo", *job),
+        Command::Note { order, due, text } => write_note(writer, message_id, order, *due, text),
         Command::Extend { order, lines } => {
             see_lines(lines.as_slice());
             write_order(
                 alloc,
                 writer,
-                pair,
+                message_id,
                 "extend",
                 order.as_str(),
                 lines.as_slice(),
             )
         }
-        Command::Begin { job } => write_end(writer, pair, "begin", *job),
+        Command::Begin { job } => write_end(writer, message_id, "begin", *job),
     }
 }
 
@@ -151,7 +155,7 @@ fn material_command(value: &Value) -> Option<Command>
 // Writes a message that adds a material.
 fn write_material(
     writer: &mut Writer,
-    pair: (u64, u64),
+    message_id: (u64, u64),
     material: &Code,
     kind: Kind,
     kerf: u32,
@@ -159,7 +163,7 @@ fn write_material(
     min_short: u32,
 ) -> Result<(), AllocError>
     ensures value { OnOk result (AddsValue writer.old writer.new
-        (sent_data pair.0 pair.1
+        (sent_data message_id.0 message_id.1
         (form.material_members material.now kind kerf min_long min_short))) }
     ensures seen { IsCommand (AddMaterial material.now kind kerf min_long min_short) }
 {
@@ -172,8 +176,8 @@ fn write_material(
             Member::Text("material", material.as_str()),
             Member::Number("min_long", wide(min_long)),
             Member::Number("min_short", wide(min_short)),
-            Member::Number("number", pair.1),
-            Member::Number("terminal", pair.0),
+            Member::Number("number", message_id.1),
+            Member::Number("terminal", message_id.0),
         ],
     )
 }
@@ -202,7 +206,7 @@ fn receive_command(value: &Value) -> Option<Command>
 // Writes a message that receives units.
 fn write_receive<'a>(
     writer: &mut Writer,
-    pair: (u64, u64),
+    message_id: (u64, u64),
     material: &'a Code,
     batch: &'a Code,
     w: u32,
@@ -210,7 +214,7 @@ fn write_receive<'a>(
     count: u32,
 ) -> Result<(), AllocError>
     ensures value { OnOk result (AddsValue writer.old writer.new
-        (sent_data pair.0 pair.1 (form.receive_members material.now batch.now w h count))) }
+        (sent_data message_id.0 message_id.1 (form.receive_members material.now batch.now w h count))) }
     ensures seen { IsCommand (Receive material.now batch.now w h count) }
 {
     write_object(
@@ -221,8 +225,8 @@ fn write_receive<'a>(
             Member::Text("do", "receive"),
             Member::Number("h", wide(h)),
             Member::Text("material", material.as_str()),
-            Member::Number("number", pair.1),
-            Member::Number("terminal", pair.0),
+            Member::Number("number", message_id.1),
+            Member::Number("terminal", message_id.0),
             Member::Number("w", wide(w)),
         ],
     )
@@ -251,12 +255,12 @@ fn reserve_command(alloc: Global, value: &Value) -> Result<Option<Command>, Allo
 fn write_reserve<'a>(
     alloc: Global,
     writer: &mut Writer,
-    pair: (u64, u64),
+    message_id: (u64, u64),
     part: &'a PartName,
     tree: &'a Text,
 ) -> Result<(), AllocError>
     ensures value { OnOk result (AddsValue writer.old writer.new
-        (sent_data pair.0 pair.1 (form.reserve_members part.now tree.now))) }
+        (sent_data message_id.0 message_id.1 (form.reserve_members part.now tree.now))) }
     ensures seen { IsCommand (Reserve part.now tree.now) }
 {
     see_part(part);
@@ -264,9 +268,9 @@ fn write_reserve<'a>(
         writer,
         &[
             Member::Text("do", "reserve"),
-            Member::Number("number", pair.1),
+            Member::Number("number", message_id.1),
             Member::Name("part", part, alloc),
-            Member::Number("terminal", pair.0),
+            Member::Number("terminal", message_id.0),
             Member::Text("tree", tree.as_str()),
         ],
     )
@@ -295,9 +299,14 @@ fn release_command(value: &Value) -> Option<Command>
 }
 
 // Writes a message on a job, by its word.
-fn write_end(writer: &mut Writer, pair: (u64, u64), word: &str, job: u32) -> Result<(), AllocError>
+fn write_end(
+    writer: &mut Writer,
+    message_id: (u64, u64),
+    word: &str,
+    job: u32,
+) -> Result<(), AllocError>
     ensures value { OnOk result (AddsValue writer.old writer.new
-        (form.sent_data pair.0 pair.1 (form.job_members word.now job))) }
+        (form.sent_data message_id.0 message_id.1 (form.job_members word.now job))) }
     ensures seen { IsNumber job }
 {
     write_object(
@@ -305,8 +314,8 @@ fn write_end(writer: &mut Writer, pair: (u64, u64), word: &str, job: u32) -> Res
         &[
             Member::Text("do", word),
             Member::Number("job", wide(job)),
-            Member::Number("number", pair.1),
-            Member::Number("terminal", pair.0),
+            Member::Number("number", message_id.1),
+            Member::Number("terminal", message_id.0),
         ],
     )
 }
@@ -331,12 +340,12 @@ fn return_command(value: &Value) -> Option<Command>
 fn write_turned<'a>(
     alloc: Global,
     writer: &mut Writer,
-    pair: (u64, u64),
+    message_id: (u64, u64),
     word: &'a str,
     part: &'a PartName,
 ) -> Result<(), AllocError>
     ensures value { OnOk result (AddsValue writer.old writer.new
-        (form.sent_data pair.0 pair.1 (form.turned_members word.now part.now))) }
+        (form.sent_data message_id.0 message_id.1 (form.turned_members word.now part.now))) }
     ensures seen { IsName part.now }
 {
     see_part(part);
@@ -344,9 +353,9 @@ fn write_turned<'a>(
         writer,
         &[
             Member::Text("do", word),
-            Member::Number("number", pair.1),
+            Member::Number("number", message_id.1),
             Member::Name("part", part, alloc),
-            Member::Number("terminal", pair.0),
+            Member::Number("terminal", message_id.0),
         ],
     )
 }
@@ -366,12 +375,12 @@ fn amend_command(value: &Value) -> Option<Command>
 // Writes a message that amends a demand.
 fn write_amend(
     writer: &mut Writer,
-    pair: (u64, u64),
+    message_id: (u64, u64),
     demand: u32,
     wanted: u32,
 ) -> Result<(), AllocError>
     ensures value { OnOk result (AddsValue writer.old writer.new
-        (sent_data pair.0 pair.1 (form.amend_members demand wanted))) }
+        (sent_data message_id.0 message_id.1 (form.amend_members demand wanted))) }
     ensures seen { IsCommand (Amend demand wanted) }
 {
     write_object(
@@ -379,8 +388,8 @@ fn write_amend(
         &[
             Member::Number("demand", wide(demand)),
             Member::Text("do", "amend"),
-            Member::Number("number", pair.1),
-            Member::Number("terminal", pair.0),
+            Member::Number("number", message_id.1),
+            Member::Number("terminal", message_id.0),
             Member::Number("wanted", wide(wanted)),
         ],
     )
@@ -430,13 +439,13 @@ fn note_command(alloc: Global, value: &Value) -> Result<Option<Command>, AllocEr
 // Writes a message that says something of an order.
 fn write_note<'a>(
     writer: &mut Writer,
-    pair: (u64, u64),
+    message_id: (u64, u64),
     order: &'a Code,
     due: u32,
     text: &'a Text,
 ) -> Result<(), AllocError>
     ensures value { OnOk result (AddsValue writer.old writer.new
-        (sent_data pair.0 pair.1 (form.note_members order.now due text.now))) }
+        (sent_data message_id.0 message_id.1 (form.note_members order.now due text.now))) }
     ensures seen { IsCommand (Note order.now due text.now) }
 {
     write_object(
@@ -444,9 +453,9 @@ fn write_note<'a>(
         &[
             Member::Text("do", "note"),
             Member::Number("due", wide(due)),
-            Member::Number("number", pair.1),
+            Member::Number("number", message_id.1),
             Member::Text("order", order.as_str()),
-            Member::Number("terminal", pair.0),
+            Member::Number("terminal", message_id.0),
             Member::Text("text", text.as_str()),
         ],
     )

@@ -153,12 +153,12 @@ fn lost_member(halt: &Halt) -> Member<'static>
 // Writes a message that breaks a job off.
 fn write_plain(
     writer: &mut Writer,
-    pair: (u64, u64),
+    message_id: (u64, u64),
     job: u32,
     halt: &Halt,
 ) -> Result<(), AllocError>
     ensures value { OnOk result (AddsValue writer.old writer.new
-        (sent_data pair.0 pair.1 (form.break_members job halt.now None))) }
+        (sent_data message_id.0 message_id.1 (form.break_members job halt.now None))) }
     ensures seen { IsNumber job }
 {
     write_object(
@@ -168,8 +168,8 @@ fn write_plain(
             Member::Text("do", "break"),
             Member::Number("job", wide(job)),
             lost_member(halt),
-            Member::Number("number", pair.1),
-            Member::Number("terminal", pair.0),
+            Member::Number("number", message_id.1),
+            Member::Number("terminal", message_id.0),
         ],
     )
 }
@@ -177,13 +177,13 @@ fn write_plain(
 // The same with a rest of the cut that went wrong.
 fn write_saving(
     writer: &mut Writer,
-    pair: (u64, u64),
+    message_id: (u64, u64),
     job: u32,
     halt: &Halt,
     rest: u32,
 ) -> Result<(), AllocError>
     ensures value { OnOk result (AddsValue writer.old writer.new
-        (sent_data pair.0 pair.1 (form.break_members job halt.now (Some rest)))) }
+        (sent_data message_id.0 message_id.1 (form.break_members job halt.now (Some rest)))) }
     ensures seen { IsNumber job }
     ensures rest { IsNumber rest }
 {
@@ -194,9 +194,9 @@ fn write_saving(
             Member::Text("do", "break"),
             Member::Number("job", wide(job)),
             lost_member(halt),
-            Member::Number("number", pair.1),
+            Member::Number("number", message_id.1),
             Member::Number("rest", wide(rest)),
-            Member::Number("terminal", pair.0),
+            Member::Number("terminal", message_id.0),
         ],
     )
 }
@@ -204,19 +204,19 @@ fn write_saving(
 // Writes a message that breaks a job off, with a rest of the cut that went wrong or without.
 pub(crate) fn write_break(
     writer: &mut Writer,
-    pair: (u64, u64),
+    message_id: (u64, u64),
     job: u32,
     halt: &Halt,
     rest: Option<u32>,
 ) -> Result<(), AllocError>
     ensures value { OnOk result (AddsValue writer.old writer.new
-        (sent_data pair.0 pair.1 (form.break_members job halt.now rest))) }
+        (sent_data message_id.0 message_id.1 (form.break_members job halt.now rest))) }
     ensures seen { IsCommand (Break job halt.now rest) }
 {
     see_halt(halt);
     match rest {
-        Some(rest) => write_saving(writer, pair, job, halt, rest),
-        None => write_plain(writer, pair, job, halt),
+        Some(rest) => write_saving(writer, message_id, job, halt, rest),
+        None => write_plain(writer, message_id, job, halt),
     }
 }
 

@@ -76,21 +76,21 @@ pub(crate) fn import_command(alloc: Global, value: &Value) -> Result<Option<Comm
 // Writes a message that imports an order file.
 fn write_csv<'a>(
     writer: &mut Writer,
-    pair: (u64, u64),
+    message_id: (u64, u64),
     order: &'a str,
     text: &'a str,
 ) -> Result<(), AllocError>
     ensures { OnOk result (AddsValue writer.old writer.new
-        (sent_data pair.0 pair.1 (forms.import_members order.now Csv text.now))) }
+        (sent_data message_id.0 message_id.1 (forms.import_members order.now Csv text.now))) }
 {
     write_object(
         writer,
         &[
             Member::Text("do", "import"),
             Member::Text("form", "csv"),
-            Member::Number("number", pair.1),
+            Member::Number("number", message_id.1),
             Member::Text("order", order),
-            Member::Number("terminal", pair.0),
+            Member::Number("terminal", message_id.0),
             Member::Text("text", text),
         ],
     )
@@ -99,13 +99,13 @@ fn write_csv<'a>(
 // Writes a message that imports a problem file, for a material.
 fn write_problem<'a>(
     writer: &mut Writer,
-    pair: (u64, u64),
+    message_id: (u64, u64),
     material: &'a str,
     order: &'a str,
     text: &'a str,
 ) -> Result<(), AllocError>
     ensures { OnOk result (AddsValue writer.old writer.new
-        (sent_data pair.0 pair.1
+        (sent_data message_id.0 message_id.1
         (forms.import_members order.now (Cgcut material.now) text.now))) }
 {
     write_object(
@@ -114,9 +114,9 @@ fn write_problem<'a>(
             Member::Text("do", "import"),
             Member::Text("form", "cgcut"),
             Member::Text("material", material),
-            Member::Number("number", pair.1),
+            Member::Number("number", message_id.1),
             Member::Text("order", order),
-            Member::Number("terminal", pair.0),
+            Member::Number("terminal", message_id.0),
             Member::Text("text", text),
         ],
     )
@@ -125,18 +125,18 @@ fn write_problem<'a>(
 // Writes a message that imports an order.
 pub(crate) fn write_import(
     writer: &mut Writer,
-    pair: (u64, u64),
+    message_id: (u64, u64),
     order: &Code,
     form: &Form,
     text: &Text,
 ) -> Result<(), AllocError>
     ensures value { OnOk result (AddsValue writer.old writer.new
-        (sent_data pair.0 pair.1 (forms.import_members order.now form.now text.now))) }
+        (sent_data message_id.0 message_id.1 (forms.import_members order.now form.now text.now))) }
     ensures seen { IsCommand (Import order.now form.now text.now) }
 {
     let (order, text) = (order.as_str(), text.as_str());
     match form {
-        Form::Csv => write_csv(writer, pair, order, text),
-        Form::Cgcut(material) => write_problem(writer, pair, material.as_str(), order, text),
+        Form::Csv => write_csv(writer, message_id, order, text),
+        Form::Cgcut(material) => write_problem(writer, message_id, material.as_str(), order, text),
     }
 }

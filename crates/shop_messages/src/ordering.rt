@@ -50,21 +50,21 @@ pub(crate) fn extend_command(alloc: Global, value: &Value) -> Result<Option<Comm
 pub(crate) fn write_order(
     alloc: Global,
     writer: &mut Writer,
-    pair: (u64, u64),
+    message_id: (u64, u64),
     word: &str,
     order: &str,
     lines: &[OrderLine],
 ) -> Result<(), AllocError>
     ensures { OnOk result (AddsValue writer.old writer.new
-        (sent_data pair.0 pair.1 (form.lined_members word.now order.now lines.now))) }
+        (sent_data message_id.0 message_id.1 (form.lined_members word.now order.now lines.now))) }
 {
     writer.begin_object()?;
     write_text(writer, "do", word)?;
     writer.key("lines")?;
     write_rows(alloc, writer, lines)?;
-    write_number(writer, "number", pair.1)?;
+    write_number(writer, "number", message_id.1)?;
     write_text(writer, "order", order)?;
-    write_number(writer, "terminal", pair.0)?;
+    write_number(writer, "terminal", message_id.0)?;
     writer.end_object()?;
     Ok(())
 }

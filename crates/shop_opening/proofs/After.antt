@@ -6,7 +6,7 @@ use Rattle.shop_records.specs.declared.messages.Reply.{Reply}
 use Rattle.shop_records.specs.declared.refusals.Refusal.{Refusal}
 use Rattle.shop_records.specs.declared.texts.Kept.{Kept}
 use Rattle.shop_records.specs.Readings.{Reading}
-use Rattle.shop_records.specs.Messages.{refusal_in, pair_of}
+use Rattle.shop_records.specs.Messages.{refusal_in, message_id_of}
 use Rattle.shop_records.specs.Content.{Content, kept_at}
 use Rattle.shop_machine.specs.Machine.{Accepts, Refuses, Step, StepAgain, StepNew}
 use Rattle.shop_desk.specs.Handled.{Leads, CrashStatesAfter}
@@ -51,7 +51,7 @@ module _ {Left : Type 0} (stands : Left → Content → Type 0) where
     ]
 
     handled : Step json_texts old message answer next → CrashStatesAfter json_texts stands before old message answer next left → StandsAfter stands (Also refused message answer) next left
-    handled step may = handled_at (kept_at old (pair_of message)) (refusal_in answer) refl step may
+    handled step may = handled_at (kept_at old (message_id_of message)) (refusal_in answer) refl step may
 
   pub stands_after : (messages : List Message) (answers : List Reply) (before after : Left → Type 0) (refused : Message → Type 0) (old next : Content) → ((left : Left) → before left → StandsAfter stands refused old left)
       → Leads json_texts stands before old messages answers next after → (left : Left) → after left → StandsAfter stands (λ m. refused m ⊎ WasRefused messages answers m) next left

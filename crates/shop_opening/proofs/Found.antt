@@ -14,7 +14,7 @@ use Rattle.sqlite.specs.Start.{FindsIn}
 use Rattle.sqlite.specs.State.{HasCleanDisk, Survives}
 use Rattle.cut_measure.specs.Codes.{code_cmp}
 use Rattle.shop_records.specs.Content.{Content, fresh}
-use Rattle.shop_records.specs.Soundness.{HasLines}
+use Rattle.shop_records.specs.WellFormed.{HasLines}
 use Rattle.shop_records.specs.declared.records.Totals.{Totals}
 use Rattle.shop_records.proofs.LinesKept.{fresh_lines}
 use Rattle.shop_statements.specs.Earlier.{StandsInEarlier, StandsInSecond}

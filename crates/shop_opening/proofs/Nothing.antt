@@ -21,7 +21,7 @@ use Rattle.sqlite.specs.Effect.{Database}
 use Rattle.sqlite.specs.Files.{file_state, AreFoundIn, IsEmpty, IsNothing, IsOpened}
 use Rattle.sqlite.specs.Held.{Held}
 
--- files from which a sound file is read are not nothing
+-- files from which a well-formed file is read are not nothing
 read_is_something : (size : ℕ) (image : Image) (pages : PageMap) → Adopts size image pages → IsSoundFile size pages → ¬ IsNothing image
 read_is_something size image pages found sound nothing =
     let (page, is) = some_value (found.stored 1) found.whole.first in

@@ -18,7 +18,7 @@ use Rattle.sqlite.specs.Held.{Held}
 use Rattle.sqlite.specs.State.{State, HasCleanDisk}
 use Rattle.cut_measure.specs.Codes.{code_cmp}
 use Rattle.shop_records.specs.Content.{Content, fresh}
-use Rattle.shop_records.specs.Soundness.{HasLines}
+use Rattle.shop_records.specs.WellFormed.{HasLines}
 use Rattle.shop_records.specs.declared.records.Totals.{Totals}
 use Rattle.shop_statements.specs.Earlier.{StandsInEarlier, StandsInSecond}
 use Rattle.shop_statements.specs.Shown.{Books}

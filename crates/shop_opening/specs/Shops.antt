@@ -5,7 +5,7 @@ use Rattle.shop_records.specs.declared.messages.Command.TheVariants.{AddMaterial
 use Rattle.shop_records.specs.declared.messages.Message.{Message}
 use Rattle.shop_records.specs.declared.messages.Reply.{Reply}
 use Rattle.shop_records.specs.Messages.{refusal_in}
-use Rattle.shop_records.specs.Soundness.{IsSound}
+use Rattle.shop_records.specs.WellFormed.{IsWellFormed}
 use Rattle.shop_desk.specs.Handled.{HasRun}
 use Rattle.shop_forms.specs.Forms.{json_texts}
 use Rattle.shop_book.specs.declared.books.Book.{Ghosts}
@@ -38,11 +38,11 @@ pub record IsFirstRefused (replies : List Reply) (e : EntryRefused) : Type 0 whe
   pub refused : (d : Reply) → refusal_in (get_or replies at d) ≡ Some e.refusal
   pub before : All IsAccepted (take at replies)
 
--- The shop's messages were handled, and this holds of the replies: each sound content that a book with a clean disk held led to
--- one that it holds now by a run of the machine.
+-- The shop's messages were handled, and this holds of the replies: each well-formed content that a book with a clean disk held
+-- led to one that it holds now by a run of the machine.
 abbrev pub HasShop : {B : Type 0} → Ghosts B → B → B → List MaterialEntry → (List Reply → Type 0) → Type 0
 HasShop book before after entries replied =
-    (replies : List Reply) × replied replies × OnContent book before after (λ m. IsSound json_texts m → HasRun json_texts book before after m (shop_messages entries) replies)
+    (replies : List Reply) × replied replies × OnContent book before after (λ m. IsWellFormed json_texts m → HasRun json_texts book before after m (shop_messages entries) replies)
 
 -- not all are there: nothing was done, or an entry was refused
 abbrev pub ShopFailed : {B : Type 0} → Ghosts B → B → B → List MaterialEntry → AddFault → Type 0

@@ -47,7 +47,7 @@ fn part_cost(part: &Part, size: Size, remnant: u32) -> u64
 fn stock_part(kind: Kind, remnant: u32, part: &Part, place: usize) -> StockPart
     requires { remnant ≤ UNIT_COST }
     ensures value { result ≡ spec.stock_part kind remnant place part.now }
-    ensures sound { spec.IsStockPart kind result }
+    ensures well_formed { spec.IsStockPart kind result }
 {
     let size = planned_size(kind, part.size);
     StockPart {
@@ -68,7 +68,7 @@ pub fn stock_parts(
     requires { remnant ≤ UNIT_COST }
     ensures items { IfOk result (λ parts. parts.items ≡ spec.stock_parts kind remnant found.now) }
     ensures few { IfOk result (λ parts. length parts.items ≤ length found.now) }
-    ensures sound { IfOk result (λ parts. All (spec.IsStockPart kind) parts.items) }
+    ensures well_formed { IfOk result (λ parts. All (spec.IsStockPart kind) parts.items) }
 {
     let mut parts = Vec::new(alloc);
     for row in found {
@@ -125,7 +125,7 @@ fn part_sizes(alloc: Global, parts: &[StockPart]) -> Result<Vec<StockSize>, Allo
 // A size that may be bought, where units of the kind may have it.
 fn bought_size(kind: Kind, buy: &BuySize) -> Option<StockSize>
     ensures value { result ≡ spec.bought_size kind buy.now }
-    ensures sound { IfSome result (spec.IsStockSize kind) }
+    ensures well_formed { IfSome result (spec.IsStockSize kind) }
 {
     let size = Size::new(kind, buy.w, buy.h)?;
     Some(StockSize {
@@ -138,7 +138,7 @@ fn bought_size(kind: Kind, buy: &BuySize) -> Option<StockSize>
 // Appends the sizes that may be bought.
 fn add_bought(sizes: &mut Vec<StockSize>, kind: Kind, buy: &[BuySize]) -> Result<(), AllocError>
     ensures items { OnOk result (sizes.new.items ≡ sizes.old.items ++ filter_map (spec.bought_size kind) buy.now) }
-    ensures sound { All (spec.IsStockSize kind) sizes.old.items → OnOk result (All (spec.IsStockSize kind) sizes.new.items) }
+    ensures well_formed { All (spec.IsStockSize kind) sizes.old.items → OnOk result (All (spec.IsStockSize kind) sizes.new.items) }
 {
     for one in buy {
         match bought_size(kind, one) {
@@ -157,7 +157,7 @@ pub fn sizes_of(
     buy: &[BuySize],
 ) -> Result<Vec<StockSize>, AllocError>
     requires parts { length parts.now ≤ MAX_PARTS }
-    requires sound { All (spec.IsStockPart kind) parts.now }
+    requires well_formed { All (spec.IsStockPart kind) parts.now }
     requires buy { length buy.now ≤ MAX_BOUGHT_SIZES }
     ensures sizes { IfOk result (λ sizes. sizes.items ≡ spec.sizes_of kind parts.now buy.now) }
     ensures stock { IfOk result (λ sizes. IsStock kind sizes.items) }

@@ -11,7 +11,7 @@ use Rattle.shop_records.specs.declared.changes.Change.{Change}
 use Rattle.shop_records.specs.declared.records.Demand.{Demand}
 use Rattle.shop_records.specs.Content.{Content, changed, demand_at, fresh, has_order, lines_for, with_order}
 use Rattle.shop_records.specs.Elements.{IsIn}
-use Rattle.shop_records.specs.Soundness.{AreDifferent, Fits, HasLines, IsMovedDemand, IsNewDemand}
+use Rattle.shop_records.specs.WellFormed.{AreDifferent, Fits, HasLines, IsMovedDemand, IsNewDemand}
 use Rattle.shop_records.proofs.Basics.{all_in, codes_same, codes_total, demand_cases, none_some, pair_in, same_some, tied}
 
 -- ---- orders

@@ -11,7 +11,7 @@ use Rattle.std.proofs.lemmas.List.Elements.{All-cons, All-nil}
 use Rattle.std.proofs.lemmas.List.Sums.{sum_by-cons}
 use Rattle.cut_measure.specs.Names.{Name, name_cmp}
 use Rattle.shop_records.specs.declared.records.Part.{Part}
-use Rattle.shop_records.specs.Content.{of_found, pair_cmp, with_parts}
+use Rattle.shop_records.specs.Content.{of_found, message_id_cmp, with_parts}
 use Rattle.shop_records.specs.Elements.{IsIn}
 use Rattle.shop_records.proofs.Basics.{all_in, in_map, then_equal, names_total, names_same, same_some, tied, get_other, with_rows, parts_as_rows, put_cases}
 use Rattle.shop_records.proofs.Sums.{sum-insert, first, second, less}
@@ -95,11 +95,11 @@ equal Less e = cc
 equal Equal e = refl
 equal Greater e = cc
 
-pub pairs_total : IsTotalOrder pair_cmp
-pairs_total = then_total (on_total (λ p. p.terminal) nat_cmp_total) (on_total (λ p. p.number) nat_cmp_total)
+pub message_ids_total : IsTotalOrder message_id_cmp
+message_ids_total = then_total (on_total (λ p. p.terminal) nat_cmp_total) (on_total (λ p. p.number) nat_cmp_total)
 
-pub pairs_exact : IsAntisymmetric pair_cmp
-pairs_exact a b e =
+pub message_ids_exact : IsAntisymmetric message_id_cmp
+message_ids_exact a b e =
     let both = then_equal (nat_cmp a.terminal b.terminal) (nat_cmp a.number b.number) e in
     λ i. record { terminal = nat_cmp-IsAntisymmetric a.terminal b.terminal both.0 i; number = nat_cmp-IsAntisymmetric a.number b.number both.1 i }
 

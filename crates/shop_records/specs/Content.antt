@@ -20,7 +20,7 @@ use Rattle.shop_records.specs.declared.records.Totals.{Totals}
 use Rattle.shop_records.specs.declared.records.Column.{Column}
 use Rattle.shop_records.specs.declared.records.Column.TheVariants.{Received, Stock, Rack, Pieces, Kerf, Scrap, Returned}
 use Rattle.shop_records.specs.declared.imports.ImportRow.{ImportRow}
-use Rattle.shop_records.specs.declared.texts.Pair.{Pair}
+use Rattle.shop_records.specs.declared.texts.MessageId.{MessageId}
 use Rattle.shop_records.specs.declared.texts.Kept.{Kept}
 use Rattle.shop_records.specs.declared.texts.KeptMessage.{KeptMessage}
 use Rattle.shop_records.specs.declared.journal.Entry.{Entry}
@@ -28,13 +28,13 @@ use Rattle.shop_records.specs.declared.changes.Change.{Change}
 use Rattle.shop_records.specs.Columns.{is_counted, is_there, is_whole, rack_row}
 
 -- by terminal, and then by number
-abbrev pub pair_cmp : Pair → Pair → Ordering
-pair_cmp a b = ordering_then (nat_cmp a.terminal b.terminal) (nat_cmp a.number b.number)
+abbrev pub message_id_cmp : MessageId → MessageId → Ordering
+message_id_cmp a b = ordering_then (nat_cmp a.terminal b.terminal) (nat_cmp a.number b.number)
 
 -- The materials by their codes, the parts by their names, the jobs by their numbers, and so where the work on broken ones
 -- halted and which terminals have begun them; the codes of the orders, what is said of them by these codes, the demands by
--- their numbers, the accepted messages by their pairs, the imports by their orders' codes, the entries by their numbers, and
--- the last numbers of an act and of a demand.
+-- their numbers, the accepted messages by their message IDs, the imports by their orders' codes, the entries by their numbers,
+-- and the last numbers of an act and of a demand.
 pub record Content : Type 0 where
   pub materials : map.FinMap code_cmp Material
   pub parts : map.FinMap name_cmp Part
@@ -44,7 +44,7 @@ pub record Content : Type 0 where
   pub orders : set.FinSet code_cmp
   pub notes : map.FinMap code_cmp OrderNote
   pub demands : map.FinMap nat_cmp Demand
-  pub kept : map.FinMap pair_cmp Kept
+  pub kept : map.FinMap message_id_cmp Kept
   pub imports : map.FinMap code_cmp ImportRow
   pub entries : map.FinMap nat_cmp Entry
   pub last_act : ℕ
@@ -102,8 +102,8 @@ note_at content code = map.get content.notes code
 abbrev pub demand_at : Content → ℕ → Option Demand
 demand_at content number = map.get content.demands number
 
-abbrev pub kept_at : Content → Pair → Option Kept
-kept_at content pair = map.get content.kept pair
+abbrev pub kept_at : Content → MessageId → Option Kept
+kept_at content message_id = map.get content.kept message_id
 
 -- what is kept of the import that an order came by
 abbrev pub import_at : Content → List ℕ → Option ImportRow
@@ -259,9 +259,9 @@ abbrev pub with_demands : List Demand → map.FinMap nat_cmp Demand → map.FinM
 with_demands [] demands = demands
 with_demands (demand ∷ more) demands = with_demands more (map.insert demands demand.number demand)
 
-abbrev pub with_kept : Option KeptMessage → map.FinMap pair_cmp Kept → map.FinMap pair_cmp Kept
+abbrev pub with_kept : Option KeptMessage → map.FinMap message_id_cmp Kept → map.FinMap message_id_cmp Kept
 with_kept None messages = messages
-with_kept (Some message) messages = map.insert messages message.pair message.kept
+with_kept (Some message) messages = map.insert messages message.message_id message.kept
 
 abbrev pub with_import : Option ImportRow → map.FinMap code_cmp ImportRow → map.FinMap code_cmp ImportRow
 with_import None imports = imports

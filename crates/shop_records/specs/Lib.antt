@@ -1,4 +1,4 @@
--- names, codes and pairs, and lists
+-- names, codes and message IDs, and lists
 pub mod Same
 pub mod Elements
 -- rows, messages and refusals
@@ -13,6 +13,6 @@ pub mod Keeping
 -- what a book contains, what a change makes of it, and what holds of it
 pub mod Content
 pub mod Lists
-pub mod Soundness
+pub mod WellFormed
 -- parts that are handed out one at a time
 pub mod Visits

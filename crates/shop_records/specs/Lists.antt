@@ -225,7 +225,7 @@ entries_about content about after = filter (is_about content about) (entries_beh
 -- content that a history gives every entry's message is kept.
 abbrev pub reported_entry : Content → Entry → Option ReportedEntry
 reported_entry content entry =
-    option_map (λ (row : Kept). record { at = entry.at; entry = entry.number; message = row.command; reply = row.reply }) (kept_at content entry.pair)
+    option_map (λ (row : Kept). record { at = entry.at; entry = entry.number; message = row.command; reply = row.reply }) (kept_at content entry.message_id)
 
 abbrev pub reported_entries : Content → List Entry → List ReportedEntry
 reported_entries content entries = filter_map (reported_entry content) entries

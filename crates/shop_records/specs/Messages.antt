@@ -3,7 +3,7 @@ use Rattle.std.specs.Prelude.{ℕ, ◌<◌, ◌^◌, List, IsTrue, Bool, not, Op
 use Rattle.std.specs.Str.{is_utf8}
 use Rattle.cut_measure.specs.Codes.{is_code}
 use Rattle.cut_measure.specs.Names.{IsName}
-use Rattle.shop_records.specs.declared.texts.Pair.{Pair}
+use Rattle.shop_records.specs.declared.texts.MessageId.{MessageId}
 use Rattle.cut_tree.specs.declared.halts.Halt.{Halt}
 use Rattle.cut_tree.specs.declared.halts.Halt.TheVariants.{First, Listed}
 use Rattle.shop_records.specs.declared.messages.Command.{Command}
@@ -116,8 +116,8 @@ abbrev pub is_accepted : Reply → Bool
 is_accepted answer = not (is_some (refusal_in answer))
 
 -- the terminal and the number of a message
-abbrev pub pair_of : Message → Pair
-pair_of message = record { terminal = message.terminal; number = message.number }
+abbrev pub message_id_of : Message → MessageId
+message_id_of message = record { terminal = message.terminal; number = message.number }
 
 -- How messages and replies are written down: a message's canonical text, and a reply's. The machine is the same for each.
 pub record Texts : Type 0 where

@@ -4,7 +4,7 @@ ghost use Rattle.std.specs.Prelude.{◌≡◌};
 ghost use Rattle.shop_records.specs.Journal.{word_name, word_of};
 
 use crate::messages::Command;
-use crate::texts::{Pair, Text};
+use crate::texts::{MessageId, Text};
 use cut_measure::{Code, PartName};
 
 /// The word of a command, which a message has under `do`.
@@ -75,13 +75,13 @@ pub fn word_of(command: &Command) -> Word
     }
 }
 
-/// What is written of an accepted message: its place among all accepted messages, its pair, when it was accepted, and what
-/// it made. It never changes.
+/// What is written of an accepted message: its place among all accepted messages, its message ID, when it was accepted, and
+/// what it made. It never changes.
 #[derive(Clone, Copy, Debug, PartialEq)]
 pub struct Entry {
     /// From 1 on, over all terminals, in the order in which the messages were accepted.
     pub number: u64,
-    pub pair: Pair,
+    pub message_id: MessageId,
     /// In seconds since 1970-01-01 00:00 UTC. It is never less than that of an entry before.
     pub at: u64,
     pub word: Word,

@@ -28,5 +28,5 @@ pub use records::{
 };
 pub use refusals::Refusal;
 pub use shop_files::OrderLine;
-pub use texts::{Kept, KeptMessage, Pair, Text};
+pub use texts::{Kept, KeptMessage, MessageId, Text};
 pub use visits::PartVisitor;

@@ -122,7 +122,7 @@ pub enum Command {
     },
 }
 
-/// A command with the pair that it is known by. Terminal 0 is the shop file's.
+/// A command with the message ID that it is known by. Terminal 0 is the shop file's.
 #[derive(Debug, Drop)]
 pub struct Message {
     pub terminal: u32,

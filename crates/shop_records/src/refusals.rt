@@ -10,7 +10,7 @@ use std::alloc::AllocError;
 pub enum Refusal {
     /// 10: no message or query.
     BadMessage,
-    /// 11: the pair is kept with another command.
+    /// 11: the message ID is kept with another command.
     NumberReused,
     /// 20: unknown material.
     NoMaterial,

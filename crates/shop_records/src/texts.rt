@@ -98,7 +98,7 @@ impl PartialEq for Text {
 
 /// What a message is known by: its terminal and its number.
 #[derive(Clone, Copy, Debug, PartialEq, Eq, PartialOrd, Ord)]
-pub struct Pair {
+pub struct MessageId {
     pub terminal: u32,
     pub number: u32,
 }
@@ -135,9 +135,9 @@ impl Clone for Kept {
     }
 }
 
-/// An accepted message, as it is kept under its pair.
+/// An accepted message, as it is kept under its message ID.
 #[derive(Debug, Drop)]
 pub struct KeptMessage {
-    pub pair: Pair,
+    pub message_id: MessageId,
     pub kept: Kept,
 }

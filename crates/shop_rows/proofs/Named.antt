@@ -17,7 +17,7 @@ use Rattle.shop_rows.specs.Keys.{part_key, names_total, names_exact}
 use Rattle.shop_rows.specs.Open.{own_key, has, is_found, names_of, AreInOrder, ListsNumbers, ListsParts, parts_named}
 use Rattle.shop_rows.specs.Rows.{entries_of, rise, row_at}
 use Rattle.shop_rows.specs.declared.names.NameList.{NameList}
-use Rattle.shop_rows.proofs.Places.{lesser, pair_of, tested}
+use Rattle.shop_rows.proofs.Places.{lesser, message_id_of, tested}
 use Rattle.shop_rows.proofs.Listed.{tie, entries_filter, filter_filter, rise-filter}
 
 -- what is below all keys is none of them
@@ -75,11 +75,11 @@ module _ {X K : Type 0} (key_of : X → K) (cmp : K → K → Ordering) (o : IsT
             by_order : (r : Ordering) → cmp (key_of x) k ≡ r → k ∷ ks ≡ key_of x ∷ map key_of (filter test xs)
             by_order Less e =
                 absurd (true≢false (sym here
-                ∙ ap is_some (missed cmp (key_of x) (entries_of own_key cmp (k ∷ ks)) (pair_of _ _ (lesser _ e) (below (key_of x) k ks e (first _ _ ks_up))))))
+                ∙ ap is_some (missed cmp (key_of x) (entries_of own_key cmp (k ∷ ks)) (message_id_of _ _ (lesser _ e) (below (key_of x) k ks e (first _ _ ks_up))))))
               where
                 below : (a b : K) (cs : List K) → cmp a b ≡ Less → T (below_all cmp b (entries_of own_key cmp cs)) → T (below_all cmp a (entries_of own_key cmp cs))
                 below a b [] lt h = tt
-                below a b (c ∷ cs) lt h = pair_of _ _ (lesser _ (o.trans a b c lt (less _ (first _ _ h)))) (below a b cs lt (second _ _ h))
+                below a b (c ∷ cs) lt h = message_id_of _ _ (lesser _ (o.trans a b c lt (less _ (first _ _ h)))) (below a b cs lt (second _ _ h))
             by_order Equal e =
                 let same : key_of x ≡ k = exact (key_of x) k e in
                 let none : has cmp (key_of x) ks ≡ false = ap is_some (ap (λ q. row_at own_key cmp q ks) same ∙ missed cmp k (entries_of own_key cmp ks) (first _ _ ks_up)) in
@@ -100,7 +100,7 @@ module _ {X K : Type 0} (key_of : X → K) (cmp : K → K → Ordering) (o : IsT
     below_filter q [] h = tt
     below_filter q (x ∷ xs) h =
         elim (test x) as (λ b. T (below_all cmp q (entries_of key_of cmp (cond b (x ∷ filter test xs) (filter test xs))))) [
-          | true ↦ pair_of _ _ (first _ _ h) (below_filter q xs (second _ _ h))
+          | true ↦ message_id_of _ _ (first _ _ h) (below_filter q xs (second _ _ h))
           | false ↦ below_filter q xs (second _ _ h)
         ]
 

@@ -24,9 +24,9 @@ lesser Less e = tt
 lesser Equal e = absurd (cc)
 lesser Greater e = absurd (cc)
 
-pub pair_of : (a b : Bool) → T a → T b → T (a && b)
-pair_of true b p q = q
-pair_of false b p q = absurd p
+pub message_id_of : (a b : Bool) → T a → T b → T (a && b)
+message_id_of true b p q = q
+message_id_of false b p q = absurd p
 
 module _ {X K : Type 0} (key_of : X → K) (cmp : K → K → Ordering) (o : IsTotalOrder cmp) (exact : IsAntisymmetric cmp) where
   abbrev all : (X → Type 0) → List X → Type 0
@@ -336,7 +336,7 @@ module _ {X K : Type 0} (key_of : X → K) (cmp : K → K → Ordering) (o : IsT
 
   far_below : (x y : K) (ys : List X) → cmp x y ≡ Less → T (below_all cmp y (entries_of key_of cmp ys)) → T (below_all cmp x (entries_of key_of cmp ys))
   far_below x y [] lt h = tt
-  far_below x y (z ∷ ys) lt h = pair_of _ _ (lesser _ (o.trans x y (key_of z) lt (less _ (first _ _ h)))) (far_below x y ys lt (second _ _ h))
+  far_below x y (z ∷ ys) lt h = message_id_of _ _ (lesser _ (o.trans x y (key_of z) lt (less _ (first _ _ h)))) (far_below x y ys lt (second _ _ h))
 
   pub rise_by_steps : (xs : List X) → ((k : ℕ) (d : X) → suc k < length xs → cmp (key_of (get_or xs k d)) (key_of (get_or xs (suc k) d)) ≡ Less) → T (rise key_of cmp xs)
   rise_by_steps [] h = tt
@@ -344,7 +344,7 @@ module _ {X K : Type 0} (key_of : X → K) (cmp : K → K → Ordering) (o : IsT
   rise_by_steps (x ∷ y ∷ ys) h =
       let rest : T (rise key_of cmp (y ∷ ys)) = rise_by_steps (y ∷ ys) (λ k d lt. h (suc k) d (omega arith)) in
       let step : cmp (key_of x) (key_of y) ≡ Less = h 0 x (omega arith) in
-      pair_of _ _ (pair_of _ _ (lesser _ step) (far_below (key_of x) (key_of y) ys step (first _ _ rest))) rest
+      message_id_of _ _ (message_id_of _ _ (lesser _ step) (far_below (key_of x) (key_of y) ys step (first _ _ rest))) rest
 
   -- ---- rows that would rise together
 
@@ -371,11 +371,11 @@ module _ {X K : Type 0} (key_of : X → K) (cmp : K → K → Ordering) (o : IsT
 
   below_prefix : (x : X) (prefix rest : List X) → T (below_all cmp (key_of x) (entries_of key_of cmp (prefix ++ rest))) → T (below_all cmp (key_of x) (entries_of key_of cmp prefix))
   below_prefix x [] rest h = tt
-  below_prefix x (y ∷ prefix) rest h = pair_of _ _ (first _ _ h) (below_prefix x prefix rest (second _ _ h))
+  below_prefix x (y ∷ prefix) rest h = message_id_of _ _ (first _ _ h) (below_prefix x prefix rest (second _ _ h))
 
   rise_prefix : (prefix rest : List X) → T (rise key_of cmp (prefix ++ rest)) → T (rise key_of cmp prefix)
   rise_prefix [] rest h = tt
-  rise_prefix (x ∷ prefix) rest h = pair_of _ _ (below_prefix x prefix rest (first _ _ h)) (rise_prefix prefix rest (second _ _ h))
+  rise_prefix (x ∷ prefix) rest h = message_id_of _ _ (below_prefix x prefix rest (first _ _ h)) (rise_prefix prefix rest (second _ _ h))
 
   at_some : (P : X → Type 0) (ys : List X) (k : ℕ) (y : X) → slice_get ys k ≡ Some y → all P ys → P y
   at_some P [] zero y e h = absurd (cc)

@@ -23,5 +23,5 @@ pub use Rattle.shop_machine.specs.Ending
 pub use Rattle.shop_machine.specs.Amending
 pub use Rattle.shop_machine.specs.Machine
 pub use Rattle.shop_answers.specs.Queries
-pub use Rattle.shop_records.specs.Soundness
+pub use Rattle.shop_records.specs.WellFormed
 pub use Rattle.shop_machine.specs.History

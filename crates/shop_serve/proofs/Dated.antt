@@ -17,14 +17,14 @@ use Rattle.shop_serve.proofs.ServedRequests.{is_for_backup}
 module _ (site : Site) {B : Type 0} (book : Ghosts B) (before after : B) (at : ℕ) where
   -- a fault is no message
   no_message : (parsed : ParseResult) → IsHeadFault parsed → HandlesInputAt book before after at parsed
-  no_message parsed (inl is) = subst (HandlesInputAt book before after at) (sym is) (λ clean_disk m held sound. tt)
-  no_message parsed (inr is) = subst (HandlesInputAt book before after at) (sym is) (λ clean_disk m held sound. tt)
+  no_message parsed (inl is) = subst (HandlesInputAt book before after at) (sym is) (λ clean_disk m held well_formed. tt)
+  no_message parsed (inr is) = subst (HandlesInputAt book before after at) (sym is) (λ clean_disk m held well_formed. tt)
 
   -- neither is what asks for a backup
   pub backup_timed : (parsed : ParseResult) → asks_backup parsed ≡ true → HandlesInputAt book before after at parsed
-  backup_timed silent asks = λ clean_disk m held sound. tt
-  backup_timed (faulty f) asks = λ clean_disk m held sound. tt
-  backup_timed (asking route text) asks = subst (λ r. HandlesInputAt book before after at (asking r text)) (sym (is_for_backup route asks)) (λ clean_disk m held sound. tt)
+  backup_timed silent asks = λ clean_disk m held well_formed. tt
+  backup_timed (faulty f) asks = λ clean_disk m held well_formed. tt
+  backup_timed (asking route text) asks = subst (λ r. HandlesInputAt book before after at (asking r text)) (sym (is_for_backup route asks)) (λ clean_disk m held well_formed. tt)
 
   module _ (input : List ℕ) where
     -- what was done by one parse holds of each

@@ -101,8 +101,8 @@ store_fault_justified-append a b c (s ∷ ss) ts up next first second t (inr i) 
 module _ (site : Site) {B : Type 0} (book : Ghosts B) where
   -- none
   pub none_served : (here : B) (count : ℕ) → HasServed site book here here count
-  none_served here count clean_disk m held sound =
-      record { served = []; few = omega arith; next = m; run = (refl, refl); held = held; sound = sound; crash = (refl, λ left it. it); failures = inl refl; store_fault_justified = λ t i. absurd i; account = account_same json_texts m m refl }
+  none_served here count clean_disk m held well_formed =
+      record { served = []; few = omega arith; next = m; run = (refl, refl); held = held; well_formed = well_formed; crash = (refl, λ left it. it); failures = inl refl; store_fault_justified = λ t i. absurd i; account = account_same json_texts m m refl }
 
   -- nothing was done
   pub none_done : (before after : B) (count : ℕ) → after ≡ before → HasServed site book before after count
@@ -128,9 +128,9 @@ module _ (site : Site) {B : Type 0} (book : Ghosts B) where
   -- one was served
   served_once : (before after : B) (input : List ℕ) (old new : Option (List ℕ)) (unwritten : List ℕ) → 0 < length input → GoesToRoute input
       → CountsUp (book.failed before) (book.failed after) → IsServed book before after (Some input) old new unwritten → HasServed site book before after 1
-  served_once before after input old new unwritten some goes up s clean_disk m held sound =
+  served_once before after input old new unwritten some goes up s clean_disk m held well_formed =
       let response = s.2.response in
-      let done = s.2.run.run clean_disk m held sound in
+      let done = s.2.run.run clean_disk m held well_formed in
       let served_one : ServedRequest = record { input = input; handling = routed s.0 response; answer = s.2.bytes } in
       let once : IsServedOnce book before after m (routed s.0 response) done.next =
       record { step = done.step; clean_disk = clean_disk; held = done.held; crash = done.crash; failures = up; store_fault_justified = done.store_fault_justified } in
@@ -140,7 +140,7 @@ module _ (site : Site) {B : Type 0} (book : Ghosts B) where
         next = done.next;
         run = (after, done.next, (some, (goes, s.1, (unwritten, s.2.reported))), once, (refl, refl));
         held = done.held;
-        sound = done.sound;
+        well_formed = done.well_formed;
         crash = subst (λ es. ExchangesLead book before after m es done.next) (sym (append-nil (exchanged s.0 response))) done.crash;
         failures = up;
         store_fault_justified = λ t i e. elim i [ inl is ↦ done.store_fault_justified (subst (λ (t : ServedRequest). ReportsFailure t.handling) is e) | inr none ↦ absurd none ];
@@ -161,8 +161,8 @@ module _ (site : Site) {B : Type 0} (book : Ghosts B) where
   -- a query was begun
   begun_once : (before after : B) (input : List ℕ) (instance : PlanInstance) → 0 < length input → GoesToRoute input → CountsUp (book.failed before) (book.failed after)
       → IsBegun book before after (Some input) instance → HasServed site book before after 1
-  begun_once before after input instance some goes up b clean_disk m held sound =
-      let done = b.run clean_disk m held sound in
+  begun_once before after input instance some goes up b clean_disk m held well_formed =
+      let done = b.run clean_disk m held well_formed in
       let served_one : ServedRequest = record { input = input; handling = begun b.body b.query instance; answer = [] } in
       let once : IsServedOnce book before after m (begun b.body b.query instance) m =
       record { step = (refl, done.1); clean_disk = clean_disk; held = done.0; crash = (refl, b.keeps.crash clean_disk m held); failures = up; store_fault_justified = λ none. absurd none } in
@@ -172,7 +172,7 @@ module _ (site : Site) {B : Type 0} (book : Ghosts B) where
         next = m;
         run = (after, m, (some, (goes, b.parsed, b.asks, refl)), once, (refl, refl));
         held = done.0;
-        sound = sound;
+        well_formed = well_formed;
         crash = (refl, b.keeps.crash clean_disk m held);
         failures = up;
         store_fault_justified = λ t i e. elim i [ inl is ↦ absurd (subst (λ (t : ServedRequest). ReportsFailure t.handling) is e) | inr none ↦ absurd none ];
@@ -185,7 +185,7 @@ module _ (site : Site) {B : Type 0} (book : Ghosts B) where
 
   -- a backup was made or not, and this came of it
   pub one_copied : (here : B) (input answer : List ℕ) (outcome : Result ℕ Refusal) → 0 < length input → IsBackupAnswer site input answer outcome → HasServed site book here here 1
-  one_copied here input answer outcome some is clean_disk m held sound =
+  one_copied here input answer outcome some is clean_disk m held well_formed =
       let served_one : ServedRequest = record { input = input; handling = copied is.0.1.0 outcome; answer = answer } in
       record {
         served = served_one ∷ [];
@@ -193,7 +193,7 @@ module _ (site : Site) {B : Type 0} (book : Ghosts B) where
         next = m;
         run = (here, m, (some, (is.0.0, is.0.1.1, is.1)), once_same here m served_one.handling refl clean_disk held refl (λ none. none), (refl, refl));
         held = held;
-        sound = sound;
+        well_formed = well_formed;
         crash = (refl, λ left it. it);
         failures = inl refl;
         store_fault_justified = λ t i e. elim i [ inl is ↦ absurd (subst (λ (t : ServedRequest). ReportsFailure t.handling) is e) | inr none ↦ absurd none ];
@@ -218,7 +218,7 @@ module _ (site : Site) {B : Type 0} (book : Ghosts B) where
   -- the site answered one by itself
   pub one_ruled : (before after : B) (input : List ℕ) (r : Ruling) (entries : Option ℕ) → 0 < length input → HasRuling site.guard input r → r ≢ Routed
       → IsCounted book before after entries → HasServed site book before after 1
-  one_ruled before after input r entries some rules other counted clean_disk m held sound =
+  one_ruled before after input r entries some rules other counted clean_disk m held well_formed =
       let holds : book.holds after m = counted.0.stays clean_disk m held in
       let served_one : ServedRequest = record { input = input; handling = ruled r entries; answer = own_bytes site entries r } in
       let once : IsServedOnce book before after m (ruled r entries) m =
@@ -236,7 +236,7 @@ module _ (site : Site) {B : Type 0} (book : Ghosts B) where
         next = m;
         run = (after, m, (some, (rules, other, refl)), once, (refl, refl));
         held = holds;
-        sound = sound;
+        well_formed = well_formed;
         crash = (refl, counted.0.crash clean_disk m held);
         failures = counted.0.failures;
         store_fault_justified = λ t i e. elim i [ inl is ↦ absurd (subst (λ (t : ServedRequest). ReportsFailure t.handling) is e) | inr none ↦ absurd none ];
@@ -245,16 +245,16 @@ module _ (site : Site) {B : Type 0} (book : Ghosts B) where
 
   -- and more
   pub more_served : (before mid after : B) (n k : ℕ) → (book.has_clean_disk after → book.has_clean_disk mid) → HasServed site book before mid n → HasServed site book mid after k → HasServed site book before after (n + k)
-  more_served before mid after n k back run step clean_disk m held sound =
-      let first = run (back clean_disk) m held sound in
-      let second = step clean_disk first.next first.held first.sound in
+  more_served before mid after n k back run step clean_disk m held well_formed =
+      let first = run (back clean_disk) m held well_formed in
+      let second = step clean_disk first.next first.held first.well_formed in
       record {
         served = first.served ++ second.served;
         few = omega (arith, length-append first.served second.served, first.few, second.few);
         next = second.next;
         run = served-append site book before mid after m first.next second.next first.served second.served first.run second.run;
         held = second.held;
-        sound = second.sound;
+        well_formed = second.well_formed;
         crash = subst (λ es. ExchangesLead book before after m es second.next) (sym (flat_map-append (λ (t : ServedRequest). exchange_of t.handling) first.served second.served))
             (leads_join json_texts book.stands (book.may_leave before) (book.may_leave mid) (book.may_leave after) m first.next second.next (exchanges first.served) (exchanges second.served) first.crash second.crash);
         failures = up_more (book.failed before) (book.failed mid) (book.failed after) first.failures second.failures;
@@ -265,15 +265,15 @@ module _ (site : Site) {B : Type 0} (book : Ghosts B) where
 
   -- at most so many is at most more
   pub few_served : (before after : B) (n k : ℕ) → n ≤ k → HasServed site book before after n → HasServed site book before after k
-  few_served before after n k within run clean_disk m held sound =
-      let done = run clean_disk m held sound in
+  few_served before after n k within run clean_disk m held well_formed =
+      let done = run clean_disk m held well_formed in
       record {
         served = done.served;
         few = omega (arith, done.few, within);
         next = done.next;
         run = done.run;
         held = done.held;
-        sound = done.sound;
+        well_formed = done.well_formed;
         crash = done.crash;
         failures = done.failures;
         store_fault_justified = done.store_fault_justified;

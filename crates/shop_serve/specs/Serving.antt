@@ -5,7 +5,7 @@ use Rattle.shop_desk.specs.Faults.{CountsUp, StoreFailed}
 use Rattle.shop_desk.specs.Handled.{HasAccount}
 use Rattle.shop_records.specs.Content.{Content, entry_count}
 use Rattle.shop_records.specs.Elements.{IsIn}
-use Rattle.shop_records.specs.Soundness.{IsSound}
+use Rattle.shop_records.specs.WellFormed.{IsWellFormed}
 use Rattle.shop_records.specs.declared.messages.Message.{Message as ShopMessage}
 use Rattle.shop_records.specs.declared.messages.Reply.{Reply}
 use Rattle.shop_records.specs.declared.messages.Reply.TheVariants.{Refused}
@@ -145,16 +145,16 @@ pub record HasServedRequests (site : Site) {B : Type 0} (book : Ghosts B) (befor
   pub next : Content
   pub run : ServedInOrder site book before old served after next
   pub held : book.holds after next
-  pub sound : IsSound json_texts next
+  pub well_formed : IsWellFormed json_texts next
   pub crash : ExchangesLead book before after old (exchanges served) next
   pub failures : CountsUp (book.failed before) (book.failed after)
   pub store_fault_justified : ReportOfFailures served (book.failed before) (book.failed after)
   pub account : HasAccount json_texts old (map (λ e. e.0) (exchanges served)) (map (λ e. e.1) (exchanges served)) next
 
--- at most so many requests were served by a book: each sound content that one with a clean disk held led to one that it holds
--- now
+-- at most so many requests were served by a book: each well-formed content that one with a clean disk held led to one that it
+-- holds now
 abbrev pub HasServed : Site → {B : Type 0} → Ghosts B → B → B → ℕ → Type 0
-HasServed site book before after count = OnContent book before after (λ m. IsSound json_texts m → HasServedRequests site book before after m count)
+HasServed site book before after count = OnContent book before after (λ m. IsWellFormed json_texts m → HasServedRequests site book before after m count)
 
 -- a number fell from one to another, and at most as many requests were served as it fell by
 abbrev pub Advances : Site → {B : Type 0} → Ghosts B → B → B → ℕ → ℕ → Type 0

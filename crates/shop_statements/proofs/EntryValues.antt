@@ -77,8 +77,8 @@ one_part (Some m) (Some n) i j e f = λ i. Some (record { act = e i; node = f i 
 pub one_entry : (d e : Entry) → d.number ≡ e.number → entry_columns d ≡ entry_columns e → IsEntryValue d → IsEntryValue e → d ≡ e
 one_entry d e number same v w =
     let at : d.at ≡ e.at = cc in
-    let terminal : d.pair.terminal ≡ e.pair.terminal = cc in
-    let own : d.pair.number ≡ e.pair.number = cc in
+    let terminal : d.message_id.terminal ≡ e.message_id.terminal = cc in
+    let own : d.message_id.number ≡ e.message_id.number = cc in
     let name : word_name d.word ≡ word_name e.word = cc in
     let act : d.act ≡ e.act = cc in
     let job : d.job ≡ e.job = cc in
@@ -88,7 +88,7 @@ one_entry d e number same v w =
     let is_word = one_word d.word e.word name in
     let is_order = one_order d.order e.order v.order w.order text in
     let is_part = one_part d.part e.part v.part w.part part_act part_node in
-    λ i. record { number = number i; pair = record { terminal = terminal i; number = own i }; at = at i; word = is_word i; act = act i; job = job i; order = is_order i; part = is_part i }
+    λ i. record { number = number i; message_id = record { terminal = terminal i; number = own i }; at = at i; word = is_word i; act = act i; job = job i; order = is_order i; part = is_part i }
 
 -- the entry of a row that was found is the one that was found
 pub found_entry : (number : ℕ) (o : Option Entry) (row : Row) (x : Entry) (back : Row → Row) → IsRowOf (IsOwnEntry number) entry_columns o (Some row) → ((y : Entry) → back (entry_columns y) ≡ entry_columns y)

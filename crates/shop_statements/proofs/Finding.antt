@@ -15,8 +15,8 @@ use Rattle.sqlite.specs.Schema.{Schema}
 use Rattle.sqlite.specs.State.{State, Shown}
 use Rattle.cut_measure.specs.Codes.{code_cmp}
 use Rattle.cut_measure.specs.Names.{Name, name_cmp}
-use Rattle.shop_records.specs.Content.{pair_cmp}
-use Rattle.shop_records.specs.declared.texts.Pair.{Pair}
+use Rattle.shop_records.specs.Content.{message_id_cmp}
+use Rattle.shop_records.specs.declared.texts.MessageId.{MessageId}
 use Rattle.shop_statements.specs.declared.uses.JobOrder.{JobOrder}
 use Rattle.shop_statements.specs.Rows.{AreRows, meta_row, meta_entries, note_columns, note_row, halt_columns, halt_row, kept_columns, kept_row, import_columns, import_row, entry_columns, journal_row, use_cmp}
 use Rattle.shop_statements.specs.Shown.{Books, Shows}
@@ -40,11 +40,11 @@ name_same x y e =
     let parts = then_tied (nat_cmp x.act y.act) (nat_cmp x.node y.node) e in
     λ i. record { act = nat_cmp-IsAntisymmetric x.act y.act parts.0 i; node = nat_cmp-IsAntisymmetric x.node y.node parts.1 i }
 
-pub pair_total : IsTotalOrder pair_cmp
-pair_total = then_total (on_total (λ (p : Pair). p.terminal) nat_cmp_total) (on_total (λ (p : Pair). p.number) nat_cmp_total)
+pub message_id_total : IsTotalOrder message_id_cmp
+message_id_total = then_total (on_total (λ (p : MessageId). p.terminal) nat_cmp_total) (on_total (λ (p : MessageId). p.number) nat_cmp_total)
 
-pub pair_same : IsAntisymmetric pair_cmp
-pair_same x y e =
+pub message_id_same : IsAntisymmetric message_id_cmp
+message_id_same x y e =
     let parts = then_tied (nat_cmp x.terminal y.terminal) (nat_cmp x.number y.number) e in
     λ i. record { terminal = nat_cmp-IsAntisymmetric x.terminal y.terminal parts.0 i; number = nat_cmp-IsAntisymmetric x.number y.number parts.1 i }
 
@@ -105,9 +105,9 @@ kept_shown_later [] = refl
 kept_shown_later (x ∷ d) = refl
 
 module _ (old new : State) (rows : List Row) (b : Books) (has : Shows old b) where
-  pub finds_kept : (k : Pair) → Shown get_kept_text (Int (pos k.terminal) ∷ Int (pos k.number) ∷ []) old new rows → rows ≡ option_to_list (option_map kept_columns (get b.content.kept k))
+  pub finds_kept : (k : MessageId) → Shown get_kept_text (Int (pos k.terminal) ∷ Int (pos k.number) ∷ []) old new rows → rows ≡ option_to_list (option_map kept_columns (get b.content.kept k))
   finds_kept k shown =
-      finds pair_total pair_same 1 kept_row (λ e. kept_columns e.1) b.content.kept k _ (is_two k.terminal k.number) (two_later k.terminal k.number) (λ e. two_tests e.0.terminal e.0.number k.terminal k.number (kept_columns e.1)) _ kept_shown kept_shown_later (λ e. refl) _ rows has.stands.kept
+      finds message_id_total message_id_same 1 kept_row (λ e. kept_columns e.1) b.content.kept k _ (is_two k.terminal k.number) (two_later k.terminal k.number) (λ e. two_tests e.0.terminal e.0.number k.terminal k.number (kept_columns e.1)) _ kept_shown kept_shown_later (λ e. refl) _ rows has.stands.kept
       (asked old new has.schema get_kept_text (Int (pos k.terminal) ∷ Int (pos k.number) ∷ []) 11 by_two get_kept_terms _ (get_kept_is old.now.schema has.schema) refl rows shown)
 
   pub finds_import : (code : List ℕ) → Shown get_import_text (Text code ∷ []) old new rows → rows ≡ option_to_list (option_map import_columns (get b.content.imports code))

@@ -26,7 +26,7 @@ use Rattle.shop_statements.specs.Rows.{IsOwnJob, kind_number, state_number, job_
 use Rattle.shop_statements.specs.Changes.{with_material, with_part, with_job, with_order, with_demand, with_kept, with_import, with_totals, with_entry, with_use}
 use Rattle.shop_statements.specs.Shown.{Books, Shows}
 use Rattle.shop_statements.specs.Values.{IsEntryValue, IsPartValue}
-use Rattle.shop_statements.proofs.Finding.{code_total, code_same, name_total, name_same, pair_total, pair_same, use_total, use_same}
+use Rattle.shop_statements.proofs.Finding.{code_total, code_same, name_total, name_same, message_id_total, message_id_same, use_total, use_same}
 use Rattle.shop_statements.proofs.Keys.{cast-Int, cast-Null, news_are, news_keyed}
 use Rattle.shop_statements.proofs.KeyedRows.{with_material_keyed, with_part_keyed, with_job_keyed, with_demand_keyed, with_import_keyed, with_entry_keyed}
 use Rattle.shop_statements.proofs.Standing.{materials_shown, parts_shown, jobs_shown, orders_shown, demands_shown, kept_shown, imports_shown, totals2_shown, journal_shown, uses_shown}
@@ -60,12 +60,12 @@ module _ (old new : State) (count : ℕ) (b : Books) (has : Shows old b) where
       (news_keyed (loosened has.schema.demands demands_table) (Null ∷ demand_columns x) (old.now.trees 9) (pos x.number) (λ i. cast-Null i ∷ Text x.order ∷ cast-Int (pos x.line) i ∷ Text x.material ∷ cast-Int (pos x.size.w) i ∷ cast-Int (pos x.size.h) i ∷ cast-Int (pos (turn_number x.may_turn)) i ∷ cast-Int (pos x.worth) i ∷ cast-Int (pos x.wanted) i ∷ cast-Int (pos x.reserved) i ∷ cast-Int (pos x.made) i ∷ [])) ran in
       demands_shown old new b has _ _ (insert b.content.demands x.number x) put (rows_with nat_cmp_total nat_cmp-IsAntisymmetric 0 demand_row old new 9 (demand_row (x.number, x)) (pos x.number) b.content.demands x.number x fresh refl refl has.stands.demands put) (with_demand_keyed b.content has.keyed x)
 
-  pub puts_kept : (x : KeptMessage) → get b.content.kept x.pair ≡ None → Executes put_kept_text (kept_row (x.pair, x.kept)) old new (Ok count) → Shows new (with_kept x b)
+  pub puts_kept : (x : KeptMessage) → get b.content.kept x.message_id ≡ None → Executes put_kept_text (kept_row (x.message_id, x.kept)) old new (Ok count) → Shows new (with_kept x b)
   puts_kept x fresh ran =
       let id = next_rowid (old.now.trees 11) in
-      let put = puts old new has.schema put_kept_text (kept_row (x.pair, x.kept)) 6 (loosened has.schema.kept kept_table) refl put_kept_terms 5 (put_kept_is old.now.schema has.schema) (Int id ∷ kept_row (x.pair, x.kept)) count
-      (news_are (loosened has.schema.kept kept_table) (kept_row (x.pair, x.kept)) (old.now.trees 11) (λ i. cast-Int (pos x.pair.terminal) i ∷ cast-Int (pos x.pair.number) i ∷ Text x.kept.command ∷ Text x.kept.reply ∷ [])) ran in
-      kept_shown old new b has _ _ (insert b.content.kept x.pair x.kept) put (rows_with pair_total pair_same 1 kept_row old new 11 (Int id ∷ kept_row (x.pair, x.kept)) id b.content.kept x.pair x.kept fresh refl refl has.stands.kept put)
+      let put = puts old new has.schema put_kept_text (kept_row (x.message_id, x.kept)) 6 (loosened has.schema.kept kept_table) refl put_kept_terms 5 (put_kept_is old.now.schema has.schema) (Int id ∷ kept_row (x.message_id, x.kept)) count
+      (news_are (loosened has.schema.kept kept_table) (kept_row (x.message_id, x.kept)) (old.now.trees 11) (λ i. cast-Int (pos x.message_id.terminal) i ∷ cast-Int (pos x.message_id.number) i ∷ Text x.kept.command ∷ Text x.kept.reply ∷ [])) ran in
+      kept_shown old new b has _ _ (insert b.content.kept x.message_id x.kept) put (rows_with message_id_total message_id_same 1 kept_row old new 11 (Int id ∷ kept_row (x.message_id, x.kept)) id b.content.kept x.message_id x.kept fresh refl refl has.stands.kept put)
 
   pub puts_import : (x : ImportRow) → get b.content.imports x.order ≡ None → Executes put_import_text (import_row (x.order, x)) old new (Ok count) → Shows new (with_import x b)
   puts_import x fresh ran =
@@ -77,7 +77,7 @@ module _ (old new : State) (count : ℕ) (b : Books) (has : Shows old b) where
   pub puts_entry : (x : Entry) → IsEntryValue x → get b.content.entries x.number ≡ None → Executes put_entry_text (Int (pos x.number) ∷ entry_columns x) old new (Ok count) → Shows new (with_entry x b)
   puts_entry x value fresh ran =
       let put = puts old new has.schema put_entry_text (Int (pos x.number) ∷ entry_columns x) 10 (loosened has.schema.journal journal_table) refl put_entry_terms 11 (put_entry_is old.now.schema has.schema) (journal_row (x.number, x)) count
-      (news_keyed (loosened has.schema.journal journal_table) (Null ∷ entry_columns x) (old.now.trees 19) (pos x.number) (λ i. cast-Null i ∷ cast-Int (pos x.at) i ∷ cast-Int (pos x.pair.terminal) i ∷ cast-Int (pos x.pair.number) i ∷ Text (word_name x.word) ∷ cast-Int (pos x.act) i ∷ cast-Int (pos x.job) i ∷ Text (order_text x.order) ∷ cast-Int (pos (act_number x.part)) i ∷ cast-Int (pos (node_number x.part)) i ∷ [])) ran in
+      (news_keyed (loosened has.schema.journal journal_table) (Null ∷ entry_columns x) (old.now.trees 19) (pos x.number) (λ i. cast-Null i ∷ cast-Int (pos x.at) i ∷ cast-Int (pos x.message_id.terminal) i ∷ cast-Int (pos x.message_id.number) i ∷ Text (word_name x.word) ∷ cast-Int (pos x.act) i ∷ cast-Int (pos x.job) i ∷ Text (order_text x.order) ∷ cast-Int (pos (act_number x.part)) i ∷ cast-Int (pos (node_number x.part)) i ∷ [])) ran in
       journal_shown old new b has _ _ (insert b.content.entries x.number x) put (rows_with nat_cmp_total nat_cmp-IsAntisymmetric 0 journal_row old new 19 (journal_row (x.number, x)) (pos x.number) b.content.entries x.number x fresh refl refl has.stands.journal put) (with_entry_keyed b.content has.keyed x value)
 
   pub puts_use : (x : JobOrder) → get b.uses x ≡ None → Executes put_use_text (use_row (x, tt)) old new (Ok count) → Shows new (with_use x b)

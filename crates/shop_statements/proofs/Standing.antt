@@ -10,7 +10,7 @@ use Rattle.sqlite.specs.State.{State}
 use Rattle.sqlite_trees.specs.Tree.{Trees}
 use Rattle.cut_measure.specs.Codes.{code_cmp}
 use Rattle.cut_measure.specs.Names.{name_cmp}
-use Rattle.shop_records.specs.Content.{Content, pair_cmp}
+use Rattle.shop_records.specs.Content.{Content, message_id_cmp}
 use Rattle.shop_records.specs.declared.records.Material.{Material}
 use Rattle.shop_records.specs.declared.records.Part.{Part}
 use Rattle.shop_records.specs.declared.records.Job.{Job}
@@ -28,7 +28,7 @@ use Rattle.shop_statements.specs.Shown.{Books, Shows}
 use Rattle.shop_statements.proofs.Writing.{IsAlone, IsPut, alone}
 
 -- what has no key may change
-keyed_still : (m : Content) (last_act last_demand : ℕ) (orders : set.FinSet code_cmp) (kept : FinMap pair_cmp Kept) → IsKeyed m → IsKeyed (record m { last_act = last_act; last_demand = last_demand; orders = orders; kept = kept })
+keyed_still : (m : Content) (last_act last_demand : ℕ) (orders : set.FinSet code_cmp) (kept : FinMap message_id_cmp Kept) → IsKeyed m → IsKeyed (record m { last_act = last_act; last_demand = last_demand; orders = orders; kept = kept })
 keyed_still m last_act last_demand orders kept h = record {
   materials = h.materials;
   parts = h.parts;
@@ -118,7 +118,7 @@ module _ (old new : State) (b : Books) (has : Shows old b) (left : List Row) (ro
   demands_shown m put rows keyed =
       let s = stand old new b has 9 (alone put) in shows old new b has 9 (alone put) _ (record { meta = s.meta; materials = s.materials; parts = s.parts; jobs = s.jobs; orders = s.orders; demands = rows; kept = s.kept; imports = s.imports; totals = s.totals; totals2 = s.totals2; journal = s.journal; uses = s.uses; notes = s.notes; begun = s.begun; halts = s.halts }) keyed
 
-  pub kept_shown : (m : FinMap pair_cmp Kept) → IsPut old new 11 left row → AreRows 1 (map kept_row (entries m)) (new.now.trees 11) → Shows new (record b { content = record b.content { kept = m } })
+  pub kept_shown : (m : FinMap message_id_cmp Kept) → IsPut old new 11 left row → AreRows 1 (map kept_row (entries m)) (new.now.trees 11) → Shows new (record b { content = record b.content { kept = m } })
   kept_shown m put rows =
       let s = stand old new b has 11 (alone put) in shows old new b has 11 (alone put) _ (record { meta = s.meta; materials = s.materials; parts = s.parts; jobs = s.jobs; orders = s.orders; demands = s.demands; kept = rows; imports = s.imports; totals = s.totals; totals2 = s.totals2; journal = s.journal; uses = s.uses; notes = s.notes; begun = s.begun; halts = s.halts }) (keyed_still b.content b.content.last_act b.content.last_demand b.content.orders m has.keyed)
 

@@ -53,7 +53,7 @@ abbrev pub with_demand : Demand → Books → Books
 with_demand demand b = record b { content = record b.content { demands = insert b.content.demands demand.number demand } }
 
 abbrev pub with_kept : KeptMessage → Books → Books
-with_kept message b = record b { content = record b.content { kept = insert b.content.kept message.pair message.kept } }
+with_kept message b = record b { content = record b.content { kept = insert b.content.kept message.message_id message.kept } }
 
 abbrev pub with_import : ImportRow → Books → Books
 with_import row b = record b { content = record b.content { imports = insert b.content.imports row.order row } }

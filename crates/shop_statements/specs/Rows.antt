@@ -17,7 +17,7 @@ use Rattle.cut_tree.specs.Patterns.{IsPlan}
 use Rattle.cut_tree.specs.Spelling.{text_of}
 use Rattle.shop_records.specs.Columns.{state_of}
 use Rattle.shop_records.specs.Content.{Content, material_at, part_at, job_at, halt_at, begun_at, note_at, demand_at, import_at, entry_at}
-use Rattle.shop_records.specs.Soundness.{IsOnPart}
+use Rattle.shop_records.specs.WellFormed.{IsOnPart}
 use Rattle.shop_records.specs.declared.records.Material.{Material}
 use Rattle.shop_records.specs.declared.records.Part.{Part}
 use Rattle.shop_records.specs.declared.records.State.{State}
@@ -33,7 +33,7 @@ use Rattle.shop_records.specs.declared.records.Totals.{Totals}
 use Rattle.shop_records.specs.declared.imports.Form.{Form}
 use Rattle.shop_records.specs.declared.imports.Form.TheVariants as form
 use Rattle.shop_records.specs.declared.imports.ImportRow.{ImportRow}
-use Rattle.shop_records.specs.declared.texts.Pair.{Pair}
+use Rattle.shop_records.specs.declared.texts.MessageId.{MessageId}
 use Rattle.shop_records.specs.declared.texts.Kept.{Kept}
 use Rattle.shop_records.specs.declared.journal.Entry.{Entry}
 use Rattle.shop_records.specs.Journal.{word_name}
@@ -135,7 +135,7 @@ totals_columns t =
 
 abbrev pub entry_columns : Entry → Row
 entry_columns e =
-    Int (pos e.at) ∷ Int (pos e.pair.terminal) ∷ Int (pos e.pair.number) ∷ Text (word_name e.word) ∷ Int (pos e.act) ∷ Int (pos e.job)
+    Int (pos e.at) ∷ Int (pos e.message_id.terminal) ∷ Int (pos e.message_id.number) ∷ Text (word_name e.word) ∷ Int (pos e.act) ∷ Int (pos e.job)
     ∷ Text (order_text e.order) ∷ Int (pos (act_number e.part)) ∷ Int (pos (node_number e.part)) ∷ []
 
 -- ---- rows without their rowids
@@ -155,7 +155,7 @@ order_row e = Text e.0 ∷ []
 abbrev pub note_row : List ℕ × OrderNote → Row
 note_row e = Text e.0 ∷ note_columns e.1
 
-abbrev pub kept_row : Pair × Kept → Row
+abbrev pub kept_row : MessageId × Kept → Row
 kept_row e = Int (pos e.0.terminal) ∷ Int (pos e.0.number) ∷ kept_columns e.1
 
 abbrev pub import_row : List ℕ × ImportRow → Row

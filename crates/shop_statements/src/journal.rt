@@ -23,7 +23,7 @@ use crate::columns::{
 use crate::rows::row_by_count;
 use crate::running::run;
 use cut_measure::{Code, PartName};
-use shop_records::{Entry, Pair};
+use shop_records::{Entry, MessageId};
 use sqlite::{Alter, Connection, Row, Transaction, params};
 
 // An entry's number and time, as columns have them.
@@ -91,8 +91,8 @@ pub fn put_entry<S: Alter>(tx: &mut Transaction<'_, S>, entry: &Entry) -> Result
         params![
             &stamp.number,
             &stamp.at,
-            entry.pair.terminal,
-            entry.pair.number,
+            entry.message_id.terminal,
+            entry.message_id.number,
             entry.word.name(),
             entry.act,
             entry.job,
@@ -110,7 +110,7 @@ fn entry_of_columns(number: u64, row: &Row) -> Result<Entry, TableFault>
     Ok(Entry {
         number,
         at: count_in(row, 0)?,
-        pair: Pair {
+        message_id: MessageId {
             terminal: number_in(row, 1)?,
             number: number_in(row, 2)?,
         },

@@ -20,7 +20,7 @@ use crate::TableFault;
 use crate::columns::text_in;
 use crate::rows::row_by_two;
 use crate::running::run;
-use shop_records::{Kept, KeptMessage, Pair};
+use shop_records::{Kept, KeptMessage, MessageId};
 use sqlite::{Alter, Connection, Error, Row, Transaction, params};
 
 fn read_kept(row: &Row) -> Result<Kept, TableFault>
@@ -34,43 +34,46 @@ fn read_kept(row: &Row) -> Result<Kept, TableFault>
     })
 }
 
-fn kept_row<S: Alter>(conn: &mut Connection<S>, pair: Pair) -> Result<Option<Row>, Error>
+fn kept_row<S: Alter>(conn: &mut Connection<S>, message_id: MessageId) -> Result<Option<Row>, Error>
     ensures row { OnBooks (state S.Store conn.old) (state S.Store conn.new)
         (λ books. IfOk result (IsRowOf (λ (kept : KeptRecord). Unit {0}) kept_columns
-        (kept_at books.content pair))) }
+        (kept_at books.content message_id))) }
     ensures stands { HasCleanDisk (state S.Store conn.new) → HasShopTables conn.old.schema
         → IfOk result (λ found. IsUnder ((state S.Store conn.old).now.trees 11) 1
-        (Int (pos pair.terminal) ∷ Int (pos pair.number) ∷ []) 2 3 found) }
+        (Int (pos message_id.terminal) ∷ Int (pos message_id.number) ∷ []) 2 3 found) }
     ensures leaves { Leaves (state S.Store conn.old) (state S.Store conn.new) }
     ensures mode { conn.old.in_transaction ≡ false → conn.new.in_transaction ≡ false }
 {
     row_by_two(
         conn,
         "SELECT command, reply FROM kept WHERE terminal = ?1 AND number = ?2",
-        pair.terminal,
-        pair.number,
+        message_id.terminal,
+        message_id.number,
     )
 }
 
-/// What is kept of the accepted message with this pair.
-pub fn find_kept<S: Alter>(conn: &mut Connection<S>, pair: Pair) -> Result<Option<Kept>, TableFault>
+/// What is kept of the accepted message with this ID.
+pub fn find_kept<S: Alter>(
+    conn: &mut Connection<S>,
+    message_id: MessageId,
+) -> Result<Option<Kept>, TableFault>
     ensures row { OnBooks (state S.Store conn.old) (state S.Store conn.new)
-        (λ books. IfOk result (λ row. row ≡ kept_at books.content pair)) }
+        (λ books. IfOk result (λ row. row ≡ kept_at books.content message_id)) }
     ensures stands { HasCleanDisk (state S.Store conn.new) → HasShopTables conn.old.schema
         → IfOk result (λ found. IsUnder ((state S.Store conn.old).now.trees 11) 1
-        (Int (pos pair.terminal) ∷ Int (pos pair.number) ∷ []) 2 3
+        (Int (pos message_id.terminal) ∷ Int (pos message_id.number) ∷ []) 2 3
         (option_map kept_columns found)) }
     ensures leaves { Leaves (state S.Store conn.old) (state S.Store conn.new) }
     ensures mode { conn.old.in_transaction ≡ false → conn.new.in_transaction ≡ false }
 {
-    let Some(row) = kept_row(conn, pair)? else {
+    let Some(row) = kept_row(conn, message_id)? else {
         return Ok(None);
     };
     let kept = read_kept(&row)?;
     Ok(Some(kept))
 }
 
-/// Keeps an accepted message of a new pair.
+/// Keeps an accepted message of a new ID.
 pub fn put_kept<S: Alter>(
     tx: &mut Transaction<'_, S>,
     message: &KeptMessage,
@@ -78,7 +81,7 @@ pub fn put_kept<S: Alter>(
     ensures same_reference { tx.new.conn.ghost_name ≡ tx.old.conn.ghost_name }
     ensures ran { OnOk result
         (Ran (state S.Store tx.old.conn.now) (state S.Store tx.new.conn.now)) }
-    ensures put { (b : Books) → kept_at b.content message.now.pair ≡ None
+    ensures put { (b : Books) → kept_at b.content message.now.message_id ≡ None
         → OnOk result (Makes (state S.Store tx.old.conn.now) (state S.Store tx.new.conn.now) b
         (with_kept message.now b)) }
     ensures others { OnOk result (Spares (kept_table.tree ∷ [])
@@ -89,8 +92,8 @@ pub fn put_kept<S: Alter>(
         tx,
         "INSERT INTO kept (terminal, number, command, reply) VALUES (?1, ?2, ?3, ?4)",
         params![
-            message.pair.terminal,
-            message.pair.number,
+            message.message_id.terminal,
+            message.message_id.number,
             message.kept.command.as_str(),
             message.kept.reply.as_str()
         ],

@@ -8,7 +8,7 @@ use Rattle.sqlite.proofs.StateLemmas.{survives_weaker}
 use Rattle.cut_measure.specs.Codes.{code_cmp}
 use Rattle.shop_records.specs.Content.{Content, fresh}
 use Rattle.shop_records.proofs.Basics.{nat_cases}
-use Rattle.shop_records.specs.Soundness.{HasLines}
+use Rattle.shop_records.specs.WellFormed.{HasLines}
 use Rattle.shop_records.specs.declared.records.Totals.{Totals}
 use Rattle.shop_tables.specs.Adopting.{LeavesBooks}
 use Rattle.shop_tables.specs.declared.adopting.AdoptFault.{AdoptFault}

@@ -15,7 +15,7 @@ use Rattle.shop_records.specs.Content.{Content, changed, entry_count, of_found, 
 use Rattle.shop_records.specs.Lists.{entries_behind}
 use Rattle.shop_records.specs.declared.journal.Entry.{Entry}
 use Rattle.shop_records.specs.declared.changes.Change.{Change}
-use Rattle.shop_records.specs.Soundness.{Fits, IsNewEntry}
+use Rattle.shop_records.specs.WellFormed.{Fits, IsNewEntry}
 use Rattle.shop_records.specs.Elements.{IsIn}
 use Rattle.shop_records.proofs.Basics.{in_append, tied}
 use Rattle.shop_rows.specs.Keys.{entry_key}

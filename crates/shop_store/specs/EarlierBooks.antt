@@ -4,7 +4,7 @@ use Rattle.std.specs.FinMap.{FinMap, empty}
 use Rattle.sqlite.specs.State.{State}
 use Rattle.cut_measure.specs.Codes.{code_cmp}
 use Rattle.shop_records.specs.Content.{Content}
-use Rattle.shop_records.specs.Soundness.{HasLines}
+use Rattle.shop_records.specs.WellFormed.{HasLines}
 use Rattle.shop_records.specs.declared.records.Totals.{Totals}
 use Rattle.shop_tables.specs.Changing.{HasSums}
 use Rattle.shop_statements.specs.Earlier.{HoldsEarlier, HoldsSecond, IsSettledEarlier, IsSettledSecond}

@@ -3,7 +3,7 @@
 ghost use Rattle.std.specs.Prelude.{◌≡◌, ◌⊎◌, ◌+◌, ◌<◌, ◌≤◌, ◌-◌, ◌^◌, IfErr, IfOk, IfSome, IsOk, Ok, OnErr, OnOk, false, map, option_map, take};
 ghost use Rattle.shop_records.specs.Content.{Content, begun_at, changed, demand_at, entry_at, entry_count, halt_at, has_order, import_at, job_at, kept_at, last_time, material_at, note_at, part_at, parts_named, parts_of as listed_parts, totals_of};
 ghost use Rattle.shop_records.specs.Lists.{AreLines, IsLastNumber, due_of, entries_about, entries_behind, materials_of, open_demands, orders_after, parts_after, waiting_jobs};
-ghost use Rattle.shop_records.specs.Soundness.{AreDifferent, Fits, IsInRange};
+ghost use Rattle.shop_records.specs.WellFormed.{AreDifferent, Fits, IsInRange};
 ghost use Rattle.std.specs.FinMap.{len};
 ghost use Rattle.shop_records.specs.Visits.{IsVisit};
 ghost use Rattle.shop_records.specs.declared.records.Job.{Job as JobOf};

@@ -6,7 +6,7 @@ ghost use Rattle.sqlite.specs.Does.{lacks_sequence};
 ghost use Rattle.sqlite.specs.State.{HasCleanDisk, Survives};
 ghost use Rattle.sqlite.specs.Steps.{over_memory};
 ghost use Rattle.shop_records.specs.Content.{Content, fresh};
-ghost use Rattle.shop_records.specs.Soundness.{HasLines};
+ghost use Rattle.shop_records.specs.WellFormed.{HasLines};
 ghost use Rattle.shop_tables.specs.Adopting.{HasVersion, HoldsBeside, IsAsBefore, IsVacant, StandsBeside, names_are_earlier, names_are_free, names_are_second};
 ghost use Rattle.shop_tables.specs.Renewing.{HoldsExtended, HoldsRenewed, SeesEarlier, StandsExtended, StandsRenewed};
 ghost use Rattle.shop_statements.specs.Earlier.{earlier_schema, second_schema};

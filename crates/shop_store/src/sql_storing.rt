@@ -7,7 +7,7 @@ use crate::sql_storage::SqlStorage;
 use crate::uses::find_stray_use;
 use cut_measure::Code;
 use shop_book::{Ledger, Storage, StorageFault, StrayUse};
-use shop_records::{Change, Entry, EntryRows, ImportRow, JobHalt, Kept, Pair, Subject};
+use shop_records::{Change, Entry, EntryRows, ImportRow, JobHalt, Kept, MessageId, Subject};
 use shop_tables::{
     TableFault, commit_change, count_kept, count_texts, entries_after, find_entry, find_halt,
     find_import, find_kept, find_last_number,
@@ -83,7 +83,7 @@ impl<S: Alter> Storage for SqlStorage<S> {
         terminal: u32,
         number: u32,
     ) -> Result<Option<Kept>, StorageFault> {
-        from_tables(find_kept(&mut self.conn, Pair { terminal, number }))
+        from_tables(find_kept(&mut self.conn, MessageId { terminal, number }))
     }
 
     fn import(&mut self, _alloc: Global, order: Code) -> Result<Option<ImportRow>, StorageFault> {

@@ -11,7 +11,7 @@ use Rattle.sqlite.specs.declared.error.Error.{Error}
 use Rattle.sqlite.proofs.StateLemmas.{survives_then}
 use Rattle.sqlite.proofs.Callers.{survives_begin}
 use Rattle.shop_records.specs.Content.{Content, changed}
-use Rattle.shop_records.specs.Soundness.{Fits}
+use Rattle.shop_records.specs.WellFormed.{Fits}
 use Rattle.shop_records.specs.declared.changes.Change.{Change}
 use Rattle.shop_statements.specs.Beside.{IsSameBeside, SparesRows, Spares}
 use Rattle.shop_statements.specs.Layout.{HasShopTables, our_trees}

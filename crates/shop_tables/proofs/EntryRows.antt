@@ -20,7 +20,7 @@ use Rattle.shop_tables.specs.RowsFrom.{entries_from}
 use Rattle.shop_tables.proofs.Firsts.{each_entry}
 
 abbrev pub none : Entry
-none = record { number = 0; pair = record { terminal = 0; number = 0 }; at = 0; word = word.Material; act = 0; job = 0; order = None; part = None }
+none = record { number = 0; message_id = record { terminal = 0; number = 0 }; at = 0; word = word.Material; act = 0; job = 0; order = None; part = None }
 
 module _ (rows : List Row) (es : List Entry) (all : AllByRecursion IsEntryValue es) (are : rows ≡ map listed_entry es) where
   many : length rows ≡ length es

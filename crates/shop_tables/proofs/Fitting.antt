@@ -11,7 +11,7 @@ use Rattle.cut_measure.specs.Names.{Name, name_cmp}
 use Rattle.shop_records.specs.Content as content
 use Rattle.shop_records.specs.Content.{Content, material_at, part_at, demand_at, entry_at, import_at, in_state, totals_of, no_totals}
 use Rattle.shop_records.specs.Elements.{IsIn}
-use Rattle.shop_records.specs.Soundness.{Fits, TotalsFit, with_totals, IsNewPart, IsMovedPart, IsNewJob, IsMovedJob, IsNewDemand, IsMovedDemand, IsNewEntry}
+use Rattle.shop_records.specs.WellFormed.{Fits, TotalsFit, with_totals, IsNewPart, IsMovedPart, IsNewJob, IsMovedJob, IsNewDemand, IsMovedDemand, IsNewEntry}
 use Rattle.shop_records.specs.declared.changes.Change.{Change}
 use Rattle.shop_records.specs.declared.changes.MaterialTotals.{MaterialTotals}
 use Rattle.shop_records.specs.declared.imports.ImportRow.{ImportRow}
@@ -233,7 +233,7 @@ totals_fit b change has fits = totals_there b change.material change.totals has 
 
 -- ---- a job, whatever messages are kept and entries are there
 
-pub job_fits : (m : Content) (kept : FinMap content.pair_cmp Kept) (entries : FinMap nat_cmp Entry) (job : Option Job) (act : Option ℕ) → IfSome job (λ j. MatchOption act (IsMovedJob m j) (λ number. IsNewJob m number j))
+pub job_fits : (m : Content) (kept : FinMap content.message_id_cmp Kept) (entries : FinMap nat_cmp Entry) (job : Option Job) (act : Option ℕ) → IfSome job (λ j. MatchOption act (IsMovedJob m j) (λ number. IsNewJob m number j))
     → IfSome job (λ j. MatchOption act (IsMovedJob (record m { kept = kept; entries = entries }) j) (λ number. IsNewJob (record m { kept = kept; entries = entries }) number j))
 job_fits m kept entries None act fits = tt
 job_fits m kept entries (Some job) None fits = record { before = fits.before; found = fits.found; is = fits.is; part = fits.part }

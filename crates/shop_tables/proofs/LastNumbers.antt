@@ -14,12 +14,12 @@ use Rattle.sqlite.proofs.Callers.{reads_as}
 use Rattle.shop_records.specs.Content.{Content, kept_at}
 use Rattle.shop_records.specs.Lists.{IsLastNumber}
 use Rattle.shop_records.specs.declared.texts.Kept.{Kept}
-use Rattle.shop_records.specs.declared.texts.Pair.{Pair}
+use Rattle.shop_records.specs.declared.texts.MessageId.{MessageId}
 use Rattle.shop_tables.specs.ListedRows.{IsLastRow, number_row}
 use Rattle.shop_statements.specs.Rows.{kept_row}
 use Rattle.shop_statements.specs.Shown.{Books, Shows}
 use Rattle.shop_tables.proofs.Falling.{IsTop, falling_first}
-use Rattle.shop_statements.proofs.Finding.{is_number, pair_same, pair_total}
+use Rattle.shop_statements.proofs.Finding.{is_number, message_id_same, message_id_total}
 use Rattle.shop_tables.proofs.Firsts.{each_entry, first_answer}
 use Rattle.shop_statements.proofs.Keys.{and_true, equal, equal-Int, same_number}
 use Rattle.shop_tables.proofs.ListTexts.{falling, last_number_is, last_number_terms, last_number_tests, last_number_text}
@@ -27,7 +27,7 @@ use Rattle.shop_statements.proofs.Maps.{entry_at_is, listed}
 use Rattle.shop_statements.proofs.Texts.{shop, shop_is}
 
 abbrev pub Message : Type 0
-Message = Pair × Kept
+Message = MessageId × Kept
 
 abbrev number_of : Message → ℕ
 number_of e = e.0.number
@@ -77,15 +77,15 @@ module _ (m : Content) (terminal : ℕ) where
   all_kept : AllByRecursion IsKept mine
   all_kept =
       to_filter IsKept (entries m.kept)
-      (each_entry pair_total pair_same m.kept (λ e. is_of terminal e ≡ true → IsKept e)
+      (each_entry message_id_total message_id_same m.kept (λ e. is_of terminal e ≡ true → IsKept e)
       (λ k x found is. ap is_some (subst (λ (t : ℕ). get m.kept (record { terminal = t; number = k.number }) ≡ Some x) (same_terminal k.terminal is) found)))
 
   -- what holds of each of them holds of each that is found
   of_found : (P : Message → Type 0) → AllByRecursion P mine → (number : ℕ) (x : Kept) → kept_at m (record { terminal = terminal; number = number }) ≡ Some x → P (record { terminal = terminal; number = number }, x)
   of_found P all number x found =
-      let k : Pair = record { terminal = terminal; number = number } in
-      let there = all-filter (λ e. is_of terminal e ≡ true → P e) (λ (e : Message). eq_by_cmp Rattle.shop_records.specs.Content.pair_cmp e.0 k) (entries m.kept) (from_filter P (entries m.kept) all) in
-      (subst (AllByRecursion (λ e. is_of terminal e ≡ true → P e)) (entry_at_is Kept pair_total pair_same m.kept k ∙ ap (listed Kept pair_total pair_same k) found) there).0 (itself terminal)
+      let k : MessageId = record { terminal = terminal; number = number } in
+      let there = all-filter (λ e. is_of terminal e ≡ true → P e) (λ (e : Message). eq_by_cmp Rattle.shop_records.specs.Content.message_id_cmp e.0 k) (entries m.kept) (from_filter P (entries m.kept) all) in
+      (subst (AllByRecursion (λ e. is_of terminal e ≡ true → P e)) (entry_at_is Kept message_id_total message_id_same m.kept k ∙ ap (listed Kept message_id_total message_id_same k) found) there).0 (itself terminal)
     where
       itself : (n : ℕ) → (n == n) ≡ true
       itself n = grind (arith)

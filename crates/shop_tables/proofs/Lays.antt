@@ -34,7 +34,7 @@ use Rattle.sqlite.proofs.Callers.{runs_as, statement_of}
 use Rattle.sqlite_tied.specs.Compute.{everything}
 use Rattle.cut_measure.specs.Codes.{code_cmp}
 use Rattle.cut_measure.specs.Names.{name_cmp}
-use Rattle.shop_records.specs.Content.{fresh, pair_cmp}
+use Rattle.shop_records.specs.Content.{fresh, message_id_cmp}
 use Rattle.shop_records.specs.declared.records.Material.{Material}
 use Rattle.shop_records.specs.declared.records.Part.{Part}
 use Rattle.shop_records.specs.declared.records.Job.{Job}
@@ -290,7 +290,7 @@ shows_fresh old new has made =
         jobs = none 0 job_row (entries empty) (new.now.trees 6) (no_entries nat_cmp Job) no.1.1.0;
         orders = record { codes = empty; there = λ code. set.contains-empty code_cmp code ∙ sym (ap is_some (get-empty code_cmp code)); rows = none 1 order_row (entries empty) (new.now.trees 7) (no_entries code_cmp (Unit {0})) no.1.1.1.0 };
         demands = none 0 demand_row (entries empty) (new.now.trees 9) (no_entries nat_cmp Demand) no.1.1.1.1.0;
-        kept = none 1 kept_row (entries empty) (new.now.trees 11) (no_entries pair_cmp Kept) no.1.1.1.1.1.0;
+        kept = none 1 kept_row (entries empty) (new.now.trees 11) (no_entries message_id_cmp Kept) no.1.1.1.1.1.0;
         imports = none 1 import_row (entries empty) (new.now.trees 13) (no_entries code_cmp ImportRow) no.1.1.1.1.1.1.0;
         totals = no.1.1.1.1.1.1.1.0;
         totals2 = none 1 totals_row (entries empty) (new.now.trees 17) (no_entries code_cmp Totals) no.1.1.1.1.1.1.1.1.0;

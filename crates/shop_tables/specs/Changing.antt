@@ -7,7 +7,7 @@ use Rattle.sqlite.specs.State.{State}
 use Rattle.cut_measure.specs.Codes.{code_cmp}
 use Rattle.shop_records.specs.Content as content
 use Rattle.shop_records.specs.Content.{Content, demand_at, entry_at, entry_count, job_at, totals_of, no_totals, changed}
-use Rattle.shop_records.specs.Soundness.{Fits}
+use Rattle.shop_records.specs.WellFormed.{Fits}
 use Rattle.shop_records.specs.declared.changes.Change.{Change}
 use Rattle.shop_records.specs.declared.changes.MaterialTotals.{MaterialTotals}
 use Rattle.shop_records.specs.declared.imports.ImportRow.{ImportRow}

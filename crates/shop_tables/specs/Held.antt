@@ -5,7 +5,7 @@ use Rattle.sqlite_trees.specs.Tree.{Trees}
 use Rattle.sqlite.specs.State.{State, HasCleanDisk}
 use Rattle.cut_measure.specs.Codes.{code_cmp}
 use Rattle.shop_records.specs.Content.{Content}
-use Rattle.shop_records.specs.Soundness.{HasLines}
+use Rattle.shop_records.specs.WellFormed.{HasLines}
 use Rattle.shop_records.specs.declared.records.Totals.{Totals}
 use Rattle.shop_statements.specs.Beside.{IsSameBeside, SparesRows}
 use Rattle.shop_statements.specs.Layout.{our_trees}

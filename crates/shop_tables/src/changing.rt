@@ -6,7 +6,7 @@ ghost use Rattle.std.specs.FinMap.{get};
 ghost use Rattle.std.specs.Option.{option_or};
 ghost use Rattle.sqlite.specs.Held.{state};
 ghost use Rattle.shop_records.specs.Content.{halt_at, kept_at};
-ghost use Rattle.shop_records.specs.Soundness.{Fits, IsMovedJob, IsNewJob};
+ghost use Rattle.shop_records.specs.WellFormed.{Fits, IsMovedJob, IsNewJob};
 ghost use Rattle.shop_statements.specs.Beside.{Spares};
 ghost use Rattle.shop_statements.specs.Layout.{our_trees};
 ghost use Rattle.shop_statements.specs.Shown.{Books, Makes, Ran, Within};
@@ -32,7 +32,7 @@ fn keep<S: Alter>(
     ensures same_reference { tx.new.conn.ghost_name ≡ tx.old.conn.ghost_name }
     ensures ran { OnOk result
         (Ran (state S.Store tx.old.conn.now) (state S.Store tx.new.conn.now)) }
-    ensures put { (b : Books) → IfSome message.now (λ row. kept_at b.content row.pair ≡ None)
+    ensures put { (b : Books) → IfSome message.now (λ row. kept_at b.content row.message_id ≡ None)
         → OnOk result (Makes (state S.Store tx.old.conn.now) (state S.Store tx.new.conn.now) b
         (with_messages message.now b)) }
     ensures others { OnOk result

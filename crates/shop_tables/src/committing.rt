@@ -4,7 +4,7 @@ ghost use Rattle.std.specs.Prelude.{◌≡◌, false, OnOk, OnErr};
 ghost use Rattle.sqlite.specs.State.{HasCleanDisk, Survives};
 ghost use Rattle.sqlite.specs.Held.{state};
 ghost use Rattle.shop_records.specs.Content.{Content, changed};
-ghost use Rattle.shop_records.specs.Soundness.{Fits};
+ghost use Rattle.shop_records.specs.WellFormed.{Fits};
 ghost use Rattle.shop_statements.specs.Layout.{HasShopTables};
 ghost use Rattle.shop_tables.specs.Held.{HoldsContent, StandsFor, LeavesOnly, LeavesOthers};
 

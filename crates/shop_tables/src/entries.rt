@@ -33,7 +33,7 @@ fn add_entry(entries: &mut EntryRows, row: &Row) -> Result<(), TableFault>
 {
     let Entry {
         number,
-        pair,
+        message_id,
         at,
         word,
         act,
@@ -43,7 +43,7 @@ fn add_entry(entries: &mut EntryRows, row: &Row) -> Result<(), TableFault>
     } = read_listed_entry(row)?;
     entries.push(Entry {
         number,
-        pair,
+        message_id,
         at,
         word,
         act,

@@ -1,4 +1,4 @@
--- On a sound content each job has its ticket.
+-- On a well-formed content each job has its ticket.
 use Rattle.std.proofs.Common.{◌≡◌, ◌≢◌, ℕ, zero, suc, ◌+◌, ◌-◌, ◌≤◌, List, Option, Some, None, Err, refl, sym, ap, subst, arith}
 use Rattle.std.specs.Prelude.{Bool, IsSome, option_map, nat_lt, ◌==◌, if◌then◌else◌}
 use Rattle.std.proofs.lemmas.Bool.{cond_both, eq-eqb}
@@ -16,7 +16,7 @@ use Rattle.shop_records.specs.declared.records.Demand.{Demand}
 use Rattle.shop_records.specs.declared.refusals.Refusal.TheVariants.{StoreFault}
 use Rattle.shop_records.specs.Messages.{Texts}
 use Rattle.shop_records.specs.Content.{Content, job_at, part_at, material_at, material_of, demand_at}
-use Rattle.shop_records.specs.Soundness.{IsOnPart, IsSound}
+use Rattle.shop_records.specs.WellFormed.{IsOnPart, IsWellFormed}
 use Rattle.shop_text.specs.Tickets.{both, demand_for, line_of, lines_below, node_lines, node_text, or_contradiction, step_of, ticket_found, ticket_of, ticket_on_part}
 use Rattle.shop_text.specs.Yields.{yield_found, yield_of}
 
@@ -100,13 +100,13 @@ no_contradiction : (o : Option (List ℕ)) → IsSome o → or_contradiction o �
 no_contradiction None some e = absurd (cc some)
 no_contradiction (Some text) some e = cc e
 
-pub ticket_reported : (texts : Texts) (m : Content) (number : ℕ) → IsSound texts m → ticket_of m number ≢ Err StoreFault
-ticket_reported texts m number sound = by (job_at m number) refl
+pub ticket_reported : (texts : Texts) (m : Content) (number : ℕ) → IsWellFormed texts m → ticket_of m number ≢ Err StoreFault
+ticket_reported texts m number well_formed = by (job_at m number) refl
   where
     by : (o : Option Job) → job_at m number ≡ o → ticket_found m o ≢ Err StoreFault
     by None is = λ e. cc e
     by (Some job) is =
-        let row = sound.jobs number job is in
+        let row = well_formed.jobs number job is in
         no_contradiction (ticket_on_part m job (part_at m job.part) (material_of m (part_at m job.part))) (ticket_there m job row.on row.demands)
 
 pub report_response : (m : Content) (code : List ℕ) → yield_of m code ≢ Err StoreFault

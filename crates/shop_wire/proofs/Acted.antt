@@ -8,11 +8,11 @@ use Rattle.shop_records.specs.declared.messages.Reply.{Reply}
 use Rattle.shop_records.specs.declared.messages.Reply.TheVariants.{Refused}
 use Rattle.shop_records.specs.declared.refusals.Refusal.{Refusal}
 use Rattle.shop_records.specs.declared.refusals.Refusal.TheVariants.{BadMessage, NoMemory, StoreFault}
-use Rattle.shop_records.specs.Messages.{IsMessage, pair_of, refusal_in}
+use Rattle.shop_records.specs.Messages.{IsMessage, message_id_of, refusal_in}
 use Rattle.shop_records.specs.Content.{Content, kept_at}
 use Rattle.shop_machine.specs.Machine.{Step, StepAt}
 use Rattle.shop_answers.specs.Queries.{Answers}
-use Rattle.shop_records.specs.Soundness.{IsSound}
+use Rattle.shop_records.specs.WellFormed.{IsWellFormed}
 use Rattle.shop_forms.specs.Forms.{json_texts}
 use Rattle.shop_book.specs.declared.books.Book.{Ghosts}
 use Rattle.shop_book.specs.declared.books.TheConstants.{MAX_FAILURES}
@@ -40,7 +40,7 @@ use Rattle.shop_wire.proofs.Crashes.{leads_one, leads_unread, no_memory_step}
 -- lack of memory may be answered to any body
 message_no_memory : (m : Content) (o : Option MessageOf) → MatchOption o (IsNoMessage m (Refused NoMemory) m) (λ message. Step json_texts m message (Refused NoMemory) m)
 message_no_memory m None = ((λ some. absurd (some refl)), refl)
-message_no_memory m (Some message) = no_memory_step json_texts m message (kept_at m (pair_of message))
+message_no_memory m (Some message) = no_memory_step json_texts m message (kept_at m (message_id_of message))
 
 message_unread : (m : Content) (body : List ℕ) (refusal : Refusal) → IsUnread refusal (line_message body) → MessageStep m body (Refused refusal) m
 message_unread m body refusal (inl is) = subst (λ r. MessageStep m body (Refused r) m) (sym is) (message_no_memory m (line_message body))
@@ -141,30 +141,30 @@ message_kept book before after body message reply is keeps clean_disk m held (in
 
 module _ {B : Type 0} (book : Ghosts B) (before after : B) (m : Content) where
   pub message_served : (body : List ℕ) (message : MessageOf) (reply : Reply) (next : Content) → line_message body ≡ Some message → IsMessage message → Step json_texts m message reply next
-      → book.holds after next → IsSound json_texts next → ((left : book.Left) → book.may_leave after left → CrashStatesAfter json_texts book.stands (book.may_leave before) m message reply next left)
+      → book.holds after next → IsWellFormed json_texts next → ((left : book.Left) → book.may_leave after left → CrashStatesAfter json_texts book.stands (book.may_leave before) m message reply next left)
       → (reply ≡ Refused StoreFault → StoreFailed (book.failed before) (book.failed after))
       → HasServedInput book before after m (asking Message body) (replied reply)
-  message_served body message reply next is is_message step held sound crash store_fault_justified =
+  message_served body message reply next is is_message step held well_formed crash store_fault_justified =
       record {
         next = next;
         step = subst (λ (o : Option MessageOf). MatchOption o (IsNoMessage m reply next) (λ message. Step json_texts m message reply next)) (sym is) step;
         held = held;
-        sound = sound;
+        well_formed = well_formed;
         crash = subst (λ o. ExchangesLead book before after m (with_reply o (replied reply)) next) (sym is)
             (leads_one json_texts book.stands (book.may_leave before) (book.may_leave after) m next message reply step crash);
         store_fault_justified = λ e. store_fault_justified (reported_reply reply (Refused StoreFault) e);
         account = subst (λ o. AccountOf m o (replied reply) next) (sym is) (account_step json_texts m next message reply is_message step);
       }
 
-  pub message_refused : (body : List ℕ) (refusal : Refusal) → IsUnread refusal (line_message body) → book.holds after m → IsSound json_texts m
+  pub message_refused : (body : List ℕ) (refusal : Refusal) → IsUnread refusal (line_message body) → book.holds after m → IsWellFormed json_texts m
       → ((left : book.Left) → book.may_leave after left → book.may_leave before left) → HasServedInput book before after m (asking Message body) (replied (Refused refusal))
-  message_refused body refusal why held sound keeps =
+  message_refused body refusal why held well_formed keeps =
       record {
         next = m;
         step = message_unread m body refusal why;
         held = held;
-        sound = sound;
-        crash = leads_unread json_texts book.stands (book.may_leave before) (book.may_leave after) m refusal (line_message body) why sound keeps;
+        well_formed = well_formed;
+        crash = leads_unread json_texts book.stands (book.may_leave before) (book.may_leave after) m refusal (line_message body) why well_formed keeps;
         store_fault_justified = λ e. absurd (unread_not_store refusal (line_message body) why (refused_same refusal (reported_reply (Refused refusal) (Refused StoreFault) e)));
         account = refused_account m refusal (line_message body);
       }
@@ -178,7 +178,7 @@ module _ {B : Type 0} (book : Ghosts B) (before after : B) (m : Content) where
 
     out_of_memory : (o : Option MessageOf) → book.holds after m → IsInputHandledAt book after at m o
     out_of_memory None held = tt
-    out_of_memory (Some message) held = (Refused NoMemory, m, no_memory_step json_texts m message (kept_at m (pair_of message)), held)
+    out_of_memory (Some message) held = (Refused NoMemory, m, no_memory_step json_texts m message (kept_at m (message_id_of message)), held)
 
     pub unread_timed : (o : Option MessageOf) (refusal : Refusal) → IsUnread refusal o → book.holds after m → IsInputHandledAt book after at m o
     unread_timed o refusal (inl is) held = out_of_memory o held
@@ -222,52 +222,52 @@ module _ {B : Type 0} (book : Ghosts B) (before after : B) (m : Content) where
 
   -- ---- what changes nothing
 
-  module _ (held : book.holds after m) (sound : IsSound json_texts m) (keeps : (left : book.Left) → book.may_leave after left → book.may_leave before left) where
+  module _ (held : book.holds after m) (well_formed : IsWellFormed json_texts m) (keeps : (left : book.Left) → book.may_leave after left → book.may_leave before left) where
     pub asked_served : (route : Route) (text : List ℕ) (reply : Reply) → route ≢ Message → route ≢ Plans → route ≢ Ticket → route ≢ Yield → AskStep m (asked_at route text) reply m
         → (reply ≡ Refused StoreFault → StoreFailed (book.failed before) (book.failed after)) → HasServedInput book before after m (asking route text) (replied reply)
     asked_served Message text reply a b c d step store_fault_justified = absurd (a refl)
     asked_served Plans text reply a b c d step store_fault_justified = absurd (b refl)
     asked_served Ticket text reply a b c d step store_fault_justified = absurd (c refl)
     asked_served Yield text reply a b c d step store_fault_justified = absurd (d refl)
-    asked_served Plan text reply a b c d step store_fault_justified = record { next = m; step = step; held = held; sound = sound; crash = (refl, keeps); store_fault_justified = λ e. store_fault_justified (reported_reply reply (Refused StoreFault) e); account = account_same json_texts m m refl }
-    asked_served Bound text reply a b c d step store_fault_justified = record { next = m; step = step; held = held; sound = sound; crash = (refl, keeps); store_fault_justified = λ e. store_fault_justified (reported_reply reply (Refused StoreFault) e); account = account_same json_texts m m refl }
-    asked_served Backup text reply a b c d step store_fault_justified = record { next = m; step = step; held = held; sound = sound; crash = (refl, keeps); store_fault_justified = λ e. store_fault_justified (reported_reply reply (Refused StoreFault) e); account = account_same json_texts m m refl }
-    asked_served Totals text reply a b c d step store_fault_justified = record { next = m; step = step; held = held; sound = sound; crash = (refl, keeps); store_fault_justified = λ e. store_fault_justified (reported_reply reply (Refused StoreFault) e); account = account_same json_texts m m refl }
-    asked_served Rack text reply a b c d step store_fault_justified = record { next = m; step = step; held = held; sound = sound; crash = (refl, keeps); store_fault_justified = λ e. store_fault_justified (reported_reply reply (Refused StoreFault) e); account = account_same json_texts m m refl }
-    asked_served Trace text reply a b c d step store_fault_justified = record { next = m; step = step; held = held; sound = sound; crash = (refl, keeps); store_fault_justified = λ e. store_fault_justified (reported_reply reply (Refused StoreFault) e); account = account_same json_texts m m refl }
-    asked_served Demand text reply a b c d step store_fault_justified = record { next = m; step = step; held = held; sound = sound; crash = (refl, keeps); store_fault_justified = λ e. store_fault_justified (reported_reply reply (Refused StoreFault) e); account = account_same json_texts m m refl }
-    asked_served Materials text reply a b c d step store_fault_justified = record { next = m; step = step; held = held; sound = sound; crash = (refl, keeps); store_fault_justified = λ e. store_fault_justified (reported_reply reply (Refused StoreFault) e); account = account_same json_texts m m refl }
-    asked_served Parts text reply a b c d step store_fault_justified = record { next = m; step = step; held = held; sound = sound; crash = (refl, keeps); store_fault_justified = λ e. store_fault_justified (reported_reply reply (Refused StoreFault) e); account = account_same json_texts m m refl }
-    asked_served PartsAfter text reply a b c d step store_fault_justified = record { next = m; step = step; held = held; sound = sound; crash = (refl, keeps); store_fault_justified = λ e. store_fault_justified (reported_reply reply (Refused StoreFault) e); account = account_same json_texts m m refl }
-    asked_served Demands text reply a b c d step store_fault_justified = record { next = m; step = step; held = held; sound = sound; crash = (refl, keeps); store_fault_justified = λ e. store_fault_justified (reported_reply reply (Refused StoreFault) e); account = account_same json_texts m m refl }
-    asked_served DemandsOf text reply a b c d step store_fault_justified = record { next = m; step = step; held = held; sound = sound; crash = (refl, keeps); store_fault_justified = λ e. store_fault_justified (reported_reply reply (Refused StoreFault) e); account = account_same json_texts m m refl }
-    asked_served Orders text reply a b c d step store_fault_justified = record { next = m; step = step; held = held; sound = sound; crash = (refl, keeps); store_fault_justified = λ e. store_fault_justified (reported_reply reply (Refused StoreFault) e); account = account_same json_texts m m refl }
-    asked_served OrdersAfter text reply a b c d step store_fault_justified = record { next = m; step = step; held = held; sound = sound; crash = (refl, keeps); store_fault_justified = λ e. store_fault_justified (reported_reply reply (Refused StoreFault) e); account = account_same json_texts m m refl }
-    asked_served OrderLines text reply a b c d step store_fault_justified = record { next = m; step = step; held = held; sound = sound; crash = (refl, keeps); store_fault_justified = λ e. store_fault_justified (reported_reply reply (Refused StoreFault) e); account = account_same json_texts m m refl }
-    asked_served Jobs text reply a b c d step store_fault_justified = record { next = m; step = step; held = held; sound = sound; crash = (refl, keeps); store_fault_justified = λ e. store_fault_justified (reported_reply reply (Refused StoreFault) e); account = account_same json_texts m m refl }
-    asked_served Job text reply a b c d step store_fault_justified = record { next = m; step = step; held = held; sound = sound; crash = (refl, keeps); store_fault_justified = λ e. store_fault_justified (reported_reply reply (Refused StoreFault) e); account = account_same json_texts m m refl }
-    asked_served Terminal text reply a b c d step store_fault_justified = record { next = m; step = step; held = held; sound = sound; crash = (refl, keeps); store_fault_justified = λ e. store_fault_justified (reported_reply reply (Refused StoreFault) e); account = account_same json_texts m m refl }
-    asked_served Shop text reply a b c d step store_fault_justified = record { next = m; step = step; held = held; sound = sound; crash = (refl, keeps); store_fault_justified = λ e. store_fault_justified (reported_reply reply (Refused StoreFault) e); account = account_same json_texts m m refl }
-    asked_served History text reply a b c d step store_fault_justified = record { next = m; step = step; held = held; sound = sound; crash = (refl, keeps); store_fault_justified = λ e. store_fault_justified (reported_reply reply (Refused StoreFault) e); account = account_same json_texts m m refl }
-    asked_served OrderStory text reply a b c d step store_fault_justified = record { next = m; step = step; held = held; sound = sound; crash = (refl, keeps); store_fault_justified = λ e. store_fault_justified (reported_reply reply (Refused StoreFault) e); account = account_same json_texts m m refl }
-    asked_served JobStory text reply a b c d step store_fault_justified = record { next = m; step = step; held = held; sound = sound; crash = (refl, keeps); store_fault_justified = λ e. store_fault_justified (reported_reply reply (Refused StoreFault) e); account = account_same json_texts m m refl }
-    asked_served PartStory text reply a b c d step store_fault_justified = record { next = m; step = step; held = held; sound = sound; crash = (refl, keeps); store_fault_justified = λ e. store_fault_justified (reported_reply reply (Refused StoreFault) e); account = account_same json_texts m m refl }
-    asked_served OrderPieces text reply a b c d step store_fault_justified = record { next = m; step = step; held = held; sound = sound; crash = (refl, keeps); store_fault_justified = λ e. store_fault_justified (reported_reply reply (Refused StoreFault) e); account = account_same json_texts m m refl }
-    asked_served OrderPiecesAfter text reply a b c d step store_fault_justified = record { next = m; step = step; held = held; sound = sound; crash = (refl, keeps); store_fault_justified = λ e. store_fault_justified (reported_reply reply (Refused StoreFault) e); account = account_same json_texts m m refl }
-    asked_served BatchPieces text reply a b c d step store_fault_justified = record { next = m; step = step; held = held; sound = sound; crash = (refl, keeps); store_fault_justified = λ e. store_fault_justified (reported_reply reply (Refused StoreFault) e); account = account_same json_texts m m refl }
-    asked_served BatchPiecesAfter text reply a b c d step store_fault_justified = record { next = m; step = step; held = held; sound = sound; crash = (refl, keeps); store_fault_justified = λ e. store_fault_justified (reported_reply reply (Refused StoreFault) e); account = account_same json_texts m m refl }
-    asked_served UnitPieces text reply a b c d step store_fault_justified = record { next = m; step = step; held = held; sound = sound; crash = (refl, keeps); store_fault_justified = λ e. store_fault_justified (reported_reply reply (Refused StoreFault) e); account = account_same json_texts m m refl }
-    asked_served UnitPiecesAfter text reply a b c d step store_fault_justified = record { next = m; step = step; held = held; sound = sound; crash = (refl, keeps); store_fault_justified = λ e. store_fault_justified (reported_reply reply (Refused StoreFault) e); account = account_same json_texts m m refl }
-    asked_served Steps text reply a b c d step store_fault_justified = record { next = m; step = step; held = held; sound = sound; crash = (refl, keeps); store_fault_justified = λ e. store_fault_justified (reported_reply reply (Refused StoreFault) e); account = account_same json_texts m m refl }
+    asked_served Plan text reply a b c d step store_fault_justified = record { next = m; step = step; held = held; well_formed = well_formed; crash = (refl, keeps); store_fault_justified = λ e. store_fault_justified (reported_reply reply (Refused StoreFault) e); account = account_same json_texts m m refl }
+    asked_served Bound text reply a b c d step store_fault_justified = record { next = m; step = step; held = held; well_formed = well_formed; crash = (refl, keeps); store_fault_justified = λ e. store_fault_justified (reported_reply reply (Refused StoreFault) e); account = account_same json_texts m m refl }
+    asked_served Backup text reply a b c d step store_fault_justified = record { next = m; step = step; held = held; well_formed = well_formed; crash = (refl, keeps); store_fault_justified = λ e. store_fault_justified (reported_reply reply (Refused StoreFault) e); account = account_same json_texts m m refl }
+    asked_served Totals text reply a b c d step store_fault_justified = record { next = m; step = step; held = held; well_formed = well_formed; crash = (refl, keeps); store_fault_justified = λ e. store_fault_justified (reported_reply reply (Refused StoreFault) e); account = account_same json_texts m m refl }
+    asked_served Rack text reply a b c d step store_fault_justified = record { next = m; step = step; held = held; well_formed = well_formed; crash = (refl, keeps); store_fault_justified = λ e. store_fault_justified (reported_reply reply (Refused StoreFault) e); account = account_same json_texts m m refl }
+    asked_served Trace text reply a b c d step store_fault_justified = record { next = m; step = step; held = held; well_formed = well_formed; crash = (refl, keeps); store_fault_justified = λ e. store_fault_justified (reported_reply reply (Refused StoreFault) e); account = account_same json_texts m m refl }
+    asked_served Demand text reply a b c d step store_fault_justified = record { next = m; step = step; held = held; well_formed = well_formed; crash = (refl, keeps); store_fault_justified = λ e. store_fault_justified (reported_reply reply (Refused StoreFault) e); account = account_same json_texts m m refl }
+    asked_served Materials text reply a b c d step store_fault_justified = record { next = m; step = step; held = held; well_formed = well_formed; crash = (refl, keeps); store_fault_justified = λ e. store_fault_justified (reported_reply reply (Refused StoreFault) e); account = account_same json_texts m m refl }
+    asked_served Parts text reply a b c d step store_fault_justified = record { next = m; step = step; held = held; well_formed = well_formed; crash = (refl, keeps); store_fault_justified = λ e. store_fault_justified (reported_reply reply (Refused StoreFault) e); account = account_same json_texts m m refl }
+    asked_served PartsAfter text reply a b c d step store_fault_justified = record { next = m; step = step; held = held; well_formed = well_formed; crash = (refl, keeps); store_fault_justified = λ e. store_fault_justified (reported_reply reply (Refused StoreFault) e); account = account_same json_texts m m refl }
+    asked_served Demands text reply a b c d step store_fault_justified = record { next = m; step = step; held = held; well_formed = well_formed; crash = (refl, keeps); store_fault_justified = λ e. store_fault_justified (reported_reply reply (Refused StoreFault) e); account = account_same json_texts m m refl }
+    asked_served DemandsOf text reply a b c d step store_fault_justified = record { next = m; step = step; held = held; well_formed = well_formed; crash = (refl, keeps); store_fault_justified = λ e. store_fault_justified (reported_reply reply (Refused StoreFault) e); account = account_same json_texts m m refl }
+    asked_served Orders text reply a b c d step store_fault_justified = record { next = m; step = step; held = held; well_formed = well_formed; crash = (refl, keeps); store_fault_justified = λ e. store_fault_justified (reported_reply reply (Refused StoreFault) e); account = account_same json_texts m m refl }
+    asked_served OrdersAfter text reply a b c d step store_fault_justified = record { next = m; step = step; held = held; well_formed = well_formed; crash = (refl, keeps); store_fault_justified = λ e. store_fault_justified (reported_reply reply (Refused StoreFault) e); account = account_same json_texts m m refl }
+    asked_served OrderLines text reply a b c d step store_fault_justified = record { next = m; step = step; held = held; well_formed = well_formed; crash = (refl, keeps); store_fault_justified = λ e. store_fault_justified (reported_reply reply (Refused StoreFault) e); account = account_same json_texts m m refl }
+    asked_served Jobs text reply a b c d step store_fault_justified = record { next = m; step = step; held = held; well_formed = well_formed; crash = (refl, keeps); store_fault_justified = λ e. store_fault_justified (reported_reply reply (Refused StoreFault) e); account = account_same json_texts m m refl }
+    asked_served Job text reply a b c d step store_fault_justified = record { next = m; step = step; held = held; well_formed = well_formed; crash = (refl, keeps); store_fault_justified = λ e. store_fault_justified (reported_reply reply (Refused StoreFault) e); account = account_same json_texts m m refl }
+    asked_served Terminal text reply a b c d step store_fault_justified = record { next = m; step = step; held = held; well_formed = well_formed; crash = (refl, keeps); store_fault_justified = λ e. store_fault_justified (reported_reply reply (Refused StoreFault) e); account = account_same json_texts m m refl }
+    asked_served Shop text reply a b c d step store_fault_justified = record { next = m; step = step; held = held; well_formed = well_formed; crash = (refl, keeps); store_fault_justified = λ e. store_fault_justified (reported_reply reply (Refused StoreFault) e); account = account_same json_texts m m refl }
+    asked_served History text reply a b c d step store_fault_justified = record { next = m; step = step; held = held; well_formed = well_formed; crash = (refl, keeps); store_fault_justified = λ e. store_fault_justified (reported_reply reply (Refused StoreFault) e); account = account_same json_texts m m refl }
+    asked_served OrderStory text reply a b c d step store_fault_justified = record { next = m; step = step; held = held; well_formed = well_formed; crash = (refl, keeps); store_fault_justified = λ e. store_fault_justified (reported_reply reply (Refused StoreFault) e); account = account_same json_texts m m refl }
+    asked_served JobStory text reply a b c d step store_fault_justified = record { next = m; step = step; held = held; well_formed = well_formed; crash = (refl, keeps); store_fault_justified = λ e. store_fault_justified (reported_reply reply (Refused StoreFault) e); account = account_same json_texts m m refl }
+    asked_served PartStory text reply a b c d step store_fault_justified = record { next = m; step = step; held = held; well_formed = well_formed; crash = (refl, keeps); store_fault_justified = λ e. store_fault_justified (reported_reply reply (Refused StoreFault) e); account = account_same json_texts m m refl }
+    asked_served OrderPieces text reply a b c d step store_fault_justified = record { next = m; step = step; held = held; well_formed = well_formed; crash = (refl, keeps); store_fault_justified = λ e. store_fault_justified (reported_reply reply (Refused StoreFault) e); account = account_same json_texts m m refl }
+    asked_served OrderPiecesAfter text reply a b c d step store_fault_justified = record { next = m; step = step; held = held; well_formed = well_formed; crash = (refl, keeps); store_fault_justified = λ e. store_fault_justified (reported_reply reply (Refused StoreFault) e); account = account_same json_texts m m refl }
+    asked_served BatchPieces text reply a b c d step store_fault_justified = record { next = m; step = step; held = held; well_formed = well_formed; crash = (refl, keeps); store_fault_justified = λ e. store_fault_justified (reported_reply reply (Refused StoreFault) e); account = account_same json_texts m m refl }
+    asked_served BatchPiecesAfter text reply a b c d step store_fault_justified = record { next = m; step = step; held = held; well_formed = well_formed; crash = (refl, keeps); store_fault_justified = λ e. store_fault_justified (reported_reply reply (Refused StoreFault) e); account = account_same json_texts m m refl }
+    asked_served UnitPieces text reply a b c d step store_fault_justified = record { next = m; step = step; held = held; well_formed = well_formed; crash = (refl, keeps); store_fault_justified = λ e. store_fault_justified (reported_reply reply (Refused StoreFault) e); account = account_same json_texts m m refl }
+    asked_served UnitPiecesAfter text reply a b c d step store_fault_justified = record { next = m; step = step; held = held; well_formed = well_formed; crash = (refl, keeps); store_fault_justified = λ e. store_fault_justified (reported_reply reply (Refused StoreFault) e); account = account_same json_texts m m refl }
+    asked_served Steps text reply a b c d step store_fault_justified = record { next = m; step = step; held = held; well_formed = well_formed; crash = (refl, keeps); store_fault_justified = λ e. store_fault_justified (reported_reply reply (Refused StoreFault) e); account = account_same json_texts m m refl }
 
     pub plans_served : (body : List ℕ) (response : Response) → PlansStep m (body_plans body) response m → (response ≡ replied (Refused StoreFault) → StoreFailed (book.failed before) (book.failed after))
         → HasServedInput book before after m (asking Plans body) response
-    plans_served body response step store_fault_justified = record { next = m; step = step; held = held; sound = sound; crash = (refl, keeps); store_fault_justified = store_fault_justified; account = account_same json_texts m m refl }
+    plans_served body response step store_fault_justified = record { next = m; step = step; held = held; well_formed = well_formed; crash = (refl, keeps); store_fault_justified = store_fault_justified; account = account_same json_texts m m refl }
 
     pub ticket_served : (part : List ℕ) (response : Response) → PrintsCounted (text_at m Ticket part) response (book.failed before) (book.failed after) → HasServedInput book before after m (asking Ticket part) response
     ticket_served part response h =
-        record { next = m; step = printed_step m (text_at m Ticket part) response _ _ h; held = held; sound = sound; crash = (refl, keeps); store_fault_justified = printed_justified (text_at m Ticket part) response _ _ (asked_agrees (ticket_of m) (λ number. ticket_reported json_texts m number sound) (numbered part)) h; account = account_same json_texts m m refl }
+        record { next = m; step = printed_step m (text_at m Ticket part) response _ _ h; held = held; well_formed = well_formed; crash = (refl, keeps); store_fault_justified = printed_justified (text_at m Ticket part) response _ _ (asked_agrees (ticket_of m) (λ number. ticket_reported json_texts m number well_formed) (numbered part)) h; account = account_same json_texts m m refl }
 
     pub yield_served : (part : List ℕ) (response : Response) → PrintsCounted (text_at m Yield part) response (book.failed before) (book.failed after) → HasServedInput book before after m (asking Yield part) response
     yield_served part response h =
-        record { next = m; step = printed_step m (text_at m Yield part) response _ _ h; held = held; sound = sound; crash = (refl, keeps); store_fault_justified = printed_justified (text_at m Yield part) response _ _ (asked_agrees (yield_of m) (report_response m) (code_at part)) h; account = account_same json_texts m m refl }
+        record { next = m; step = printed_step m (text_at m Yield part) response _ _ h; held = held; well_formed = well_formed; crash = (refl, keeps); store_fault_justified = printed_justified (text_at m Yield part) response _ _ (asked_agrees (yield_of m) (report_response m) (code_at part)) h; account = account_same json_texts m m refl }

@@ -13,11 +13,11 @@ use Rattle.shop_records.specs.declared.refusals.Refusal.{Refusal}
 use Rattle.shop_records.specs.declared.refusals.Refusal.TheVariants.{BadMessage, NoMemory, StoreFault}
 use Rattle.shop_records.specs.declared.messages.Reply.{Reply}
 use Rattle.shop_records.specs.declared.messages.Reply.TheVariants.{Refused}
-use Rattle.shop_records.specs.Messages.{IsMessage, pair_of}
+use Rattle.shop_records.specs.Messages.{IsMessage, message_id_of}
 use Rattle.shop_records.specs.Content.{Content, kept_at}
 use Rattle.shop_machine.specs.Machine.{Step}
 use Rattle.shop_answers.specs.Queries.{Answers}
-use Rattle.shop_records.specs.Soundness.{IsSound}
+use Rattle.shop_records.specs.WellFormed.{IsWellFormed}
 use Rattle.shop_book.specs.declared.books.Book.{Ghosts}
 use Rattle.serde_json.specs.Data.{Data}
 use Rattle.serde_json.specs.Read.{read}
@@ -107,7 +107,7 @@ of_no_memory old d = by_message (message_of d)
 
     by_message : (o : Option Message) → Whole old old d (replied (Refused NoMemory)) o
     by_message None = by_query (query_of d)
-    by_message (Some message) = no_memory_step json_texts old message (kept_at old (pair_of message))
+    by_message (Some message) = no_memory_step json_texts old message (kept_at old (message_id_of message))
 
 -- ---- lines
 
@@ -171,54 +171,54 @@ abbrev pub LeadsOne : {B : Type 0} → Ghosts B → B → B → Content → Resp
 LeadsOne book before after old response next o = ExchangesLead book before after old (exchange o response) next
 
 module _ {B : Type 0} (book : Ghosts B) (before after : B) (m : Content) where
-  refused_crash : (refusal : Refusal) (o : Option Message) → IsUnread refusal o → IsSound json_texts m → ((left : book.Left) → book.may_leave after left → book.may_leave before left)
+  refused_crash : (refusal : Refusal) (o : Option Message) → IsUnread refusal o → IsWellFormed json_texts m → ((left : book.Left) → book.may_leave after left → book.may_leave before left)
       → LeadsOne book before after m (replied (Refused refusal)) m o
-  refused_crash refusal None why sound keeps = leads_unread json_texts book.stands (book.may_leave before) (book.may_leave after) m refusal None why sound keeps
-  refused_crash refusal (Some message) why sound keeps = leads_unread json_texts book.stands (book.may_leave before) (book.may_leave after) m refusal (Some message) why sound keeps
+  refused_crash refusal None why well_formed keeps = leads_unread json_texts book.stands (book.may_leave before) (book.may_leave after) m refusal None why well_formed keeps
+  refused_crash refusal (Some message) why well_formed keeps = leads_unread json_texts book.stands (book.may_leave before) (book.may_leave after) m refusal (Some message) why well_formed keeps
 
   -- by an element of any kind
   module _ {X : Type 0} (step : Content → X → Response → Content → Type 0) (message_in : X → Option Message) (x : X) where
-    pub one_answered : (response : Response) (next : Content) → step m x response next → book.holds after next → IsSound json_texts next
+    pub one_answered : (response : Response) (next : Content) → step m x response next → book.holds after next → IsWellFormed json_texts next
         → LeadsOne book before after m response next (message_in x) → (response ≡ replied (Refused StoreFault) → StoreFailed (book.failed before) (book.failed after)) → AccountOne m response next (message_in x)
         → HasAnswered step message_in book before after m (x ∷ []) (response ∷ [])
-    one_answered response next is held sound crash store_fault_justified account =
-        record { next = next; run = (next, is, refl); held = held; sound = sound; crash = crash; store_fault_justified = report_reported (book.failed before) (book.failed after) response store_fault_justified; account = account }
+    one_answered response next is held well_formed crash store_fault_justified account =
+        record { next = next; run = (next, is, refl); held = held; well_formed = well_formed; crash = crash; store_fault_justified = report_reported (book.failed before) (book.failed after) response store_fault_justified; account = account }
 
     -- refused unread
     pub one_refused : (refusal : Refusal) (response : Response) → response ≡ replied (Refused refusal) → IsUnread refusal (message_in x) → step m x (replied (Refused refusal)) m → book.holds after m
-        → IsSound json_texts m → ((left : book.Left) → book.may_leave after left → book.may_leave before left) → HasAnswered step message_in book before after m (x ∷ []) (response ∷ [])
-    one_refused refusal response reported why is held sound keeps =
+        → IsWellFormed json_texts m → ((left : book.Left) → book.may_leave after left → book.may_leave before left) → HasAnswered step message_in book before after m (x ∷ []) (response ∷ [])
+    one_refused refusal response reported why is held well_formed keeps =
         subst (λ t. HasAnswered step message_in book before after m (x ∷ []) (t ∷ [])) (sym reported)
-        (one_answered (replied (Refused refusal)) m is held sound (refused_crash refusal (message_in x) why sound keeps) (λ e. absurd (unread_not_store refusal (message_in x) why (same refusal e))) (refused_account m refusal (message_in x)))
+        (one_answered (replied (Refused refusal)) m is held well_formed (refused_crash refusal (message_in x) why well_formed keeps) (λ e. absurd (unread_not_store refusal (message_in x) why (same refusal e))) (refused_account m refusal (message_in x)))
       where
         same : (refusal : Refusal) → replied (Refused refusal) ≡ replied (Refused StoreFault) → refusal ≡ StoreFault
         same refusal e = cc
 
   pub message_answered : (d : Data) (message : Message) (reply : Reply) (next : Content) → message_of d ≡ Some message → IsMessage message → Step json_texts m message reply next
-      → book.holds after next → IsSound json_texts next → ((left : book.Left) → book.may_leave after left → CrashStatesAfter json_texts book.stands (book.may_leave before) m message reply next left)
+      → book.holds after next → IsWellFormed json_texts next → ((left : book.Left) → book.may_leave after left → CrashStatesAfter json_texts book.stands (book.may_leave before) m message reply next left)
       → (reply ≡ Refused StoreFault → StoreFailed (book.failed before) (book.failed after)) → HasAnswered ValueStep message_of book before after m (d ∷ []) (replied reply ∷ [])
-  message_answered d message reply next is is_message step held sound crash store_fault_justified =
-      one_answered ValueStep message_of d (replied reply) next (of_message m next d reply message is step) held sound
+  message_answered d message reply next is is_message step held well_formed crash store_fault_justified =
+      one_answered ValueStep message_of d (replied reply) next (of_message m next d reply message is step) held well_formed
       (subst (LeadsOne book before after m (replied reply) next) (sym is) (leads_one json_texts book.stands (book.may_leave before) (book.may_leave after) m next message reply step crash))
       (λ e. store_fault_justified (reported_reply reply (Refused StoreFault) e))
       (subst (AccountOne m (replied reply) next) (sym is) (account_step json_texts m next message reply is_message step))
 
   -- what is no message, and leaves the content
-  unsent_answered : (d : Data) (response : Response) → message_of d ≡ None → ValueStep m d response m → book.holds after m → IsSound json_texts m
+  unsent_answered : (d : Data) (response : Response) → message_of d ≡ None → ValueStep m d response m → book.holds after m → IsWellFormed json_texts m
       → ((left : book.Left) → book.may_leave after left → book.may_leave before left) → (response ≡ replied (Refused StoreFault) → StoreFailed (book.failed before) (book.failed after)) → HasAnswered ValueStep message_of book before after m (d ∷ []) (response ∷ [])
-  unsent_answered d response none step held sound keeps store_fault_justified =
-      one_answered ValueStep message_of d response m step held sound (subst (LeadsOne book before after m response m) (sym none) (refl, keeps)) store_fault_justified (subst (AccountOne m response m) (sym none) (account_same json_texts m m refl))
+  unsent_answered d response none step held well_formed keeps store_fault_justified =
+      one_answered ValueStep message_of d response m step held well_formed (subst (LeadsOne book before after m response m) (sym none) (refl, keeps)) store_fault_justified (subst (AccountOne m response m) (sym none) (account_same json_texts m m refl))
 
   pub query_answered : (d : Data) (query : Query) (reply : Reply) → message_of d ≡ None → query_of d ≡ Some query → Answers m query reply
-      → book.holds after m → IsSound json_texts m → ((left : book.Left) → book.may_leave after left → book.may_leave before left) → (reply ≡ Refused StoreFault → StoreFailed (book.failed before) (book.failed after))
+      → book.holds after m → IsWellFormed json_texts m → ((left : book.Left) → book.may_leave after left → book.may_leave before left) → (reply ≡ Refused StoreFault → StoreFailed (book.failed before) (book.failed after))
       → HasAnswered ValueStep message_of book before after m (d ∷ []) (replied reply ∷ [])
-  query_answered d query reply none is answers held sound keeps store_fault_justified =
-      unsent_answered d (replied reply) none (of_query m m d reply query none is answers refl) held sound keeps (λ e. store_fault_justified (reported_reply reply (Refused StoreFault) e))
+  query_answered d query reply none is answers held well_formed keeps store_fault_justified =
+      unsent_answered d (replied reply) none (of_query m m d reply query none is answers refl) held well_formed keeps (λ e. store_fault_justified (reported_reply reply (Refused StoreFault) e))
 
   pub plans_answered : (d : Data) (response : Response) → message_of d ≡ None → query_of d ≡ None → PlansStep m (plans_query_of d) response m
-      → book.holds after m → IsSound json_texts m → ((left : book.Left) → book.may_leave after left → book.may_leave before left) → (response ≡ replied (Refused StoreFault) → StoreFailed (book.failed before) (book.failed after))
+      → book.holds after m → IsWellFormed json_texts m → ((left : book.Left) → book.may_leave after left → book.may_leave before left) → (response ≡ replied (Refused StoreFault) → StoreFailed (book.failed before) (book.failed after))
       → HasAnswered ValueStep message_of book before after m (d ∷ []) (response ∷ [])
-  plans_answered d response none nothing step held sound keeps store_fault_justified = unsent_answered d response none (of_plans m m d response none nothing step) held sound keeps store_fault_justified
+  plans_answered d response none nothing step held well_formed keeps store_fault_justified = unsent_answered d response none (of_plans m m d response none nothing step) held well_formed keeps store_fault_justified
 
   -- a line that is a value is answered as the value
   pub value_answered : (line : List ℕ) (d : Data) (response : Response) → data_of line ≡ Some d → HasAnswered ValueStep message_of book before after m (d ∷ []) (response ∷ [])
@@ -228,7 +228,7 @@ module _ {B : Type 0} (book : Ghosts B) (before after : B) (m : Content) where
         next = one.next;
         run = (one.run.0, line_answered m one.run.0 line d response is one.run.1, one.run.2);
         held = one.held;
-        sound = one.sound;
+        well_formed = one.well_formed;
         crash = subst (LeadsOne book before after m response one.next) (sym (ap (option_and_then message_of) is)) one.crash;
         store_fault_justified = one.store_fault_justified;
         account = subst (AccountOne m response one.next) (sym (ap (option_and_then message_of) is)) one.account;

@@ -5,7 +5,7 @@ use Rattle.shop_records.specs.declared.messages.Reply.TheVariants.{Refused}
 use Rattle.shop_records.specs.declared.refusals.Refusal.{Refusal}
 use Rattle.shop_records.specs.declared.refusals.Refusal.TheVariants.{StoreFault}
 use Rattle.shop_records.specs.Content.{Content}
-use Rattle.shop_records.specs.Soundness.{IsSound}
+use Rattle.shop_records.specs.WellFormed.{IsWellFormed}
 use Rattle.shop_forms.specs.Forms.{json_texts}
 use Rattle.shop_book.specs.declared.books.Book.{Ghosts}
 use Rattle.shop_book.specs.Kept.{OnContent, Unchanged}
@@ -61,32 +61,32 @@ module _ {B : Type 0} (book : Ghosts B) (before after : B) (body : List ℕ) whe
         query = query;
         parsed = parsed;
         asks = asks;
-        run = λ clean_disk m held sound. (keeps.stays clean_disk m held, builds clean_disk m held);
+        run = λ clean_disk m held well_formed. (keeps.stays clean_disk m held, builds clean_disk m held);
         keeps = record { clean_disk = keeps.clean_disk; stays = keeps.stays; crash = keeps.crash; failures = keeps.failures.others (λ e. cc) };
       }
   posed_begun query left (Err refusal) asks parsed builds keeps = tt
 
-  refused_served : (query : PlansQuery) (refusal : Refusal) (m : Content) → body_plans body ≡ Some query → AnswersPlans m query (Err refusal) → book.holds after m → IsSound json_texts m
+  refused_served : (query : PlansQuery) (refusal : Refusal) (m : Content) → body_plans body ≡ Some query → AnswersPlans m query (Err refusal) → book.holds after m → IsWellFormed json_texts m
       → ((left : book.Left) → book.may_leave after left → book.may_leave before left) → (refusal ≡ StoreFault → StoreFailed (book.failed before) (book.failed after)) → HasServedInput book before after m (asking Plans body) (replied (Refused refusal))
-  refused_served query refusal m asks answers held sound keeps store_fault_justified =
-      plans_served book before after m held sound keeps body (replied (Refused refusal))
+  refused_served query refusal m asks answers held well_formed keeps store_fault_justified =
+      plans_served book before after m held well_formed keeps body (replied (Refused refusal))
       (plans_answered_to m (body_plans body) query (replied (Refused refusal)) asks (reports_refusal m query refusal (replied (Refused refusal)) refl answers))
       (λ e. store_fault_justified (reported_refusal refusal StoreFault (replied (Refused refusal)) refl e))
 
   pub posed_refused : (query : PlansQuery) (r : Result PlanTask Refusal) → body_plans body ≡ Some query
       → OnContent book before after (λ m. IfErr r (λ refusal. AnswersPlans m query (Err refusal))) → Unchanged book (CountsRefusal r) before after
-      → IfErr r (λ refusal. OnContent book before after (λ m. IsSound json_texts m → HasServedInput book before after m (asking Plans body) (replied (Refused refusal))))
+      → IfErr r (λ refusal. OnContent book before after (λ m. IsWellFormed json_texts m → HasServedInput book before after m (asking Plans body) (replied (Refused refusal))))
   posed_refused query (Ok task) asks answers keeps = tt
-  posed_refused query (Err refusal) asks answers keeps = λ clean_disk m held sound.
-      refused_served query refusal m asks (answers clean_disk m held) (keeps.stays clean_disk m held) sound (keeps.crash clean_disk m held) (λ is. plans_justified PlanTask refusal (book.failed before) (book.failed after) is keeps.failures)
+  posed_refused query (Err refusal) asks answers keeps = λ clean_disk m held well_formed.
+      refused_served query refusal m asks (answers clean_disk m held) (keeps.stays clean_disk m held) well_formed (keeps.crash clean_disk m held) (λ is. plans_justified PlanTask refusal (book.failed before) (book.failed after) is keeps.failures)
 
-  pub unread_served : (refusal : Refusal) (m : Content) → IsUnread refusal (body_plans body) → book.holds after m → IsSound json_texts m
+  pub unread_served : (refusal : Refusal) (m : Content) → IsUnread refusal (body_plans body) → book.holds after m → IsWellFormed json_texts m
       → ((left : book.Left) → book.may_leave after left → book.may_leave before left) → HasServedInput book before after m (asking Plans body) (replied (Refused refusal))
-  unread_served refusal m unread held sound keeps =
-      plans_served book before after m held sound keeps body (replied (Refused refusal)) (plans_unread m (body_plans body) refusal (replied (Refused refusal)) unread refl)
+  unread_served refusal m unread held well_formed keeps =
+      plans_served book before after m held well_formed keeps body (replied (Refused refusal)) (plans_unread m (body_plans body) refusal (replied (Refused refusal)) unread refl)
       (λ e. absurd (unread_not_store refusal (body_plans body) unread (reported_refusal refusal StoreFault (replied (Refused refusal)) refl e)))
 
   pub refused_reported : (refusal : Refusal) (response : Response) → response ≡ replied (Refused refusal)
-      → OnContent book before after (λ m. IsSound json_texts m → HasServedInput book before after m (asking Plans body) (replied (Refused refusal)))
-      → OnContent book before after (λ m. IsSound json_texts m → HasServedInput book before after m (asking Plans body) response)
-  refused_reported refusal response reported served = subst (λ t. OnContent book before after (λ m. IsSound json_texts m → HasServedInput book before after m (asking Plans body) t)) (sym reported) served
+      → OnContent book before after (λ m. IsWellFormed json_texts m → HasServedInput book before after m (asking Plans body) (replied (Refused refusal)))
+      → OnContent book before after (λ m. IsWellFormed json_texts m → HasServedInput book before after m (asking Plans body) response)
+  refused_reported refusal response reported served = subst (λ t. OnContent book before after (λ m. IsWellFormed json_texts m → HasServedInput book before after m (asking Plans body) t)) (sym reported) served

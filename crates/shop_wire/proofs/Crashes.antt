@@ -7,9 +7,9 @@ use Rattle.shop_records.specs.declared.messages.Reply.{Reply}
 use Rattle.shop_records.specs.declared.messages.Reply.TheVariants.{Refused}
 use Rattle.shop_records.specs.declared.refusals.Refusal.{Refusal}
 use Rattle.shop_records.specs.declared.refusals.Refusal.TheVariants.{NoMemory}
-use Rattle.shop_records.specs.Messages.{Texts, pair_of}
+use Rattle.shop_records.specs.Messages.{Texts, message_id_of}
 use Rattle.shop_records.specs.Content.{Content, kept_at}
-use Rattle.shop_records.specs.Soundness.{IsSound}
+use Rattle.shop_records.specs.WellFormed.{IsWellFormed}
 use Rattle.shop_machine.specs.Machine.{Step, StepAgain, StepNew}
 use Rattle.shop_desk.specs.Handled.{CrashStatesAfter, CrashStatesAfterNew, Leads}
 use Rattle.shop_desk.proofs.Steps.{left_more}
@@ -36,14 +36,14 @@ module _ (texts : Texts) {Left : Type 0} (stands : Left → Content → Type 0) 
   left_refused before m message left (Some row) it = it
 
   -- what wasn't read as a message, though it may be one: nothing was done, and it was refused
-  pub leads_unread : (before after : Left → Type 0) (m : Content) (refusal : Refusal) (o : Option Message) → IsUnread refusal o → IsSound texts m → ((left : Left) → after left → before left)
+  pub leads_unread : (before after : Left → Type 0) (m : Content) (refusal : Refusal) (o : Option Message) → IsUnread refusal o → IsWellFormed texts m → ((left : Left) → after left → before left)
       → Leads texts stands before m (map (λ e. e.0) (with_reply o (replied (Refused refusal)))) (map (λ e. e.1) (with_reply o (replied (Refused refusal)))) m after
-  leads_unread before after m refusal None why sound keeps = (refl, keeps)
-  leads_unread before after m refusal (Some message) (inl is) sound keeps =
+  leads_unread before after m refusal None why well_formed keeps = (refl, keeps)
+  leads_unread before after m refusal (Some message) (inl is) well_formed keeps =
       subst (λ r. Leads texts stands before m (message ∷ []) (Refused r ∷ []) m after) (sym is)
-      (leads_one before after m m message (Refused NoMemory) (no_memory_step texts m message (kept_at m (pair_of message)))
-      (λ left it. left_refused before m message left (kept_at m (pair_of message)) (keeps left it)))
-  leads_unread before after m refusal (Some message) (inr why) sound keeps = absurd (cc why.1)
+      (leads_one before after m m message (Refused NoMemory) (no_memory_step texts m message (kept_at m (message_id_of message)))
+      (λ left it. left_refused before m message left (kept_at m (message_id_of message)) (keeps left it)))
+  leads_unread before after m refusal (Some message) (inr why) well_formed keeps = absurd (cc why.1)
 
   -- what may be left grows with what could be left before
   leads_grow : (before mid after : Left → Type 0) → ((left : Left) → mid left → before left) → (old new : Content) (messages : List Message) (answers : List Reply)

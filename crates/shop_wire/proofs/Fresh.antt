@@ -2,7 +2,7 @@
 use Rattle.std.proofs.Common.{◌≡◌, List, [], ◌++◌, length, ℕ, Option, Result, Ok, Err, refl}
 use Rattle.std.specs.Prelude.{IfOk, IfErr}
 use Rattle.shop_records.specs.Content.{fresh}
-use Rattle.shop_machine.proofs.Sound.{gives_sound}
+use Rattle.shop_machine.proofs.StaysWellFormed.{gives_well_formed}
 use Rattle.shop_forms.specs.Forms.{json_texts}
 use Rattle.shop_desk.specs.Faults.{StoreFailed}
 use Rattle.shop_book.specs.declared.books.Book.{Ghosts}
@@ -15,7 +15,7 @@ module _ {B : Type 0} (book : Ghosts B) (before after : B) (clean_disk : book.ha
   pub from_fresh : (held_old held_new : Option (List ℕ)) (lines : List (List ℕ)) (unwritten : List ℕ)
       → IsReplayed book before after held_old held_new lines unwritten → IsReplayedFresh held_old held_new lines unwritten
   from_fresh held_old held_new lines unwritten r =
-      let one = r.run.in_turn clean_disk fresh held (gives_sound json_texts [] fresh refl) in
+      let one = r.run.in_turn clean_disk fresh held (gives_well_formed json_texts [] fresh refl) in
       let later = one.account [] refl in
       record {
         responses = r.responses;

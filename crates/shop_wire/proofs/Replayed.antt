@@ -13,7 +13,7 @@ use Rattle.std.proofs.lemmas.List.Elements.{filter_map-append}
 use Rattle.shop_records.specs.declared.messages.Message.{Message}
 use Rattle.shop_records.specs.declared.messages.Reply.{Reply}
 use Rattle.shop_records.specs.Content.{Content}
-use Rattle.shop_records.specs.Soundness.{IsSound}
+use Rattle.shop_records.specs.WellFormed.{IsWellFormed}
 use Rattle.shop_forms.specs.Forms.{message_of, json_texts}
 use Rattle.shop_wire.specs.Lines.{lines_of, AreLines, GivesLine, kept_of}
 use Rattle.shop_book.specs.declared.books.Book.{Ghosts}
@@ -43,9 +43,9 @@ module _ {X B : Type 0} (step : Content → X → Response → Content → Type 
       ap (flat_map (λ e. with_reply (message_in e.0) e.1)) (zip-append old mid xs more responses later run)
       ∙ flat_map-append (λ e. with_reply (message_in e.0) e.1) (zip xs responses) (zip more later)
 
-  pub none_answered : (at : B) (m : Content) → book.holds at m → IsSound json_texts m → HasAnswered step message_in book at at m [] []
-  none_answered at m held sound =
-      record { next = m; run = refl; held = held; sound = sound; crash = (refl, λ left it. it); store_fault_justified = λ none. absurd none; account = account_same json_texts m m refl }
+  pub none_answered : (at : B) (m : Content) → book.holds at m → IsWellFormed json_texts m → HasAnswered step message_in book at at m [] []
+  none_answered at m held well_formed =
+      record { next = m; run = refl; held = held; well_formed = well_formed; crash = (refl, λ left it. it); store_fault_justified = λ none. absurd none; account = account_same json_texts m m refl }
 
   pub more_answered : (a b c : B) (m : Content) (xs more : List X) (responses later : List Response) → CountsUp (book.failed a) (book.failed b) → CountsUp (book.failed b) (book.failed c)
       → (one : HasAnswered step message_in book a b m xs responses) → HasAnswered step message_in book b c one.next more later → HasAnswered step message_in book a c m (xs ++ more) (responses ++ later)
@@ -54,7 +54,7 @@ module _ {X B : Type 0} (step : Content → X → Response → Content → Type 
         next = two.next;
         run = chained (λ from to x response. step from x response to) m one.next two.next xs more responses later one.run two.run;
         held = two.held;
-        sound = two.sound;
+        well_formed = two.well_formed;
         crash = subst (λ es. ExchangesLead book a c m es two.next) (sym (exchanges-append m one.next xs more responses later one.run))
             (leads_join json_texts book.stands (book.may_leave a) (book.may_leave b) (book.may_leave c) m one.next two.next (exchanges step message_in xs responses) (exchanges step message_in more later) one.crash two.crash);
         store_fault_justified = subst (λ rs. ReportOfFailures rs (book.failed a) (book.failed c)) (sym (filter_map-append reply_in responses later))
@@ -75,7 +75,7 @@ module _ {B : Type 0} (book : Ghosts B) where
         bytes = [];
         reported = refl;
         written = Appends-nil held;
-        run = record { one_by_one = refl; in_turn = λ h m held sound. none_answered LineStep line_message book at m held sound };
+        run = record { one_by_one = refl; in_turn = λ h m held well_formed. none_answered LineStep line_message book at m held well_formed };
       }
 
   -- a line that was answered, and of which what it is reported was written but for some last bytes
@@ -112,9 +112,9 @@ module _ {B : Type 0} (book : Ghosts B) where
         written = first.written;
         run = record {
           one_by_one = chained (AnswersOne LineStep line_message book) before mid after lines more first.responses second.responses first.run.one_by_one second.run.one_by_one;
-          in_turn = λ h m held sound.
-              let one = first.run.in_turn (back h) m held sound in
-              more_answered LineStep line_message book before mid after m lines more first.responses second.responses up later one (second.run.in_turn h one.next one.held one.sound);
+          in_turn = λ h m held well_formed.
+              let one = first.run.in_turn (back h) m held well_formed in
+              more_answered LineStep line_message book before mid after m lines more first.responses second.responses up later one (second.run.in_turn h one.next one.held one.well_formed);
         };
       }
 
@@ -139,7 +139,7 @@ module _ {B : Type 0} (book : Ghosts B) where
         next = one.next;
         run = (one.run.0, whole_line m one.run.0 whole t one.run.1, one.run.2);
         held = one.held;
-        sound = one.sound;
+        well_formed = one.well_formed;
         crash = subst (LeadsOne book before after m t one.next) (ap (option_and_then message_of) (data_of-kept_of whole)) one.crash;
         store_fault_justified = one.store_fault_justified;
         account = subst (AccountOne m t one.next) (ap (option_and_then message_of) (data_of-kept_of whole)) one.account;
@@ -149,7 +149,7 @@ module _ {B : Type 0} (book : Ghosts B) where
   one_whole : (before after : B) (whole : List ℕ) (response : Response) → AnswersOne LineStep line_message book before after (kept_of whole) response
       → AnswersOne LineStep line_message book before after whole response
   one_whole before after whole response one =
-      record { answered = λ h m held sound. answered_whole before after m whole (response ∷ []) (one.answered h m held sound); clean_disk = one.clean_disk; failures = one.failures }
+      record { answered = λ h m held well_formed. answered_whole before after m whole (response ∷ []) (one.answered h m held well_formed); clean_disk = one.clean_disk; failures = one.failures }
 
   each_whole : (before after : B) (whole : List ℕ) (responses : List Response) → OneByOne (AnswersOne LineStep line_message book) before (kept_of whole ∷ []) responses after
       → OneByOne (AnswersOne LineStep line_message book) before (whole ∷ []) responses after
@@ -169,7 +169,7 @@ module _ {B : Type 0} (book : Ghosts B) where
         written = r.written;
         run = record {
           one_by_one = each_whole before after whole r.responses r.run.one_by_one;
-          in_turn = λ h m held sound. answered_whole before after m whole r.responses (r.run.in_turn h m held sound);
+          in_turn = λ h m held well_formed. answered_whole before after m whole r.responses (r.run.in_turn h m held well_formed);
         };
       }
 

@@ -13,7 +13,7 @@ use Rattle.shop_machine.specs.History.{Entry, messages_of, history_after, IsAcco
 use Rattle.shop_records.specs.Elements.{IsIn}
 use Rattle.shop_machine.specs.Machine.{Step}
 use Rattle.shop_answers.specs.Queries.{Answers}
-use Rattle.shop_records.specs.Soundness.{IsSound}
+use Rattle.shop_records.specs.WellFormed.{IsWellFormed}
 use Rattle.serde_json.specs.Data.{Data}
 use Rattle.serde_json.specs.Read.{read}
 use Rattle.shop_forms.specs.Forms.{message_of, query_of, json_texts}
@@ -102,7 +102,7 @@ module _ {X : Type 0} (step : Content → X → Response → Content → Type 0)
     pub next : Content
     pub run : InTurn old asked responses next
     pub held : book.holds after next
-    pub sound : IsSound json_texts next
+    pub well_formed : IsWellFormed json_texts next
     pub crash : ExchangesLead book before after old (exchanges asked responses) next
     pub store_fault_justified : ReportOfFailures (replies_in responses) (book.failed before) (book.failed after)
     pub account : HasAccount json_texts old (map (λ e. e.0) (exchanges asked responses)) (map (λ e. e.1) (exchanges asked responses)) next
@@ -110,15 +110,15 @@ module _ {X : Type 0} (step : Content → X → Response → Content → Type 0)
   -- All that is said of one that was asked and of what it was reported, from the book before it to the book after it: so a failed
   -- store is reported about only where it failed at this very one.
   pub record AnswersOne {B : Type 0} (book : Ghosts B) (before after : B) (x : X) (response : Response) : Type 0 where
-    pub answered : OnContent book before after (λ m. IsSound json_texts m → HasAnswered book before after m (x ∷ []) (response ∷ []))
+    pub answered : OnContent book before after (λ m. IsWellFormed json_texts m → HasAnswered book before after m (x ∷ []) (response ∷ []))
     pub clean_disk : book.has_clean_disk after → book.has_clean_disk before
     pub failures : CountsUp (book.failed before) (book.failed after)
 
-  -- All was answered one by one, and so in turn: each sound content that a book with a clean disk held before led to one that
-  -- it holds now.
+  -- All was answered one by one, and so in turn: each well-formed content that a book with a clean disk held before led to one
+  -- that it holds now.
   pub record AnswersAll {B : Type 0} (book : Ghosts B) (before after : B) (asked : List X) (responses : List Response) : Type 0 where
     pub one_by_one : OneByOne (AnswersOne book) before asked responses after
-    pub in_turn : OnContent book before after (λ m. IsSound json_texts m → HasAnswered book before after m asked responses)
+    pub in_turn : OnContent book before after (λ m. IsWellFormed json_texts m → HasAnswered book before after m asked responses)
 
   -- A shop in which nothing was done yet, and under which no store can fail, was asked this, and answered so: no reply reports
   -- of a failed store, and the account is that of the messages that were accepted, each once.

@@ -20,7 +20,7 @@ use Rattle.shop_records.specs.declared.messages.Reply.TheVariants.{Refused}
 use Rattle.shop_records.specs.Content.{Content}
 use Rattle.shop_machine.specs.Machine.{Step, StepAt}
 use Rattle.shop_answers.specs.Queries.{Answers}
-use Rattle.shop_records.specs.Soundness.{IsSound}
+use Rattle.shop_records.specs.WellFormed.{IsWellFormed}
 use Rattle.shop_forms.specs.Forms.{query_of, json_texts}
 use Rattle.shop_plans.specs.declared.queries.PlansQuery.{PlansQuery}
 use Rattle.shop_plans.specs.Queries.{plans_query_of}
@@ -261,7 +261,7 @@ pub record HasServedInput {B : Type 0} (book : Ghosts B) (before after : B) (old
   pub next : Content
   pub step : ParsedStep old parsed response next
   pub held : book.holds after next
-  pub sound : IsSound json_texts next
+  pub well_formed : IsWellFormed json_texts next
   pub crash : ExchangesLead book before after old (exchanged parsed response) next
   pub store_fault_justified : response ≡ replied (Refused StoreFault) → StoreFailed (book.failed before) (book.failed after)
   pub account : HasAccount json_texts old (map (λ e. e.0) (exchanged parsed response)) (map (λ e. e.1) (exchanged parsed response)) next
@@ -271,10 +271,10 @@ abbrev pub IsInputHandledAt : {B : Type 0} → Ghosts B → B → (at : ℕ) →
 IsInputHandledAt book after at old came =
     MatchOption came ⊤ (λ message. (reply : Reply) × (next : Content) × StepAt json_texts at old message reply next × book.holds after next)
 
--- the same of each sound content that a book with a clean disk held before, and of the message that an input is
+-- the same of each well-formed content that a book with a clean disk held before, and of the message that an input is
 abbrev pub HandlesInputAt : {B : Type 0} → Ghosts B → B → B → (at : ℕ) → ParseResult → Type 0
 HandlesInputAt book before after at parsed =
-    OnContent book before after (λ m. IsSound json_texts m → IsInputHandledAt book after at m (parse_message parsed))
+    OnContent book before after (λ m. IsWellFormed json_texts m → IsInputHandledAt book after at m (parse_message parsed))
 
 -- An input of this parse was served, and the answer written but for some last bytes; this is said of what was reported.
 pub record IsAnswerWritten (says : Response → Type 0) (held_old held_new : Option (List ℕ)) (parsed : ParseResult) (unwritten : List ℕ) : Type 0 where
@@ -292,10 +292,10 @@ DoesNothing parsed response = (parse_message parsed ≡ None) ⊎ ((refusal : Re
 abbrev pub KeepsElse : {B : Type 0} → Ghosts B → B → B → ParseResult → Response → Type 0
 KeepsElse book before after parsed response = OnContent book before after (λ m. DoesNothing parsed response → book.holds after m)
 
--- The parse was served by a book: each sound content that a book with a clean disk held before led to one that it holds now; and where
--- no message was accepted each content, sound or not, is held still.
+-- The parse was served by a book: each well-formed content that a book with a clean disk held before led to one that it holds
+-- now; and where no message was accepted each content, well-formed or not, is held still.
 pub record IsServedFor {B : Type 0} (book : Ghosts B) (before after : B) (parsed : ParseResult) (response : Response) : Type 0 where
-  pub run : OnContent book before after (λ m. IsSound json_texts m → HasServedInput book before after m parsed response)
+  pub run : OnContent book before after (λ m. IsWellFormed json_texts m → HasServedInput book before after m parsed response)
   pub keeps : KeepsElse book before after parsed response
 
 abbrev pub IsServedAs : {B : Type 0} → Ghosts B → B → B → Option (List ℕ) → Option (List ℕ) → ParseResult → List ℕ → Type 0
@@ -319,5 +319,5 @@ pub record IsBegun {B : Type 0} (book : Ghosts B) (before after : B) (left : Opt
   pub query : PlansQuery
   pub parsed : IfSome left (λ input. ParsesTo input (asking Plans body))
   pub asks : body_plans body ≡ Some query
-  pub run : OnContent book before after (λ m. IsSound json_texts m → book.holds after m × IsInstance m query instance)
+  pub run : OnContent book before after (λ m. IsWellFormed json_texts m → book.holds after m × IsInstance m query instance)
   pub keeps : Unchanged book (λ old new. new ≡ old) before after

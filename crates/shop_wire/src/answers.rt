@@ -2,7 +2,7 @@
 
 ghost use Rattle.std.specs.Prelude.{◌≡◌, ◌++◌, ◌∷◌, [], ℕ, List, OnOk, OnErr, None};
 ghost use Rattle.serde_json.specs.View.{view};
-ghost use Rattle.shop_records.specs.Soundness.{IsSound};
+ghost use Rattle.shop_records.specs.WellFormed.{IsWellFormed};
 ghost use Rattle.shop_forms.specs.Forms.{message_of, json_texts};
 ghost use Rattle.shop_book.specs.Kept.{OnContent};
 ghost use Rattle.shop_desk.specs.Faults.{CountsUp};
@@ -23,7 +23,7 @@ use std::alloc::{AllocError, Global};
 fn query_reported<B: Book>(alloc: Global, book: &mut B, value: &Value) -> Reported
     ensures step { message_of (view value.now) ≡ None
         → OnContent B.Book book.old book.new
-        (λ m. IsSound json_texts m
+        (λ m. IsWellFormed json_texts m
         → HasAnswered ValueStep message_of B.Book book.old book.new m (view value.now ∷ [])
         (response_of result ∷ [])) }
     ensures printed { HasPrintedText result }
@@ -42,7 +42,7 @@ fn query_reported<B: Book>(alloc: Global, book: &mut B, value: &Value) -> Report
 // The response to a value.
 fn value_reported<B: Book>(alloc: Global, book: &mut B, value: &Value) -> Reported
     ensures step { OnContent B.Book book.old book.new
-        (λ m. IsSound json_texts m
+        (λ m. IsWellFormed json_texts m
         → HasAnswered ValueStep message_of B.Book book.old book.new m (view value.now ∷ [])
         (response_of result ∷ [])) }
     ensures printed { HasPrintedText result }
@@ -82,7 +82,7 @@ pub(crate) fn value_in(alloc: Global, line: &[u8]) -> Result<Value, Refusal>
 /// The response to a line. Refused `NoMemory` where memory runs out while the line is read.
 pub(crate) fn answer<B: Book>(alloc: Global, book: &mut B, line: &[u8]) -> Reported
     ensures step { OnContent B.Book book.old book.new
-        (λ m. IsSound json_texts m
+        (λ m. IsWellFormed json_texts m
         → HasAnswered LineStep line_message B.Book book.old book.new m (line.now ∷ [])
         (response_of result ∷ [])) }
     ensures printed { HasPrintedText result }

@@ -3,7 +3,7 @@
 ghost use Rattle.std.specs.Prelude.{◌≡◌, ◌⊎◌, ◌∷◌, [], Some, None, IfSome};
 ghost use Rattle.shop_records.specs.declared.messages.Reply.TheVariants.{Refused};
 ghost use Rattle.shop_records.specs.declared.refusals.Refusal.TheVariants.{StoreFault};
-ghost use Rattle.shop_records.specs.Soundness.{IsSound};
+ghost use Rattle.shop_records.specs.WellFormed.{IsWellFormed};
 ghost use Rattle.shop_forms.specs.Forms.{json_texts};
 ghost use Rattle.shop_book.specs.Kept.{Unchanged, OnContent};
 ghost use Rattle.shop_desk.specs.Faults.{CountsReply, CountsUp, StoreFailed};
@@ -53,7 +53,7 @@ fn message_reply<B: Book>(
     at: u64,
 ) -> (Reply, Option<Text>)
     ensures served { OnContent B.Book book.old book.new
-        (λ m. IsSound json_texts m
+        (λ m. IsWellFormed json_texts m
         → HasServedInput B.Book book.old book.new m (asking AtMessage body.now) (replied result.0)) }
     ensures stays { KeepsElse B.Book book.old book.new (asking AtMessage body.now) (replied result.0) }
     ensures timed { HandlesInputAt B.Book book.old book.new at (asking AtMessage body.now) }
@@ -70,7 +70,7 @@ fn message_reply<B: Book>(
 // The response to a body as a message that is given this time.
 fn message_reported<B: Book>(alloc: Global, book: &mut B, body: &[u8], at: u64) -> Reported
     ensures served { OnContent B.Book book.old book.new
-        (λ m. IsSound json_texts m
+        (λ m. IsWellFormed json_texts m
         → HasServedInput B.Book book.old book.new m (asking AtMessage body.now) (response_of result)) }
     ensures stays { KeepsElse B.Book book.old book.new (asking AtMessage body.now) (response_of result) }
     ensures timed { HandlesInputAt B.Book book.old book.new at (asking AtMessage body.now) }
@@ -240,7 +240,7 @@ pub(crate) fn respond<B: Book>(
     at: u64,
 ) -> Reported
     ensures served { OnContent B.Book book.old book.new
-        (λ m. IsSound json_texts m
+        (λ m. IsWellFormed json_texts m
         → HasServedInput B.Book book.old book.new m (asking route text.now) (response_of result)) }
     ensures stays { KeepsElse B.Book book.old book.new (asking route text.now) (response_of result) }
     ensures timed { HandlesInputAt B.Book book.old book.new at (asking route text.now) }

@@ -3,7 +3,7 @@
 ghost use Rattle.std.specs.Prelude.{◌≡◌, ℕ, List, Option, IfErr, IfOk, IfSome};
 ghost use Rattle.shop_records.specs.declared.messages.Reply.TheVariants.{Refused};
 ghost use Rattle.shop_records.specs.declared.refusals.Refusal.TheVariants.{StoreFault};
-ghost use Rattle.shop_records.specs.Soundness.{IsSound};
+ghost use Rattle.shop_records.specs.WellFormed.{IsWellFormed};
 ghost use Rattle.shop_forms.specs.Forms.{json_texts};
 ghost use Rattle.shop_book.specs.Kept.{OnContent, Unchanged};
 ghost use Rattle.shop_desk.specs.Faults.{CountsUp, StoreFailed};
@@ -72,7 +72,7 @@ fn plans_in(alloc: Global, body: &[u8]) -> Result<PlansQuery, Refusal>
 /// The response to a body as a `plans` query.
 pub(crate) fn body_reported<B: Book>(alloc: Global, book: &mut B, body: &[u8]) -> Reported
     ensures served { OnContent B.Book book.old book.new
-        (λ m. IsSound json_texts m
+        (λ m. IsWellFormed json_texts m
         → HasServedInput B.Book book.old book.new m (asking AtPlans body.now) (response_of result)) }
     ensures stays { OnContent B.Book book.old book.new (λ m. B.holds book.new m) }
     ensures printed { HasPrintedText result }
@@ -93,7 +93,7 @@ pub(crate) fn build_body<B: Book>(
         → IfOk result (λ task. IsBegun B.Book book.old book.new left (instance_in task)) }
     ensures refused { IfErr result
         (λ refusal. OnContent B.Book book.old book.new
-        (λ m. IsSound json_texts m
+        (λ m. IsWellFormed json_texts m
         → HasServedInput B.Book book.old book.new m (asking AtPlans body.now)
         (replied (Refused refusal)))) }
     ensures keeps { Unchanged B.Book (CountsRefusal result) book.old book.new }

@@ -614,7 +614,7 @@ def both_languages(trial):
     with open(PAGE, encoding="utf-8") as file:
         text = file.read()
     body, script = text.split("<body>")[1].split("<script>")
-    table, code = script.split("const GERMAN=new Map(Object.entries(")[1].split("));", 1)
+    table, code = script.split("let GERMAN=new Map(Object.entries(")[1].split("));", 1)
     german = json.loads(re.sub(r",\s*}", "}", table))
     shown = {html.unescape(it.strip()) for pair in re.findall(r">([^<]+)<|aria-label=\"([^\"]+)\"", body) for it in pair}
     texts = templates_of(code) | {it for it in shown if re.search("[A-Za-z]{2}", it)}
@@ -640,7 +640,7 @@ def german(trial):
         is_german(it, "terminal")
         it.begin(7)
         it.receive("GLASS", "g-1", "1200", "800", 3)
-        it.says("Eingang 3 × GLASS 1200,0 × 800,0\u00a0mm: 3 Stück eingegangen, 1/0 bis 1/2")
+        it.says("Eingang 3 × GLASS 1200,0\u00a0×\u00a0800,0\u00a0mm: 3 Stück eingegangen, 1/0 bis 1/2")
         it.receive("GLASS", "g-1", "1200,55", "800", 3)
         wanted = "Länge „1200,55“: Millimeter mit höchstens einer Nachkommastelle schreiben, wie 1250,5"
         it.until("document.querySelector('#receiveForm .fault')")
@@ -653,7 +653,7 @@ def german(trial):
             it.click(by_id("sendCsv"))
             it.says(f"Auftrag A-1 aus einer Datei: {said}")
         it.propose("GLASS")
-        trial.equal(it.text("planTitle"), "Plan von 1/0, 1200,0 × 800,0\u00a0mm")
+        trial.equal(it.text("planTitle"), "Plan von 1/0, 1200,0\u00a0×\u00a0800,0\u00a0mm")
         is_german(it, "to-cut")
         it.click(by_id("reserve"))
         it.says("1/0 reservieren: Job 2, ")

@@ -58,7 +58,7 @@ def due_day(trial):
             it.until(keyed("orderList", "saveB-1"))
             put(it, keyed("orderList", "dueB-1"), "2026-12-03")
             put(it, keyed("orderList", "textB-1"), "ä" * 101)
-            trial.holds("-2 of 200 bytes left" in it.text("orderList"), it.text("orderList"))
+            trial.holds("2 bytes too long" in it.text("orderList"), it.text("orderList"))
 
         it.view("stock")
         before = it.clicks
@@ -229,7 +229,7 @@ def third_cut(trial):
         trial.holds(f"left of it: rest 2390.0\u00a0mm, kept as {kept}" in it.text("cutList"), it.text("cutList"))
         trial.equal(it.value("[...document.querySelectorAll('#cutList .cut')].map(e => e.className)"), ["cut made", "cut made", "cut lost", "cut "])
         it.value("void (location.hash = 'happened')")
-        it.until(f"happenedList.textContent.includes('job {job} broken off, 2 cuts made, cut 3 went wrong, rest 2390.0 mm')")
+        it.until(f"happenedList.textContent.includes('job {job} broken off, 2 cuts made, cut 3 went wrong, rest 2390.0\u00a0mm')")
         it.value(f"undoJob({job})")
         it.says(f"Take back job {job}: part 1/0 stands again")
         job = send(do="reserve", part="1/0", tree=FOUR)["job"]

@@ -15,7 +15,7 @@ FILE = "line,material,length,width,turn,count,worth\n1,STEEL,100.0,0.1,no,3,1000
 # What a day's messages are told as, the oldest first.
 TOLD = [
     ("shop file", "material STEEL, bar, kerf 2.5\u00a0mm, keeps from 300.0\u00a0mm"),
-    ("shop file", "material GLASS, sheet, kerf 3.0\u00a0mm, keeps from 300.0 × 100.0\u00a0mm"),
+    ("shop file", "material GLASS, sheet, kerf 3.0\u00a0mm, keeps from 300.0\u00a0×\u00a0100.0\u00a0mm"),
     ("Terminal 2", "4 × STEEL 600.0\u00a0mm received, batch S-1"),
     ("Terminal 2", "order A-1: 2 lines"),
     ("Terminal 2", "file of order B-1: 1 line"),

@@ -149,7 +149,7 @@ def positions(trial):
 @case(
     "two sides in one cell of a file at the page",
     "`797 x 597` in a column of sizes, or in one of lengths, is two sides, in the unit of its head or of the cell; a column of sizes may "
-    "have bars, too.",
+    "have bars, too. Where another width stands beside them the cell is bad.",
 )
 def two_sides(trial):
     with Terminal(trial, open_shop(trial)) as it:
@@ -165,6 +165,16 @@ def two_sides(trial):
         it.click(by_id("sendCsv"))
         it.says("Order LENGTHS from a file: 1 line ordered")
         trial.equal(ordered(it, "LENGTHS"), [[1, "GLASS", 7970, 5970, 3]])
+        # (the same width beside it is none more; another one is a fault, and never the one that is ordered)
+        picked(it, "both.csv", "Länge;Breite;Stück;Material\n797 x 597;597,0;3;GLASS\n797 x 597;397;3;GLASS\n")
+        it.until(f"{by_id('fileCode')}.value === 'BOTH'")
+        trial.equal(it.value("[...csvPreview.querySelectorAll('.badfield input')].map(e => e.value)"), ["797 x 597"])
+        it.type("csvPreview.querySelector('.badfield input')", "797")
+        it.key("Enter")
+        it.until(f"!{by_id('sendCsv')}.disabled")
+        it.click(by_id("sendCsv"))
+        it.says("Order BOTH from a file: 2 lines ordered")
+        trial.equal([row[2:4] for row in ordered(it, "BOTH")], [[7970, 5970], [7970, 3970]])
         is_quiet(it)
 
 

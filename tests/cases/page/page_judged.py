@@ -32,7 +32,7 @@ class Stuff:
 
     def size(self, w, h):
         """A size as the page shows it."""
-        return f"{mm(w)}\u00a0mm" if self.kind == "bar" else f"{mm(w)} × {mm(h)}\u00a0mm"
+        return f"{mm(w)}\u00a0mm" if self.kind == "bar" else f"{mm(w)}\u00a0×\u00a0{mm(h)}\u00a0mm"
 
 
 def mm(tenths):

@@ -145,10 +145,17 @@ def stranger(trial):
         is_quiet(it)
 
 
+def seconds_until(it, words):
+    begin = time.monotonic()
+    it.says(words)
+    return time.monotonic() - begin
+
+
 @case(
     "a backup that is restored under an open page",
     "Where a copy from before is put in place of the shop's files, the page has dropped what it knew within four seconds, and tells as "
-    "when the shop is and which message that was answered here it doesn't have. The same shop, started again, drops nothing.",
+    "when the shop is and which message that was answered here it doesn't have. Notices of before are gone, but for those that bring back "
+    "what was typed. The same shop, started again, drops nothing.",
 )
 def exchanged(trial):
     shop = open_shop(trial)
@@ -170,12 +177,21 @@ def exchanged(trial):
         trial.equal((it.value("terminal.answered().some(message => message.isLost)"), notices(it, "refusals")), (False, []))
         trial.holds("What was shown is dropped" not in it.told(), it.told())
         at = exchange(shop, "/history/3")["entries"][0]["at"]
+        lost = "What was shown is dropped and read anew. It doesn't have: Receive 1 × STEEL 5000.0\u00a0mm: 1 unit received, 2/0."
+        it.value("(tell('Job 1 done', 'good'), tell('Refused: Job 1', 'refused'), tell('typed', 'refused', {words: 'Take back', isTyped: true}))")
         shop.kill()
         restored(shop)
-        begin = time.monotonic()
-        it.says("What was shown is dropped and read anew. It doesn't have: Receive 1 × STEEL 5000.0\u00a0mm: 1 unit received, 2/0.")
-        took = time.monotonic() - begin
-        trial.holds(took < 12, f"it took {took:.1f} seconds")
+        times = [seconds_until(it, lost)]
+        # (of one more try the shorter time counts, as a machine may be loaded)
+        trial.equal(it.value("document.getElementById('lastNotice').innerText.match(/Job 1|typed/g)"), ["typed"])
+        if times[0] >= 4:
+            it.view("stock")
+            it.receive("STEEL", "S-8", "5500", None, 1)
+            it.until("stockList.textContent.includes('5500.0')")
+            shop.kill()
+            restored(shop)
+            times.append(seconds_until(it, "5500.0\u00a0mm: 1 unit received, 2/0."))
+        trial.holds(min(times) < 4, f"it took {times} seconds")
         it.until("stockList.textContent.includes('600.0') && !stockList.textContent.includes('5000.0')")
         words = it.value(f"tr`The shop is as it was at ${{momentText({at})}}.`")
         trial.holds(words in it.told(), (words, it.told()))

@@ -534,7 +534,7 @@ def in_words(trial):
         reserve = lambda tree: {"do": "reserve", "part": "1/1", "tree": tree}
         wanted = (
             ({**bar("B-1"), "material": "WOOD"}, "there is no such material (20 NoMaterial)"),
-            ({**bar("B-1"), "h": 2}, "this material can't have these sides: nothing is over 20000.0 × 6000.0 mm (30 BadSize)"),
+            ({**bar("B-1"), "h": 2}, "this material can't have these sides: nothing is over 20000.0\u00a0×\u00a06000.0\u00a0mm (30 BadSize)"),
             ({**bar("B-1"), "count": 101}, "1 to 100 units are received at a time (31 BadCount)"),
             ({"do": "order", "order": "A-1", "lines": [line]}, "an order with this code is there already (40 OrderExists)"),
             (
@@ -707,7 +707,7 @@ def new_material(trial):
         names = "[...document.querySelectorAll('#stock .materials button')].map(e => e.firstChild.data)"
         it.until(f"{names}.length === 2")
         words = "[...document.querySelectorAll('#stock .materials small')].map(e => e.textContent)"
-        steel, glass = "bar, kerf 2.5\u00a0mm, keeps from 300.0\u00a0mm", "sheet, kerf 3.0\u00a0mm, keeps from 300.0 × 100.0\u00a0mm"
+        steel, glass = "bar, kerf 2.5\u00a0mm, keeps from 300.0\u00a0mm", "sheet, kerf 3.0\u00a0mm, keeps from 300.0\u00a0×\u00a0100.0\u00a0mm"
         trial.equal(it.value(words), [glass, steel])
         shop.kill(signal.SIGKILL)
         it.until(f"{by_id('link')}.textContent === 'no connection'")

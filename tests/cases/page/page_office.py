@@ -166,7 +166,7 @@ def at_fields(trial):
         it.type(by_id("receiveCount"), "2")
         trial.equal(it.value("document.querySelectorAll('#stock .fault:not([hidden]), #stock [aria-invalid]').length"), 0)
         it.key("Enter")
-        it.says("Receive 2 × GLASS 2400.5 × 1300.0\u00a0mm: 2 units received, 1/0 to 1/1")
+        it.says("Receive 2 × GLASS 2400.5\u00a0×\u00a01300.0\u00a0mm: 2 units received, 1/0 to 1/1")
         it.view("orders")
         it.type(by_id("orderCode"), long)
         it.key("Enter")
@@ -821,17 +821,17 @@ def many_jobs(trial):
         it.begin(7)
         it.view("stock")
         it.material("stock", "GLASS")
-        lay = "It lay in unit 1/0 (1200.0 × 800.0\u00a0mm) at {}\u00a0mm from the left, {}\u00a0mm from the top."
+        lay = "It lay in unit 1/0 (1200.0\u00a0×\u00a0800.0\u00a0mm) at {}\u00a0mm from the left, {}\u00a0mm from the top."
         came = ["5/4 came of job 5, which cut 4/4", "4/4 came of job 4, which cut 3/4", "3/4 came of job 3, which cut 2/4"]
         came = "; ".join([*came, "2/4 came of job 2, which cut 1/0"]) + "."
         first, batch = "2/{} came of job 2, which cut 1/0.", "Batch G-1"
         for name, state, fate, rest in (
-            ("5/4", "891.0 × 697.0\u00a0mm: reserved for job 6.", "kept", [lay.format("309.0", "103.0"), batch, came, "Job 6"]),
-            ("2/4", "1097.0 × 800.0\u00a0mm: cut by job 3.", "kept", [lay.format("103.0", "0.0"), batch, first.format(4), "Job 3"]),
-            ("2/2", "100.0 × 100.0\u00a0mm: a piece of order A-1, line 1 (no. 1).", "piece", [lay.format("0.0", "0.0"), batch, first.format(2), "Order A-1"]),
-            ("2/0", "3.0 × 800.0\u00a0mm: taken by the saw.", "kerf", [lay.format("100.0", "0.0"), batch, first.format(0)]),
-            ("2/3", "100.0 × 697.0\u00a0mm: stands.", "kept", [lay.format("0.0", "103.0"), batch, first.format(3)]),
-            ("1/1", "1200.0 × 800.0\u00a0mm: scrap.", "scrap", ["It is a unit as it was received.", batch]),
+            ("5/4", "891.0\u00a0×\u00a0697.0\u00a0mm: reserved for job 6.", "kept", [lay.format("309.0", "103.0"), came, batch, "Job 6"]),
+            ("2/4", "1097.0\u00a0×\u00a0800.0\u00a0mm: cut by job 3.", "kept", [lay.format("103.0", "0.0"), first.format(4), batch, "Job 3"]),
+            ("2/2", "100.0\u00a0×\u00a0100.0\u00a0mm: a piece of order A-1, line 1 (no. 1).", "piece", [lay.format("0.0", "0.0"), first.format(2), batch, "Order A-1"]),
+            ("2/0", "3.0\u00a0×\u00a0800.0\u00a0mm: taken by the saw.", "kerf", [lay.format("100.0", "0.0"), first.format(0), batch]),
+            ("2/3", "100.0\u00a0×\u00a0697.0\u00a0mm: stands.", "kept", [lay.format("0.0", "103.0"), first.format(3), batch]),
+            ("1/1", "1200.0\u00a0×\u00a0800.0\u00a0mm: scrap.", "scrap", ["It is a unit as it was received.", batch]),
         ):
             it.type(by_id("tracePart"), name)
             it.key("Enter")
@@ -972,8 +972,8 @@ def files_at_limits(trial):
         it.pick(by_id("problemFile"), trial.write("sheet.txt", "2\n6000 4000\n1500 1000 4 150\n700 800 9 60\n"))
         it.until(by_id("sendProblem"))
         lines = "[...document.querySelectorAll('#problemPreview :is(p, li)')].map(e => e.textContent)"
-        pieces = ["4 of 150.0 × 100.0\u00a0mm, price for the planner 150", "9 of 70.0 × 80.0\u00a0mm, price for the planner 60"]
-        trial.equal(it.value(lines), ["A unit of 600.0 × 400.0\u00a0mm and 2 lines:", *pieces])
+        pieces = ["4 of 150.0\u00a0×\u00a0100.0\u00a0mm, price for the planner 150", "9 of 70.0\u00a0×\u00a080.0\u00a0mm, price for the planner 60"]
+        trial.equal(it.value(lines), ["A unit of 600.0\u00a0×\u00a0400.0\u00a0mm and 2 lines:", *pieces])
         judged = lambda number: it.value(f"problemFault({json.dumps(f'{number} 6000 4000' + ' 10 10 1 1' * number)})")
         trial.equal((judged(200), judged(201)), ("", "Number 1 of the file is 201; 1 to 200 is wanted."))
         long = lambda size: it.value(f"problemFault({json.dumps('1 6000 4000 10 10 1 1'.ljust(size))})")

@@ -366,7 +366,7 @@ def long_search(trial):
         it.until("toCut.found")
         trial.holds(re.match(r"(bisher )?\d+ Platten", it.text("planNow")), it.text("planNow"))
         it.receive("GLASS", "G-2", "1000", "500", 1)
-        it.says("Eingang 1 × GLASS 1000,0 × 500,0\u00a0mm: 1 Stück eingegangen, 2/0")
+        it.says("Eingang 1 × GLASS 1000,0\u00a0×\u00a0500,0\u00a0mm: 1 Stück eingegangen, 2/0")
         it.view("tocut")
         if it.value("Boolean(toCut.planning)"):
             it.click(by_id("stopPlan"))
@@ -459,17 +459,17 @@ def what_is_left(trial):
         it.view("tocut")
         it.material("tocut", "GLASS")
         it.until(f"{rows}.length === 2 && {stands}.length === 5")
-        trial.equal(it.value(rows), [["1", "500.0 × 200.0 ↻", "2 of 5", "1"], ["2", "400.0 × 240.0", "2 of 2", "2"]])
+        trial.equal(it.value(rows), [["1", "500.0\u00a0×\u00a0200.0 ↻", "2 of 5", "1"], ["2", "400.0\u00a0×\u00a0240.0", "2 of 2", "2"]])
         button = "[...document.querySelectorAll('#tocut .materials button')].map(e => [...e.childNodes].map(e => e.textContent))"
-        trial.equal(it.value(button)[1], ["GLASS", "4 to cut", "sheet, kerf 3.0\u00a0mm, keeps from 300.0 × 100.0\u00a0mm"])
+        trial.equal(it.value(button)[1], ["GLASS", "4 to cut", "sheet, kerf 3.0\u00a0mm, keeps from 300.0\u00a0×\u00a0100.0\u00a0mm"])
         trial.equal(it.text("planWords"), "4 pieces of 2 kinds, 9 parts to cut from.")
         both, one, none = "2 kinds of pieces fit", "1 kind of pieces fits", "nothing chosen fits"
         wanted = [
-            ["500.0 × 597.0\u00a0mm", "remnant", "4/3, batch G-1", both, True],
-            ["697.0 × 800.0\u00a0mm", "remnant", "4/4, batch G-1", both, True],
-            ["250.0 × 550.0\u00a0mm", "4 units", "2/0, batch G-2", one, True],
-            ["1200.0 × 800.0\u00a0mm", "1 unit", "1/2, batch G-1", both, True],
-            ["300.0 × 150.0\u00a0mm", "2 units", "3/0, batch G-3", none, False],
+            ["500.0\u00a0×\u00a0597.0\u00a0mm", "remnant", "4/3, batch G-1", both, True],
+            ["697.0\u00a0×\u00a0800.0\u00a0mm", "remnant", "4/4, batch G-1", both, True],
+            ["250.0\u00a0×\u00a0550.0\u00a0mm", "4 units", "2/0, batch G-2", one, True],
+            ["1200.0\u00a0×\u00a0800.0\u00a0mm", "1 unit", "1/2, batch G-1", both, True],
+            ["300.0\u00a0×\u00a0150.0\u00a0mm", "2 units", "3/0, batch G-3", none, False],
         ]
         trial.equal(it.value(stands), wanted)
         first = it.session

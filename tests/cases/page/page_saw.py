@@ -386,7 +386,7 @@ def to_the_letter(trial):
     with Terminal(trial, shop) as it:
         begin_at_saw(it, job)
         it.until("document.querySelector('#jobPicture svg')")
-        trial.equal(figures(it), ["1200.0 × 800.0\u00a0mm part to cut", "3.0 mm kerf", "5 cuts", "2 pieces", "waits state"])
+        trial.equal(figures(it), ["1200.0\u00a0×\u00a0800.0\u00a0mm part to cut", "3.0 mm kerf", "5 cuts", "2 pieces", "waits state"])
         cuts = it.value("[...document.querySelectorAll('#cutList .cut')].map(e => [...e.querySelectorAll('.mark, b, .quiet')].map(e => e.textContent))")
         trial.equal([row[0] for row in cuts], list("12345"))
         piece = "gives piece {} of A-1 line {}{}; rest {}, kept as {}/{}"
@@ -394,10 +394,10 @@ def to_the_letter(trial):
             [row[2] for row in cuts],
             [
                 "",
-                piece.format("300.0 × 400.0\u00a0mm", "2 (no. 2)", " turned", "300.0 × 397.0\u00a0mm", job, 3),
+                piece.format("300.0\u00a0×\u00a0400.0\u00a0mm", "2 (no. 2)", " turned", "300.0\u00a0×\u00a0397.0\u00a0mm", job, 3),
                 "",
-                piece.format("400.0 × 300.0\u00a0mm", "3 (no. 3)", "", "400.0 × 497.0\u00a0mm", job, 7),
-                f"gives rest 494.0 × 750.0\u00a0mm, kept as {job}/9; rest 494.0 × 47.0\u00a0mm, scrap",
+                piece.format("400.0\u00a0×\u00a0300.0\u00a0mm", "3 (no. 3)", "", "400.0\u00a0×\u00a0497.0\u00a0mm", job, 7),
+                f"gives rest 494.0\u00a0×\u00a0750.0\u00a0mm, kept as {job}/9; rest 494.0\u00a0×\u00a047.0\u00a0mm, scrap",
             ],
         )
         marks = "[...document.querySelectorAll('#jobPicture .mark')].map(e => [e.textContent, e.classList[1]]).sort()"
@@ -409,20 +409,20 @@ def to_the_letter(trial):
         legend = "[...document.querySelectorAll('#jobPicture .legend li')].map(e => [e.querySelector('rect').classList[1], e.textContent])"
         wanted = {"piece": "piece", "kept": "rest kept", "scrap": "scrap", "kerf": "kerf 3.0 mm"}
         trial.equal(dict(it.value(legend)), wanted)
-        pieces = it.value("[...document.querySelectorAll('#jobPieces tr')].map(e => [...e.cells].map(e => e.textContent))")
-        rests = ((3, "300.0 × 397.0\u00a0mm"), (7, "400.0 × 497.0\u00a0mm"), (9, "494.0 × 750.0\u00a0mm"))
+        pieces = it.value("[...document.querySelectorAll('#jobPieces tbody tr')].map(e => [...e.cells].map(e => e.textContent))")
+        rests = ((3, "300.0\u00a0×\u00a0397.0\u00a0mm"), (7, "400.0\u00a0×\u00a0497.0\u00a0mm"), (9, "494.0\u00a0×\u00a0750.0\u00a0mm"))
         kept = [["rest", size, f"kept: label it {job}/{node}"] for node, size in rests]
-        ordered = [["1 ×", "400.0 × 300.0\u00a0mm", f"order A-1, line {line} (no. {line})"] for line in (2, 3)]
+        ordered = [["1 ×", "400.0\u00a0×\u00a0300.0\u00a0mm", f"order A-1, line {line} (no. {line})"] for line in (2, 3)]
         trial.equal(pieces, [*ordered, *kept])
         paper = it.value("[...document.querySelectorAll('#jobSheet p')].map(e => e.textContent)")
         trial.equal(
             paper,
             [
-                "☐ 1 across 300.0 mm of 1200.0 × 800.0\u00a0mm",
-                f"☐ 2 along 400.0 mm of 300.0 × 800.0\u00a0mm → A-1/2 ↻, keep {job}/3",
-                "☐ 3 across 400.0 mm of 897.0 × 800.0\u00a0mm",
-                f"☐ 4 along 300.0 mm of 400.0 × 800.0\u00a0mm → A-1/3, keep {job}/7",
-                f"☐ 5 along 750.0 mm of 494.0 × 800.0\u00a0mm → keep {job}/9, scrap",
+                "☐ 1 across 300.0 mm of 1200.0\u00a0×\u00a0800.0\u00a0mm",
+                f"☐ 2 along 400.0 mm of 300.0\u00a0×\u00a0800.0\u00a0mm → A-1/2 ↻, keep {job}/3",
+                "☐ 3 across 400.0 mm of 897.0\u00a0×\u00a0800.0\u00a0mm",
+                f"☐ 4 along 300.0 mm of 400.0\u00a0×\u00a0800.0\u00a0mm → A-1/3, keep {job}/7",
+                f"☐ 5 along 750.0 mm of 494.0\u00a0×\u00a0800.0\u00a0mm → keep {job}/9, scrap",
             ],
         )
         it.click(by_id("done"))
@@ -514,7 +514,7 @@ def of_one_material(trial):
         trial.equal(printed("STEEL"), ([steel], rows))
         tickets, rows = printed("GLASS")
         trial.equal([ticket[1].strip() for ticket in tickets], [f"Job {jobs[1]} (2/0), 2 cuts  ☐"])
-        trial.equal(rows, [["B-1", "line 1", "400.0 × 300.0\u00a0mm", "piece 1 of 9", f"job {jobs[1]}"]])
+        trial.equal(rows, [["B-1", "line 1", "400.0\u00a0×\u00a0300.0\u00a0mm", "piece 1 of 9", f"job {jobs[1]}"]])
         trial.equal(it.faults, [])
 
 

@@ -12,7 +12,7 @@ returns-clause-given g c clean whole count next entered stored part =
     let seen = c.in_ok-new.ensures.given (done.ensures.clean_disk done_clean) part.content part.holds in
     let mid : HoldsPart json_texts g.F.Book whole c.is_new.new.anew count =
     record { content = part.content; given = part.given; many = part.many; within = part.within; holds = seen.0 } in
-    let h = done.ensures.step done_clean part.content seen.0 part.given.sound in
+    let h = done.ensures.step done_clean part.content seen.0 part.given.well_formed in
     IfOk-weaker c.written.result _ _
     (λ found there same.
     given_next json_texts g.F.Book whole c.is_new.new.anew done.new.book c.written.new.anew c.args.message.now done.result.0 count c.args.number mid h done.ensures.message (seen.1 c.if-not-new.false)

@@ -10,7 +10,7 @@ use Rattle.shop_desk.proofs.decided.add_order.Goals as goal
 
 pub returns-clause-decision : goal.returns-clause-decision
 returns-clause-decision g c =
-    λ clean_disk m held sound.
+    λ clean_disk m held well_formed.
     let before_first = c.next_demand.ensures.keeps.clean_disk clean_disk in
     let before_lines = c.found_lines.ensures.keeps.clean_disk before_first in
     let at_lines = c.order.ensures.keeps.stays before_lines m held in

@@ -28,7 +28,7 @@ module _ (m : Content) (demand wanted : ℕ) (row : Option Demand) (is_row : row
 
 pub returns-clause-decision : goal.returns-clause-decision
 returns-clause-decision g c =
-    λ clean_disk m held sound.
+    λ clean_disk m held well_formed.
     let is_row = c.in_ok-row.ensures.row clean_disk m held in
     decided_by json_texts m (Amend c.args.demand c.args.wanted) unread refl (g.B.Book.failed c.args.book.now) (g.B.Book.failed c.demand.new.self) _ (same_amend m c.args.demand c.args.wanted c.in_ok-row.row is_row)
     (Amended m c.args.demand c.args.wanted c.in_ok-row.row is_row)

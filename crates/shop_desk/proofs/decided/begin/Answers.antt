@@ -9,7 +9,7 @@ use Rattle.shop_desk.proofs.decided.begin.Goals as goal
 
 pub returns-clause-decision : goal.returns-clause-decision
 returns-clause-decision g c =
-    λ clean_disk m held sound.
+    λ clean_disk m held well_formed.
     let before = c.begun.ensures.keeps.clean_disk clean_disk in
     let at = c.job.ensures.keeps.stays before m held in
     let is_job = c.in_ok-job.ensures.row before m held in

@@ -10,7 +10,7 @@ use Rattle.shop_desk.proofs.decided.break_off.Goals as goal
 
 pub returns-clause-decision : goal.returns-clause-decision
 returns-clause-decision g c =
-    λ clean_disk m held sound.
+    λ clean_disk m held well_formed.
     let is = c.in_ok-job.field-0 in
     let rows = c.in_ok-job.ensures.rows clean_disk m held in
     let found : AreDemandsFound (demand_at m) c.deref.result.now = rw c.deref.ensures.value rows.demands in

@@ -13,7 +13,7 @@ use Rattle.shop_desk.proofs.decided.extend.Goals as goal
 
 pub returns-clause-decision : goal.returns-clause-decision
 returns-clause-decision g c =
-    λ clean_disk m held sound.
+    λ clean_disk m held well_formed.
     let before_first = c.next_demand.ensures.keeps.clean_disk clean_disk in
     let before_found = c.found_lines.ensures.keeps.clean_disk before_first in
     let before_there = c.lines_of.ensures.keeps.clean_disk before_found in
@@ -24,7 +24,7 @@ returns-clause-decision g c =
     let is_there = c.in_ok-there.ensures.rows before_found m at_there in
     let is_lines = c.in_ok-found.ensures.lines ∙ c.as_slice.ensures in
     let is_first = c.in_ok-first.ensures.number clean_disk m at_first in
-    let own : (n : ℕ) (d : Demand) → demand_at m n ≡ Some d → d.number ≡ n = λ n d is. (sound.demands n d is).numbered in
+    let own : (n : ℕ) (d : Demand) → demand_at m n ≡ Some d → d.number ≡ n = λ n d is. (well_formed.demands n d is).numbered in
     let lines : lines_in c.deref.result.now ≡ c.args.lines.now = rw c.deref.ensures.value is_lines in
     let found : AreMaterialsFound (material_at m) c.deref.result.now = rw c.deref.ensures.value (c.in_ok-found.ensures.found before_first m at_found) in
     let count = same_count m own c.args.order c.in_ok-there.there is_there in

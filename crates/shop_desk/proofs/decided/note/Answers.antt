@@ -9,7 +9,7 @@ use Rattle.shop_desk.proofs.decided.note.Goals as goal
 
 pub returns-clause-decision : goal.returns-clause-decision
 returns-clause-decision g c =
-    λ clean_disk m held sound.
+    λ clean_disk m held well_formed.
     let is_known = c.in_ok-known.ensures.row clean_disk m held in
     let is_text = c.in_ok-said.ensures in
     decided_by json_texts m (Note c.args.order c.args.due c.args.text.now) unread refl (g.B.Book.failed c.args.book.now) (g.B.Book.failed c.order.new.self) _

@@ -13,7 +13,7 @@ use Rattle.shop_desk.proofs.decided.reserve.Goals as goal
 
 pub returns-clause-decision : goal.returns-clause-decision
 returns-clause-decision g c =
-    λ clean_disk m held sound.
+    λ clean_disk m held well_formed.
     let before_act = c.next_act.ensures.keeps.clean_disk clean_disk in
     let before_leaves = c.leaves_for.ensures.keeps.clean_disk before_act in
     let before_material = c.material_for.ensures.keeps.clean_disk before_leaves in

@@ -9,7 +9,7 @@ use Rattle.shop_desk.proofs.decided.scrap.Goals as goal
 
 pub returns-clause-decision : goal.returns-clause-decision
 returns-clause-decision g c =
-    λ clean_disk m held sound.
+    λ clean_disk m held well_formed.
     let before_totals = c.totals_for.ensures.keeps.clean_disk clean_disk in
     state_decided m c.args.part c.in_ok-row.row c.in_ok-totals.totals (c.in_ok-row.ensures.row before_totals m held)
     (c.in_ok-totals.ensures.row clean_disk m (c.part.ensures.keeps.stays before_totals m held)) json_texts (Scrap c.args.part) refl scrap_refusal state.Scrap reply.Scrap refl (λ change it. it)

@@ -9,7 +9,7 @@ use Rattle.shop_desk.proofs.decided.undo.Goals as goal
 
 pub returns-clause-decision : goal.returns-clause-decision
 returns-clause-decision g c =
-    λ clean_disk m held sound.
+    λ clean_disk m held well_formed.
     let before_left = c.left_by_job.ensures.keeps.clean_disk clean_disk in
     let before_halt = c.halt_of_job.ensures.keeps.clean_disk before_left in
     let at_halt = c.job_rows.ensures.keeps.stays before_halt m held in

@@ -10,7 +10,7 @@ one_some a b e = cc
 
 pub returns-in-Ok-Some : goal.returns-in-Ok-Some
 returns-in-Ok-Some c =
-    λ message text pair kept.
+    λ message text message_id kept.
     let back = c.in-Ok-Some.ensures.back kept.answer kept.keeps.made (c.as_str.ensures.value ∙ kept.keeps.reply) in
     let same : kept.answer ≡ c.in-Ok-Some.reply = one_some kept.answer c.in-Ok-Some.reply (sym back ∙ c.in-Ok-Some.field-0-is) in
     again_kept json_texts c.args.kept.now message c.in-Ok-Some.reply

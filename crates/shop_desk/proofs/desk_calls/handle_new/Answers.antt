@@ -3,7 +3,7 @@ use Rattle.std.proofs.Common.{◌≡◌, refl, sym, ap, subst, inl, ◌∙◌}
 use Rattle.shop_records.specs.Messages.{refusal_in}
 use Rattle.shop_records.specs.Content.{entry_count, last_time, changed}
 use Rattle.shop_machine.specs.Machine.{entering, keeping_at}
-use Rattle.shop_records.specs.Soundness.{Fits}
+use Rattle.shop_records.specs.WellFormed.{Fits}
 use Rattle.shop_records.specs.declared.changes.Change.{Change}
 use Rattle.shop_forms.specs.Forms.{json_texts}
 use Rattle.shop_records.specs.declared.refusals.Refusal.TheVariants.{BadMessage}
@@ -16,31 +16,31 @@ use Rattle.shop_desk.proofs.desk_calls.handle_new.Goals as goal
 
 pub returns-in-Err-clause-step : goal.returns-in-Err-clause-step
 returns-in-Err-clause-step g c =
-    λ _ is_message clean_disk m held sound none.
+    λ _ is_message clean_disk m held well_formed none.
     decided json_texts g.B.Book.stands c.args.at (g.B.Book.may_leave c.args.book.now) (g.B.Book.may_leave c.decide.new.book) (g.B.Book.holds c.decide.new.book)
-    m c.args.message.now c.in-Err.refusal (c.in-Err.ensures.decision clean_disk m held sound).decision none sound (c.decide.ensures.keeps.stays clean_disk m held) (c.decide.ensures.keeps.crash clean_disk m held)
+    m c.args.message.now c.in-Err.refusal (c.in-Err.ensures.decision clean_disk m held well_formed).decision none well_formed (c.decide.ensures.keeps.stays clean_disk m held) (c.decide.ensures.keeps.crash clean_disk m held)
 
 pub returns-in_default-clause-step : goal.returns-in_default-clause-step
 returns-in_default-clause-step g c =
-    λ _ is_message clean_disk m held sound none.
+    λ _ is_message clean_disk m held well_formed none.
     faulted json_texts g.B.Book.stands c.args.at (g.B.Book.may_leave c.args.book.now) (g.B.Book.may_leave c.decide.new.book) (g.B.Book.holds c.decide.new.book)
-    m c.args.message.now _ (λ n s. n refl) sound (c.decide.ensures.keeps.stays clean_disk m held) (c.decide.ensures.keeps.crash clean_disk m held)
+    m c.args.message.now _ (λ n s. n refl) well_formed (c.decide.ensures.keeps.stays clean_disk m held) (c.decide.ensures.keeps.crash clean_disk m held)
 
 pub returns-in_default-keeping_message-clause-step : goal.returns-in_default-keeping_message-clause-step
 returns-in_default-keeping_message-clause-step g c =
-    λ _ is_message clean_disk m held sound none.
+    λ _ is_message clean_disk m held well_formed none.
     faulted json_texts g.B.Book.stands c.args.at (g.B.Book.may_leave c.args.book.now) (g.B.Book.may_leave c.decide.new.book) (g.B.Book.holds c.decide.new.book)
-    m c.args.message.now _ (λ n s. n refl) sound (c.decide.ensures.keeps.stays clean_disk m held) (c.decide.ensures.keeps.crash clean_disk m held)
+    m c.args.message.now _ (λ n s. n refl) well_formed (c.decide.ensures.keeps.stays clean_disk m held) (c.decide.ensures.keeps.crash clean_disk m held)
 
 -- the last entry wasn't reported, or no number is left
 pub returns-in-Err-entered-clause-step : goal.returns-in-Err-entered-clause-step
 returns-in-Err-entered-clause-step g c =
-    λ _ is_message clean_disk m held sound none.
+    λ _ is_message clean_disk m held well_formed none.
     let keeps = c.entered.ensures.keeps in
     let before = keeps.clean_disk clean_disk in
     let kept = c.decide.ensures.keeps.stays before m held in
     faulted json_texts g.B.Book.stands c.args.at (g.B.Book.may_leave c.args.book.now) (g.B.Book.may_leave c.entered.new.book) (g.B.Book.holds c.entered.new.book)
-    m c.args.message.now c.in-Err-entered.fault (no_other json_texts c.in-Err-entered.fault c.in-Err-entered.ensures.fault) sound (keeps.stays clean_disk m kept)
+    m c.args.message.now c.in-Err-entered.fault (no_other json_texts c.in-Err-entered.fault c.in-Err-entered.ensures.fault) well_formed (keeps.stays clean_disk m kept)
     (λ left it. c.decide.ensures.keeps.crash before m held left (keeps.crash clean_disk m kept left it))
 
 pub returns-in-Err-entered-clause-failures : goal.returns-in-Err-entered-clause-failures
@@ -51,7 +51,7 @@ returns-in-Err-entered-clause-failures g c =
 
 pub returns-in-Err-entered-clause-store_fault : goal.returns-in-Err-entered-clause-store_fault
 returns-in-Err-entered-clause-store_fault g c =
-    λ is_message clean_disk m held sound is.
+    λ is_message clean_disk m held well_formed is.
     let first = g.B.Book.failed c.args.book.now in
     let decided = g.B.Book.failed c.decide.new.book in
     let last = g.B.Book.failed c.entered.new.book in
@@ -66,24 +66,24 @@ returns-in-Err-entered-clause-refused g c =
 -- the change that is committed keeps the message with both texts, and writes its entry
 pub returns-in-Ok-commit-clause-step : goal.returns-in-Ok-commit-clause-step
 returns-in-Ok-commit-clause-step g c =
-    λ text is_message clean_disk m held sound none.
+    λ text is_message clean_disk m held well_formed none.
     let entered = c.commit.ensures.clean_disk clean_disk in
     let keeps = c.entered.ensures.keeps in
     let before = keeps.clean_disk entered in
     let decided = c.decide.ensures.keeps.stays before m held in
     let kept = keeps.stays entered m decided in
-    let decision = (c.in-Ok.ensures.decision before m held sound).decision in
+    let decision = (c.in-Ok.ensures.decision before m held well_formed).decision in
     let change = c.in-Ok-entered.change in
     let made = c.in-Ok.change in
     let is : change ≡ to_commit_at json_texts c.args.at m c.args.message.now made c.args.text c.in-Ok-reply_text.reported (Refused BadMessage) =
     c.in-Ok-entered.ensures.entered entered m decided ∙ ap (λ (x : Change). entering (entry_count m) (last_time m) c.args.at c.args.message.now x) c.in-Ok-keeping_message.ensures.change in
     let row : changed m change ≡ changed m (keeping_at json_texts c.args.at m c.args.message.now made) =
     ap (changed m) is ∙ row_committed json_texts c.args.at m c.args.message.now made c.args.text c.in-Ok-reply_text.reported (Refused BadMessage) text c.in-Ok-reply_text.ensures in
-    let fits : Fits m change = subst (Fits m) (sym is) (fits_committed json_texts c.args.at m c.args.message.now decision.0 made c.args.text c.in-Ok-reply_text.reported (Refused BadMessage) c.in-Ok-reply_text.ensures none sound decision.1 decision.2 decision.3) in
+    let fits : Fits m change = subst (Fits m) (sym is) (fits_committed json_texts c.args.at m c.args.message.now decision.0 made c.args.text c.in-Ok-reply_text.reported (Refused BadMessage) c.in-Ok-reply_text.ensures none well_formed decision.1 decision.2 decision.3) in
     subst (λ answer. IsHandledAt json_texts g.B.Book.stands c.args.at (g.B.Book.may_leave c.args.book.now) (g.B.Book.may_leave c.commit.new.self) (g.B.Book.holds c.commit.new.self) m c.args.message.now answer)
     (sym c.in-Ok-keeping_message.ensures.reply)
     (committed json_texts g.B.Book.stands c.args.at (g.B.Book.may_leave c.args.book.now) (g.B.Book.may_leave c.entered.new.book) (g.B.Book.may_leave c.commit.new.self) (g.B.Book.holds c.commit.new.self)
-    m c.args.message.now decision.0 change made is_message none sound decision.1 decision.2 decision.3 row (c.in-Ok-commit.ensures.ok clean_disk m kept fits) (c.in-Ok-commit.ensures.lasts clean_disk m kept fits))
+    m c.args.message.now decision.0 change made is_message none well_formed decision.1 decision.2 decision.3 row (c.in-Ok-commit.ensures.ok clean_disk m kept fits) (c.in-Ok-commit.ensures.lasts clean_disk m kept fits))
 
 pub returns-in-Ok-commit-clause-failures : goal.returns-in-Ok-commit-clause-failures
 returns-in-Ok-commit-clause-failures g c =
@@ -93,31 +93,31 @@ returns-in-Ok-commit-clause-failures g c =
 
 pub returns-in-Err-commit-clause-step : goal.returns-in-Err-commit-clause-step
 returns-in-Err-commit-clause-step g c =
-    λ text is_message clean_disk m held sound none.
+    λ text is_message clean_disk m held well_formed none.
     let entered = c.commit.ensures.clean_disk clean_disk in
     let keeps = c.entered.ensures.keeps in
     let before = keeps.clean_disk entered in
     let decided = c.decide.ensures.keeps.stays before m held in
     let kept = keeps.stays entered m decided in
-    let decision = (c.in-Ok.ensures.decision before m held sound).decision in
+    let decision = (c.in-Ok.ensures.decision before m held well_formed).decision in
     let change = c.in-Ok-entered.change in
     let made = c.in-Ok.change in
     let is : change ≡ to_commit_at json_texts c.args.at m c.args.message.now made c.args.text c.in-Ok-reply_text.reported (Refused BadMessage) =
     c.in-Ok-entered.ensures.entered entered m decided ∙ ap (λ (x : Change). entering (entry_count m) (last_time m) c.args.at c.args.message.now x) c.in-Ok-keeping_message.ensures.change in
     let row : changed m change ≡ changed m (keeping_at json_texts c.args.at m c.args.message.now made) =
     ap (changed m) is ∙ row_committed json_texts c.args.at m c.args.message.now made c.args.text c.in-Ok-reply_text.reported (Refused BadMessage) text c.in-Ok-reply_text.ensures in
-    let fits : Fits m change = subst (Fits m) (sym is) (fits_committed json_texts c.args.at m c.args.message.now decision.0 made c.args.text c.in-Ok-reply_text.reported (Refused BadMessage) c.in-Ok-reply_text.ensures none sound decision.1 decision.2 decision.3) in
+    let fits : Fits m change = subst (Fits m) (sym is) (fits_committed json_texts c.args.at m c.args.message.now decision.0 made c.args.text c.in-Ok-reply_text.reported (Refused BadMessage) c.in-Ok-reply_text.ensures none well_formed decision.1 decision.2 decision.3) in
     failed json_texts g.B.Book.stands c.args.at (g.B.Book.may_leave c.args.book.now) (g.B.Book.may_leave c.entered.new.book) (g.B.Book.may_leave c.commit.new.self) (g.B.Book.holds c.commit.new.self)
-    m c.args.message.now decision.0 change made is_message none sound decision.1 decision.2 decision.3 row c.from.result (is_fault json_texts c.from.result c.in-Err-commit.fault c.from.ensures)
+    m c.args.message.now decision.0 change made is_message none well_formed decision.1 decision.2 decision.3 row c.from.result (is_fault json_texts c.from.result c.in-Err-commit.fault c.from.ensures)
     (c.in-Err-commit.ensures.err clean_disk m kept) (λ left it. c.decide.ensures.keeps.crash before m held left (keeps.crash entered m decided left it)) (c.commit.ensures.crash clean_disk m kept fits)
 
 pub returns-in-Err-clause-store_fault : goal.returns-in-Err-clause-store_fault
 returns-in-Err-clause-store_fault g c =
-    λ is_message clean_disk m held sound is. justified json_texts m c.args.message.now (g.B.Book.failed c.args.book.now) (g.B.Book.failed c.decide.new.book) c.in-Err.refusal sound (c.in-Err.ensures.decision clean_disk m held sound).store_fault_justified is
+    λ is_message clean_disk m held well_formed is. justified json_texts m c.args.message.now (g.B.Book.failed c.args.book.now) (g.B.Book.failed c.decide.new.book) c.in-Err.refusal well_formed (c.in-Err.ensures.decision clean_disk m held well_formed).store_fault_justified is
 
 pub returns-in-Err-commit-clause-store_fault : goal.returns-in-Err-commit-clause-store_fault
 returns-in-Err-commit-clause-store_fault g c =
-    λ is_message clean_disk m held sound is.
+    λ is_message clean_disk m held well_formed is.
     let first = g.B.Book.failed c.args.book.now in
     let decided = g.B.Book.failed c.decide.new.book in
     let entered = g.B.Book.failed c.entered.new.book in

@@ -1,5 +1,5 @@
-use Rattle.shop_machine.proofs.Sound.{fits_entered, sound_entered}
+use Rattle.shop_machine.proofs.StaysWellFormed.{fits_entered, well_formed_entered}
 use Rattle.shop_machine.proofs.laws.entered_changes_fit.Goals as goal
 
 pub returns : goal.returns
-returns c = record { fits = fits_entered; sound = sound_entered }
+returns c = record { fits = fits_entered; well_formed = well_formed_entered }

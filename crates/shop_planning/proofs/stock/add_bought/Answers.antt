@@ -19,12 +19,12 @@ loop-one-preserved c =
           record {
             items = ap (λ l. l ++ filter_map (bought_size kind) (drop (i + 1) buy)) items
                 ∙ some_next (bought_size kind) buy i _ within w.in-Some.size c.loop-one.sizes.items all w.in-Some.ensures.value c.loop-one.invariant.items;
-            sound = λ before.
-                subst (All (IsStockSize kind)) (sym items) (All-push (IsStockSize kind) c.loop-one.sizes.items w.in-Some.size (c.loop-one.invariant.sound before) w.in-Some.ensures.sound);
+            well_formed = λ before.
+                subst (All (IsStockSize kind)) (sym items) (All-push (IsStockSize kind) c.loop-one.sizes.items w.in-Some.size (c.loop-one.invariant.well_formed before) w.in-Some.ensures.well_formed);
           }
       | in-None w ↦
           rw w.sizes-is (record {
             items = none_next (bought_size kind) buy i _ within c.loop-one.sizes.items all w.in-None.ensures.value c.loop-one.invariant.items;
-            sound = c.loop-one.invariant.sound;
+            well_formed = c.loop-one.invariant.well_formed;
           })
     ]

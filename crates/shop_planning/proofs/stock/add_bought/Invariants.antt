@@ -7,5 +7,5 @@ abbrev pub invariant-loop-one : goal.invariant-loop-one
 invariant-loop-one l =
     record {
       items : l.sizes.items ++ filter_map (bought_size l.kind) (drop l.one-index l.buy) ≡ l.initial.sizes.items ++ filter_map (bought_size l.kind) l.buy;
-      sound : All (IsStockSize l.kind) l.initial.sizes.items → All (IsStockSize l.kind) l.sizes.items;
+      well_formed : All (IsStockSize l.kind) l.initial.sizes.items → All (IsStockSize l.kind) l.sizes.items;
     }

@@ -8,5 +8,5 @@ invariant-loop-row l =
     record {
       items : l.parts.items ++ parts_from l.kind l.remnant (length l.parts.items) (drop l.row-index l.found) ≡ stock_parts l.kind l.remnant l.found;
       few : length l.parts.items ≤ l.row-index;
-      sound : All (IsStockPart l.kind) l.parts.items;
+      well_formed : All (IsStockPart l.kind) l.parts.items;
     }

@@ -13,7 +13,7 @@ pub returns-clause-put : goal.returns-clause-put
 returns-clause-put g c b fresh =
     let old = state g.S.Store c.args.tx.now.conn.now in
     let new = state g.S.Store c.run.new.tx.conn.now in
-    makes put_kept_text (kept_row (c.args.message.now.pair, c.args.message.now.kept)) old new b (with_kept c.args.message.now b) c.run.result (rw (c.params-to_sql.ensures, c.params-to_sql-2.ensures, c.params-to_sql-3.ensures, c.params-to_sql-4.ensures, c.as_str.ensures.value, c.as_str-2.ensures.value) at c.run.ensures.has_run)
+    makes put_kept_text (kept_row (c.args.message.now.message_id, c.args.message.now.kept)) old new b (with_kept c.args.message.now b) c.run.result (rw (c.params-to_sql.ensures, c.params-to_sql-2.ensures, c.params-to_sql-3.ensures, c.params-to_sql-4.ensures, c.as_str.ensures.value, c.as_str-2.ensures.value) at c.run.ensures.has_run)
     (λ count has ran. puts_kept old new count b has c.args.message.now fresh ran)
 
 pub returns-clause-others : goal.returns-clause-others

@@ -3,7 +3,7 @@ use Rattle.sqlite.specs.State.{State, HasCleanDisk, Survives}
 use Rattle.sqlite.specs.Held.{state}
 use Rattle.sqlite.specs.Effect.{Database}
 use Rattle.shop_records.specs.Content.{Content, changed}
-use Rattle.shop_records.specs.Soundness.{Fits}
+use Rattle.shop_records.specs.WellFormed.{Fits}
 use Rattle.shop_statements.specs.Beside.{Spares}
 use Rattle.shop_statements.specs.Layout.{our_trees}
 use Rattle.shop_statements.specs.Shown.{Ran, Makes, Within}

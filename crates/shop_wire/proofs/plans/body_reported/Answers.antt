@@ -4,9 +4,9 @@ use Rattle.shop_wire.proofs.Acted.{plans_served}
 use Rattle.shop_wire.proofs.plans.body_reported.Goals as goal
 
 pub returns-clause-served : goal.returns-clause-served
-returns-clause-served g c = λ clean_disk m held sound.
+returns-clause-served g c = λ clean_disk m held well_formed.
     let asked = body_plans c.args.body.now in
-    plans_served g.B.Book c.args.book.now c.plans_reported.new.book m (c.plans_reported.ensures.keeps.stays clean_disk m held) sound (c.plans_reported.ensures.keeps.crash clean_disk m held) c.args.body.now (response_of c.plans_reported.result)
+    plans_served g.B.Book c.args.book.now c.plans_reported.new.book m (c.plans_reported.ensures.keeps.stays clean_disk m held) well_formed (c.plans_reported.ensures.keeps.crash clean_disk m held) c.args.body.now (response_of c.plans_reported.result)
     (c.plans_reported.ensures.answer asked c.plans_in.ensures clean_disk m held) (c.plans_reported.ensures.store_fault asked c.plans_in.ensures)
 
 pub returns-clause-stays : goal.returns-clause-stays

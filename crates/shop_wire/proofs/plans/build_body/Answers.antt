@@ -9,4 +9,4 @@ pub returns-in-Ok-clause-refused : goal.returns-in-Ok-clause-refused
 returns-in-Ok-clause-refused g c = posed_refused g.B.Book c.args.book.now c.build_instance.new.book c.args.body.now c.in-Ok.query c.build_instance.result c.in-Ok.ensures c.build_instance.ensures.refused c.build_instance.ensures.keeps
 
 pub returns-in-Err-clause-refused : goal.returns-in-Err-clause-refused
-returns-in-Err-clause-refused g c = λ clean_disk m held sound. unread_served g.B.Book c.args.book.now c.args.book.now c.args.body.now c.in-Err.refusal m c.in-Err.ensures held sound (λ left it. it)
+returns-in-Err-clause-refused g c = λ clean_disk m held well_formed. unread_served g.B.Book c.args.book.now c.args.book.now c.args.body.now c.in-Err.refusal m c.in-Err.ensures held well_formed (λ left it. it)

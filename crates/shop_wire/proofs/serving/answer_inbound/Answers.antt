@@ -19,7 +19,7 @@ returns-in-Faulty-clause-err g c =
     c.answer_fault.result c.answer_fault.ensures.err
 
 pub returns-in-Silence-clause-timed : goal.returns-in-Silence-clause-timed
-returns-in-Silence-clause-timed g c = subst (HandlesInputAt g.B.Book c.args.book.now c.args.book.now c.args.at) (sym (ap parse_of c.in-Silence.is)) (λ clean_disk m held sound. tt)
+returns-in-Silence-clause-timed g c = subst (HandlesInputAt g.B.Book c.args.book.now c.args.book.now c.args.at) (sym (ap parse_of c.in-Silence.is)) (λ clean_disk m held well_formed. tt)
 
 pub returns-in-Faulty-clause-timed : goal.returns-in-Faulty-clause-timed
-returns-in-Faulty-clause-timed g c = subst (HandlesInputAt g.B.Book c.args.book.now c.args.book.now c.args.at) (sym (ap parse_of c.in-Faulty.is)) (λ clean_disk m held sound. tt)
+returns-in-Faulty-clause-timed g c = subst (HandlesInputAt g.B.Book c.args.book.now c.args.book.now c.args.at) (sym (ap parse_of c.in-Faulty.is)) (λ clean_disk m held well_formed. tt)

@@ -2,9 +2,9 @@ use Rattle.std.proofs.Common.{rules, ◌≡◌, List, sym, ap, subst, ◌∙◌}
 use Rattle.std.specs.Prelude.{IsTrue}
 use Rattle.std.specs.FinMap.{from_sorted, is_sorted}
 use Rattle.cut_measure.specs.Codes.{code_cmp}
-use Rattle.shop_records.specs.Content.{pair_cmp}
+use Rattle.shop_records.specs.Content.{message_id_cmp}
 use Rattle.shop_records.specs.declared.imports.ImportRow.{ImportRow}
-use Rattle.shop_records.specs.declared.texts.Pair.{Pair}
+use Rattle.shop_records.specs.declared.texts.MessageId.{MessageId}
 use Rattle.shop_records.specs.declared.journal.Entry.{Entry}
 use Rattle.shop_records.specs.declared.records.JobHalt.{JobHalt}
 use Rattle.std.specs.Ordering.{nat_cmp}
@@ -20,7 +20,7 @@ invariant_of-result c =
     let old = c.args.self.now in
     let entries : c.in_ok-entries.entries.items ≡ old.entries.items = search rules in
     record {
-      kept_rise = subst (λ (es : List (Pair × Kept)). IsTrue (is_sorted pair_cmp es)) (sym c.in_ok-kept.ensures) old.kept_rise;
+      kept_rise = subst (λ (es : List (MessageId × Kept)). IsTrue (is_sorted message_id_cmp es)) (sym c.in_ok-kept.ensures) old.kept_rise;
       imports_rise = subst (λ (rows : List ImportRow). IsTrue (rise import_key code_cmp rows)) (sym c.in_ok-imports.ensures) old.imports_rise;
       halts_rise = subst (λ (rows : List JobHalt). IsTrue (rise halt_key nat_cmp rows)) (sym (c.in_ok-halts.ensures ∙ c.deref.ensures.value)) old.halts_rise;
       entries_rise = subst (λ (rows : List Entry). IsTrue (rise entry_key nat_cmp rows)) (sym entries) old.entries_rise;
@@ -28,7 +28,7 @@ invariant_of-result c =
     }
 
 pub returns-clause-kept : goal.returns-clause-kept
-returns-clause-kept c = ap (λ (es : List (Pair × Kept)). from_sorted {R = pair_cmp} es) c.in_ok-kept.ensures
+returns-clause-kept c = ap (λ (es : List (MessageId × Kept)). from_sorted {R = message_id_cmp} es) c.in_ok-kept.ensures
 
 pub returns-clause-imports : goal.returns-clause-imports
 returns-clause-imports c = ap (map_of import_key code_cmp) c.in_ok-imports.ensures

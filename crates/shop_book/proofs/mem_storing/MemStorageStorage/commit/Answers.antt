@@ -6,12 +6,12 @@ use Rattle.std.specs.Cmp.{nat_cmp_total}
 use Rattle.std.specs.Ordering.{nat_cmp}
 use Rattle.std.specs.Cmp.Lexicographic.{nat_list_cmp_total}
 use Rattle.cut_measure.specs.Codes.{code_cmp}
-use Rattle.shop_records.specs.Content.{pair_cmp, with_entry, with_halt, with_kept, with_import}
+use Rattle.shop_records.specs.Content.{message_id_cmp, with_entry, with_halt, with_kept, with_import}
 use Rattle.shop_records.specs.declared.imports.ImportRow.{ImportRow}
 use Rattle.shop_records.specs.declared.journal.Entry.{Entry}
 use Rattle.shop_records.specs.declared.records.JobHalt.{JobHalt}
 use Rattle.shop_records.specs.declared.texts.Kept.{Kept}
-use Rattle.shop_records.specs.declared.texts.Pair.{Pair}
+use Rattle.shop_records.specs.declared.texts.MessageId.{MessageId}
 use Rattle.shop_rows.specs.Keys.{entry_key, halt_key, import_key}
 use Rattle.shop_rows.specs.Rows.{map_of, rise}
 use Rattle.shop_book.proofs.Held.{entry_after, halt_after, import_after, kept_after, kept_sorted, map_after}
@@ -87,7 +87,7 @@ pub invariant_of-self-in-Break-branch-7 : goal.invariant_of-self-in-Break-branch
 invariant_of-self-in-Break-branch-7 c =
     let old = c.args.self.now in
     record {
-      kept_rise = subst (λ (es : List (Pair × Kept)). IsTrue (is_sorted pair_cmp es)) (sym c.in_err-keep_text.ensures.err) old.kept_rise;
+      kept_rise = subst (λ (es : List (MessageId × Kept)). IsTrue (is_sorted message_id_cmp es)) (sym c.in_err-keep_text.ensures.err) old.kept_rise;
       imports_rise = subst (λ (rows : List ImportRow). IsTrue (rise import_key code_cmp rows)) (sym c.reserve_rows-2.ensures.items) old.imports_rise;
       halts_rise = subst (λ (rows : List JobHalt). IsTrue (rise halt_key nat_cmp rows)) (sym c.reserve_rows.ensures.items) old.halts_rise;
       entries_rise = subst (λ (rows : List Entry). IsTrue (rise entry_key nat_cmp rows)) (sym c.reserve_rows-3.ensures.items) old.entries_rise;

@@ -1,4 +1,4 @@
--- Every history gives a sound content, and what is accepted on a sound content fits it.
+-- Every history gives a well-formed content, and what is accepted on a well-formed content fits it.
 use Rattle.std.proofs.Common.{◌≡◌, ◌≢◌, ◌+◌, ◌≤◌, List, [], ◌∷◌, map, refl, sym, ap, subst, ◌∙◌, arith, inl, inr, length, ℕ, true, false}
 use Rattle.std.proofs.Math.Nat.{le-max_right}
 use Rattle.std.specs.Prelude.{Option, Some, None, length, IsSome, IfSome, ◌⊎◌, max}
@@ -25,21 +25,21 @@ use Rattle.shop_records.specs.declared.messages.Command.TheVariants.{AddMaterial
 use Rattle.shop_records.specs.declared.messages.Message.{Message}
 use Rattle.shop_records.specs.declared.messages.Reply.TheVariants as reply
 use Rattle.shop_records.specs.declared.refusals.Refusal.TheVariants.{StoreFault}
-use Rattle.shop_records.specs.declared.texts.Pair.{Pair}
+use Rattle.shop_records.specs.declared.texts.MessageId.{MessageId}
 use Rattle.shop_records.specs.declared.texts.Kept.{Kept}
 use Rattle.shop_records.specs.declared.journal.Entry.{Entry as EntryRow}
-use Rattle.shop_records.specs.Messages.{Texts, IsMessage, IsMade, pair_of, IsNumber, IsCommand}
+use Rattle.shop_records.specs.Messages.{Texts, IsMessage, IsMade, message_id_of, IsNumber, IsCommand}
 use Rattle.shop_records.specs.Readings.{Reading, plan_in}
-use Rattle.shop_records.specs.Content.{Content, fresh, pair_cmp, material_at, totals_in, AddsUp, has_order, job_at, begun_at, note_at, demands_of, of_found, kept_at, import_at, with_job, with_begun, with_note, with_order, with_import, with_entry, entry_count, last_time, changed, part_at, demand_at, material_of, totals_of, totals_for}
+use Rattle.shop_records.specs.Content.{Content, fresh, message_id_cmp, material_at, totals_in, AddsUp, has_order, job_at, begun_at, note_at, demands_of, of_found, kept_at, import_at, with_job, with_begun, with_note, with_order, with_import, with_entry, entry_count, last_time, changed, part_at, demand_at, material_of, totals_of, totals_for}
 use Rattle.shop_machine.specs.Adding.{material_change}
 use Rattle.shop_machine.specs.Machine.{Reads, refusal_of, Makes, entry_of, keeping, keeping_at, Effect, effects}
 use Rattle.shop_machine.specs.History.{Entry, Gives, MayForget}
 use Rattle.shop_records.specs.Notes.{is_note}
-use Rattle.shop_records.specs.Soundness.{IsSound, Fits, IsKept, IsImport, IsBegun, IsNoted}
+use Rattle.shop_records.specs.WellFormed.{IsWellFormed, Fits, IsKept, IsImport, IsBegun, IsNoted}
 use Rattle.shop_records.proofs.Basics.{codes_total, codes_same, key_cases, get_same, get_other}
 use Rattle.shop_machine.proofs.ImportingStep.{IsAccepted, accepted, import_stock, import_fits, import_reported, import_order, import_agrees}
 use Rattle.shop_records.proofs.LinesKept.{order_kept, order_there}
-use Rattle.shop_records.proofs.Puts.{not_both, found_one, still_there, is_known, pairs_total, pairs_exact}
+use Rattle.shop_records.proofs.Puts.{not_both, found_one, still_there, is_known, message_ids_total, message_ids_exact}
 use Rattle.shop_machine.proofs.OrderingStep.{order_of, order_stock, order_fits, order_agrees, by_order}
 use Rattle.shop_machine.proofs.EndingStep.{job_waits, end_stock, end_fits, release_stock, release_fits, so_far, end_reported, end_agrees}
 use Rattle.shop_machine.proofs.ReceivingStep.{receive_stock, receive_fits, receipt, receive_agrees}
@@ -58,13 +58,13 @@ use Rattle.shop_machine.proofs.ImportingEffect.{by_import}
 use Rattle.shop_machine.proofs.ReservingEffect.{reserves}
 use Rattle.shop_machine.proofs.EndingEffect.{ends, breaks, releases}
 use Rattle.shop_machine.proofs.Grown.{IsStock, stock_of, same_stock, with_messages}
-use Rattle.shop_machine.proofs.Entered.{entries_stay, no_entries_at, none_yet, entries_after, sound_entries, sound_forgotten}
+use Rattle.shop_machine.proofs.Entered.{entries_stay, no_entries_at, none_yet, entries_after, well_formed_entries, well_formed_forgotten}
 use Rattle.shop_machine.proofs.AddingStep.{material_stock, material_fits, material_agrees, made_material, by_material}
 
 -- ---- by cases on the command
 
 fits_by : (texts : Texts) (message : Message) (m : Content) (stock : IsStock m) (used : (code : List ℕ) (row : ImportRow) → import_at m code ≡ Some row → has_order m code ≡ true) (command : Command) (read : Reading) (change : Change) → Reads texts m command read
-    → refusal_of m command read ≡ None → Makes m command read change → kept_at m (pair_of message) ≡ None → Fits m (keeping texts message change)
+    → refusal_of m command read ≡ None → Makes m command read change → kept_at m (message_id_of message) ≡ None → Fits m (keeping texts message change)
 fits_by texts message m stock used (AddMaterial material kind kerf min_long min_short) read change reads allowed makes new =
     subst (λ (c : Change). Fits m (keeping texts message c)) (sym makes) (material_fits texts message m material kind _ stock (material_at m material) refl new)
 fits_by texts message m stock used (Receive material batch w h count) read change reads allowed makes new =
@@ -306,70 +306,70 @@ unentered_by texts m (Note order due text) read change reads allowed makes = sub
 unentered_by texts m (Extend order lines) read change reads allowed makes = subst IsUnentered (sym makes) refl
 unentered_by texts m (Begin number) read change reads allowed makes = subst IsUnentered (sym makes) refl
 
-agrees_by : (texts : Texts) (m : Content) (sound : IsSound texts m) (stock : IsStock m) (command : Command) (read : Reading) → Reads texts m command read → refusal_of m command read ≢ Some StoreFault
-agrees_by texts m sound stock (AddMaterial material kind kerf min_long min_short) read reads = material_agrees (material_at m material) kind _
-agrees_by texts m sound stock (Receive material batch w h count) read reads =
+agrees_by : (texts : Texts) (m : Content) (well_formed : IsWellFormed texts m) (stock : IsStock m) (command : Command) (read : Reading) → Reads texts m command read → refusal_of m command read ≢ Some StoreFault
+agrees_by texts m well_formed stock (AddMaterial material kind kerf min_long min_short) read reads = material_agrees (material_at m material) kind _
+agrees_by texts m well_formed stock (Receive material batch w h count) read reads =
     let all = stock.in_range.adds_up material in
     receive_agrees (material_at m material) (totals_of m material) _ w h count (omega (arith, all))
-agrees_by texts m sound stock (AddOrder order lines) read reads = order_agrees _ (material_at m) lines _
-agrees_by texts m sound stock (Reserve part text) read reads =
+agrees_by texts m well_formed stock (AddOrder order lines) read reads = order_agrees _ (material_at m) lines _
+agrees_by texts m well_formed stock (Reserve part text) read reads =
     reserve_agrees (part_at m part) (material_of m (part_at m part)) (plan_in read) (demand_at m) (m.last_act + 1)
     (λ p there. subst (λ o. IsSome (material_of m o)) (sym there) (stock.parts part p there).known)
-agrees_by texts m sound stock (Done number) read reads = end_agrees m stock stop.All number
-agrees_by texts m sound stock (Break number halt rest) read reads = end_agrees m stock (halted halt rest) number
-agrees_by texts m sound stock (Release number) read reads = end_agrees m stock stop.All number
-agrees_by texts m sound stock (Scrap part) read reads = scrap_agrees (part_at m part) (totals_for m (part_at m part)) (held_for m stock part)
-agrees_by texts m sound stock (GiveBack part) read reads = return_agrees (part_at m part) (totals_for m (part_at m part)) (held_for m stock part)
-agrees_by texts m sound stock (Import order form text) read reads = import_agrees texts m order stock (λ row is. let i = sound.imports order row is in (i.answer, i.reports)) form text read reads
-agrees_by texts m sound stock (Amend demand wanted) read reads = amend_agrees (demand_at m demand) wanted
-agrees_by texts m sound stock (Undo number) read reads = undo_agrees m stock number
-agrees_by texts m sound stock (Note order due text) read reads = note_agrees (has_order m order) due text
-agrees_by texts m sound stock (Extend order lines) read reads = extend_agrees _ (material_at m) (demands_of m order) lines _
-agrees_by texts m sound stock (Begin number) read reads = begin_agrees (job_at m number)
+agrees_by texts m well_formed stock (Done number) read reads = end_agrees m stock stop.All number
+agrees_by texts m well_formed stock (Break number halt rest) read reads = end_agrees m stock (halted halt rest) number
+agrees_by texts m well_formed stock (Release number) read reads = end_agrees m stock stop.All number
+agrees_by texts m well_formed stock (Scrap part) read reads = scrap_agrees (part_at m part) (totals_for m (part_at m part)) (held_for m stock part)
+agrees_by texts m well_formed stock (GiveBack part) read reads = return_agrees (part_at m part) (totals_for m (part_at m part)) (held_for m stock part)
+agrees_by texts m well_formed stock (Import order form text) read reads = import_agrees texts m order stock (λ row is. let i = well_formed.imports order row is in (i.answer, i.reports)) form text read reads
+agrees_by texts m well_formed stock (Amend demand wanted) read reads = amend_agrees (demand_at m demand) wanted
+agrees_by texts m well_formed stock (Undo number) read reads = undo_agrees m stock number
+agrees_by texts m well_formed stock (Note order due text) read reads = note_agrees (has_order m order) due text
+agrees_by texts m well_formed stock (Extend order lines) read reads = extend_agrees _ (material_at m) (demands_of m order) lines _
+agrees_by texts m well_formed stock (Begin number) read reads = begin_agrees (job_at m number)
 
 -- what it does is an account of the content that it leaves
-module _ (texts : Texts) (message : Message) (earlier : List Effect) (old : Content) (sound : IsSound texts old) (f : Follows earlier old) where
+module _ (texts : Texts) (message : Message) (earlier : List Effect) (old : Content) (well_formed : IsWellFormed texts old) (f : Follows earlier old) where
   abbrev Then : Command → Reading → Change → Type 0
-  Then command read change = AfterAll texts message earlier old sound f (effects command read) change
+  Then command read change = AfterAll texts message earlier old well_formed f (effects command read) change
 
   pub by_message : (command : Command) (read : Reading) (change : Change) → Reads texts old command read → refusal_of old command read ≡ None → Makes old command read change → Then command read change
   by_message (AddMaterial material kind kerf min_long min_short) read change reads allowed makes =
       subst (Then (AddMaterial material kind kerf min_long min_short) read) (sym makes)
-      (by_material texts message earlier old sound f material kind kerf min_long min_short allowed)
+      (by_material texts message earlier old well_formed f material kind kerf min_long min_short allowed)
   by_message (Receive material batch w h count) read change reads allowed makes =
-      subst (Then (Receive material batch w h count) read) (sym makes) (by_receipt earlier old sound.in_range f _ _ material batch w h count)
+      subst (Then (Receive material batch w h count) read) (sym makes) (by_receipt earlier old well_formed.in_range f _ _ material batch w h count)
   by_message (AddOrder order lines) read change reads allowed makes =
       subst (Then (AddOrder order lines) read) (sym makes) (by_order earlier old f _ _ order lines)
-  by_message (Reserve part text) read change reads allowed makes = reserves texts message earlier old sound f part text read change makes.0 makes.1 makes.2 makes.3 reads makes.4
-  by_message (Done done) read change reads allowed makes = ends texts message earlier old sound f done read change makes.0 makes.1 makes.2 allowed makes.3 makes.4
-  by_message (Break done halt rest) read change reads allowed makes = breaks texts message earlier old sound f done halt rest read change makes.0 makes.1 makes.2 allowed makes.3 makes.4
-  by_message (Release released) read change reads allowed makes = releases texts message earlier old sound f released read change makes.0 makes.1 makes.2 allowed makes.3 makes.4
-  by_message (Scrap part) read change reads allowed makes = scraps texts message earlier old sound f part read change makes.0 allowed makes.1 makes.2
-  by_message (GiveBack part) read change reads allowed makes = gives_back texts message earlier old sound f part read change makes.0 allowed makes.1 makes.2
-  by_message (Import order form text) read change reads allowed makes = by_import texts message earlier old sound f order form text read change reads allowed makes
-  by_message (Amend demand wanted) read change reads allowed makes = amends texts message earlier old sound f demand wanted read change makes.0 makes.1 makes.2
-  by_message (Undo undone) read change reads allowed makes = undoes texts message earlier old sound f undone read change makes.0 makes.1 makes.2 allowed makes.3 makes.4
-  by_message (Note order due text) read change reads allowed makes = subst (Then (Note order due text) read) (sym makes) (by_note texts message earlier old sound f order due text)
+  by_message (Reserve part text) read change reads allowed makes = reserves texts message earlier old well_formed f part text read change makes.0 makes.1 makes.2 makes.3 reads makes.4
+  by_message (Done done) read change reads allowed makes = ends texts message earlier old well_formed f done read change makes.0 makes.1 makes.2 allowed makes.3 makes.4
+  by_message (Break done halt rest) read change reads allowed makes = breaks texts message earlier old well_formed f done halt rest read change makes.0 makes.1 makes.2 allowed makes.3 makes.4
+  by_message (Release released) read change reads allowed makes = releases texts message earlier old well_formed f released read change makes.0 makes.1 makes.2 allowed makes.3 makes.4
+  by_message (Scrap part) read change reads allowed makes = scraps texts message earlier old well_formed f part read change makes.0 allowed makes.1 makes.2
+  by_message (GiveBack part) read change reads allowed makes = gives_back texts message earlier old well_formed f part read change makes.0 allowed makes.1 makes.2
+  by_message (Import order form text) read change reads allowed makes = by_import texts message earlier old well_formed f order form text read change reads allowed makes
+  by_message (Amend demand wanted) read change reads allowed makes = amends texts message earlier old well_formed f demand wanted read change makes.0 makes.1 makes.2
+  by_message (Undo undone) read change reads allowed makes = undoes texts message earlier old well_formed f undone read change makes.0 makes.1 makes.2 allowed makes.3 makes.4
+  by_message (Note order due text) read change reads allowed makes = subst (Then (Note order due text) read) (sym makes) (by_note texts message earlier old well_formed f order due text)
   by_message (Extend order lines) read change reads allowed makes = subst (Then (Extend order lines) read) (sym makes) (by_lines earlier old f _ _ order lines)
   by_message (Begin begun) read change reads allowed makes =
-      subst (Then (Begin begun) read) (sym makes) (by_begin texts message earlier old sound f begun (begun_at old begun))
+      subst (Then (Begin begun) read) (sym makes) (by_begin texts message earlier old well_formed f begun (begun_at old begun))
 
 -- ---- what is kept
 
 pub kept_after : (texts : Texts) (m : Content) (message : Message) (change : Change) → IsMessage message → IsMade change.reply
-    → ((pair : Pair) (row : Kept) → kept_at m pair ≡ Some row → IsKept texts pair row)
-    → (pair : Pair) (row : Kept) → kept_at (changed m (keeping texts message change)) pair ≡ Some row → IsKept texts pair row
-kept_after texts m message change is_message reported old pair row is =
-    elim (found_one pairs_total pairs_exact m.kept (pair_of message) (record { command = texts.of_message message; reply = texts.of_reply change.reply }) pair row is) [
+    → ((message_id : MessageId) (row : Kept) → kept_at m message_id ≡ Some row → IsKept texts message_id row)
+    → (message_id : MessageId) (row : Kept) → kept_at (changed m (keeping texts message change)) message_id ≡ Some row → IsKept texts message_id row
+kept_after texts m message change is_message reported old message_id row is =
+    elim (found_one message_ids_total message_ids_exact m.kept (message_id_of message) (record { command = texts.of_message message; reply = texts.of_reply change.reply }) message_id row is) [
       | inl q ↦
           record {
             message = message;
             answer = change.reply;
             is_message = is_message;
-            of_pair = sym q.0;
+            of_message_id = sym q.0;
             keeps = record { made = reported; command = ap (λ (row : Kept). row.command) q.1; reply = ap (λ (row : Kept). row.reply) q.1 };
           }
-      | inr q ↦ old pair row q.1
+      | inr q ↦ old message_id row q.1
     ]
 
 pub imports_after : (texts : Texts) (m : Content) (message : Message) (change : Change) → IsMade change.reply → IsOrdered change
@@ -402,23 +402,23 @@ imports_after texts m message change reported ordered old = by change.import ref
           | inr q ↦ earlier code row q.1
         ]
 
--- each pair that was kept is kept
-pub kept_more : (texts : Texts) (m : Content) (message : Message) (change : Change) (pair : Pair) → IsSome (kept_at m pair) → IsSome (kept_at (changed m (keeping texts message change)) pair)
-kept_more texts m message change pair is = by (key_cases pairs_total pairs_exact pair (pair_of message))
+-- each message ID that was kept is kept
+pub kept_more : (texts : Texts) (m : Content) (message : Message) (change : Change) (message_id : MessageId) → IsSome (kept_at m message_id) → IsSome (kept_at (changed m (keeping texts message change)) message_id)
+kept_more texts m message change message_id is = by (key_cases message_ids_total message_ids_exact message_id (message_id_of message))
   where
     row : Kept
     row = record { command = texts.of_message message; reply = texts.of_reply change.reply }
 
-    by : ((pair ≡ pair_of message) × (is_eq (pair_cmp pair (pair_of message)) ≡ true)) ⊎ ((pair ≡ pair_of message → ⊥) × (is_eq (pair_cmp pair (pair_of message)) ≡ false))
-        → IsSome (get (insert m.kept (pair_of message) row) pair)
-    by (inl y) = is_known (get (insert m.kept (pair_of message) row) pair) row (ap (get (insert m.kept (pair_of message) row)) y.0 ∙ get_same pairs_total pairs_exact m.kept (pair_of message) row)
-    by (inr n) = subst (λ (o : Option Kept). IsSome o) (sym (get_other pairs_total pairs_exact m.kept (pair_of message) row pair n.0)) is
+    by : ((message_id ≡ message_id_of message) × (is_eq (message_id_cmp message_id (message_id_of message)) ≡ true)) ⊎ ((message_id ≡ message_id_of message → ⊥) × (is_eq (message_id_cmp message_id (message_id_of message)) ≡ false))
+        → IsSome (get (insert m.kept (message_id_of message) row) message_id)
+    by (inl y) = is_known (get (insert m.kept (message_id_of message) row) message_id) row (ap (get (insert m.kept (message_id_of message) row)) y.0 ∙ get_same message_ids_total message_ids_exact m.kept (message_id_of message) row)
+    by (inr n) = subst (λ (o : Option Kept). IsSome o) (sym (get_other message_ids_total message_ids_exact m.kept (message_id_of message) row message_id n.0)) is
 
--- the message's own pair is kept
-pub kept_now : (texts : Texts) (m : Content) (message : Message) (change : Change) → IsSome (kept_at (changed m (keeping texts message change)) (pair_of message))
+-- the message's own message ID is kept
+pub kept_now : (texts : Texts) (m : Content) (message : Message) (change : Change) → IsSome (kept_at (changed m (keeping texts message change)) (message_id_of message))
 kept_now texts m message change =
-    is_known (kept_at (changed m (keeping texts message change)) (pair_of message)) (record { command = texts.of_message message; reply = texts.of_reply change.reply })
-    (get_same pairs_total pairs_exact m.kept (pair_of message) (record { command = texts.of_message message; reply = texts.of_reply change.reply }))
+    is_known (kept_at (changed m (keeping texts message change)) (message_id_of message)) (record { command = texts.of_message message; reply = texts.of_reply change.reply })
+    (get_same message_ids_total message_ids_exact m.kept (message_id_of message) (record { command = texts.of_message message; reply = texts.of_reply change.reply }))
 
 -- ---- what is said
 
@@ -484,17 +484,17 @@ notes_after texts m message change may old = by change.note may
 
 -- ---- accepted changes
 
--- what is accepted on a sound content fits it
-pub fits_accepted : (texts : Texts) (m : Content) (message : Message) (read : Reading) (change : Change) → IsSound texts m → Reads texts m message.command read
-    → refusal_of m message.command read ≡ None → Makes m message.command read change → kept_at m (pair_of message) ≡ None → Fits m (keeping texts message change)
-fits_accepted texts m message read change sound reads allowed makes new =
-    fits_by texts message m (stock_of texts m sound) (λ code row is. (sound.imports code row is).ordered) message.command read change reads allowed makes new
+-- what is accepted on a well-formed content fits it
+pub fits_accepted : (texts : Texts) (m : Content) (message : Message) (read : Reading) (change : Change) → IsWellFormed texts m → Reads texts m message.command read
+    → refusal_of m message.command read ≡ None → Makes m message.command read change → kept_at m (message_id_of message) ≡ None → Fits m (keeping texts message change)
+fits_accepted texts m message read change well_formed reads allowed makes new =
+    fits_by texts message m (stock_of texts m well_formed) (λ code row is. (well_formed.imports code row is).ordered) message.command read change reads allowed makes new
 
 -- its reply is one that an accepted message can get
-pub reports_accepted : (texts : Texts) (m : Content) (message : Message) (read : Reading) (change : Change) → IsSound texts m → Reads texts m message.command read
+pub reports_accepted : (texts : Texts) (m : Content) (message : Message) (read : Reading) (change : Change) → IsWellFormed texts m → Reads texts m message.command read
     → refusal_of m message.command read ≡ None → Makes m message.command read change → IsMessage message → IsMade change.reply
-reports_accepted texts m message read change sound reads allowed makes is =
-    reported_by texts m (stock_of texts m sound) (λ number row there. (sound.begun number row there).terminal) message.command read change reads allowed makes is.command
+reports_accepted texts m message read change well_formed reads allowed makes is =
+    reported_by texts m (stock_of texts m well_formed) (λ number row there. (well_formed.begun number row there).terminal) message.command read change reads allowed makes is.command
 
 -- what was kept of an import stays
 pub import_kept : (m : Content) (change : Change) → Fits m change → (code : List ℕ) (row : ImportRow) → import_at m code ≡ Some row → import_at (changed m change) code ≡ Some row
@@ -504,18 +504,18 @@ import_kept m change fits code row is = by change.import fits.import
     by None none = is
     by (Some new) none = still_there codes_total codes_same m.imports new.order new code row none.0 is
 
-pub imports_kept : (texts : Texts) (m : Content) (message : Message) (read : Reading) (change : Change) → IsSound texts m → Reads texts m message.command read
-    → refusal_of m message.command read ≡ None → Makes m message.command read change → kept_at m (pair_of message) ≡ None → (code : List ℕ) (row : ImportRow) → import_at m code ≡ Some row
+pub imports_kept : (texts : Texts) (m : Content) (message : Message) (read : Reading) (change : Change) → IsWellFormed texts m → Reads texts m message.command read
+    → refusal_of m message.command read ≡ None → Makes m message.command read change → kept_at m (message_id_of message) ≡ None → (code : List ℕ) (row : ImportRow) → import_at m code ≡ Some row
     → import_at (changed m (keeping texts message change)) code ≡ Some row
-imports_kept texts m message read change sound reads allowed makes new =
-    import_kept m (keeping texts message change) (fits_accepted texts m message read change sound reads allowed makes new)
+imports_kept texts m message read change well_formed reads allowed makes new =
+    import_kept m (keeping texts message change) (fits_accepted texts m message read change well_formed reads allowed makes new)
 
--- it leaves a sound content
-pub sound_after : (texts : Texts) (m : Content) (message : Message) (read : Reading) (change : Change) → IsSound texts m → Reads texts m message.command read
-    → refusal_of m message.command read ≡ None → Makes m message.command read change → IsMessage message → IsSound texts (changed m (keeping texts message change))
-sound_after texts m message read change sound reads allowed makes is =
-    let stock = stock_by texts message m (stock_of texts m sound) message.command read change reads allowed makes is.command in
-    let reported = reports_accepted texts m message read change sound reads allowed makes is in
+-- it leaves a well-formed content
+pub well_formed_after : (texts : Texts) (m : Content) (message : Message) (read : Reading) (change : Change) → IsWellFormed texts m → Reads texts m message.command read
+    → refusal_of m message.command read ≡ None → Makes m message.command read change → IsMessage message → IsWellFormed texts (changed m (keeping texts message change))
+well_formed_after texts m message read change well_formed reads allowed makes is =
+    let stock = stock_by texts message m (stock_of texts m well_formed) message.command read change reads allowed makes is.command in
+    let reported = reports_accepted texts m message read change well_formed reads allowed makes is in
     let said = said_by texts m message.command read change reads allowed makes in
     record {
       in_range = stock.in_range;
@@ -523,15 +523,15 @@ sound_after texts m message read change sound reads allowed makes is =
       parts = stock.parts;
       jobs = stock.jobs;
       halts = stock.halts;
-      begun = begun_after texts m message change is said.begun sound.begun;
-      notes = notes_after texts m message change said.note sound.notes;
+      begun = begun_after texts m message change is said.begun well_formed.begun;
+      notes = notes_after texts m message change said.note well_formed.notes;
       demands = stock.demands;
       lines = stock.lines;
-      kept = kept_after texts m message change is reported sound.kept;
-      imports = imports_after texts m message change reported (ordered_by texts m message.command read change reads allowed makes) sound.imports;
+      kept = kept_after texts m message change is reported well_formed.kept;
+      imports = imports_after texts m message change reported (ordered_by texts m message.command read change reads allowed makes) well_formed.imports;
       entries = entries_stay m (changed m (keeping texts message change))
           (ap (λ (entry : Option EntryRow). with_entry entry m.entries) (unentered_by texts m message.command read change reads allowed makes))
-          (kept_more texts m message change) sound.entries;
+          (kept_more texts m message change) well_formed.entries;
     }
 
 -- ---- accepted changes with their entries
@@ -540,11 +540,11 @@ sound_after texts m message read change sound reads allowed makes is =
 abbrev entry_at_time : (at : ℕ) → Content → Message → Change → EntryRow
 entry_at_time at m message change = entry_of (entry_count m + 1) (max at (last_time m)) message change
 
--- what is accepted on a sound content fits it with its entry
-pub fits_entered : (texts : Texts) (m : Content) (message : Message) (read : Reading) (change : Change) (at : ℕ) → IsSound texts m → Reads texts m message.command read
-    → refusal_of m message.command read ≡ None → Makes m message.command read change → kept_at m (pair_of message) ≡ None → Fits m (keeping_at texts at m message change)
-fits_entered texts m message read change at sound reads allowed makes new =
-    let fits = fits_accepted texts m message read change sound reads allowed makes new in
+-- what is accepted on a well-formed content fits it with its entry
+pub fits_entered : (texts : Texts) (m : Content) (message : Message) (read : Reading) (change : Change) (at : ℕ) → IsWellFormed texts m → Reads texts m message.command read
+    → refusal_of m message.command read ≡ None → Makes m message.command read change → kept_at m (message_id_of message) ≡ None → Fits m (keeping_at texts at m message change)
+fits_entered texts m message read change at well_formed reads allowed makes new =
+    let fits = fits_accepted texts m message read change well_formed reads allowed makes new in
     record {
       material = fits.material;
       parts = fits.parts;
@@ -570,25 +570,25 @@ fits_entered texts m message read change at sound reads allowed makes new =
       kept = fits.kept;
       entry = record {
         next = refl;
-        new = none_yet m sound.entries (entry_at_time at m message change) refl;
+        new = none_yet m well_formed.entries (entry_at_time at m message change) refl;
         later = le-max_right at (last_time m);
         of = refl;
       };
     }
 
--- and leaves a sound content
-pub sound_entered : (texts : Texts) (m : Content) (message : Message) (read : Reading) (change : Change) (at : ℕ) → IsSound texts m → Reads texts m message.command read
-    → refusal_of m message.command read ≡ None → Makes m message.command read change → IsMessage message → IsSound texts (changed m (keeping_at texts at m message change))
-sound_entered texts m message read change at sound reads allowed makes is =
+-- and leaves a well-formed content
+pub well_formed_entered : (texts : Texts) (m : Content) (message : Message) (read : Reading) (change : Change) (at : ℕ) → IsWellFormed texts m → Reads texts m message.command read
+    → refusal_of m message.command read ≡ None → Makes m message.command read change → IsMessage message → IsWellFormed texts (changed m (keeping_at texts at m message change))
+well_formed_entered texts m message read change at well_formed reads allowed makes is =
     let entry : EntryRow = entry_at_time at m message change in
     let after : Content = changed m (keeping_at texts at m message change) in
-    sound_entries texts (changed m (keeping texts message change)) (insert m.entries entry.number entry) (sound_after texts m message read change sound reads allowed makes is)
-    (entries_after m sound.entries entry refl after refl (le-max_right at (last_time m)) (kept_more texts m message change) (kept_now texts m message change))
+    well_formed_entries texts (changed m (keeping texts message change)) (insert m.entries entry.number entry) (well_formed_after texts m message read change well_formed reads allowed makes is)
+    (entries_after m well_formed.entries entry refl after refl (le-max_right at (last_time m)) (kept_more texts m message change) (kept_now texts m message change))
 
 -- its rows don't contradict each other
-pub agrees : (texts : Texts) (m : Content) (message : Message) (read : Reading) → IsSound texts m → Reads texts m message.command read
+pub agrees : (texts : Texts) (m : Content) (message : Message) (read : Reading) → IsWellFormed texts m → Reads texts m message.command read
     → refusal_of m message.command read ≢ Some StoreFault
-agrees texts m message read sound reads = agrees_by texts m sound (stock_of texts m sound) message.command read reads
+agrees texts m message read well_formed reads = agrees_by texts m well_formed (stock_of texts m well_formed) message.command read reads
 
 -- ---- the start
 
@@ -602,8 +602,8 @@ no_parts = by (entries (empty {X = Part} {R = name_cmp})) (sym (len-entries (emp
 no_values : values (fresh.parts) ≡ []
 no_values = ap (map (λ (e : Name × Part). e.1)) no_parts
 
-pub fresh_sound : (texts : Texts) → IsSound texts fresh
-fresh_sound texts = record {
+pub fresh_well_formed : (texts : Texts) → IsWellFormed texts fresh
+fresh_well_formed texts = record {
   in_range = record {
     acts = λ name part is. absurd (not_both _ part (get-empty name_cmp name) is);
     last = omega arith;
@@ -619,21 +619,21 @@ fresh_sound texts = record {
   notes = λ code row is. absurd (not_both _ row (get-empty code_cmp code) is);
   demands = λ number demand is. absurd (not_both _ demand (get-empty nat_cmp number) is);
   lines = λ a b one other is is_too orders lines. absurd (not_both _ one (get-empty nat_cmp a) is);
-  kept = λ pair row is. absurd (not_both _ row (get-empty pair_cmp pair) is);
+  kept = λ message_id row is. absurd (not_both _ row (get-empty message_id_cmp message_id) is);
   imports = λ code row is. absurd (not_both _ row (get-empty code_cmp code) is);
   entries = no_entries_at fresh refl;
 }
 
 -- ---- histories
 
--- a content that may have forgotten its entries is sound
-pub sound_left : (texts : Texts) (left content : Content) → MayForget left content → IsSound texts left → IsSound texts content
-sound_left texts left content (inl same) sound = subst (IsSound texts) (sym same) sound
-sound_left texts left content (inr same) sound = subst (IsSound texts) (sym same) (sound_forgotten texts left sound)
+-- a content that may have forgotten its entries is well-formed
+pub well_formed_left : (texts : Texts) (left content : Content) → MayForget left content → IsWellFormed texts left → IsWellFormed texts content
+well_formed_left texts left content (inl same) well_formed = subst (IsWellFormed texts) (sym same) well_formed
+well_formed_left texts left content (inr same) well_formed = subst (IsWellFormed texts) (sym same) (well_formed_forgotten texts left well_formed)
 
--- every history gives a sound content
-pub gives_sound : (texts : Texts) (history : List Entry) (content : Content) → Gives texts history content → IsSound texts content
-gives_sound texts [] content given = subst (IsSound texts) (sym given) (fresh_sound texts)
-gives_sound texts (entry ∷ earlier) content (before, answer, given, is_message, new, left, accepts, forgets) =
-    sound_left texts left content forgets (subst (IsSound texts) (sym accepts.becomes)
-    (sound_entered texts before entry.message entry.read accepts.change accepts.at (gives_sound texts earlier before given) accepts.reads accepts.allowed accepts.makes is_message))
+-- every history gives a well-formed content
+pub gives_well_formed : (texts : Texts) (history : List Entry) (content : Content) → Gives texts history content → IsWellFormed texts content
+gives_well_formed texts [] content given = subst (IsWellFormed texts) (sym given) (fresh_well_formed texts)
+gives_well_formed texts (entry ∷ earlier) content (before, answer, given, is_message, new, left, accepts, forgets) =
+    well_formed_left texts left content forgets (subst (IsWellFormed texts) (sym accepts.becomes)
+    (well_formed_entered texts before entry.message entry.read accepts.change accepts.at (gives_well_formed texts earlier before given) accepts.reads accepts.allowed accepts.makes is_message))

@@ -20,7 +20,7 @@ use Rattle.shop_records.specs.declared.records.JobHalt.{JobHalt}
 use Rattle.shop_records.specs.declared.records.JobBegin.{JobBegin}
 use Rattle.shop_records.specs.declared.notes.OrderNote.{OrderNote}
 use Rattle.shop_records.specs.declared.records.Demand.{Demand}
-use Rattle.shop_records.specs.declared.texts.Pair.{Pair}
+use Rattle.shop_records.specs.declared.texts.MessageId.{MessageId}
 use Rattle.shop_records.specs.declared.texts.Kept.{Kept}
 use Rattle.shop_records.specs.declared.texts.KeptMessage.{KeptMessage}
 use Rattle.shop_records.specs.declared.imports.ImportRow.{ImportRow}
@@ -31,7 +31,7 @@ use Rattle.shop_records.specs.declared.changes.Change.{Change}
 use Rattle.shop_records.specs.declared.changes.MaterialTotals.{MaterialTotals}
 use Rattle.shop_records.specs.declared.records.Totals.{Totals}
 use Rattle.shop_records.specs.Columns.{is_piece_for, is_waiting}
-use Rattle.shop_records.specs.Messages.{Texts, IsMessage, IsNumber, pair_of}
+use Rattle.shop_records.specs.Messages.{Texts, IsMessage, IsNumber, message_id_of}
 use Rattle.shop_records.specs.Content.{Content, material_at, part_at, job_at, has_order, demand_at, kept_at, import_at, entry_at, entry_count, last_time, totals_of, AddsUp, in_state, changed, lines_for, halt_at, begun_at, note_at}
 use Rattle.shop_records.specs.Same.{same_code}
 use Rattle.shop_records.specs.Notes.{is_note}
@@ -46,12 +46,12 @@ pub record IsInRange (content : Content) : Type 0 where
   pub received : (code : List ℕ) → (totals_of content code).received ≤ MAX_RECEIVED
   pub adds_up : (code : List ℕ) → AddsUp (totals_of content code)
 
--- a row keeps an accepted message of the pair and its reply
-pub record IsKept (texts : Texts) (pair : Pair) (row : Kept) : Type 0 where
+-- a row keeps an accepted message of the ID and its reply
+pub record IsKept (texts : Texts) (message_id : MessageId) (row : Kept) : Type 0 where
   pub message : Message
   pub answer : Reply
   pub is_message : IsMessage message
-  pub of_pair : pair_of message ≡ pair
+  pub of_message_id : message_id_of message ≡ message_id
   pub keeps : KeepsReply texts row message answer
 
 -- a kept import's order is there, and its row stores a reply
@@ -168,7 +168,7 @@ pub record IsEntry (content : Content) (number : ℕ) (entry : Entry) : Type 0 w
   pub numbered : entry.number ≡ number
   pub least : 1 ≤ number
   pub so_far : number ≤ entry_count content
-  pub kept : IsSome (kept_at content entry.pair)
+  pub kept : IsSome (kept_at content entry.message_id)
 
 -- entries are numbered from 1 on without a gap, and their times never fall
 pub record AreEntries (content : Content) : Type 0 where
@@ -177,7 +177,7 @@ pub record AreEntries (content : Content) : Type 0 where
   pub rising : (a b : ℕ) (one other : Entry) → entry_at content a ≡ Some one → entry_at content b ≡ Some other → a ≤ b → one.at ≤ other.at
 
 -- a content as histories give it
-pub record IsSound (texts : Texts) (content : Content) : Type 0 where
+pub record IsWellFormed (texts : Texts) (content : Content) : Type 0 where
   pub in_range : IsInRange content
   pub materials : (code : List ℕ) (material : Material) → material_at content code ≡ Some material → IsKnown code material
   pub parts : (name : Name) (part : Part) → part_at content name ≡ Some part → IsPlaced content name part
@@ -187,7 +187,7 @@ pub record IsSound (texts : Texts) (content : Content) : Type 0 where
   pub notes : (code : List ℕ) (row : OrderNote) → note_at content code ≡ Some row → IsNoted content.orders code row
   pub demands : (number : ℕ) (demand : Demand) → demand_at content number ≡ Some demand → IsDemand content number demand
   pub lines : AreDifferent content
-  pub kept : (pair : Pair) (row : Kept) → kept_at content pair ≡ Some row → IsKept texts pair row
+  pub kept : (message_id : MessageId) (row : Kept) → kept_at content message_id ≡ Some row → IsKept texts message_id row
   pub imports : (code : List ℕ) (row : ImportRow) → import_at content code ≡ Some row → IsImport texts content code row
   pub entries : AreEntries content
 
@@ -230,12 +230,12 @@ pub record IsMovedDemand (content : Content) (demand : Demand) : Type 0 where
   pub found : demand_at content demand.number ≡ Some before
   pub is : demand ≡ record before { wanted = demand.wanted; reserved = demand.reserved; made = demand.made }
 
--- a new entry has the number behind the last one's, no earlier time, and the pair of the message that is kept with it
+-- a new entry has the number behind the last one's, no earlier time, and the message ID of the message that is kept with it
 pub record IsNewEntry (content : Content) (kept : Option KeptMessage) (entry : Entry) : Type 0 where
   pub next : entry.number ≡ entry_count content + 1
   pub new : entry_at content entry.number ≡ None
   pub later : last_time content ≤ entry.at
-  pub of : MatchOption kept ⊥ (λ message. message.pair ≡ entry.pair)
+  pub of : MatchOption kept ⊥ (λ message. message.message_id ≡ entry.message_id)
 
 -- a new material comes with its totals, and other totals are of a material that is there
 abbrev pub TotalsFit : Content → Option Material → Option MaterialTotals → Type 0
@@ -249,11 +249,11 @@ with_totals (Some row) code before = if same_code row.material code then row.tot
 
 -- Each row of the change is new, or is there and keeps all that never changes: a material of a new code; new parts whose
 -- names rise; a part that moves, and parts that are undone, whose names rise; a job, new with an act and else one that moves;
--- where the work on a job halted, of which that isn't kept yet; which terminal has begun a job that is there; an order of a new
--- code, or one that is there and gets further lines, and not both; what is said of an order that is there; demands of known
--- materials, each once, of which no more is reserved and made than wanted, with such an order its own, of new and different
--- lines, and else ones that move; totals, such that each material has the sums of its parts after the change; numbers above the
--- last ones; an import of the new order; a message of a new pair; and its entry behind the last one.
+-- where the work on a job halted, of which that isn't kept yet; which terminal has begun a job that is there; an order of a
+-- new code, or one that is there and gets further lines, and not both; what is said of an order that is there; demands of
+-- known materials, each once, of which no more is reserved and made than wanted, with such an order its own, of new and
+-- different lines, and else ones that move; totals, such that each material has the sums of its parts after the change;
+-- numbers above the last ones; an import of the new order; a message of a new ID; and its entry behind the last one.
 pub record Fits (content : Content) (change : Change) : Type 0 where
   pub material : IfSome change.material (λ row. material_at content row.code ≡ None)
   pub parts : All (IsNewPart content) change.parts
@@ -276,5 +276,5 @@ pub record Fits (content : Content) (change : Change) : Type 0 where
   pub act : IfSome change.act (λ act. (content.last_act < act) × (act ≤ MAX_NUMBERS))
   pub demand : IfSome change.demand (λ demand. (content.last_demand < demand) × (demand ≤ MAX_NUMBERS))
   pub import : IfSome change.import (λ row. (import_at content row.order ≡ None) × (change.order ≡ Some row.order))
-  pub kept : IfSome change.kept (λ row. kept_at content row.pair ≡ None)
+  pub kept : IfSome change.kept (λ row. kept_at content row.message_id ≡ None)
   pub entry : IfSome change.entry (IsNewEntry content change.kept)
