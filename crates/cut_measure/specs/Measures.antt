@@ -28,20 +28,20 @@ below (suc n) = below n ++ n ∷ []
 unfoldable pub cells_of : Extent → List (ℕ × ℕ)
 cells_of size = flat_map (λ y. map (λ x. (x, y)) (below size.w)) (below size.h)
 
--- how the saw cuts a material, and what is kept of it
-pub record Rule : Type 0 where
+-- how the saw cuts a material, and which rests are kept
+pub record CutParams : Type 0 where
   pub kerf : ℕ
   pub min_long : ℕ
   pub min_short : ℕ
 
-abbrev pub is_rule : Kind → ℕ → ℕ → ℕ → Bool
-is_rule Bar kerf min_long min_short = nat_le kerf MAX_KERF && min_short == 1 && nat_le 1 min_long && nat_le min_long MAX_WIDTH
-is_rule Sheet kerf min_long min_short = nat_le kerf MAX_KERF && nat_le 1 min_short && nat_le min_short min_long && nat_le min_long MAX_WIDTH
+abbrev pub are_params : Kind → ℕ → ℕ → ℕ → Bool
+are_params Bar kerf min_long min_short = nat_le kerf MAX_KERF && min_short == 1 && nat_le 1 min_long && nat_le min_long MAX_WIDTH
+are_params Sheet kerf min_long min_short = nat_le kerf MAX_KERF && nat_le 1 min_short && nat_le min_short min_long && nat_le min_long MAX_WIDTH
 
-abbrev pub rule_of : Kind → ℕ → ℕ → ℕ → Option Rule
-rule_of kind kerf min_long min_short =
-    if is_rule kind kerf min_long min_short then Some (record { kerf = kerf; min_long = min_long; min_short = min_short }) else None
+abbrev pub params_of : Kind → ℕ → ℕ → ℕ → Option CutParams
+params_of kind kerf min_long min_short =
+    if are_params kind kerf min_long min_short then Some (record { kerf = kerf; min_long = min_long; min_short = min_short }) else None
 
 -- a rest of this size is a remnant, and else scrap
-abbrev pub is_kept : Rule → Extent → Bool
-is_kept rule size = nat_le rule.min_long (max size.w size.h) && nat_le rule.min_short (min size.w size.h)
+abbrev pub is_kept : CutParams → Extent → Bool
+is_kept params size = nat_le params.min_long (max size.w size.h) && nat_le params.min_short (min size.w size.h)

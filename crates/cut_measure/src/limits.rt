@@ -1,7 +1,7 @@
 //! What a material's saw takes, and from which sides on a rest of the material is kept.
 
 ghost use Rattle.std.specs.Prelude.{◌≡◌, ◌≤◌};
-ghost use Rattle.cut_measure.specs.Measures.{rule_of, is_kept};
+ghost use Rattle.cut_measure.specs.Measures.{params_of, is_kept};
 
 use crate::ranges::{MAX_KERF, MAX_WIDTH};
 use crate::sizes::{Kind, Size};
@@ -18,9 +18,9 @@ pub struct Limits {
 impl Model for Limits {
     ghost use Rattle.std.specs.Prelude.{◌≤◌};
     ghost use Rattle.cut_measure.specs.declared.ranges.TheConstants.{MAX_KERF, MAX_WIDTH};
-    ghost use Rattle.cut_measure.specs.Measures.{Rule};
+    ghost use Rattle.cut_measure.specs.Measures.{CutParams};
 
-    ghost Value = { Rule };
+    ghost Value = { CutParams };
 
     ghost view = { λ l. record { kerf = l.kerf; min_long = l.min_long; min_short = l.min_short } };
 
@@ -38,7 +38,7 @@ impl Limits {
     /// These limits, where a material of the kind may have them: a kerf of at most 200, a longer side of at most
     /// 200000, and a shorter side of at least 1 and at most the longer one, which for a bar is 1.
     pub fn new(kind: Kind, kerf: u32, min_long: u32, min_short: u32) -> Option<Limits>
-        ensures { result ≡ rule_of kind kerf min_long min_short }
+        ensures { result ≡ params_of kind kerf min_long min_short }
     {
         let fits = match kind {
             Kind::Bar => min_short == 1,

@@ -96,12 +96,12 @@ impl OrderSearch {
         Ok(search)
     }
 
-    /// A search that made no table yet. Each plan that it reports has at most so many stages, 2 to
-    /// 255, if there is a limit. The sizes are a stock (`is_stock`), and demands are in
-    /// 1..=2147483647. Faults in the order of `PlanFault`: no want or more than 100, one that is
-    /// out of range or stands twice; a sheet's step of 0; a bar that is too long, or a sheet of too
-    /// many steps; no want that fits any of the sizes. A want whose side and kerf are shorter than
-    /// the step is planned all the same, and has no price.
+    /// A search that has made no table yet. If `stages` is given (2 to 255), each plan that it
+    /// reports has at most so many. `sizes` must be a stock (`is_stock`), and demands must be in
+    /// 1..=2147483647. Errors, in the order of `PlanFault`: no want, more than 100, or one out of
+    /// range or twice; a sheet's step of 0; a bar too long, or a sheet with too many steps; no want
+    /// fits any size. A want whose side and kerf are below the step is planned, too, but has no
+    /// price.
     pub fn new(
         alloc: Global,
         kind: Kind,

@@ -39,9 +39,9 @@ impl Search {
         }
     }
 
-    /// Goes on: of bars by at most one table, of sheets by some 50 ms at most. `least` is the
-    /// greatest bound that is certified so far, `best` the cost of the best plan that makes all and
-    /// was checked, if there is one.
+    /// Continues the search: for bars by at most one table, for sheets by some 50 ms. `least` is the
+    /// greatest certified bound so far, `best` the cost of the best checked plan that makes all
+    /// pieces, if there is one.
     pub fn go_on(
         &mut self,
         alloc: Global,

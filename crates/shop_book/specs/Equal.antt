@@ -15,7 +15,7 @@ use Rattle.std.specs.Cmp.Lexicographic.{nat_list_cmp_total}
 use Rattle.std.specs.List.{list_any}
 use Rattle.std.specs.Ordering.{eq_by_cmp}
 use Rattle.cut_measure.specs.Codes.{code_cmp}
-use Rattle.cut_measure.specs.Measures.{Rule}
+use Rattle.cut_measure.specs.Measures.{CutParams}
 use Rattle.cut_measure.specs.declared.sizes.Kind.{Kind}
 use Rattle.cut_measure.specs.declared.sizes.Kind.TheVariants.{Bar, Sheet}
 use Rattle.shop_records.specs.declared.records.Material.{Material}
@@ -149,15 +149,15 @@ own_kind Sheet = refl
 kind_decides : (a b : Kind) → Decides (kind_eq.ghosts.eq a b) (a ≡ b)
 kind_decides a b = (one_kind a b, λ e. subst (λ k. kind_eq.ghosts.eq a k ≡ true) e (own_kind a))
 
-rule_decides : (a b : Rule) → Decides (nat_eq a.kerf b.kerf && (nat_eq a.min_long b.min_long && nat_eq a.min_short b.min_short)) (a ≡ b)
-rule_decides a b =
+params_decide : (a b : CutParams) → Decides (nat_eq a.kerf b.kerf && (nat_eq a.min_long b.min_long && nat_eq a.min_short b.min_short)) (a ≡ b)
+params_decide a b =
     Decides-like _ (λ p i. record { kerf = p.0 i; min_long = p.1.0 i; min_short = p.1.1 i }) (λ p. (ap (λ r. r.kerf) p, (ap (λ r. r.min_long) p, ap (λ r. r.min_short) p)))
     (Decides-and _ _ (unsigned_Decides a.kerf b.kerf) (Decides-and _ _ (unsigned_Decides a.min_long b.min_long) (unsigned_Decides a.min_short b.min_short)))
 
 pub material_decides : (a b : Material) → Decides (same_material a b) (a ≡ b)
 material_decides a b =
     Decides-like _ (λ p i. record { code = p.0 i; kind = p.1.0 i; limits = p.1.1 i }) (λ p. (ap (λ m. m.code) p, (ap (λ m. m.kind) p, ap (λ m. m.limits) p)))
-    (Decides-and _ _ (bytes_decides a.code b.code) (Decides-and _ _ (kind_decides a.kind b.kind) (rule_decides a.limits b.limits)))
+    (Decides-and _ _ (bytes_decides a.code b.code) (Decides-and _ _ (kind_decides a.kind b.kind) (params_decide a.limits b.limits)))
 
 abbrev same_job_state : JobState → JobState → Bool
 same_job_state = job_state_eq.ghosts.eq

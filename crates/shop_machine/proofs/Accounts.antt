@@ -13,7 +13,7 @@ use Rattle.shop_records.specs.declared.records.Job.{Job}
 use Rattle.shop_records.specs.Columns.{is_free, is_waiting}
 use Rattle.shop_records.specs.Content.{Content, material_at, part_at, job_at, in_state}
 use Rattle.shop_machine.specs.Machine.{Effect, Receives}
-use Rattle.shop_machine.specs.History.{ReceivedUnit, acts_in, acts_of, units_in, units_of, material_by, unit_material, material_rule, Reservation, job_of, Owner, stands_as, owner_before, is_gone, IsOwner, EachCellIsOwned, ordered_lines}
+use Rattle.shop_machine.specs.History.{ReceivedUnit, acts_in, acts_of, units_in, units_of, material_by, unit_material, material_params, Reservation, job_of, Owner, stands_as, owner_before, is_gone, IsOwner, EachCellIsOwned, ordered_lines}
 use Rattle.shop_records.specs.Elements.{IsIn}
 use Rattle.shop_records.proofs.Basics.{nat_cases, name_cases, in_append, in_later, in_map}
 use Rattle.shop_machine.proofs.OrderedLines.{AskFor}
@@ -68,7 +68,7 @@ pub record Follows (effects : List Effect) (content : Content) : Type 0 where
   pub acts : content.last_act ≡ acts_of effects
   pub numbers : content.last_demand ≡ length (ordered_lines effects)
   pub lines : AskFor (ordered_lines effects) content.demands
-  pub rules : (code : List ℕ) (m : Material) → material_at content code ≡ Some m → material_rule effects code ≡ Some m.limits
+  pub params : (code : List ℕ) (m : Material) → material_at content code ≡ Some m → material_params effects code ≡ Some m.limits
   pub rows : (n : Name) (p : Part) → part_at content n ≡ Some p → IsRow effects p
   pub jobs : (number : ℕ) (job : Job) → job_at content number ≡ Some job → job_of effects number ≡ Some (reservation job)
   pub wholes : (unit : ReceivedUnit) → IsIn unit (units_of effects) → IsWhole content.parts unit

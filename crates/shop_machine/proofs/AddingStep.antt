@@ -8,7 +8,7 @@ use Rattle.std.specs.FinMap.{values, get, insert}
 use Rattle.std.specs.declared.cmp.Ordering.TheVariants.{Less}
 use Rattle.cut_measure.specs.declared.sizes.Kind.{Kind}
 use Rattle.cut_measure.specs.Names.{Name, name_cmp}
-use Rattle.cut_measure.specs.Measures.{Rule, is_rule}
+use Rattle.cut_measure.specs.Measures.{CutParams, are_params}
 use Rattle.cut_measure.specs.Codes.{is_code, code_cmp}
 use Rattle.shop_records.specs.declared.records.Material.{Material}
 use Rattle.shop_records.specs.declared.records.Part.{Part}
@@ -23,9 +23,9 @@ use Rattle.shop_records.specs.Columns.{is_counted}
 use Rattle.shop_records.specs.WellFormed.{IsKnown, Fits, with_totals, IsWellFormed}
 use Rattle.shop_records.specs.declared.changes.Change.{Change}
 use Rattle.shop_records.specs.Same.{same_kind}
-use Rattle.shop_machine.specs.Adding.{material_refusal, material_change, is_other, same_rule}
-use Rattle.shop_machine.specs.Machine.{keeping, Effect, Rules}
-use Rattle.shop_machine.specs.History.{acts_of, material_rule}
+use Rattle.shop_machine.specs.Adding.{material_refusal, material_change, is_other, same_params}
+use Rattle.shop_machine.specs.Machine.{keeping, Effect, SetsParams}
+use Rattle.shop_machine.specs.History.{acts_of, material_params}
 use Rattle.shop_records.proofs.Basics.{codes_total, codes_same, names_total, names_same, key_cases, same_some, get_same, get_other}
 use Rattle.shop_records.proofs.Puts.{found_one, still_there, equal, not_both, some_known, sum_no_rows}
 use Rattle.shop_machine.proofs.AddedUp.{cells_as}
@@ -36,14 +36,14 @@ use Rattle.shop_machine.proofs.Agreeing.{NoFault, nothing, other}
 use Rattle.shop_machine.proofs.Accounts.{Follows, row_later}
 use Rattle.shop_machine.proofs.Steps.{After}
 
-module _ (texts : Texts) (message : Message) (m : Content) (code : List ℕ) (kind : Kind) (rule : Rule) where
+module _ (texts : Texts) (message : Message) (m : Content) (code : List ℕ) (kind : Kind) (params : CutParams) where
   abbrev after : Option Material → Content
-  after known = changed m (keeping texts message (material_change known code kind rule))
+  after known = changed m (keeping texts message (material_change known code kind params))
 
-  pub material_stock : (known : Option Material) → material_at m code ≡ known → material_refusal known kind rule ≡ None → IsStock m → IsStock (after known)
+  pub material_stock : (known : Option Material) → material_at m code ≡ known → material_refusal known kind params ≡ None → IsStock m → IsStock (after known)
   material_stock (Some row) is allowed stock = same_stock m _ _ stock
   material_stock None is allowed stock =
-      let row : Material = record { code = code; kind = kind; limits = rule } in
+      let row : Material = record { code = code; kind = kind; limits = params } in
       let grows : Grows m (after None) = record {
         materials = λ c x found. still_there codes_total codes_same m.materials code row c x is found;
         parts = λ name p is. (p.state, is);
@@ -56,7 +56,7 @@ module _ (texts : Texts) (message : Message) (m : Content) (code : List ℕ) (ki
         materials = λ c x found.
             elim (found_one codes_total codes_same m.materials code row c x found) [
               | inl p ↦ subst (IsKnown c) (sym p.1)
-                  (record { coded = sym p.0; ruled = not-false (is_rule kind rule.kerf rule.min_long rule.min_short) (none_of (not (is_rule kind rule.kerf rule.min_long rule.min_short)) BadMaterial _ allowed).0 })
+                  (record { coded = sym p.0; ruled = not-false (are_params kind params.kerf params.min_long params.min_short) (none_of (not (are_params kind params.kerf params.min_long params.min_short)) BadMaterial _ allowed).0 })
               | inr q ↦ stock.materials c x q.1
             ];
         parts = λ name part is. placed_more m (after None) grows name part (stock.parts name part is);
@@ -90,7 +90,7 @@ module _ (texts : Texts) (message : Message) (m : Content) (code : List ℕ) (ki
       by false e = sym (ap (λ b. if b then no_totals else totals_of m c) e)
 
   pub material_fits : IsStock m → (known : Option Material) → material_at m code ≡ known → kept_at m (message_id_of message) ≡ None
-      → Fits m (keeping texts message (material_change known code kind rule))
+      → Fits m (keeping texts message (material_change known code kind params))
   material_fits stock None is new = record {
     material = is;
     parts = All-nil _;
@@ -120,57 +120,57 @@ module _ (texts : Texts) (message : Message) (m : Content) (code : List ℕ) (ki
 
 -- ---- its refusals and its reply
 
-pub material_agrees : (known : Option Material) (kind : Kind) (rule : Rule) → NoFault (material_refusal known kind rule)
-material_agrees known kind rule =
-    other (not (is_rule kind rule.kerf rule.min_long rule.min_short)) _ _ (λ e. cc) (other (is_other known kind rule) _ _ (λ e. cc) nothing)
+pub material_agrees : (known : Option Material) (kind : Kind) (params : CutParams) → NoFault (material_refusal known kind params)
+material_agrees known kind params =
+    other (not (are_params kind params.kerf params.min_long params.min_short)) _ _ (λ e. cc) (other (is_other known kind params) _ _ (λ e. cc) nothing)
 
-pub made_material : (known : Option Material) (code : List ℕ) (kind : Kind) (rule : Rule) → IsTrue (is_code code) → IsMade (material_change known code kind rule).reply
-made_material None code kind rule is = is
-made_material (Some m) code kind rule is = is
+pub made_material : (known : Option Material) (code : List ℕ) (kind : Kind) (params : CutParams) → IsTrue (is_code code) → IsMade (material_change known code kind params).reply
+made_material None code kind params is = is
+made_material (Some m) code kind params is = is
 
 -- ---- what is done to cells
 
-rules_equal : (a b : Rule) → a.kerf ≡ b.kerf → a.min_long ≡ b.min_long → a.min_short ≡ b.min_short → a ≡ b
-rules_equal a b p q r = λ i. record { kerf = p i; min_long = q i; min_short = r i }
+params_equal : (a b : CutParams) → a.kerf ≡ b.kerf → a.min_long ≡ b.min_long → a.min_short ≡ b.min_short → a ≡ b
+params_equal a b p q r = λ i. record { kerf = p i; min_long = q i; min_short = r i }
 
-same_rules : (a b : Rule) → same_rule a b ≡ true → a ≡ b
-same_rules a b e =
+params_alike : (a b : CutParams) → same_params a b ≡ true → a ≡ b
+params_alike a b e =
     let outer = and_parts (nat_eq a.kerf b.kerf && nat_eq a.min_long b.min_long) (nat_eq a.min_short b.min_short) e in
     let inner = and_parts (nat_eq a.kerf b.kerf) (nat_eq a.min_long b.min_long) outer.0 in
-    rules_equal a b (eqb-true a.kerf b.kerf inner.0) (eqb-true a.min_long b.min_long inner.1) (eqb-true a.min_short b.min_short outer.1)
+    params_equal a b (eqb-true a.kerf b.kerf inner.0) (eqb-true a.min_long b.min_long inner.1) (eqb-true a.min_short b.min_short outer.1)
 
 -- a material that is added again is the same
-known_rule : (m : Material) (kind : Kind) (rule : Rule) → material_refusal (Some m) kind rule ≡ None → m.limits ≡ rule
-known_rule m kind rule e =
-    let bad = none_of (not (is_rule kind rule.kerf rule.min_long rule.min_short)) BadMaterial _ e in
-    let known = none_of (not (same_kind m.kind kind && same_rule m.limits rule)) MaterialExists None bad.1 in
-    let same = not-false (same_kind m.kind kind && same_rule m.limits rule) known.0 in
-    same_rules m.limits rule (and_parts (same_kind m.kind kind) (same_rule m.limits rule) same).1
+known_params : (m : Material) (kind : Kind) (params : CutParams) → material_refusal (Some m) kind params ≡ None → m.limits ≡ params
+known_params m kind params e =
+    let bad = none_of (not (are_params kind params.kerf params.min_long params.min_short)) BadMaterial _ e in
+    let known = none_of (not (same_kind m.kind kind && same_params m.limits params)) MaterialExists None bad.1 in
+    let same = not-false (same_kind m.kind kind && same_params m.limits params) known.0 in
+    params_alike m.limits params (and_parts (same_kind m.kind kind) (same_params m.limits params) same).1
 
 module _ (texts : Texts) (message : Message) (earlier : List Effect) (old : Content) (well_formed : IsWellFormed texts old) (f : Follows earlier old) where
   abbrev Next : Effect → Change → Type 0
   Next = After texts message earlier old well_formed f
 
   module _ (material : List ℕ) (kind : Kind) (kerf min_long min_short : ℕ) where
-    abbrev rule : Rule
-    rule = record { kerf = kerf; min_long = min_long; min_short = min_short }
+    abbrev params : CutParams
+    params = record { kerf = kerf; min_long = min_long; min_short = min_short }
 
-    by_known : (known : Option Material) → material_at old material ≡ known → material_refusal known kind rule ≡ None
-        → Next (Rules material rule) (material_change known material kind rule)
+    by_known : (known : Option Material) → material_at old material ≡ known → material_refusal known kind params ≡ None
+        → Next (SetsParams material params) (material_change known material kind params)
     by_known None unknown allowed =
-        let new : Material = record { code = material; kind = kind; limits = rule } in
+        let new : Material = record { code = material; kind = kind; limits = params } in
         record {
           acts = (let e : old.last_act ≡ acts_of earlier = f.acts in omega arith);
           numbers = f.numbers;
           lines = f.lines;
-          rules = λ code m g. elim (key_cases codes_total codes_same code material) [
+          params = λ code m g. elim (key_cases codes_total codes_same code material) [
             | inl y ↦ (
                 let is : m ≡ new = same_some m new (sym g ∙ ap (get (insert old.materials material new)) y.0 ∙ get_same codes_total codes_same old.materials material new) in
-                ap (λ b. if b then Some rule else material_rule earlier code) y.1 ∙ ap (λ (v : Material). Some v.limits) (sym is))
-            | inr n ↦ ap (λ b. if b then Some rule else material_rule earlier code) n.1
-                ∙ f.rules code m (sym (get_other codes_total codes_same old.materials material new code n.0) ∙ g)
+                ap (λ b. if b then Some params else material_params earlier code) y.1 ∙ ap (λ (v : Material). Some v.limits) (sym is))
+            | inr n ↦ ap (λ b. if b then Some params else material_params earlier code) n.1
+                ∙ f.params code m (sym (get_other codes_total codes_same old.materials material new code n.0) ∙ g)
           ];
-          rows = λ n p k. row_later (Rules material rule) earlier p (λ job x y is. refl) (f.rows n p k);
+          rows = λ n p k. row_later (SetsParams material params) earlier p (λ job x y is. refl) (f.rows n p k);
           jobs = f.jobs;
           wholes = f.wholes;
           cells = f.cells;
@@ -180,18 +180,18 @@ module _ (texts : Texts) (message : Message) (earlier : List Effect) (old : Cont
       acts = (let e : old.last_act ≡ acts_of earlier = f.acts in omega arith);
       numbers = f.numbers;
       lines = f.lines;
-      rules = λ code other g. elim (key_cases codes_total codes_same code material) [
+      params = λ code other g. elim (key_cases codes_total codes_same code material) [
         | inl y ↦ (
             let is : other ≡ m = same_some other m (sym g ∙ ap (material_at old) y.0 ∙ found) in
-            ap (λ b. if b then Some rule else material_rule earlier code) y.1 ∙ ap Some (sym (known_rule m kind rule allowed)) ∙ ap (λ (v : Material). Some v.limits) (sym is))
-        | inr n ↦ ap (λ b. if b then Some rule else material_rule earlier code) n.1 ∙ f.rules code other g
+            ap (λ b. if b then Some params else material_params earlier code) y.1 ∙ ap Some (sym (known_params m kind params allowed)) ∙ ap (λ (v : Material). Some v.limits) (sym is))
+        | inr n ↦ ap (λ b. if b then Some params else material_params earlier code) n.1 ∙ f.params code other g
       ];
-      rows = λ n p k. row_later (Rules material rule) earlier p (λ job x y is. refl) (f.rows n p k);
+      rows = λ n p k. row_later (SetsParams material params) earlier p (λ job x y is. refl) (f.rows n p k);
       jobs = f.jobs;
       wholes = f.wholes;
       cells = f.cells;
       over = f.over;
     }
 
-    pub by_material : material_refusal (material_at old material) kind rule ≡ None → Next (Rules material rule) (material_change (material_at old material) material kind rule)
+    pub by_material : material_refusal (material_at old material) kind params ≡ None → Next (SetsParams material params) (material_change (material_at old material) material kind params)
     by_material = by_known (material_at old material) refl

@@ -7,7 +7,7 @@ use Rattle.std.proofs.lemmas.Bool.{and_parts, or_parts, leb-true, eqb-true, eq-e
 use Rattle.cut_measure.specs.declared.ranges.TheConstants.{MAX_WIDTH, MAX_HEIGHT, MAX_KERF}
 use Rattle.cut_measure.specs.declared.sizes.Kind.{Kind}
 use Rattle.cut_measure.specs.declared.sizes.Kind.TheVariants.{Bar, Sheet}
-use Rattle.cut_measure.specs.Measures.{is_size, is_rule}
+use Rattle.cut_measure.specs.Measures.{is_size, are_params}
 use Rattle.cut_tree.specs.declared.leaves.Leaf.{Leaf}
 use Rattle.cut_tree.specs.Tree.{count_of}
 use Rattle.cut_tree.specs.Patterns.{Pattern}
@@ -59,7 +59,7 @@ sized Sheet w h e =
     let r = and_parts (nat_le 1 w) (nat_le w MAX_WIDTH) q.0 in
     record { some_width = leb-true 1 w r.0; width = leb-true w MAX_WIDTH r.1; some_height = leb-true 1 h q.1; height = leb-true h MAX_HEIGHT p.1 }
 
-pub narrow : (kind : Kind) (kerf min_long min_short : ℕ) → is_rule kind kerf min_long min_short ≡ true → kerf ≤ MAX_KERF
+pub narrow : (kind : Kind) (kerf min_long min_short : ℕ) → are_params kind kerf min_long min_short ≡ true → kerf ≤ MAX_KERF
 narrow Bar kerf min_long min_short e =
     let p = and_parts (nat_le kerf MAX_KERF && min_short == 1 && nat_le 1 min_long) (nat_le min_long MAX_WIDTH) e in
     let q = and_parts (nat_le kerf MAX_KERF && min_short == 1) (nat_le 1 min_long) p.0 in

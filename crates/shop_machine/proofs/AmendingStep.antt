@@ -143,7 +143,7 @@ module _ (texts : Texts) (message : Message) (earlier : List Effect) (old : Cont
     acts = (let e : old.last_act ≡ acts_of earlier = f.acts in omega arith);
     numbers = f.numbers ∙ sym (lines_amended row.number wanted (ordered_lines earlier));
     lines = line_amended (ordered_lines earlier) old.demands row wanted found f.lines;
-    rules = f.rules;
+    params = f.params;
     rows = λ n p k. row_later (Amends row.number wanted) earlier p (λ job x y is. refl) (f.rows n p k);
     jobs = f.jobs;
     wholes = f.wholes;

@@ -3,7 +3,7 @@ use Rattle.std.proofs.Common.{◌≡◌, ℕ, ◌+◌, ◌-◌, ◌<◌, ◌≤�
 use Rattle.std.specs.Prelude.{Option, Some, None, ◌↔◌, if◌then◌else◌}
 use Rattle.std.specs.FinMap.{FinMap, get, insert}
 use Rattle.cut_measure.specs.Names.{Name, name_cmp}
-use Rattle.cut_measure.specs.Measures.{Extent, Rule, is_kept, below}
+use Rattle.cut_measure.specs.Measures.{Extent, CutParams, is_kept, below}
 use Rattle.cut_tree.specs.declared.lay.Owner as of_row
 use Rattle.cut_tree.specs.declared.lay.Owner.TheVariants as owner
 use Rattle.cut_tree.specs.declared.lay.Row.{Row}
@@ -136,25 +136,25 @@ kept_stands : (b : Bool) → standing_as (if b then Standing else Scrap) ≡ (if
 kept_stands true = refl
 kept_stands false = refl
 
-pub after_cut_whole : (rule : Rule) (of : of_row.Owner) (size : Extent) → is_gone (state_after_cut rule of size) ≡ false
-after_cut_whole rule (owner.Piece demand) size = refl
-after_cut_whole rule owner.Rest size = kept_or_not (is_kept rule size)
-after_cut_whole rule owner.Kerf size = refl
-after_cut_whole rule owner.Uncut size = kept_or_not (is_kept rule size)
-after_cut_whole rule owner.Lost size = refl
+pub after_cut_whole : (params : CutParams) (of : of_row.Owner) (size : Extent) → is_gone (state_after_cut params of size) ≡ false
+after_cut_whole params (owner.Piece demand) size = refl
+after_cut_whole params owner.Rest size = kept_or_not (is_kept params size)
+after_cut_whole params owner.Kerf size = refl
+after_cut_whole params owner.Uncut size = kept_or_not (is_kept params size)
+after_cut_whole params owner.Lost size = refl
 
-after_cut_stands : (rule : Rule) (of : of_row.Owner) (size : Extent) → standing_as (state_after_cut rule of size) ≡ state_after_cut rule of size
-after_cut_stands rule (owner.Piece demand) size = refl
-after_cut_stands rule owner.Rest size = kept_stands (is_kept rule size)
-after_cut_stands rule owner.Kerf size = refl
-after_cut_stands rule owner.Uncut size = kept_stands (is_kept rule size)
-after_cut_stands rule owner.Lost size = refl
+after_cut_stands : (params : CutParams) (of : of_row.Owner) (size : Extent) → standing_as (state_after_cut params of size) ≡ state_after_cut params of size
+after_cut_stands params (owner.Piece demand) size = refl
+after_cut_stands params owner.Rest size = kept_stands (is_kept params size)
+after_cut_stands params owner.Kerf size = refl
+after_cut_stands params owner.Uncut size = kept_stands (is_kept params size)
+after_cut_stands params owner.Lost size = refl
 
 module _ (m : FinMap name_cmp Part) (named : Named m) (p : Name) (row : Part) (kept : get m p ≡ Some row) (whole : is_gone row.state ≡ false) (stands : standing_as row.state ≡ Standing)
     (job : ℕ) (unused : (node : ℕ) → get m (record { act = job; node = node }) ≡ None)
-    (rule : Rule) (tree : Tree) (outcome : ℕ → Outcome) (rows : List Row) (laid : IsLaid tree row.size.w row.size.h rule.kerf outcome rows) where
+    (params : CutParams) (tree : Tree) (outcome : ℕ → Outcome) (rows : List Row) (laid : IsLaid tree row.size.w row.size.h params.kerf outcome rows) where
   abbrev pub after_cuts : FinMap name_cmp Part
-  after_cuts = with_parts (map (row_part row rule job) rows) (insert m p (in_state (Cut job) row))
+  after_cuts = with_parts (map (row_part row params job) rows) (insert m p (in_state (Cut job) row))
 
   unused_name : (n : Name) → n.act ≡ job → get m n ≡ None
   unused_name n e = ap (get m) (names_equal n (record { act = job; node = n.node }) e refl) ∙ unused n.node
@@ -166,22 +166,22 @@ module _ (m : FinMap name_cmp Part) (named : Named m) (p : Name) (row : Part) (k
         | inr lt ↦ elim lt [ inl l ↦ absurd (omega arith) | inr l ↦ absurd (omega arith) ]
       ]
 
-  pub found_new : (r : Row) → IsIn r rows → get after_cuts (record { act = job; node = r.node }) ≡ Some (row_part row rule job r)
+  pub found_new : (r : Row) → IsIn r rows → get after_cuts (record { act = job; node = r.node }) ≡ Some (row_part row params job r)
   found_new r i =
-      elim (put_cases (map (row_part row rule job) rows) (insert m p (in_state (Cut job) row)) (record { act = job; node = r.node })) [
+      elim (put_cases (map (row_part row params job) rows) (insert m p (in_state (Cut job) row)) (record { act = job; node = r.node })) [
         | inl f ↦ (
-            let s = in_map (row_part row rule job) rows f.0 f.1 in
+            let s = in_map (row_part row params job) rows f.0 f.1 in
             let name : s.0.node ≡ r.node = ap (λ (q : Part). q.name.node) (sym s.2) ∙ ap (λ (n : Name). n.node) f.2 in
-            f.3 ∙ ap Some s.2 ∙ ap (λ (t : Row). Some (row_part row rule job t)) (one_row s.0 r s.1 i name))
-        | inr f ↦ absurd (f.0 (row_part row rule job r) (map_in (row_part row rule job) rows r i) refl)
+            f.3 ∙ ap Some s.2 ∙ ap (λ (t : Row). Some (row_part row params job t)) (one_row s.0 r s.1 i name))
+        | inr f ↦ absurd (f.0 (row_part row params job r) (map_in (row_part row params job) rows r i) refl)
       ]
 
   pub found_cases : (n : Name) (q : Part) → get after_cuts n ≡ Some q
-      → ((r : Row) × IsIn r rows × (q ≡ row_part row rule job r) × (q.name ≡ n)) ⊎ (((n ≡ p) × (q ≡ in_state (Cut job) row)) ⊎ ((n ≡ p → ⊥) × (get m n ≡ Some q)))
+      → ((r : Row) × IsIn r rows × (q ≡ row_part row params job r) × (q.name ≡ n)) ⊎ (((n ≡ p) × (q ≡ in_state (Cut job) row)) ⊎ ((n ≡ p → ⊥) × (get m n ≡ Some q)))
   found_cases n q k =
-      elim (put_cases (map (row_part row rule job) rows) (insert m p (in_state (Cut job) row)) n) [
+      elim (put_cases (map (row_part row params job) rows) (insert m p (in_state (Cut job) row)) n) [
         | inl f ↦ (
-            let s = in_map (row_part row rule job) rows f.0 f.1 in
+            let s = in_map (row_part row params job) rows f.0 f.1 in
             let is : q ≡ f.0 = same_some q f.0 (sym k ∙ f.3) in
             inl (s.0, s.1, is ∙ s.2, ap (λ (v : Part). v.name) is ∙ f.2))
         | inr f ↦ elim (name_cases n p) [
@@ -192,9 +192,9 @@ module _ (m : FinMap name_cmp Part) (named : Named m) (p : Name) (row : Part) (k
 
   pub kept_old : (n : Name) (q : Part) → get m n ≡ Some q → (n ≡ p → ⊥) → get after_cuts n ≡ Some q
   kept_old n q k ne =
-      elim (put_cases (map (row_part row rule job) rows) (insert m p (in_state (Cut job) row)) n) [
+      elim (put_cases (map (row_part row params job) rows) (insert m p (in_state (Cut job) row)) n) [
         | inl f ↦ (
-            let s = in_map (row_part row rule job) rows f.0 f.1 in
+            let s = in_map (row_part row params job) rows f.0 f.1 in
             let act : n.act ≡ job = ap (λ (v : Name). v.act) (sym f.2) ∙ ap (λ (v : Part). v.name.act) s.2 in
             absurd (none_some q (sym (unused_name n act) ∙ k)))
         | inr f ↦ f.1 ∙ get_other names_total names_same m p (in_state (Cut job) row) n ne ∙ k
@@ -202,22 +202,22 @@ module _ (m : FinMap name_cmp Part) (named : Named m) (p : Name) (row : Part) (k
 
   pub found_cut : get after_cuts p ≡ Some (in_state (Cut job) row)
   found_cut =
-      elim (put_cases (map (row_part row rule job) rows) (insert m p (in_state (Cut job) row)) p) [
+      elim (put_cases (map (row_part row params job) rows) (insert m p (in_state (Cut job) row)) p) [
         | inl f ↦ (
-            let s = in_map (row_part row rule job) rows f.0 f.1 in
+            let s = in_map (row_part row params job) rows f.0 f.1 in
             let act : p.act ≡ job = ap (λ (v : Name). v.act) (sym f.2) ∙ ap (λ (v : Part). v.name.act) s.2 in
             absurd (none_some row (sym (unused_name p act) ∙ kept)))
         | inr f ↦ f.1 ∙ get_same names_total names_same m p (in_state (Cut job) row)
       ]
 
   -- a cell of a new part was one of the part that was cut
-  pub was_in : (u : Name) (x y : ℕ) (r : Row) → IsIn r rows → HasCellOf u x y (row_part row rule job r) → lay.CoversCell r (x - row.x) (y - row.y) × HasCellOf u x y row
+  pub was_in : (u : Name) (x y : ℕ) (r : Row) → IsIn r rows → HasCellOf u x y (row_part row params job r) → lay.CoversCell r (x - row.x) (y - row.y) × HasCellOf u x y row
   was_in u x y r i h =
       let a : row.x + r.x ≤ x = h.right in let b : x < (row.x + r.x) + r.w = h.left in
       let c : row.y + r.y ≤ y = h.below in let d : y < (row.y + r.y) + r.h = h.above in
       let held : lay.CoversCell r (x - row.x) (y - row.y) = record { left = omega arith; right = omega arith; top = omega arith; bottom = omega arith } in
-      let owns : Owns tree row.size.w row.size.h rule.kerf outcome r.node r.owner (x - row.x) (y - row.y) =
-      (all_in (λ (s : Row). (k l : ℕ) → lay.CoversCell s k l ↔ Owns tree row.size.w row.size.h rule.kerf outcome s.node s.owner k l) rows laid.own_cells r i (x - row.x) (y - row.y)).0 held in
+      let owns : Owns tree row.size.w row.size.h params.kerf outcome r.node r.owner (x - row.x) (y - row.y) =
+      (all_in (λ (s : Row). (k l : ℕ) → lay.CoversCell s k l ↔ Owns tree row.size.w row.size.h params.kerf outcome s.node s.owner k l) rows laid.own_cells r i (x - row.x) (y - row.y)).0 held in
       let wide : x - row.x < row.size.w = owns.inside_width in let high : y - row.y < row.size.h = owns.inside_height in
       (held, record { root = h.root; whole = whole; right = omega arith; left = omega arith; below = omega arith; above = omega arith })
 
@@ -225,13 +225,13 @@ module _ (m : FinMap name_cmp Part) (named : Named m) (p : Name) (row : Part) (k
   no_cell u x y q e h = true≢false (ap (λ (v : Part). is_gone v.state) (sym e) ∙ h.whole)
 
   abbrev spot_at : ℕ → ℕ → Spot
-  spot_at i j = spot_of tree row.size.w row.size.h rule.kerf outcome 0 0 i j
+  spot_at i j = spot_of tree row.size.w row.size.h params.kerf outcome 0 0 i j
 
   placed : (r : Row) → IsIn r rows → (i j : ℕ) → lay.CoversCell r i j → IsSpot r (spot_at i j) i j
   placed r i = all_in (λ (r : Row). (i j : ℕ) → lay.CoversCell r i j → IsSpot r (spot_at i j) i j) rows laid.own_place r i
 
   -- the part of a row is the owner's at the spot
-  row_owner : (r : Row) (s : Spot) (i j x y : ℕ) → IsSpot r s i j → row.x + i ≡ x → row.y + j ≡ y → IsOwner (owner_at rule job s) x y (row_part row rule job r)
+  row_owner : (r : Row) (s : Spot) (i j x y : ℕ) → IsSpot r s i j → row.x + i ≡ x → row.y + j ≡ y → IsOwner (owner_at params job s) x y (row_part row params job r)
   row_owner r s i j x y place across down =
       let mine : Extent = record { w = r.w; h = r.h } in
       let its : Extent = record { w = s.w; h = s.h } in
@@ -239,7 +239,7 @@ module _ (m : FinMap name_cmp Part) (named : Named m) (p : Name) (row : Part) (k
       let px : r.x + s.x ≡ i = place.x in let py : r.y + s.y ≡ j = place.y in
       record {
         name = ap (λ n. record { act = job; node = n }) (sym place.node);
-        state = after_cut_stands rule r.owner mine ∙ ap (λ v. state_after_cut rule v mine) (sym place.owner) ∙ ap (λ v. state_after_cut rule s.owner v) sizes;
+        state = after_cut_stands params r.owner mine ∙ ap (λ v. state_after_cut params v mine) (sym place.owner) ∙ ap (λ v. state_after_cut params s.owner v) sizes;
         size = sizes;
         across = omega arith;
         down = omega arith;
@@ -249,11 +249,11 @@ module _ (m : FinMap name_cmp Part) (named : Named m) (p : Name) (row : Part) (k
   same_place : (r t : Row) → IsIn r rows → IsIn t rows → (i j : ℕ) → lay.CoversCell r i j → lay.CoversCell t i j → t ≡ r
   same_place r t a b i j p q = one_row t r b a (sym (placed t b i j q).node ∙ (placed r a i j p).node)
 
-  here : (u : Name) (x y : ℕ) (r : Row) (i : ℕ) (j : ℕ) → lay.CoversCell r i j → row.x + i ≡ x → row.y + j ≡ y → HasCellOf u x y row → HasCellOf u x y (row_part row rule job r)
+  here : (u : Name) (x y : ℕ) (r : Row) (i : ℕ) (j : ℕ) → lay.CoversCell r i j → row.x + i ≡ x → row.y + j ≡ y → HasCellOf u x y row → HasCellOf u x y (row_part row params job r)
   here u x y r i j held across down h =
       let a : r.x ≤ i = held.left in let b : i < r.x + r.w = held.right in
       let c : r.y ≤ j = held.top in let d : j < r.y + r.h = held.bottom in
-      record { root = h.root; whole = after_cut_whole rule r.owner (record { w = r.w; h = r.h }); right = omega arith; left = omega arith; below = omega arith; above = omega arith }
+      record { root = h.root; whole = after_cut_whole params r.owner (record { w = r.w; h = r.h }); right = omega arith; left = omega arith; below = omega arith; above = omega arith }
 
   moved : (t : Row) (i j x y : ℕ) → row.x + i ≡ x → row.y + j ≡ y → lay.CoversCell t (x - row.x) (y - row.y) → lay.CoversCell t i j
   moved t i j x y across down held =
@@ -262,16 +262,16 @@ module _ (m : FinMap name_cmp Part) (named : Named m) (p : Name) (row : Part) (k
 
   -- a cell of the part that is cut belongs to the row that has it
   in_new : (w : Owner) (after : Option Owner) (u : Name) (x y : ℕ) (r : Row) → IsIn r rows → lay.CoversCell r w.x w.y → row.x + w.x ≡ x → row.y + w.y ≡ y → HasCellOf u x y row
-      → after ≡ Some (owner_at rule job (spot_at w.x w.y)) → ((n : Name) (q : Part) → get m n ≡ Some q → HasCellOf u x y q → n ≡ p) → HasOwner after_cuts after u x y
+      → after ≡ Some (owner_at params job (spot_at w.x w.y)) → ((n : Name) (q : Part) → get m n ≡ Some q → HasCellOf u x y q → n ≡ p) → HasOwner after_cuts after u x y
   in_new w after u x y r i held across down h owned only = record {
-    part = row_part row rule job r;
-    owner = owner_at rule job (spot_at w.x w.y);
+    part = row_part row params job r;
+    owner = owner_at params job (spot_at w.x w.y);
     kept = found_new r i;
     holds = here u x y r w.x w.y held across down h;
     owned = owned;
     same = row_owner r (spot_at w.x w.y) w.x w.y x y (placed r i w.x w.y held) across down;
     alone = λ n q k g. elim (found_cases n q k) [
-      | inl f ↦ f.2 ∙ ap (row_part row rule job) (same_place r f.0 i f.1 w.x w.y held (moved f.0 w.x w.y x y across down (was_in u x y f.0 f.1 (subst (HasCellOf u x y) f.2 g)).0))
+      | inl f ↦ f.2 ∙ ap (row_part row params job) (same_place r f.0 i f.1 w.x w.y held (moved f.0 w.x w.y x y across down (was_in u x y f.0 f.1 (subst (HasCellOf u x y) f.2 g)).0))
       | inr f ↦ elim f [
         | inl c ↦ absurd (no_cell u x y q c.1 g)
         | inr c ↦ absurd (c.0 (only n q c.1 g))
@@ -286,7 +286,7 @@ module _ (m : FinMap name_cmp Part) (named : Named m) (p : Name) (row : Part) (k
 
   pub cut_up : (found after : Option Owner) (u : Name) (x y : ℕ)
       → ((w : Owner) → row.root ≡ u → found ≡ Some w → w.name ≡ p → w.state ≡ Standing
-      → after ≡ Some (owner_at rule job (spot_of tree w.size.w w.size.h rule.kerf outcome 0 0 w.x w.y)))
+      → after ≡ Some (owner_at params job (spot_of tree w.size.w w.size.h params.kerf outcome 0 0 w.x w.y)))
       → ((w : Owner) → found ≡ Some w → (w.name ≡ p → ⊥) → after ≡ Some w)
       → HasOwner m found u x y → HasOwner after_cuts after u x y
   cut_up found after u x y there elsewhere o =
@@ -298,7 +298,7 @@ module _ (m : FinMap name_cmp Part) (named : Named m) (p : Name) (row : Part) (k
             let row' = held_row u x y o.owner.x o.owner.y ws.across ws.down h in
             in_new o.owner after u x y row'.0 row'.1 row'.2 ws.across ws.down h
             (there o.owner h.root o.owned (sym ws.name ∙ named p row kept) (sym ws.state ∙ stands)
-            ∙ ap (λ (e : Extent). Some (owner_at rule job (spot_of tree e.w e.h rule.kerf outcome 0 0 o.owner.x o.owner.y))) (sym ws.size))
+            ∙ ap (λ (e : Extent). Some (owner_at params job (spot_of tree e.w e.h params.kerf outcome 0 0 o.owner.x o.owner.y))) (sym ws.size))
             (λ n q k g. sym (named n q k) ∙ ap (λ (v : Part). v.name) (o.alone n q k g) ∙ e.0))
         | inr e ↦ record {
           part = o.part;

@@ -1,7 +1,7 @@
 -- A job's end from the rows that were found.
 use Rattle.std.proofs.Common.{◌≡◌, ◌+◌, ◌≤◌, ◌<◌, ◌^◌, ℕ, Bool, true, false, List, map, get_or, All, [], ◌∷◌, sym, ap, subst, ◌∙◌, arith}
 use Rattle.std.specs.Prelude.{Option, Some, None, not, IfSome, MatchOption}
-use Rattle.cut_measure.specs.Measures.{Rule}
+use Rattle.cut_measure.specs.Measures.{CutParams}
 use Rattle.cut_tree.specs.declared.lay.Row.{Row}
 use Rattle.cut_tree.specs.declared.halts.Stop.{Stop}
 use Rattle.cut_tree.specs.Tree.{Tree, count_of}
@@ -32,10 +32,10 @@ job_test stop j part material at totals b waits can there =
     ∙ ap (λ c. first_of ((not c, BadCut) ∷ (not (rests j (Some part) (Some material) at totals), StoreFault) ∷ [])) can ∙ ap (λ r. first_of ((not r, StoreFault) ∷ [])) there
 
 -- what holds of a job with the rows on which it rested, of the rows that were found
-pub worked : (stop : Stop) (E : Job → Part → Rule → Type 0) (found : Option Job) (on : Option Part) (of : Option Material) (at : ℕ → Option Demand) (totals : Totals) (j : Job) (part : Part) (rule : Rule)
-    → found ≡ Some j → on ≡ Some part → IfSome of (λ m. m.limits ≡ rule) → job_refusal stop found on of at totals ≡ None → E j part rule
+pub worked : (stop : Stop) (E : Job → Part → CutParams → Type 0) (found : Option Job) (on : Option Part) (of : Option Material) (at : ℕ → Option Demand) (totals : Totals) (j : Job) (part : Part) (params : CutParams)
+    → found ≡ Some j → on ≡ Some part → IfSome of (λ m. m.limits ≡ params) → job_refusal stop found on of at totals ≡ None → E j part params
     → MatchOption found ⊥ (λ j. MatchOption on ⊥ (λ p. MatchOption of ⊥ (λ m. E j p m.limits)))
-worked stop E found on None at totals j part rule is_j is_p is_m allowed it = absurd (not_allowed found on j part is_j is_p allowed)
+worked stop E found on None at totals j part params is_j is_p is_m allowed it = absurd (not_allowed found on j part is_j is_p allowed)
   where
     by : (b c : Bool) → first_of ((b, JobOver) ∷ (c, BadCut) ∷ (true, StoreFault) ∷ []) ≡ None → ⊥
     by true c e = cc
@@ -46,13 +46,13 @@ worked stop E found on None at totals j part rule is_j is_p is_m allowed it = ab
     not_allowed found on j part is_j is_p allowed =
         by (not (is_waiting j.state)) (not (can_end j.plan stop))
         (subst (λ (o : Option Part). job_refusal stop (Some j) o None at totals ≡ None) is_p (subst (λ (o : Option Job). job_refusal stop o on None at totals ≡ None) is_j allowed))
-worked stop E found on (Some m) at totals j part rule is_j is_p is_m allowed it =
+worked stop E found on (Some m) at totals j part params is_j is_p is_m allowed it =
     subst (λ (o : Option Job). MatchOption o ⊥ (λ j. MatchOption on ⊥ (λ p. E j p m.limits))) (sym is_j)
-    (subst (λ (o : Option Part). MatchOption o ⊥ (λ p. E j p m.limits)) (sym is_p) (subst (λ (r : Rule). E j part r) (sym is_m) it))
+    (subst (λ (o : Option Part). MatchOption o ⊥ (λ p. E j p m.limits)) (sym is_p) (subst (λ (r : CutParams). E j part r) (sym is_m) it))
 
 -- the change of a job that ended so, from its parts and their cells
-pub end_made : (stop : Stop) (j : Job) (part : Part) (rule : Rule) (t : Totals) (laid : List Row) (rows : List Demand) (parts : List Part) (come moved : Totals) (answer : Reply) (state : JobState) (halt : Option JobHalt)
-    (base : Change) → base ≡ no_change answer → state ≡ ended_state stop → halt ≡ kept_halt stop j.act → parts ≡ map (row_part part rule j.act) laid → come ≡ tally (map (row_part part rule j.act) laid)
+pub end_made : (stop : Stop) (j : Job) (part : Part) (params : CutParams) (t : Totals) (laid : List Row) (rows : List Demand) (parts : List Part) (come moved : Totals) (answer : Reply) (state : JobState) (halt : Option JobHalt)
+    (base : Change) → base ≡ no_change answer → state ≡ ended_state stop → halt ≡ kept_halt stop j.act → parts ≡ map (row_part part params j.act) laid → come ≡ tally (map (row_part part params j.act) laid)
     → moved ≡ moved_totals part come t → answer ≡ ended_reply stop j.act come
     → record base {
       parts = parts;
@@ -61,9 +61,9 @@ pub end_made : (stop : Stop) (j : Job) (part : Part) (rule : Rule) (t : Totals) 
       halt = halt;
       demands = rows;
       totals = Some (record { material = part.material; totals = moved });
-    } ≡ end_change stop j part rule t laid rows
-end_made stop j part rule t laid rows parts come moved answer state halt base e s h f c m g =
-    let made = map (row_part part rule j.act) laid in
+    } ≡ end_change stop j part params t laid rows
+end_made stop j part params t laid rows parts come moved answer state halt base e s h f c m g =
+    let made = map (row_part part params j.act) laid in
     let reported : answer ≡ ended_reply stop j.act (tally made) = g ∙ ap (ended_reply stop j.act) c in
     let sums : moved ≡ moved_totals part (tally made) t = m ∙ ap (λ (come : Totals). moved_totals part come t) c in
     λ i.

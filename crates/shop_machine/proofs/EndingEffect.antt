@@ -4,7 +4,7 @@ use Rattle.std.specs.Prelude.{Option, Some, None, if◌then◌else◌}
 use Rattle.std.specs.FinMap.{FinMap, get, insert, nat_cmp-IsAntisymmetric}
 use Rattle.std.specs.Cmp.{nat_cmp_total}
 use Rattle.cut_measure.specs.Names.{Name, name_cmp}
-use Rattle.cut_measure.specs.Measures.{Rule}
+use Rattle.cut_measure.specs.Measures.{CutParams}
 use Rattle.cut_tree.specs.declared.lay.Row.{Row}
 use Rattle.cut_tree.specs.declared.halts.Halt.{Halt}
 use Rattle.cut_tree.specs.declared.halts.Stop.{Stop}
@@ -31,7 +31,7 @@ use Rattle.shop_machine.specs.Ending.{release_change, row_part, ended_state, end
 use Rattle.shop_machine.specs.Recounts.{AreRecounted, with_freed, with_laid, pieces_in}
 use Rattle.shop_records.specs.WellFormed.{IsWellFormed, IsWaiting}
 use Rattle.shop_machine.specs.Machine.{Effect, nothing, Ends, effects}
-use Rattle.shop_machine.specs.History.{ReceivedUnit, acts_of, ordered_lines, material_rule, owner_of, owner_before, is_gone, HasCellOf, IsOwner, standing_as, HasOwner, unit_material, Reservation, Owner, stands_as, owner_at, cut_owner, OneOwner}
+use Rattle.shop_machine.specs.History.{ReceivedUnit, acts_of, ordered_lines, material_params, owner_of, owner_before, is_gone, HasCellOf, IsOwner, standing_as, HasOwner, unit_material, Reservation, Owner, stands_as, owner_at, cut_owner, OneOwner}
 use Rattle.shop_records.specs.Elements.{IsIn}
 use Rattle.shop_records.specs.Readings.{Reading}
 use Rattle.shop_records.proofs.Basics.{name_cases, same_some, get_same}
@@ -71,22 +71,22 @@ module _ (texts : Texts) (message : Message) (earlier : List Effect) (old : Cont
         (subst (λ h. IsLaid j.plan.tree row.size.w h j.plan.kerf outcome laid) high
         (subst (λ w. IsLaid j.plan.tree w j.plan.h j.plan.kerf outcome laid) wide is))
 
-    -- the rule by which the part is cut is that of its unit's material
-    rule_here : (u : Name) → row.root ≡ u → material_rule earlier (unit_material earlier u) ≡ Some material.limits
-    rule_here u e =
+    -- the parameters by which the part is cut are those of its unit's material
+    params_here : (u : Name) → row.root ≡ u → material_params earlier (unit_material earlier u) ≡ Some material.limits
+    params_here u e =
         let base : IsRow earlier row = f.rows row.name row kept_row in
-        ap (λ n. material_rule earlier (unit_material earlier n)) (sym e ∙ sym base.root)
-        ∙ ap (material_rule earlier) (material_is earlier base.unit base.received ∙ base.material) ∙ f.rules row.material material known
+        ap (λ n. material_params earlier (unit_material earlier n)) (sym e ∙ sym base.root)
+        ∙ ap (material_params earlier) (material_is earlier base.unit base.received ∙ base.material) ∙ f.params row.material material known
 
-    cut_elsewhere : (made : Reservation) (rule : Option Rule) (w : Owner) → stands_as made.part w ≡ false → cut_owner (Some made) rule outcome j.act (Some w) ≡ Some w
+    cut_elsewhere : (made : Reservation) (params : Option CutParams) (w : Owner) → stands_as made.part w ≡ false → cut_owner (Some made) params outcome j.act (Some w) ≡ Some w
     cut_elsewhere made None w e = refl
-    cut_elsewhere made (Some rule) w e =
-        ap (λ b. if b then Some (owner_at rule j.act (spot_of made.tree w.size.w w.size.h rule.kerf outcome 0 0 w.x w.y)) else Some w) e
+    cut_elsewhere made (Some params) w e =
+        ap (λ b. if b then Some (owner_at params j.act (spot_of made.tree w.size.w w.size.h params.kerf outcome 0 0 w.x w.y)) else Some w) e
 
-    cut_here : (made : Reservation) (rule : Rule) (w : Owner) → stands_as made.part w ≡ true
-        → cut_owner (Some made) (Some rule) outcome j.act (Some w) ≡ Some (owner_at rule j.act (spot_of made.tree w.size.w w.size.h rule.kerf outcome 0 0 w.x w.y))
-    cut_here made rule w e =
-        ap (λ b. if b then Some (owner_at rule j.act (spot_of made.tree w.size.w w.size.h rule.kerf outcome 0 0 w.x w.y)) else Some w) e
+    cut_here : (made : Reservation) (params : CutParams) (w : Owner) → stands_as made.part w ≡ true
+        → cut_owner (Some made) (Some params) outcome j.act (Some w) ≡ Some (owner_at params j.act (spot_of made.tree w.size.w w.size.h params.kerf outcome 0 0 w.x w.y))
+    cut_here made params w e =
+        ap (λ b. if b then Some (owner_at params j.act (spot_of made.tree w.size.w w.size.h params.kerf outcome 0 0 w.x w.y)) else Some w) e
 
     module _ (rows : List Demand) (laid : List Row) (is_laid : IsLaid j.plan.tree row.size.w row.size.h material.limits.kerf outcome laid) where
       abbrev done : Effect
@@ -159,17 +159,17 @@ module _ (texts : Texts) (message : Message) (earlier : List Effect) (old : Cont
       cell_after u x y o =
           let made : Reservation = reservation j in
           let found' : Option Owner = owner_of earlier u x y in
-          let cut : owner_of (Ends j.act outcome ∷ earlier) u x y ≡ cut_owner (Some made) (material_rule earlier (unit_material earlier u)) outcome j.act (owner_of earlier u x y) =
-          ap (λ m. cut_owner m (material_rule earlier (unit_material earlier u)) outcome j.act (owner_of earlier u x y)) (f.jobs j.act j found) in
+          let cut : owner_of (Ends j.act outcome ∷ earlier) u x y ≡ cut_owner (Some made) (material_params earlier (unit_material earlier u)) outcome j.act (owner_of earlier u x y) =
+          ap (λ m. cut_owner m (material_params earlier (unit_material earlier u)) outcome j.act (owner_of earlier u x y)) (f.jobs j.act j found) in
           cut_up old.parts all_named row.name row kept_row (ap is_gone reserved) (ap standing_as reserved) j.act waits.none_yet material.limits j.plan.tree outcome laid is_laid
           (owner_of earlier u x y) (owner_of (Ends j.act outcome ∷ earlier) u x y) u x y
           (λ w root e named' stands.
-          cut ∙ ap (cut_owner (Some made) (material_rule earlier (unit_material earlier u)) outcome j.act) e
-          ∙ ap (λ r. cut_owner (Some made) r outcome j.act (Some w)) (rule_here u root)
+          cut ∙ ap (cut_owner (Some made) (material_params earlier (unit_material earlier u)) outcome j.act) e
+          ∙ ap (λ r. cut_owner (Some made) r outcome j.act (Some w)) (params_here u root)
           ∙ cut_here made material.limits w (stands_yes j.part w (named' ∙ row_named) stands))
           (λ w e other.
-          cut ∙ ap (cut_owner (Some made) (material_rule earlier (unit_material earlier u)) outcome j.act) e
-          ∙ cut_elsewhere made (material_rule earlier (unit_material earlier u)) w (stands_no j.part w (λ is. other (is ∙ sym row_named))))
+          cut ∙ ap (cut_owner (Some made) (material_params earlier (unit_material earlier u)) outcome j.act) e
+          ∙ cut_elsewhere made (material_params earlier (unit_material earlier u)) w (stands_no j.part w (λ is. other (is ∙ sym row_named))))
           o
 
       whole_after : (unit : ReceivedUnit) → IsWhole old.parts unit → IsWhole new_parts unit
@@ -212,7 +212,7 @@ module _ (texts : Texts) (message : Message) (earlier : List Effect) (old : Cont
         numbers = f.numbers;
         lines = lines_recounted (ordered_lines earlier) old.demands (with_laid laid) j.plan.tree rows recounted
             (no_laid old.demands j.plan.tree laid few_laid (λ number d is. (well_formed.demands number d is).numbered)) (λ n d. refl) f.lines;
-        rules = f.rules;
+        params = f.params;
         rows = rows_after;
         jobs = job_restated texts message earlier old well_formed f j (ended_state stop) found;
         wholes = λ unit i. whole_after unit (f.wholes unit i);
@@ -244,7 +244,7 @@ module _ (texts : Texts) (message : Message) (earlier : List Effect) (old : Cont
     acts = (let e : old.last_act ≡ acts_of earlier = f.acts in omega arith);
     numbers = f.numbers;
     lines = lines_recounted (ordered_lines earlier) old.demands with_freed j.plan.tree rows recounted (no_freed old.demands j.plan.tree) (λ n d. refl) f.lines;
-    rules = f.rules;
+    params = f.params;
     rows = rows_restated texts message earlier old well_formed f row Standing refl kept nothing (λ p job x y is. refl);
     jobs = job_restated texts message earlier old well_formed f j job_state.Released found;
     wholes = λ unit i. whole_restated texts message earlier old well_formed f row Standing refl kept unit (f.wholes unit i);

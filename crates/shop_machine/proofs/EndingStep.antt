@@ -11,7 +11,7 @@ use Rattle.std.proofs.lemmas.List.Sums.{sum_by-le-sum_by}
 use Rattle.std.proofs.lemmas.Nat.{mul-le}
 use Rattle.cut_measure.specs.Codes.{code_cmp}
 use Rattle.cut_measure.specs.Names.{Name, name_cmp}
-use Rattle.cut_measure.specs.Measures.{Rule, Extent, is_kept}
+use Rattle.cut_measure.specs.Measures.{CutParams, Extent, is_kept}
 use Rattle.cut_measure.specs.declared.ranges.TheConstants.{MAX_WIDTH, MAX_HEIGHT, MAX_NUMBERS}
 use Rattle.cut_tree.specs.declared.lay.Owner.{Owner}
 use Rattle.cut_tree.specs.declared.lay.Owner.TheVariants as owner
@@ -72,35 +72,35 @@ job_waits m stop number j found allowed =
 
 -- ---- what becomes of a rectangle
 
-pub after_cut_uncut : (rule : Rule) (o : Owner) (size : Extent) → is_uncut (state_after_cut rule o size) ≡ true
-after_cut_uncut rule (owner.Piece demand) size = refl
-after_cut_uncut rule owner.Rest size = by (is_kept rule size)
+pub after_cut_uncut : (params : CutParams) (o : Owner) (size : Extent) → is_uncut (state_after_cut params o size) ≡ true
+after_cut_uncut params (owner.Piece demand) size = refl
+after_cut_uncut params owner.Rest size = by (is_kept params size)
   where
     by : (b : Bool) → is_uncut (if b then state.Standing else state.Scrap) ≡ true
     by true = refl
     by false = refl
-after_cut_uncut rule owner.Kerf size = refl
-after_cut_uncut rule owner.Uncut size = by (is_kept rule size)
+after_cut_uncut params owner.Kerf size = refl
+after_cut_uncut params owner.Uncut size = by (is_kept params size)
   where
     by : (b : Bool) → is_uncut (if b then state.Standing else state.Scrap) ≡ true
     by true = refl
     by false = refl
-after_cut_uncut rule owner.Lost size = refl
+after_cut_uncut params owner.Lost size = refl
 
-pub after_cut_piece : (number : ℕ) (rule : Rule) (o : Owner) (size : Extent) → is_piece_for number (state_after_cut rule o size) ≡ is_owner_of number o
-after_cut_piece number rule (owner.Piece demand) size = refl
-after_cut_piece number rule owner.Rest size = by (is_kept rule size)
+pub after_cut_piece : (number : ℕ) (params : CutParams) (o : Owner) (size : Extent) → is_piece_for number (state_after_cut params o size) ≡ is_owner_of number o
+after_cut_piece number params (owner.Piece demand) size = refl
+after_cut_piece number params owner.Rest size = by (is_kept params size)
   where
     by : (b : Bool) → is_piece_for number (if b then state.Standing else state.Scrap) ≡ false
     by true = refl
     by false = refl
-after_cut_piece number rule owner.Kerf size = refl
-after_cut_piece number rule owner.Uncut size = by (is_kept rule size)
+after_cut_piece number params owner.Kerf size = refl
+after_cut_piece number params owner.Uncut size = by (is_kept params size)
   where
     by : (b : Bool) → is_piece_for number (if b then state.Standing else state.Scrap) ≡ false
     by true = refl
     by false = refl
-after_cut_piece number rule owner.Lost size = refl
+after_cut_piece number params owner.Lost size = refl
 
 -- ---- a waiting job
 

@@ -132,7 +132,7 @@ module _ (earlier : List Effect) (old : Content) (f : Follows earlier old) (kept
     acts = (let e : old.last_act ≡ acts_of earlier = f.acts in omega arith);
     numbers = (let e = f.numbers in let more = lines_more order lines (ordered_lines earlier) in omega (arith, e, more));
     lines = lines_put order lines (ordered_lines earlier) old.demands (old.last_demand + 1) (ap (λ n. n + 1) f.numbers) f.lines;
-    rules = f.rules;
+    params = f.params;
     rows = λ n p k. row_later (Orders order lines) earlier p (λ job x y is. refl) (f.rows n p k);
     jobs = f.jobs;
     wholes = f.wholes;

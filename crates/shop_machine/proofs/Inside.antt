@@ -4,7 +4,7 @@ use Rattle.std.specs.Prelude.{All, nat_le, sum_by}
 use Rattle.std.proofs.Math.Nat.{mul-le-mul_left, mul-le-mul_right}
 use Rattle.std.proofs.lemmas.Bool.{and_parts, leb-true, eqb-true}
 use Rattle.cut_measure.specs.declared.ranges.TheConstants.{MAX_WIDTH, MAX_HEIGHT, MAX_NUMBERS}
-use Rattle.cut_measure.specs.Measures.{Rule}
+use Rattle.cut_measure.specs.Measures.{CutParams}
 use Rattle.cut_tree.specs.declared.lay.Row.{Row}
 use Rattle.cut_tree.specs.Tree.{Tree}
 use Rattle.cut_tree.specs.Cells.{Outcome}
@@ -35,10 +35,10 @@ pub row_inside : (t : Tree) (w h k : ℕ) (outcome : ℕ → Outcome) (laid : Li
 row_inside t w h k outcome laid is = all_in (IsInside w h) laid (all_inside t w h k outcome laid is)
 
 -- the cells of the parts that laid rows become are those of the unit
-pub part_cells : (part : Part) (rule : Rule) (act : ℕ) (t : Tree) (w h k : ℕ) (outcome : ℕ → Outcome) (laid : List Row) → IsLaid t w h k outcome laid
-    → sum_by (λ (p : Part). p.size.w * p.size.h) (map (row_part part rule act) laid) ≡ w * h
-part_cells part rule act t w h k outcome laid is =
-    sum_map (λ (p : Part). p.size.w * p.size.h) (row_part part rule act) laid ∙ add_up t w h k outcome laid is (λ n o a b. true) ∙ count_all w h
+pub part_cells : (part : Part) (params : CutParams) (act : ℕ) (t : Tree) (w h k : ℕ) (outcome : ℕ → Outcome) (laid : List Row) → IsLaid t w h k outcome laid
+    → sum_by (λ (p : Part). p.size.w * p.size.h) (map (row_part part params act) laid) ≡ w * h
+part_cells part params act t w h k outcome laid is =
+    sum_map (λ (p : Part). p.size.w * p.size.h) (row_part part params act) laid ∙ add_up t w h k outcome laid is (λ n o a b. true) ∙ count_all w h
 
 -- what the test of a job's part says
 pub record HasPart (j : Job) (part : Part) : Type 0 where

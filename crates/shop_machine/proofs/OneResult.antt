@@ -6,7 +6,7 @@ use Rattle.std.specs.Cmp.{nat_cmp_total}
 use Rattle.std.specs.Ordering.{nat_cmp}
 use Rattle.std.specs.FinMap.{FinMap, get, same_map, nat_cmp-IsAntisymmetric}
 use Rattle.cut_measure.specs.Names.{Name}
-use Rattle.cut_measure.specs.Measures.{Rule}
+use Rattle.cut_measure.specs.Measures.{CutParams}
 use Rattle.cut_tree.specs.declared.lay.Row.{Row}
 use Rattle.cut_tree.specs.declared.halts.Stop.{Stop}
 use Rattle.cut_tree.specs.declared.halts.Stop.TheVariants as stop
@@ -152,12 +152,12 @@ module _ (at : ℕ → Option Demand) where
         answer = refl;
       })
 
-  ended_same : (command : Command) → ((demands : List Demand) → entry_order command demands ≡ None) → (s : Stop) (j : Job) (part : Part) (rule : Rule) (totals : Totals) (one other : Change)
-      → IsEnd s j part rule totals at one → IsEnd s j part rule totals at other → IsSame command one other
-  ended_same command none s j part rule totals one other p q =
+  ended_same : (command : Command) → ((demands : List Demand) → entry_order command demands ≡ None) → (s : Stop) (j : Job) (part : Part) (params : CutParams) (totals : Totals) (one other : Change)
+      → IsEnd s j part params totals at one → IsEnd s j part params totals at other → IsSame command one other
+  ended_same command none s j part params totals one other p q =
       let laid : q.laid ≡ p.laid = one_laid j.plan.tree j.plan.w j.plan.h j.plan.kerf (outcome_of s) q.laid p.laid q.is_laid p.is_laid in
-      both_are command one other (end_change s j part rule totals p.laid p.rows) (end_change s j part rule totals p.laid q.rows)
-      p.is (q.is ∙ ap (λ (l : List Row). end_change s j part rule totals l q.rows) laid)
+      both_are command one other (end_change s j part params totals p.laid p.rows) (end_change s j part params totals p.laid q.rows)
+      p.is (q.is ∙ ap (λ (l : List Row). end_change s j part params totals l q.rows) laid)
       (record {
         material = refl;
         parts = refl;
@@ -197,11 +197,11 @@ module _ (at : ℕ → Option Demand) where
         answer = refl;
       })
 
-  undone_same : (number : ℕ) (j : Job) (kept also_kept : Option JobHalt) (part : Part) (rule : Rule) (totals : Totals) (one other : Change)
-      → (p : IsUndo j kept part rule totals at one) (q : IsUndo j also_kept part rule totals at other) → q.end ≡ p.end → IsSame (Undo number) one other
-  undone_same number j kept also_kept part rule totals one other p q same =
-      both_are (Undo number) one other (undo_change p.end j part rule totals p.rows) (undo_change p.end j part rule totals q.rows)
-      p.is (q.is ∙ ap (λ (s : Stop). undo_change s j part rule totals q.rows) same)
+  undone_same : (number : ℕ) (j : Job) (kept also_kept : Option JobHalt) (part : Part) (params : CutParams) (totals : Totals) (one other : Change)
+      → (p : IsUndo j kept part params totals at one) (q : IsUndo j also_kept part params totals at other) → q.end ≡ p.end → IsSame (Undo number) one other
+  undone_same number j kept also_kept part params totals one other p q same =
+      both_are (Undo number) one other (undo_change p.end j part params totals p.rows) (undo_change p.end j part params totals q.rows)
+      p.is (q.is ∙ ap (λ (s : Stop). undo_change s j part params totals q.rows) same)
       (record {
         material = refl;
         parts = refl;

@@ -6,7 +6,7 @@ use Rattle.std.specs.FinMap.{FinMap, get, get-entries, entries, insert, values}
 use Rattle.std.proofs.lemmas.List.Elements.{All-filter, filter_passes}
 use Rattle.std.proofs.lemmas.List.Sums.{sum_by-cons}
 use Rattle.cut_measure.specs.Names.{Name, name_cmp}
-use Rattle.cut_measure.specs.Measures.{Rule}
+use Rattle.cut_measure.specs.Measures.{CutParams}
 use Rattle.cut_tree.specs.declared.lay.Row.{Row}
 use Rattle.cut_tree.specs.Tree.{Tree}
 use Rattle.cut_tree.specs.Cells.{Outcome}
@@ -60,11 +60,11 @@ module _ (g : Part → Part) (own : (p : Part) → (g p).name ≡ p.name) where
       omega (arith, one, more, sum_by-cons f p ps, sum_by-cons f (g p) (map g ps))
 
 module _ (m : FinMap name_cmp Part) (named : Named m) (p : Name) (row : Part) (kept : get m p ≡ Some row) (job : ℕ) (cut : row.state ≡ Cut job)
-    (rule : Rule) (tree : Tree) (outcome : ℕ → Outcome) (rows : List Row) (laid : IsLaid tree row.size.w row.size.h rule.kerf outcome rows)
-    (there : (r : Row) → IsIn r rows → get m (record { act = job; node = r.node }) ≡ Some (row_part row rule job r))
-    (all : (n : Name) (q : Part) → get m n ≡ Some q → n.act ≡ job → (r : Row) × IsIn r rows × (q ≡ row_part row rule job r)) where
+    (params : CutParams) (tree : Tree) (outcome : ℕ → Outcome) (rows : List Row) (laid : IsLaid tree row.size.w row.size.h params.kerf outcome rows)
+    (there : (r : Row) → IsIn r rows → get m (record { act = job; node = r.node }) ≡ Some (row_part row params job r))
+    (all : (n : Name) (q : Part) → get m n ≡ Some q → n.act ≡ job → (r : Row) × IsIn r rows × (q ≡ row_part row params job r)) where
   abbrev pub made : List Part
-  made = map (row_part row rule job) rows
+  made = map (row_part row params job) rows
 
   abbrev pub gone : List Part
   gone = map (in_state (Undone job)) made
@@ -72,17 +72,17 @@ module _ (m : FinMap name_cmp Part) (named : Named m) (p : Name) (row : Part) (k
   abbrev pub put_back : FinMap name_cmp Part
   put_back = with_parts gone (insert m p (in_state Standing row))
 
-  pub gone_of : (x : Part) → IsIn x gone → (r : Row) × IsIn r rows × (x ≡ in_state (Undone job) (row_part row rule job r))
+  pub gone_of : (x : Part) → IsIn x gone → (r : Row) × IsIn r rows × (x ≡ in_state (Undone job) (row_part row params job r))
   gone_of x i =
       let a = in_map (in_state (Undone job)) made x i in
-      let b = in_map (row_part row rule job) rows a.0 a.1 in
+      let b = in_map (row_part row params job) rows a.0 a.1 in
       (b.0, b.1, a.2 ∙ ap (in_state (Undone job)) b.2)
 
-  gone_in : (r : Row) → IsIn r rows → IsIn (in_state (Undone job) (row_part row rule job r)) gone
-  gone_in r i = map_in (in_state (Undone job)) made (row_part row rule job r) (map_in (row_part row rule job) rows r i)
+  gone_in : (r : Row) → IsIn r rows → IsIn (in_state (Undone job) (row_part row params job r)) gone
+  gone_in r i = map_in (in_state (Undone job)) made (row_part row params job r) (map_in (row_part row params job) rows r i)
 
-  row_whole : (r : Row) → is_gone (row_part row rule job r).state ≡ false
-  row_whole r = after_cut_whole rule r.owner (record { w = r.w; h = r.h })
+  row_whole : (r : Row) → is_gone (row_part row params job r).state ≡ false
+  row_whole r = after_cut_whole params r.owner (record { w = r.w; h = r.h })
 
   -- the part isn't one of those that were made of it
   pub not_made : p.act ≡ job → ⊥
@@ -91,7 +91,7 @@ module _ (m : FinMap name_cmp Part) (named : Named m) (p : Name) (row : Part) (k
       true≢false (sym (ap is_gone cut) ∙ ap (λ (v : Part). is_gone v.state) r.2 ∙ row_whole r.0)
 
   pub back_cases : (n : Name) (q : Part) → get put_back n ≡ Some q
-      → ((n.act ≡ job) × ((r : Row) × IsIn r rows × (q ≡ in_state (Undone job) (row_part row rule job r))))
+      → ((n.act ≡ job) × ((r : Row) × IsIn r rows × (q ≡ in_state (Undone job) (row_part row params job r))))
       ⊎ (((n ≡ p) × (q ≡ in_state Standing row)) ⊎ ((n ≡ p → ⊥) × ((n.act ≡ job → ⊥) × (get m n ≡ Some q))))
   back_cases n q k =
       elim (put_cases gone (insert m p (in_state Standing row)) n) [
@@ -108,7 +108,7 @@ module _ (m : FinMap name_cmp Part) (named : Named m) (p : Name) (row : Part) (k
                 (
                   (λ act.
                       let r = all n q old act in
-                      f.0 (in_state (Undone job) (row_part row rule job r.0)) (gone_in r.0 r.1) (ap (λ (v : Part). v.name) (sym r.2) ∙ named n q old)),
+                      f.0 (in_state (Undone job) (row_part row params job r.0)) (gone_in r.0 r.1) (ap (λ (v : Part). v.name) (sym r.2) ∙ named n q old)),
                   old,
                 ),
               )))
@@ -155,7 +155,7 @@ module _ (m : FinMap name_cmp Part) (named : Named m) (p : Name) (row : Part) (k
         | inl f ↦ (
             let r = gone_of f.0 f.1 in
             let name : (record { act = job; node = r.0.node }) ≡ n = ap (λ (v : Part). v.name) (sym r.2) ∙ f.2 in
-            let same : row_part row rule job r.0 ≡ q = same_some (row_part row rule job r.0) q (sym (there r.0 r.1) ∙ ap (get m) name ∙ k) in
+            let same : row_part row params job r.0 ≡ q = same_some (row_part row params job r.0) q (sym (there r.0 r.1) ∙ ap (get m) name ∙ k) in
             (Undone job, f.3 ∙ ap Some r.2 ∙ ap (λ (v : Part). Some (in_state (Undone job) v)) same))
         | inr f ↦ elim (name_cases n p) [
           | inl e ↦ (
@@ -168,18 +168,18 @@ module _ (m : FinMap name_cmp Part) (named : Named m) (p : Name) (row : Part) (k
   -- ---- cells
 
   -- a cell of one of those parts is one of the part
-  was_in : (u : Name) (x y : ℕ) (r : Row) → IsIn r rows → HasCellOf u x y (row_part row rule job r) → HasCellOf u x y (in_state Standing row)
+  was_in : (u : Name) (x y : ℕ) (r : Row) → IsIn r rows → HasCellOf u x y (row_part row params job r) → HasCellOf u x y (in_state Standing row)
   was_in u x y r i h =
       let a : row.x + r.x ≤ x = h.right in let b : x < (row.x + r.x) + r.w = h.left in
       let c : row.y + r.y ≤ y = h.below in let d : y < (row.y + r.y) + r.h = h.above in
       let held : lay.CoversCell r (x - row.x) (y - row.y) = record { left = omega arith; right = omega arith; top = omega arith; bottom = omega arith } in
-      let owns : Owns tree row.size.w row.size.h rule.kerf outcome r.node r.owner (x - row.x) (y - row.y) =
-      (all_in (λ (s : Row). (k l : ℕ) → lay.CoversCell s k l ↔ Owns tree row.size.w row.size.h rule.kerf outcome s.node s.owner k l) rows laid.own_cells r i (x - row.x) (y - row.y)).0 held in
+      let owns : Owns tree row.size.w row.size.h params.kerf outcome r.node r.owner (x - row.x) (y - row.y) =
+      (all_in (λ (s : Row). (k l : ℕ) → lay.CoversCell s k l ↔ Owns tree row.size.w row.size.h params.kerf outcome s.node s.owner k l) rows laid.own_cells r i (x - row.x) (y - row.y)).0 held in
       let wide : x - row.x < row.size.w = owns.inside_width in let high : y - row.y < row.size.h = owns.inside_height in
       record { root = h.root; whole = refl; right = omega arith; left = omega arith; below = omega arith; above = omega arith }
 
   -- each cell of the part is one of theirs
-  now_in : (u : Name) (x y : ℕ) → HasCellOf u x y (in_state Standing row) → (r : Row) × IsIn r rows × HasCellOf u x y (row_part row rule job r)
+  now_in : (u : Name) (x y : ℕ) → HasCellOf u x y (in_state Standing row) → (r : Row) × IsIn r rows × HasCellOf u x y (row_part row params job r)
   now_in u x y h =
       let left : row.x ≤ x = h.right in let top : row.y ≤ y = h.below in
       let right : x < row.x + row.size.w = h.left in let bottom : y < row.y + row.size.h = h.above in
@@ -188,7 +188,7 @@ module _ (m : FinMap name_cmp Part) (named : Named m) (p : Name) (row : Part) (k
       let c : r.0.y ≤ y - row.y = r.2.top in let d : y - row.y < r.0.y + r.0.h = r.2.bottom in
       (r.0, r.1, record { root = h.root; whole = row_whole r.0; right = omega arith; left = omega arith; below = omega arith; above = omega arith })
 
-  not_gone : (u : Name) (x y : ℕ) (q : Part) (r : Row) → q ≡ in_state (Undone job) (row_part row rule job r) → HasCellOf u x y q → ⊥
+  not_gone : (u : Name) (x y : ℕ) (q : Part) (r : Row) → q ≡ in_state (Undone job) (row_part row params job r) → HasCellOf u x y q → ⊥
   not_gone u x y q r e h = true≢false (ap (λ (v : Part). is_gone v.state) (sym e) ∙ h.whole)
 
   pub stood_again : (found after : Option Owner) (u : Name) (x y : ℕ)
@@ -233,7 +233,7 @@ module _ (m : FinMap name_cmp Part) (named : Named m) (p : Name) (row : Part) (k
                 | inr c ↦ elim c [
                   | inl d ↦ (
                       let r = now_in u x y (subst (HasCellOf u x y) d.1 g) in
-                      let same : row_part row rule job r.0 ≡ o.part = o.alone (record { act = job; node = r.0.node }) (row_part row rule job r.0) (there r.0 r.1) r.2 in
+                      let same : row_part row params job r.0 ≡ o.part = o.alone (record { act = job; node = r.0.node }) (row_part row params job r.0) (there r.0 r.1) r.2 in
                       absurd (e.0 (sym (ap (λ (v : Part). v.name.act) same))))
                   | inr d ↦ o.alone n q d.1.1 g
                 ]

@@ -49,7 +49,7 @@ module _ (earlier : List Effect) (old : Content) (range : IsInRange old) (f : Fo
       acts = refl;
       numbers = f.numbers;
       lines = f.lines;
-      rules = f.rules;
+      params = f.params;
       rows = λ n p k. elim (received_cases old.parts material batch size (acts_of earlier + 1) count older n p k) [
         | inl g ↦ subst (IsRow (Receives material batch size count ∷ earlier)) (sym g.2) (record {
           unit = received g.0;

@@ -47,7 +47,7 @@ module _ (texts : Texts) (message : Message) (earlier : List Effect) (old : Cont
       acts = refl;
       numbers = f.numbers;
       lines = lines_recounted (ordered_lines earlier) old.demands with_reserved plan.tree rows recounted (no_reserved old.demands plan.tree) (λ n d. refl) f.lines;
-      rules = f.rules;
+      params = f.params;
       rows = rows_restated texts message earlier old well_formed f row (Reserved (acts_of earlier + 1)) refl kept_row (Reserves part plan.tree) (λ p job x y is. refl);
       jobs = λ k job g. elim (nat_cases k (acts_of earlier + 1)) [
         | inl y ↦ (

@@ -191,7 +191,7 @@ module _ (texts : Texts) (message : Message) (earlier : List Effect) (old : Cont
     acts = (let e : old.last_act ≡ acts_of earlier = f.acts in omega arith);
     numbers = f.numbers;
     lines = f.lines;
-    rules = f.rules;
+    params = f.params;
     rows = rows_restated texts message earlier old well_formed f row s whole kept (SetsState row.name s) (λ p job x y is. refl);
     jobs = f.jobs;
     wholes = λ unit i. whole_restated texts message earlier old well_formed f row s whole kept unit (f.wholes unit i);

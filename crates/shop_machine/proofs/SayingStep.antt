@@ -136,7 +136,7 @@ module _ (texts : Texts) (message : Message) (earlier : List Effect) (old : Cont
     acts = (let e : old.last_act ≡ acts_of earlier = f.acts in omega arith);
     numbers = f.numbers;
     lines = f.lines;
-    rules = f.rules;
+    params = f.params;
     rows = λ n p k. row_later no_effect earlier p (λ job x y is. refl) (f.rows n p k);
     jobs = f.jobs;
     wholes = f.wholes;
@@ -149,7 +149,7 @@ module _ (texts : Texts) (message : Message) (earlier : List Effect) (old : Cont
     acts = (let e : old.last_act ≡ acts_of earlier = f.acts in omega arith);
     numbers = f.numbers;
     lines = f.lines;
-    rules = f.rules;
+    params = f.params;
     rows = λ n p k. row_later no_effect earlier p (λ job x y is. refl) (f.rows n p k);
     jobs = f.jobs;
     wholes = f.wholes;

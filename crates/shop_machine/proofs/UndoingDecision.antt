@@ -4,7 +4,7 @@ use Rattle.std.specs.Prelude.{nat_le, ◌==◌, ◌&&◌, not, Option, Some, Non
 use Rattle.std.specs.List.{list_all}
 use Rattle.std.proofs.lemmas.Bool.{and_parts, leb-true, eqb-true, le-leb, eq-eqb}
 use Rattle.cut_measure.specs.declared.ranges.TheConstants.{MAX_WIDTH, MAX_HEIGHT, MAX_NUMBERS}
-use Rattle.cut_measure.specs.Measures.{Rule}
+use Rattle.cut_measure.specs.Measures.{CutParams}
 use Rattle.cut_tree.specs.declared.halts.Stop.{Stop}
 use Rattle.cut_tree.specs.declared.lay.Row.{Row}
 use Rattle.cut_tree.specs.declared.leaves.Leaf.{Leaf}
@@ -56,39 +56,39 @@ fits_as_part j part h =
 -- ---- a job that is over, with its rows
 
 module _ (found_job : Option Job) (halt : Option JobHalt) (part : Option Part) (material : Option Material) (found : List Part) (at : ℕ → Option Demand) (totals : Totals)
-    (end : Stop) (j : Job) (p : Part) (rule : Rule) (is_job : found_job ≡ Some j) (is_part : part ≡ Some p) (of : MatchOption material ⊥ (λ (m : Material). m.limits ≡ rule))
+    (end : Stop) (j : Job) (p : Part) (params : CutParams) (is_job : found_job ≡ Some j) (is_part : part ≡ Some p) (of : MatchOption material ⊥ (λ (m : Material). m.limits ≡ params))
     (ended : stop_of j j.state halt ≡ Some end) (fits : fits_part j p ≡ true) where
-  judged_by : (o : Option Material) → MatchOption o ⊥ (λ (m : Material). m.limits ≡ rule) → (left back : Bool) → are_as_left end j p rule found ≡ left → can_take_back end j p rule at totals ≡ back
+  judged_by : (o : Option Material) → MatchOption o ⊥ (λ (m : Material). m.limits ≡ params) → (left back : Bool) → are_as_left end j p params found ≡ left → can_take_back end j p params at totals ≡ back
       → taking_refusal (Some j) halt (Some p) o found at totals ≡ first_of ((not left, PartsMoved) ∷ (not back, StoreFault) ∷ [])
   judged_by None is left back l b = absurd is
   judged_by (Some m) is left back l b =
       ap (λ (s : Option Stop). stop_refusal s j (Some p) (Some m) found at totals) ended
-      ∙ ap (λ (r : Rule). first_of ((not (fits_part j p), StoreFault) ∷ (not (are_as_left end j p r found), PartsMoved) ∷ (not (can_take_back end j p r at totals), StoreFault) ∷ [])) is
-      ∙ ap (λ (f : Bool). first_of ((not f, StoreFault) ∷ (not (are_as_left end j p rule found), PartsMoved) ∷ (not (can_take_back end j p rule at totals), StoreFault) ∷ [])) fits
-      ∙ ap (λ (b : Bool). first_of ((not b, PartsMoved) ∷ (not (can_take_back end j p rule at totals), StoreFault) ∷ [])) l
+      ∙ ap (λ (r : CutParams). first_of ((not (fits_part j p), StoreFault) ∷ (not (are_as_left end j p r found), PartsMoved) ∷ (not (can_take_back end j p r at totals), StoreFault) ∷ [])) is
+      ∙ ap (λ (f : Bool). first_of ((not f, StoreFault) ∷ (not (are_as_left end j p params found), PartsMoved) ∷ (not (can_take_back end j p params at totals), StoreFault) ∷ [])) fits
+      ∙ ap (λ (b : Bool). first_of ((not b, PartsMoved) ∷ (not (can_take_back end j p params at totals), StoreFault) ∷ [])) l
       ∙ ap (λ (b : Bool). first_of ((not left, PartsMoved) ∷ (not b, StoreFault) ∷ [])) b
 
   -- by whether its parts are as it left them, and whether the totals and the demands hold them
-  pub judged : (left back : Bool) → are_as_left end j p rule found ≡ left → can_take_back end j p rule at totals ≡ back
+  pub judged : (left back : Bool) → are_as_left end j p params found ≡ left → can_take_back end j p params at totals ≡ back
       → taking_refusal found_job halt part material found at totals ≡ first_of ((not left, PartsMoved) ∷ (not back, StoreFault) ∷ [])
   judged left back l b =
       ap (λ (o : Option Job). taking_refusal o halt part material found at totals) is_job
       ∙ ap (λ (o : Option Part). taking_refusal (Some j) halt o material found at totals) is_part ∙ judged_by material of left back l b
 
   -- what holds of its rows holds of those that were found
-  pub of_found_rows : (E : Job → Part → Rule → Type 0) → E j p rule
+  pub of_found_rows : (E : Job → Part → CutParams → Type 0) → E j p params
       → MatchOption found_job ⊥ (λ (j : Job). MatchOption part ⊥ (λ (p : Part). MatchOption material ⊥ (λ (m : Material). E j p m.limits)))
   of_found_rows E it =
       subst (λ (o : Option Job). MatchOption o ⊥ (λ (j : Job). MatchOption part ⊥ (λ (p : Part). MatchOption material ⊥ (λ (m : Material). E j p m.limits)))) (sym is_job)
       (subst (λ (o : Option Part). MatchOption o ⊥ (λ (p : Part). MatchOption material ⊥ (λ (m : Material). E j p m.limits))) (sym is_part) (by material of))
     where
-      by : (o : Option Material) → MatchOption o ⊥ (λ (m : Material). m.limits ≡ rule) → MatchOption o ⊥ (λ (m : Material). E j p m.limits)
+      by : (o : Option Material) → MatchOption o ⊥ (λ (m : Material). m.limits ≡ params) → MatchOption o ⊥ (λ (m : Material). E j p m.limits)
       by None is = absurd is
-      by (Some m) is = subst (λ (r : Rule). E j p r) (sym is) it
+      by (Some m) is = subst (λ (r : CutParams). E j p r) (sym is) it
 
 -- the change of a job that is undone, from the parts that it left and their cells
-pub undo_made : (end : Stop) (j : Job) (p : Part) (rule : Rule) (t : Totals) (rows : List Demand) (left undone : List Part) (gone come after : Totals) (base : Change)
-    → base ≡ no_change (reply.Undo j.act j.part) → left ≡ left_parts end j p rule → undone ≡ map (in_state (Undone j.act)) left → gone ≡ tally left
+pub undo_made : (end : Stop) (j : Job) (p : Part) (params : CutParams) (t : Totals) (rows : List Demand) (left undone : List Part) (gone come after : Totals) (base : Change)
+    → base ≡ no_change (reply.Undo j.act j.part) → left ≡ left_parts end j p params → undone ≡ map (in_state (Undone j.act)) left → gone ≡ tally left
     → come ≡ tally (in_state Standing p ∷ []) → after ≡ totals_after gone come t
     → record base {
       moved = Some (in_state Standing p);
@@ -96,12 +96,12 @@ pub undo_made : (end : Stop) (j : Job) (p : Part) (rule : Rule) (t : Totals) (ro
       job = Some (record j { state = job.Undone });
       demands = rows;
       totals = Some (record { material = p.material; totals = after });
-    } ≡ undo_change end j p rule t rows
-undo_made end j p rule t rows left undone gone come after base e l u g c a =
-    let parts : undone ≡ map (in_state (Undone j.act)) (left_parts end j p rule) = u ∙ ap (map (in_state (Undone j.act))) l in
-    let cells : gone ≡ tally (left_parts end j p rule) = g ∙ ap tally l in
-    let sums : after ≡ totals_after (tally (left_parts end j p rule)) (tally (in_state Standing p ∷ [])) t =
-    a ∙ ap (λ (x : Totals). totals_after x come t) cells ∙ ap (λ (x : Totals). totals_after (tally (left_parts end j p rule)) x t) c in
+    } ≡ undo_change end j p params t rows
+undo_made end j p params t rows left undone gone come after base e l u g c a =
+    let parts : undone ≡ map (in_state (Undone j.act)) (left_parts end j p params) = u ∙ ap (map (in_state (Undone j.act))) l in
+    let cells : gone ≡ tally (left_parts end j p params) = g ∙ ap tally l in
+    let sums : after ≡ totals_after (tally (left_parts end j p params)) (tally (in_state Standing p ∷ [])) t =
+    a ∙ ap (λ (x : Totals). totals_after x come t) cells ∙ ap (λ (x : Totals). totals_after (tally (left_parts end j p params)) x t) c in
     λ i.
     record (e i) {
       moved = Some (in_state Standing p);
@@ -113,26 +113,26 @@ undo_made end j p rule t rows left undone gone come after base e l u g c a =
 
 -- ---- what the tests over the rows that were found say of it
 
-module _ (end : Stop) (j : Job) (p : Part) (rule : Rule) where
+module _ (end : Stop) (j : Job) (p : Part) (params : CutParams) where
   -- the parts that were laid anew are those that it left
-  pub left_is : (laid : List Row) (left : List Part) → laid ≡ laid_by end j → left ≡ map (row_part p rule j.act) laid → left ≡ left_parts end j p rule
-  left_is laid left rows is = is ∙ ap (map (row_part p rule j.act)) rows
+  pub left_is : (laid : List Row) (left : List Part) → laid ≡ laid_by end j → left ≡ map (row_part p params j.act) laid → left ≡ left_parts end j p params
+  left_is laid left rows is = is ∙ ap (map (row_part p params j.act)) rows
 
-  pub gone_is : (laid : List Row) (gone : Totals) → laid ≡ laid_by end j → gone ≡ tally (map (row_part p rule j.act) laid) → gone ≡ tally (left_parts end j p rule)
-  gone_is laid gone rows is = is ∙ ap (λ (rows : List Row). tally (map (row_part p rule j.act) rows)) rows
+  pub gone_is : (laid : List Row) (gone : Totals) → laid ≡ laid_by end j → gone ≡ tally (map (row_part p params j.act) laid) → gone ≡ tally (left_parts end j p params)
+  gone_is laid gone rows is = is ∙ ap (λ (rows : List Row). tally (map (row_part p params j.act) rows)) rows
 
-  pub is_left : (found left : List Part) (test b : Bool) → left ≡ left_parts end j p rule → test ≡ (same_state p.state (Cut j.act) && same_parts found left) → test ≡ b
-      → are_as_left end j p rule found ≡ b
+  pub is_left : (found left : List Part) (test b : Bool) → left ≡ left_parts end j p params → test ≡ (same_state p.state (Cut j.act) && same_parts found left) → test ≡ b
+      → are_as_left end j p params found ≡ b
   is_left found left test b is tests says = ap (λ (ps : List Part). same_state p.state (Cut j.act) && same_parts found ps) (sym is) ∙ sym tests ∙ says
 
-  pub holds_cells : (t gone : Totals) (most : ℕ) (test b : Bool) → gone ≡ tally (left_parts end j p rule) → most ≡ p.size.w * p.size.h → test ≡ have_cells most gone t → test ≡ b
-      → have_cells (p.size.w * p.size.h) (tally (left_parts end j p rule)) t ≡ b
+  pub holds_cells : (t gone : Totals) (most : ℕ) (test b : Bool) → gone ≡ tally (left_parts end j p params) → most ≡ p.size.w * p.size.h → test ≡ have_cells most gone t → test ≡ b
+      → have_cells (p.size.w * p.size.h) (tally (left_parts end j p params)) t ≡ b
   holds_cells t gone most test b is cells tests says =
       ap (λ (x : Totals). have_cells (p.size.w * p.size.h) x t) (sym is) ∙ ap (λ n. have_cells n gone t) (sym cells) ∙ sym tests ∙ says
 
-  pub taken_back : (at : ℕ → Option Demand) (t : Totals) (cells made : Bool) → have_cells (p.size.w * p.size.h) (tally (left_parts end j p rule)) t ≡ cells
+  pub taken_back : (at : ℕ → Option Demand) (t : Totals) (cells made : Bool) → have_cells (p.size.w * p.size.h) (tally (left_parts end j p params)) t ≡ cells
       → list_all (λ (leaf : Leaf). has_made (pieces_in leaf.demand (laid_by end j)) (at leaf.demand)) (plan_leaves j.plan) ≡ made
-      → can_take_back end j p rule at t ≡ (cells && made)
+      → can_take_back end j p params at t ≡ (cells && made)
   taken_back at t cells made c m =
       ap (λ (b : Bool). b && list_all (λ (leaf : Leaf). has_made (pieces_in leaf.demand (laid_by end j)) (at leaf.demand)) (plan_leaves j.plan)) c ∙ ap (λ (b : Bool). cells && b) m
 

@@ -125,7 +125,7 @@ module _ (texts : Texts) (message : Message) (earlier : List Effect) (old : Cont
         numbers = f.numbers;
         lines = lines_recounted (ordered_lines earlier) old.demands (with_unmade laid) j.plan.tree rows recounted
             (no_unmade old.demands j.plan.tree laid u.few (λ number d is. (well_formed.demands number d is).numbered)) (λ n d. refl) f.lines;
-        rules = f.rules;
+        params = f.params;
         rows = rows_after;
         jobs = job_restated texts message earlier old well_formed f j job_state.Undone u.found;
         wholes = λ unit i. whole_after unit (f.wholes unit i);

@@ -12,7 +12,7 @@ use Rattle.std.proofs.lemmas.Nat.{mul-le}
 use Rattle.cut_measure.specs.declared.ranges.TheConstants.{MAX_WIDTH, MAX_HEIGHT, MAX_NUMBERS}
 use Rattle.cut_measure.specs.Codes.{code_cmp}
 use Rattle.cut_measure.specs.Names.{Name, name_cmp}
-use Rattle.cut_measure.specs.Measures.{Rule, Extent, is_kept}
+use Rattle.cut_measure.specs.Measures.{CutParams, Extent, is_kept}
 use Rattle.cut_tree.specs.declared.lay.Owner.{Owner}
 use Rattle.cut_tree.specs.declared.lay.Owner.TheVariants as owner
 use Rattle.cut_tree.specs.declared.lay.Row.{Row}
@@ -56,20 +56,20 @@ use Rattle.shop_machine.proofs.Undoable.{IsUndoable, there, all, made_of, rise, 
 use Rattle.shop_machine.proofs.UndoingEffect.{no_unmade}
 
 -- what is made at a job's end isn't reserved
-after_cut_free : (number : ℕ) (rule : Rule) (o : Owner) (size : Extent) → is_reserved_for number (state_after_cut rule o size) ≡ false
-after_cut_free number rule (owner.Piece demand) size = refl
-after_cut_free number rule owner.Rest size = by (is_kept rule size)
+after_cut_free : (number : ℕ) (params : CutParams) (o : Owner) (size : Extent) → is_reserved_for number (state_after_cut params o size) ≡ false
+after_cut_free number params (owner.Piece demand) size = refl
+after_cut_free number params owner.Rest size = by (is_kept params size)
   where
     by : (b : Bool) → is_reserved_for number (if b then state.Standing else state.Scrap) ≡ false
     by true = refl
     by false = refl
-after_cut_free number rule owner.Kerf size = refl
-after_cut_free number rule owner.Uncut size = by (is_kept rule size)
+after_cut_free number params owner.Kerf size = refl
+after_cut_free number params owner.Uncut size = by (is_kept params size)
   where
     by : (b : Bool) → is_reserved_for number (if b then state.Standing else state.Scrap) ≡ false
     by true = refl
     by false = refl
-after_cut_free number rule owner.Lost size = refl
+after_cut_free number params owner.Lost size = refl
 
 -- the columns of what became of cells
 abbrev is_after_cut : Column → Bool

@@ -2,7 +2,7 @@
 use Rattle.std.specs.Prelude.{◌≡◌, ℕ, ◌+◌, ◌&&◌, ◌==◌, List, [], ◌∷◌, map, Bool, false, not, nat_le, if◌then◌else◌, Option, Some, None, length, is_some, true, ◌||◌}
 use Rattle.std.specs.List.{list_all}
 use Rattle.cut_measure.specs.declared.ranges.TheConstants.{MAX_WIDTH, MAX_HEIGHT, MAX_NUMBERS}
-use Rattle.cut_measure.specs.Measures.{Extent, Rule, is_kept}
+use Rattle.cut_measure.specs.Measures.{Extent, CutParams, is_kept}
 use Rattle.cut_tree.specs.declared.lay.Owner.{Owner}
 use Rattle.cut_tree.specs.declared.lay.Owner.TheVariants as owner
 use Rattle.cut_tree.specs.declared.lay.Row.{Row}
@@ -95,16 +95,16 @@ pub record IsWork (old : Content) (number : ℕ) (j : Job) (part : Part) (materi
   pub of : material_at old part.material ≡ Some material
 
 -- what becomes of a laid rectangle
-abbrev pub state_after_cut : Rule → Owner → Extent → State
-state_after_cut rule (owner.Piece demand) size = Piece demand
-state_after_cut rule owner.Rest size = if is_kept rule size then Standing else Scrap
-state_after_cut rule owner.Kerf size = Kerf
-state_after_cut rule owner.Uncut size = if is_kept rule size then Standing else Scrap
-state_after_cut rule owner.Lost size = Scrap
+abbrev pub state_after_cut : CutParams → Owner → Extent → State
+state_after_cut params (owner.Piece demand) size = Piece demand
+state_after_cut params owner.Rest size = if is_kept params size then Standing else Scrap
+state_after_cut params owner.Kerf size = Kerf
+state_after_cut params owner.Uncut size = if is_kept params size then Standing else Scrap
+state_after_cut params owner.Lost size = Scrap
 
 -- the part that a laid row of a job on a part becomes, in the received unit's coordinates
-abbrev pub row_part : Part → Rule → ℕ → Row → Part
-row_part part rule act row =
+abbrev pub row_part : Part → CutParams → ℕ → Row → Part
+row_part part params act row =
     let size : Extent = record { w = row.w; h = row.h } in
     record {
       name = record { act = act; node = row.node };
@@ -114,7 +114,7 @@ row_part part rule act row =
       x = part.x + row.x;
       y = part.y + row.y;
       size = size;
-      state = state_after_cut rule row.owner size;
+      state = state_after_cut params row.owner size;
     }
 
 -- the job is done where all cuts were made, else broken
@@ -135,9 +135,9 @@ kept_halt stop.All number = None
 kept_halt (stop.After halt) number = Some (record { job = number; halt = halt; rest = None })
 kept_halt (stop.Saved halt rest) number = Some (record { job = number; halt = halt; rest = Some rest })
 
-abbrev pub end_change : Stop → Job → Part → Rule → Totals → List Row → List Demand → Change
-end_change stop j part rule totals laid rows =
-    let made = map (row_part part rule j.act) laid in
+abbrev pub end_change : Stop → Job → Part → CutParams → Totals → List Row → List Demand → Change
+end_change stop j part params totals laid rows =
+    let made = map (row_part part params j.act) laid in
     record (no_change (ended_reply stop j.act (tally made))) {
       parts = made;
       moved = Some (in_state (Cut j.act) part);
@@ -149,19 +149,19 @@ end_change stop j part rule totals laid rows =
 
 -- The work on the plan ended so: its part falls into what was laid, none of its pieces is reserved any more, and those that
 -- were laid are made.
-pub record IsEnd (stop : Stop) (j : Job) (part : Part) (rule : Rule) (totals : Totals) (at : ℕ → Option Demand) (change : Change) : Type 0 where
+pub record IsEnd (stop : Stop) (j : Job) (part : Part) (params : CutParams) (totals : Totals) (at : ℕ → Option Demand) (change : Change) : Type 0 where
   pub laid : List Row
   pub is_laid : IsLaid j.plan.tree j.plan.w j.plan.h j.plan.kerf (outcome_of stop) laid
   pub rows : List Demand
   pub recounted : AreRecounted at (with_laid laid) j.plan.tree rows
-  pub is : change ≡ end_change stop j part rule totals laid rows
+  pub is : change ≡ end_change stop j part params totals laid rows
 
 -- all cuts of the plan were made
-abbrev pub IsDone : Job → Part → Rule → Totals → (ℕ → Option Demand) → Change → Type 0
+abbrev pub IsDone : Job → Part → CutParams → Totals → (ℕ → Option Demand) → Change → Type 0
 IsDone = IsEnd stop.All
 
 -- the work on the plan halted
-abbrev pub IsBroken : Halt → Option ℕ → Job → Part → Rule → Totals → (ℕ → Option Demand) → Change → Type 0
+abbrev pub IsBroken : Halt → Option ℕ → Job → Part → CutParams → Totals → (ℕ → Option Demand) → Change → Type 0
 IsBroken halt rest = IsEnd (halted halt rest)
 
 abbrev pub release_change : Job → Part → List Demand → Change

@@ -6,7 +6,7 @@ use Rattle.std.specs.Option.{option_map}
 use Rattle.std.specs.FinMap as maps
 use Rattle.cut_measure.specs.Codes.{code_cmp}
 use Rattle.cut_measure.specs.Names.{Name, name_cmp}
-use Rattle.cut_measure.specs.Measures.{Extent, Rule, below, cells_of}
+use Rattle.cut_measure.specs.Measures.{Extent, CutParams, below, cells_of}
 use Rattle.cut_tree.specs.Tree.{Tree}
 use Rattle.cut_tree.specs.Cells.{Outcome, Spot, spot_of}
 use Rattle.shop_records.specs.declared.records.Part.{Part}
@@ -26,7 +26,7 @@ use Rattle.shop_records.specs.Elements.{IsIn}
 use Rattle.shop_records.specs.Messages.{Texts, IsMessage, is_accepted, message_id_of}
 use Rattle.shop_records.specs.Readings.{Reading}
 use Rattle.shop_records.specs.Content.{Content, fresh, part_at, demand_at, kept_at, entry_at, entry_count, forgotten, totals_of, AddsUp}
-use Rattle.shop_machine.specs.Machine.{Accepts, Effect, Rules, Receives, Orders, Reserves, Ends, SetsState, Amends, effects, Undoes}
+use Rattle.shop_machine.specs.Machine.{Accepts, Effect, SetsParams, Receives, Orders, Reserves, Ends, SetsState, Amends, effects, Undoes}
 use Rattle.shop_machine.specs.Ending.{state_after_cut}
 use Rattle.shop_records.specs.WellFormed.{IsCounted, reserved_in, made_in}
 
@@ -179,14 +179,14 @@ abbrev pub unit_material : List Effect → Name → List ℕ
 unit_material [] unit = []
 unit_material (done ∷ earlier) unit = material_by done (acts_of earlier + 1) unit (unit_material earlier unit)
 
-abbrev pub rule_by : Effect → List ℕ → Option Rule → Option Rule
-rule_by (Rules material rule) code before = if same_code code material then Some rule else before
-rule_by _ code before = before
+abbrev pub params_by : Effect → List ℕ → Option CutParams → Option CutParams
+params_by (SetsParams material params) code before = if same_code code material then Some params else before
+params_by _ code before = before
 
 -- how a material is cut
-abbrev pub material_rule : List Effect → List ℕ → Option Rule
-material_rule [] code = None
-material_rule (done ∷ earlier) code = rule_by done code (material_rule earlier code)
+abbrev pub material_params : List Effect → List ℕ → Option CutParams
+material_params [] code = None
+material_params (done ∷ earlier) code = params_by done code (material_params earlier code)
 
 -- the part that was reserved, and the tree that the reservation's text spells
 pub record Reservation : Type 0 where
@@ -216,21 +216,21 @@ abbrev pub stands_as : Name → Owner → Bool
 stands_as part owner = same_name owner.name part && is_free owner.state
 
 -- a cell at that spot of a job
-abbrev pub owner_at : Rule → ℕ → Spot → Owner
-owner_at rule number spot =
+abbrev pub owner_at : CutParams → ℕ → Spot → Owner
+owner_at params number spot =
     let size : Extent = record { w = spot.w; h = spot.h } in
-    record { state = state_after_cut rule spot.owner size; name = record { act = number; node = spot.node }; size = size; x = spot.x; y = spot.y }
+    record { state = state_after_cut params spot.owner size; name = record { act = number; node = spot.node }; size = size; x = spot.x; y = spot.y }
 
 -- The owner after the cuts of a job, before which it was this one: where that was the job's part, the cell is followed down
 -- the tree.
-abbrev pub cut_owner : Option Reservation → Option Rule → (ℕ → Outcome) → ℕ → Option Owner → Option Owner
-cut_owner (Some made) (Some rule) outcome number (Some before) =
+abbrev pub cut_owner : Option Reservation → Option CutParams → (ℕ → Outcome) → ℕ → Option Owner → Option Owner
+cut_owner (Some made) (Some params) outcome number (Some before) =
     if stands_as made.part before
-    then Some (owner_at rule number (spot_of made.tree before.size.w before.size.h rule.kerf outcome 0 0 before.x before.y))
+    then Some (owner_at params number (spot_of made.tree before.size.w before.size.h params.kerf outcome 0 0 before.x before.y))
     else Some before
-cut_owner None rule outcome number before = before
+cut_owner None params outcome number before = before
 cut_owner (Some made) None outcome number before = before
-cut_owner (Some made) (Some rule) outcome number None = None
+cut_owner (Some made) (Some params) outcome number None = None
 
 -- the owner after a standing part as a whole got this state
 abbrev pub owner_with_state : Name → State → Option Owner → Option Owner
@@ -247,7 +247,7 @@ abbrev pub owner_by : Effect → List Effect → Name → ℕ → ℕ → (ℕ �
 owner_by (Receives material batch size count) earlier unit x y ended before =
     if unit.act == acts_of earlier + 1 then Some (record { state = state.Standing; name = unit; size = size; x = x; y = y }) else before
 owner_by (Ends job outcome) earlier unit x y ended before =
-    cut_owner (job_of earlier job) (material_rule earlier (unit_material earlier unit)) outcome job before
+    cut_owner (job_of earlier job) (material_params earlier (unit_material earlier unit)) outcome job before
 owner_by (Undoes job) earlier unit x y ended before = undone_owner job (ended job) before
 owner_by (SetsState part into) earlier unit x y ended before = owner_with_state part into before
 owner_by _ earlier unit x y ended before = before

@@ -2,7 +2,7 @@
 use Rattle.std.specs.Prelude.{◌≡◌, ◌≢◌, ◌+◌, ℕ, List, [], ◌∷◌, Option, Some, None, MatchOption, max}
 use Rattle.std.specs.Option.{option_map}
 use Rattle.cut_measure.specs.Names.{Name}
-use Rattle.cut_measure.specs.Measures.{Extent, Rule}
+use Rattle.cut_measure.specs.Measures.{Extent, CutParams}
 use Rattle.cut_tree.specs.declared.halts.Stop.TheVariants as stop
 use Rattle.cut_tree.specs.Tree.{Tree}
 use Rattle.cut_tree.specs.Cells.{Outcome, all_made}
@@ -129,12 +129,12 @@ Makes old (Begin number) read change = change ≡ begin_change number (begun_at 
 
 -- ---- what commands do to cells
 
--- what a command does to units, to rules of cutting, to orders and to cells
+-- what a command does to units, to how materials are cut, to orders and to cells
 pub data Effect : Type 0 where
   -- to none of them
   nothing : Effect
-  -- a material is cut by this rule
-  Rules : (material : List ℕ) (rule : Rule) → Effect
+  -- a material is cut by these parameters
+  SetsParams : (material : List ℕ) (params : CutParams) → Effect
   -- an act: units of one size are received
   Receives : (material batch : List ℕ) (size : Extent) (count : ℕ) → Effect
   -- lines of an order are asked for, the first ones or further ones
@@ -160,7 +160,7 @@ import_effects order form _ = nothing ∷ []
 -- by cases on a command, and on what its text was read as, the newest first
 abbrev pub effects : Command → Reading → List Effect
 effects (AddMaterial material kind kerf min_long min_short) read =
-    Rules material (record { kerf = kerf; min_long = min_long; min_short = min_short }) ∷ []
+    SetsParams material (record { kerf = kerf; min_long = min_long; min_short = min_short }) ∷ []
 effects (Receive material batch w h count) read = Receives material batch (record { w = w; h = h }) count ∷ []
 effects (AddOrder order lines) read = Orders order lines ∷ []
 effects (Reserve part text) (Plan plan) = Reserves part plan.tree ∷ []

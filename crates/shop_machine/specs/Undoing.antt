@@ -1,7 +1,7 @@
 -- Undoing a job that was done or broken: its part stands again, and the parts that it made own no cell.
 use Rattle.std.specs.Prelude.{◌≡◌, ℕ, ◌+◌, ◌-◌, ◌*◌, ◌&&◌, List, [], ◌∷◌, map, Bool, true, false, not, nat_le, Option, Some, None}
 use Rattle.std.specs.List.{list_all}
-use Rattle.cut_measure.specs.Measures.{Rule}
+use Rattle.cut_measure.specs.Measures.{CutParams}
 use Rattle.cut_tree.specs.declared.lay.Row.{Row}
 use Rattle.cut_tree.specs.declared.halts.Stop.{Stop}
 use Rattle.cut_tree.specs.declared.halts.Stop.TheVariants as stop
@@ -47,12 +47,12 @@ abbrev pub laid_by : Stop → Job → List Row
 laid_by end j = rows_of j.plan.tree 0 0 j.plan.w j.plan.h j.plan.kerf (outcome_of end) 0 0
 
 -- the parts that the job made
-abbrev pub left_parts : Stop → Job → Part → Rule → List Part
-left_parts end j part rule = map (row_part part rule j.act) (laid_by end j)
+abbrev pub left_parts : Stop → Job → Part → CutParams → List Part
+left_parts end j part params = map (row_part part params j.act) (laid_by end j)
 
 -- the part is cut by the job, and the parts that are named after the job are as its end made them
-abbrev pub are_as_left : Stop → Job → Part → Rule → List Part → Bool
-are_as_left end j part rule found = same_state part.state (Cut j.act) && same_parts found (left_parts end j part rule)
+abbrev pub are_as_left : Stop → Job → Part → CutParams → List Part → Bool
+are_as_left end j part params found = same_state part.state (Cut j.act) && same_parts found (left_parts end j part params)
 
 -- the totals when these cells go and those come; what was received stays
 abbrev pub totals_after : (gone come t : Totals) → Totals
@@ -80,9 +80,9 @@ has_made n (Some demand) = nat_le n demand.made
 
 -- The totals of the material hold the parts that the job made, and its pieces are made. So it is in each content that a
 -- history gives.
-abbrev pub can_take_back : Stop → Job → Part → Rule → (ℕ → Option Demand) → Totals → Bool
-can_take_back end j part rule at totals =
-    have_cells (part.size.w * part.size.h) (tally (left_parts end j part rule)) totals
+abbrev pub can_take_back : Stop → Job → Part → CutParams → (ℕ → Option Demand) → Totals → Bool
+can_take_back end j part params at totals =
+    have_cells (part.size.w * part.size.h) (tally (left_parts end j part params)) totals
     && list_all (λ leaf. has_made (pieces_in leaf.demand (laid_by end j)) (at leaf.demand)) (plan_leaves j.plan)
 
 -- of a job whose work ended so: the rows of its part and that one's material, and the parts that are named after the job
@@ -111,9 +111,9 @@ undo_refusal old (Some j) =
     let part = part_at old j.part in
     taking_refusal (Some j) (halt_at old j.act) part (material_of old part) (parts_named old j.act) (demand_at old) (totals_for old part)
 
-abbrev pub undo_change : Stop → Job → Part → Rule → Totals → List Demand → Change
-undo_change end j part rule totals rows =
-    let made = left_parts end j part rule in
+abbrev pub undo_change : Stop → Job → Part → CutParams → Totals → List Demand → Change
+undo_change end j part params totals rows =
+    let made = left_parts end j part params in
     record (no_change (reply.Undo j.act j.part)) {
       moved = Some (in_state Standing part);
       undone = map (in_state (Undone j.act)) made;
@@ -123,9 +123,9 @@ undo_change end j part rule totals rows =
     }
 
 -- The part stands again, what the job made of it owns no cell, and its pieces aren't made.
-pub record IsUndo (j : Job) (halt : Option JobHalt) (part : Part) (rule : Rule) (totals : Totals) (at : ℕ → Option Demand) (change : Change) : Type 0 where
+pub record IsUndo (j : Job) (halt : Option JobHalt) (part : Part) (params : CutParams) (totals : Totals) (at : ℕ → Option Demand) (change : Change) : Type 0 where
   pub end : Stop
   pub ended : stop_of j j.state halt ≡ Some end
   pub rows : List Demand
   pub recounted : AreRecounted at (with_unmade (laid_by end j)) j.plan.tree rows
-  pub is : change ≡ undo_change end j part rule totals rows
+  pub is : change ≡ undo_change end j part params totals rows

@@ -1,7 +1,7 @@
 //! A material is added: what is decided on it.
 
 ghost use Rattle.std.specs.Prelude.{◌≡◌, IfOk, IsTrue};
-ghost use Rattle.cut_measure.specs.Measures.{Rule};
+ghost use Rattle.cut_measure.specs.Measures.{CutParams};
 ghost use Rattle.shop_records.specs.Messages.{is_accepted};
 ghost use Rattle.shop_machine.specs.Decisions.{Decides};
 ghost use Rattle.shop_machine.specs.Adding.{material_refusal, material_change};
@@ -22,13 +22,13 @@ pub fn decide_material(
     min_long: u32,
     min_short: u32,
 ) -> Result<Change, Refusal>
-    ensures decision { let rule : Rule = record {
+    ensures decision { let params : CutParams = record {
       kerf = kerf;
       min_long = min_long;
       min_short = min_short;
     } in
-        Decides (material_refusal known kind rule)
-        (λ change. change ≡ material_change known material kind rule) result }
+        Decides (material_refusal known kind params)
+        (λ change. change ≡ material_change known material kind params) result }
     ensures reported { IfOk result (λ change. IsTrue (is_accepted change.reply)) }
 {
     let Some(limits) = Limits::new(kind, kerf, min_long, min_short) else {

@@ -3,33 +3,33 @@ use Rattle.std.proofs.Common.{◌≡◌, ◌⊎◌, ℕ, ◌+◌, ◌<◌, ◌�
 use Rattle.std.specs.Prelude.{All, Any, max}
 use Rattle.std.proofs.lemmas.Bool.{cases_lt}
 use Rattle.std.proofs.lemmas.List.Elements.{All-more, All-weaker}
-use Rattle.cut_measure.specs.Measures.{Rule}
+use Rattle.cut_measure.specs.Measures.{CutParams}
 use Rattle.cut_bound.specs.declared.planned.PlannedUnit.{PlannedUnit}
 use Rattle.shop_planning.specs.Rests.{HasRestWithin, IsLargestRest, IsRestOf}
 
-pub record IsLargestSoFar (rule : Rule) (units : List PlannedUnit) (i cells : ℕ) : Type 0 where
-  pub each : All (HasRestWithin rule cells) (take i units)
-  pub some : (cells ≡ 0) ⊎ Any (λ u. IsRestOf rule u.plan cells) units
+pub record IsLargestSoFar (params : CutParams) (units : List PlannedUnit) (i cells : ℕ) : Type 0 where
+  pub each : All (HasRestWithin params cells) (take i units)
+  pub some : (cells ≡ 0) ⊎ Any (λ u. IsRestOf params u.plan cells) units
 
-pub largest_next : (rule : Rule) (units : List PlannedUnit) (i old new rest : ℕ) (u : PlannedUnit) → i < length units → u ≡ get_or units i u → IsRestOf rule u.plan rest → new ≡ max rest old
-    → IsLargestSoFar rule units i old → IsLargestSoFar rule units (i + 1) new
-largest_next rule units i old new rest u lt is own greater g =
+pub largest_next : (params : CutParams) (units : List PlannedUnit) (i old new rest : ℕ) (u : PlannedUnit) → i < length units → u ≡ get_or units i u → IsRestOf params u.plan rest → new ≡ max rest old
+    → IsLargestSoFar params units i old → IsLargestSoFar params units (i + 1) new
+largest_next params units i old new rest u lt is own greater g =
     record {
-      each = All-more (HasRestWithin rule new) units i u lt
-          (All-weaker (HasRestWithin rule old) (HasRestWithin rule new) (λ v w. record { own = w.own; is = w.is; within = omega (arith, w.within, greater) }) (take i units) g.each)
-          (subst (HasRestWithin rule new) is (record { own = rest; is = own; within = omega (arith, greater) }));
+      each = All-more (HasRestWithin params new) units i u lt
+          (All-weaker (HasRestWithin params old) (HasRestWithin params new) (λ v w. record { own = w.own; is = w.is; within = omega (arith, w.within, greater) }) (take i units) g.each)
+          (subst (HasRestWithin params new) is (record { own = rest; is = own; within = omega (arith, greater) }));
       some = elim (cases_lt old rest) [
         | inl more ↦
             let same : rest ≡ new = omega (arith, more, greater) in
-            inr (i, u, lt, sym is, subst (IsRestOf rule u.plan) same own)
+            inr (i, u, lt, sym is, subst (IsRestOf params u.plan) same own)
         | inr less ↦
             let same : old ≡ new = omega (arith, less, greater) in
-            subst (λ n. (n ≡ 0) ⊎ Any (λ v. IsRestOf rule v.plan n) units) same g.some
+            subst (λ n. (n ≡ 0) ⊎ Any (λ v. IsRestOf params v.plan n) units) same g.some
       ];
     }
 
-pub largest_all : (rule : Rule) (units : List PlannedUnit) (i cells : ℕ) → length units ≤ i → IsLargestSoFar rule units i cells → IsLargestRest rule units cells
-largest_all rule units i cells all g = record {
-  each = subst (λ (us : List PlannedUnit). All (HasRestWithin rule cells) us) (take_all i units all) g.each;
+pub largest_all : (params : CutParams) (units : List PlannedUnit) (i cells : ℕ) → length units ≤ i → IsLargestSoFar params units i cells → IsLargestRest params units cells
+largest_all params units i cells all g = record {
+  each = subst (λ (us : List PlannedUnit). All (HasRestWithin params cells) us) (take_all i units all) g.each;
   some = g.some;
 }

@@ -3,7 +3,7 @@ use Rattle.std.specs.Prelude.{◌≡◌, ℕ, suc, ◌*◌, ◌<◌, ◌⊎◌, 
 use Rattle.std.specs.List.{after_first, before_first, find, list_any, position_or_len}
 use Rattle.std.specs.Str.{bytes_eq}
 use Rattle.cut_measure.specs.Lengths.{IsLengthText, mm_text}
-use Rattle.cut_measure.specs.Measures.{Extent, Rule, rule_of, size_of}
+use Rattle.cut_measure.specs.Measures.{Extent, CutParams, params_of, size_of}
 use Rattle.cut_measure.specs.declared.sizes.Kind.{Kind}
 use Rattle.cut_measure.specs.declared.sizes.Kind.TheVariants.{Bar, Sheet}
 use Rattle.cut_bound.specs.declared.stock.StockSize.{StockSize}
@@ -29,8 +29,8 @@ abbrev pub is_other : MaterialEntry → (before : List MaterialEntry) → Bool
 is_other entry before = list_any (λ (e : MaterialEntry). bytes_eq e.code entry.code && not (same_values e entry)) before
 
 -- the limits of an entry, where they are in range for its kind
-abbrev pub limits_of : MaterialEntry → Option Rule
-limits_of e = rule_of e.kind e.kerf e.min_long e.min_short
+abbrev pub limits_of : MaterialEntry → Option CutParams
+limits_of e = params_of e.kind e.kerf e.min_long e.min_short
 
 -- why a shop that has the entries before it refuses an entry
 abbrev pub entry_fault : MaterialEntry → (before : List MaterialEntry) → Option EntryFault
@@ -55,7 +55,7 @@ first_bad_entry entries = first_bad_from entries 0 entries
 abbrev pub entry_in : List MaterialEntry → (material : List ℕ) → Option MaterialEntry
 entry_in entries material = find (λ (e : MaterialEntry). bytes_eq e.code material) entries
 
-abbrev pub with_limits : Kind → Option Rule → Option StockMaterial
+abbrev pub with_limits : Kind → Option CutParams → Option StockMaterial
 with_limits kind None = None
 with_limits kind (Some limits) = Some (record { kind = kind; limits = limits })
 

@@ -8,7 +8,7 @@ use Rattle.cut_measure.specs.declared.ranges.TheConstants.{MAX_WIDTH, MAX_HEIGHT
 use Rattle.cut_measure.specs.declared.sizes.Kind.TheVariants.{Bar}
 use Rattle.cut_measure.specs.Codes.{code_cmp}
 use Rattle.cut_measure.specs.Names.{Name, IsName, name_cmp}
-use Rattle.cut_measure.specs.Measures.{is_rule}
+use Rattle.cut_measure.specs.Measures.{are_params}
 use Rattle.cut_tree.specs.Tree.{count_of}
 use Rattle.cut_tree.specs.Patterns.{IsPlan}
 use Rattle.shop_records.specs.declared.records.TheConstants.{MAX_RECEIVED}
@@ -60,10 +60,10 @@ pub record IsImport (texts : Texts) (content : Content) (code : List ℕ) (row :
   pub answer : Reply
   pub reports : StoresReply texts row (Some answer)
 
--- a material stands under its own code, and is cut by a rule that there may be
+-- a material stands under its own code, and is cut by parameters that there may be
 pub record IsKnown (code : List ℕ) (material : Material) : Type 0 where
   pub coded : material.code ≡ code
-  pub ruled : is_rule material.kind material.limits.kerf material.limits.min_long material.limits.min_short ≡ true
+  pub ruled : are_params material.kind material.limits.kerf material.limits.min_long material.limits.min_short ≡ true
 
 -- A part stands under its own name, is no older than its unit, is of a known material, has a cell and lies in a unit; a bar
 -- has height 1; the demand of a piece is there.

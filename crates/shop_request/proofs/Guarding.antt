@@ -10,9 +10,9 @@ use Rattle.httparse.specs.Spans.{IsRequestAt, header_bytes, name_and_value, span
 use Rattle.shop_request.specs.declared.faults.RequestFault.{RequestFault}
 use Rattle.shop_request.specs.declared.faults.RequestFault.TheVariants.{BadRequest, NotFound, OnlyGet, OnlyPost, NoLength, LargeBody, LargeHead}
 use Rattle.shop_request.specs.declared.guards.Guard.{Guard}
-use Rattle.shop_request.specs.declared.guards.Ruling.{Ruling}
-use Rattle.shop_request.specs.declared.guards.Ruling.TheVariants.{Routed}
-use Rattle.shop_request.specs.Guards.{HasRuling, ruled, ruled_head, ruled_parts}
+use Rattle.shop_request.specs.declared.guards.Verdict.{Verdict}
+use Rattle.shop_request.specs.declared.guards.Verdict.TheVariants.{Routed}
+use Rattle.shop_request.specs.Guards.{HasVerdict, checked, checked_head, checked_parts}
 use Rattle.shop_request.specs.Heads.{prefix, BeginsWith, HasHead}
 use Rattle.shop_request.specs.Reading.{IsRefused}
 use Rattle.shop_request.proofs.Uniqueness.{not_bad, not_large}
@@ -27,17 +27,17 @@ module _ (guard : Guard) (received : List ℕ) where
   refused_head fault (inl large) = subst (λ f. HasHead received (Err f)) (sym large.0) (inl (large.1, large.2))
   refused_head fault (inr bad) = subst (λ f. HasHead received (Err f)) (sym bad.0) (inl bad.1)
 
-  pub refused_ruling : (fault : RequestFault) → IsRefused (prefix received) fault → HasRuling guard received Routed
-  refused_ruling fault is = (Err fault, refused_head fault is, refl)
+  pub refused_verdict : (fault : RequestFault) → IsRefused (prefix received) fault → HasVerdict guard received Routed
+  refused_verdict fault is = (Err fault, refused_head fault is, refl)
 
-  unfinished : (b : Bool) → nat_le 8192 (length received) ≡ b → HasNoRequest (prefix received) → MayBecomeRequest (prefix received) → HasRuling guard received Routed
+  unfinished : (b : Bool) → nat_le 8192 (length received) ≡ b → HasNoRequest (prefix received) → MayBecomeRequest (prefix received) → HasVerdict guard received Routed
   unfinished true long none may = (Err LargeHead, inr (leb-true 8192 (length received) long, none, may), refl)
   unfinished false short none may =
       let few : length received < 8192 = leb-false 8192 (length received) short in
       (Err BadRequest, inr (few, subst HasNoRequest (take_all 8192 received (omega (arith, few))) none), refl)
 
-  pub unfinished_ruling : HasNoRequest (prefix received) → MayBecomeRequest (prefix received) → HasRuling guard received Routed
-  unfinished_ruling = unfinished (nat_le 8192 (length received)) refl
+  pub unfinished_verdict : HasNoRequest (prefix received) → MayBecomeRequest (prefix received) → HasVerdict guard received Routed
+  unfinished_verdict = unfinished (nat_le 8192 (length received)) refl
 
   module _ (headers : List HeaderSpan) (spans : RequestSpans) (h : RequestHead) (slots : length headers ≡ 64) (at : IsRequestAt (prefix received) headers spans h) where
     few : length h.fields ≤ 64
@@ -55,19 +55,19 @@ module _ (guard : Guard) (received : List ℕ) where
     begins = record { rest = _; reads = at.reads; few = few }
 
     by_parts : (method target : List ℕ) → method ≡ span_bytes (prefix received) spans.method → target ≡ span_bytes (prefix received) spans.path
-        → ruled_parts guard method target spans.version (map (header_bytes (prefix received)) (take spans.headers headers)) ≡ ruled_head guard h
-    unfolding ruled_head
+        → checked_parts guard method target spans.version (map (header_bytes (prefix received)) (take spans.headers headers)) ≡ checked_head guard h
+    unfolding checked_head
     by_parts method target m t =
-        ap (λ x. ruled_parts guard x target spans.version (map (header_bytes (prefix received)) (take spans.headers headers))) (m ∙ at.method)
-        ∙ ap (λ x. ruled_parts guard h.method x spans.version (map (header_bytes (prefix received)) (take spans.headers headers))) (t ∙ at.path)
-        ∙ ap (λ x. ruled_parts guard h.method h.target x (map (header_bytes (prefix received)) (take spans.headers headers))) at.version
-        ∙ ap (λ x. ruled_parts guard h.method h.target h.minor x) at.fields
+        ap (λ x. checked_parts guard x target spans.version (map (header_bytes (prefix received)) (take spans.headers headers))) (m ∙ at.method)
+        ∙ ap (λ x. checked_parts guard h.method x spans.version (map (header_bytes (prefix received)) (take spans.headers headers))) (t ∙ at.path)
+        ∙ ap (λ x. checked_parts guard h.method h.target x (map (header_bytes (prefix received)) (take spans.headers headers))) at.version
+        ∙ ap (λ x. checked_parts guard h.method h.target h.minor x) at.fields
 
-    pub whole_ruling : (method target : List ℕ) → method ≡ span_bytes (prefix received) spans.method → target ≡ span_bytes (prefix received) spans.path
-        → HasRuling guard received (ruled_parts guard method target spans.version (map (header_bytes (prefix received)) (take spans.headers headers)))
-    whole_ruling method target m t = (Ok h, begins, by_parts method target m t)
+    pub whole_verdict : (method target : List ℕ) → method ≡ span_bytes (prefix received) spans.method → target ≡ span_bytes (prefix received) spans.path
+        → HasVerdict guard received (checked_parts guard method target spans.version (map (header_bytes (prefix received)) (take spans.headers headers)))
+    whole_verdict method target m t = (Ok h, begins, by_parts method target m t)
 
--- ---- an input has one ruling
+-- ---- an input has one verdict
 
 -- a head that is there isn't faulty
 no_fault : (input : List ℕ) (h : RequestHead) (f : RequestFault) → BeginsWith input h → HasHead input (Err f) → ⊥
@@ -79,11 +79,11 @@ no_fault input h OnlyPost begins is = is
 no_fault input h NoLength begins is = is
 no_fault input h LargeBody begins is = is
 
-ruled_as : (guard : Guard) (input : List ℕ) (a b : Result RequestHead RequestFault) → HasHead input a → HasHead input b → ruled guard a ≡ ruled guard b
-ruled_as guard input (Ok h) (Ok k) x y = ap (ruled_head guard) (request_unique (prefix input) h k x.rest y.rest x.reads y.reads).0
-ruled_as guard input (Ok h) (Err f) x y = absurd (no_fault input h f x y)
-ruled_as guard input (Err f) (Ok k) x y = absurd (no_fault input k f y x)
-ruled_as guard input (Err f) (Err g) x y = refl
+checked_as : (guard : Guard) (input : List ℕ) (a b : Result RequestHead RequestFault) → HasHead input a → HasHead input b → checked guard a ≡ checked guard b
+checked_as guard input (Ok h) (Ok k) x y = ap (checked_head guard) (request_unique (prefix input) h k x.rest y.rest x.reads y.reads).0
+checked_as guard input (Ok h) (Err f) x y = absurd (no_fault input h f x y)
+checked_as guard input (Err f) (Ok k) x y = absurd (no_fault input k f y x)
+checked_as guard input (Err f) (Err g) x y = refl
 
-pub one_ruling : (guard : Guard) (input : List ℕ) (r s : Ruling) → HasRuling guard input r → HasRuling guard input s → r ≡ s
-one_ruling guard input r s x y = x.2 ∙ ruled_as guard input x.0 y.0 x.1 y.1 ∙ sym y.2
+pub one_verdict : (guard : Guard) (input : List ℕ) (r s : Verdict) → HasVerdict guard input r → HasVerdict guard input s → r ≡ s
+one_verdict guard input r s x y = x.2 ∙ checked_as guard input x.0 y.0 x.1 y.1 ∙ sym y.2

@@ -10,8 +10,8 @@ use Rattle.shop_request.specs.declared.addresses.Address.{Address}
 use Rattle.shop_request.specs.declared.guards.Guard.{Guard}
 use Rattle.shop_request.specs.declared.guards.Mark.{Mark}
 use Rattle.shop_request.specs.declared.guards.Mark.TheVariants.{Site, Origin, Host, Run}
-use Rattle.shop_request.specs.declared.guards.Ruling.{Ruling}
-use Rattle.shop_request.specs.declared.guards.Ruling.TheVariants.{Routed, Forbidden, OtherRun, Page, Health, OnlyGet, NoBackups}
+use Rattle.shop_request.specs.declared.guards.Verdict.{Verdict}
+use Rattle.shop_request.specs.declared.guards.Verdict.TheVariants.{Routed, Forbidden, OtherRun, Page, Health, OnlyGet, NoBackups}
 use Rattle.shop_request.specs.Addresses.{has_others, own_hosts, own_origins, quoted_run}
 use Rattle.shop_request.specs.Heads.{Pair, HasHead, values_of, has_hosts, is_some_list, said_length}
 use Rattle.shop_request.specs.Routes.{path_of}
@@ -63,16 +63,16 @@ has_good_fields minor fields =
     && is_good (said_length (values_of (codes "content-length") fields))
 
 -- the page is only read
-abbrev pub of_page : List ℕ → Ruling
+abbrev pub of_page : List ℕ → Verdict
 of_page method = if bytes_eq method (codes "GET") then Page else OnlyGet
 
 -- so is the state of the server
-abbrev pub of_health : List ℕ → Ruling
+abbrev pub of_health : List ℕ → Verdict
 of_health method = if bytes_eq method (codes "GET") then Health else OnlyGet
 
 -- what is done with a request, by the parts of its head
-abbrev pub ruled_parts : Guard → (method target : List ℕ) (minor : ℕ) → List Pair → Ruling
-ruled_parts guard method target minor fields =
+abbrev pub checked_parts : Guard → (method target : List ℕ) (minor : ℕ) → List Pair → Verdict
+checked_parts guard method target minor fields =
     if not (has_good_fields minor fields) then Routed
     else if is_cross_site guard fields then Forbidden
     else if has_foreign guard Run fields then OtherRun
@@ -81,18 +81,18 @@ ruled_parts guard method target minor fields =
     else if not guard.has_backups && bytes_eq (path_of target) (codes "/backup") then NoBackups
     else Routed
 
-unfoldable pub ruled_head : Guard → RequestHead → Ruling
-ruled_head guard h = ruled_parts guard h.method h.target h.minor (map name_and_value h.fields)
+unfoldable pub checked_head : Guard → RequestHead → Verdict
+checked_head guard h = checked_parts guard h.method h.target h.minor (map name_and_value h.fields)
 
 -- a bad head goes where its fault is reported
-abbrev pub ruled : Guard → Result RequestHead RequestFault → Ruling
-ruled guard (Ok h) = ruled_head guard h
-ruled guard (Err f) = Routed
+abbrev pub checked : Guard → Result RequestHead RequestFault → Verdict
+checked guard (Ok h) = checked_head guard h
+checked guard (Err f) = Routed
 
 -- what is done with an input
-abbrev pub HasRuling : Guard → List ℕ → Ruling → Type 0
-HasRuling guard input r = (head : Result RequestHead RequestFault) × HasHead input head × (r ≡ ruled guard head)
+abbrev pub HasVerdict : Guard → List ℕ → Verdict → Type 0
+HasVerdict guard input r = (head : Result RequestHead RequestFault) × HasHead input head × (r ≡ checked guard head)
 
--- two rulings of an input are one
-abbrev pub OneRuling : Type 0
-OneRuling = (guard : Guard) (input : List ℕ) (r s : Ruling) → HasRuling guard input r → HasRuling guard input s → r ≡ s
+-- two verdicts on an input are one
+abbrev pub OneVerdict : Type 0
+OneVerdict = (guard : Guard) (input : List ℕ) (r s : Verdict) → HasVerdict guard input r → HasVerdict guard input s → r ≡ s

@@ -4,7 +4,7 @@
 ghost use Rattle.std.specs.Prelude.{◌≡◌, length, map, All, IfOk};
 ghost use Rattle.std.specs.List.{list_any};
 ghost use Rattle.httparse.specs.Spans.{IsHeaderWithin, IsRequestOf, IsRequestWithin, header_bytes};
-ghost use Rattle.shop_request.specs.Guards.{HasRuling, IsGuardOf, has_good_fields, is_cross_site, is_foreign_as, is_own, mark_name, of_health, of_page, ruled_parts};
+ghost use Rattle.shop_request.specs.Guards.{HasVerdict, IsGuardOf, has_good_fields, is_cross_site, is_foreign_as, is_own, mark_name, of_health, of_page, checked_parts};
 ghost use Rattle.shop_request.specs.Heads.{prefix, values_of};
 ghost use Rattle.shop_request.specs.Reading.{IsHeadIn};
 
@@ -17,7 +17,7 @@ use std::alloc::{AllocError, Global};
 
 /// What is done with a request, by its head alone.
 #[derive(Clone, Copy, Debug, PartialEq, Eq)]
-pub enum Ruling {
+pub enum Verdict {
     /// It goes to its route, or its head is bad.
     Routed,
     /// A browser sent it for a page of another site.
@@ -144,26 +144,26 @@ impl Guard {
     }
 
     // What is done by the parts of a head.
-    fn rule_parts(
+    fn check_parts(
         &self,
         buf: &[u8],
         headers: &[HeaderSpan],
         method: &[u8],
         target: &str,
         minor: u8,
-    ) -> Ruling
+    ) -> Verdict
         requires { All (IsHeaderWithin (length buf.now)) headers.now }
-        ensures { result ≡ ruled_parts self.now method.now target.now minor
+        ensures { result ≡ checked_parts self.now method.now target.now minor
             (map (header_bytes buf.now) headers.now) }
     {
         if !has_good_fields(minor, buf, headers) {
-            return Ruling::Routed;
+            return Verdict::Routed;
         }
         if self.shows_cross_site(buf, headers) {
-            return Ruling::Forbidden;
+            return Verdict::Forbidden;
         }
         if self.has_foreign(Mark::Run, buf, headers) {
-            return Ruling::OtherRun;
+            return Verdict::OtherRun;
         }
         if self.has_page && path_in(target) == "/" {
             return of_page(method);
@@ -172,20 +172,20 @@ impl Guard {
             return of_health(method);
         }
         if !self.has_backups && path_in(target) == "/backup" {
-            return Ruling::NoBackups;
+            return Verdict::NoBackups;
         }
-        Ruling::Routed
+        Verdict::Routed
     }
 
     // What is done by a whole head.
-    fn rule_whole(&self, headers: &[HeaderSpan], spans: &RequestSpans, received: &[u8]) -> Ruling
+    fn check_whole(&self, headers: &[HeaderSpan], spans: &RequestSpans, received: &[u8]) -> Verdict
         requires slots { length headers.now ≡ 64 }
         requires within { IsRequestWithin (prefix received.now) headers.now spans.now }
         requires head { IsRequestOf (prefix received.now) headers.now spans.now }
-        ensures { HasRuling self.now received.now result }
+        ensures { HasVerdict self.now received.now result }
     {
         let prefix = prefix_of(received);
-        self.rule_parts(
+        self.check_parts(
             prefix,
             &headers[..spans.headers],
             spans.method.of(prefix),
@@ -195,38 +195,38 @@ impl Guard {
     }
 
     /// What is done with the request that these bytes begin with, by its head alone.
-    pub fn rule(&self, head: &Head, received: &[u8]) -> Ruling
+    pub fn check(&self, head: &Head, received: &[u8]) -> Verdict
         requires { IsHeadIn received.now head.now }
-        ensures { HasRuling self.now received.now result }
+        ensures { HasVerdict self.now received.now result }
     {
         match head.found {
-            Found::Asks(spans, _) => self.rule_whole(&head.headers, &spans, received),
-            Found::Faulty(spans, _) => self.rule_whole(&head.headers, &spans, received),
-            Found::Unfinished => Ruling::Routed,
-            Found::Refused(_) => Ruling::Routed,
+            Found::Asks(spans, _) => self.check_whole(&head.headers, &spans, received),
+            Found::Faulty(spans, _) => self.check_whole(&head.headers, &spans, received),
+            Found::Unfinished => Verdict::Routed,
+            Found::Refused(_) => Verdict::Routed,
         }
     }
 }
 
 // What is done with a request for the page by a method.
-fn of_page(method: &[u8]) -> Ruling
+fn of_page(method: &[u8]) -> Verdict
     ensures { result ≡ of_page method.now }
 {
     if method == b"GET".as_slice() {
-        Ruling::Page
+        Verdict::Page
     } else {
-        Ruling::OnlyGet
+        Verdict::OnlyGet
     }
 }
 
 // What is done with a request for the state of the server by a method.
-fn of_health(method: &[u8]) -> Ruling
+fn of_health(method: &[u8]) -> Verdict
     ensures { result ≡ of_health method.now }
 {
     if method == b"GET".as_slice() {
-        Ruling::Health
+        Verdict::Health
     } else {
-        Ruling::OnlyGet
+        Verdict::OnlyGet
     }
 }
 

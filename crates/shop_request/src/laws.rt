@@ -1,6 +1,6 @@
-//! What holds of all requests: an input has one parse, and one ruling.
+//! What holds of all requests: an input has one parse, and one verdict.
 
-ghost use Rattle.shop_request.specs.Guards.{OneRuling};
+ghost use Rattle.shop_request.specs.Guards.{OneVerdict};
 ghost use Rattle.shop_request.specs.Parses.{OneParse, UnfinishedIsOpen};
 
 /// An input has one parse, whatever reads it. Where no whole head can be read of its first 8192 bytes, and over 64 fields
@@ -10,8 +10,8 @@ pub fn one_parse()
 {}
 
 /// What is done with an input by its head is one thing, whatever reads it.
-pub fn one_ruling()
-    ensures { OneRuling }
+pub fn one_verdict()
+    ensures { OneVerdict }
 {}
 
 /// An unfinished request can go on so that it is something else than if it ended here. But one whose first bytes hold over 64

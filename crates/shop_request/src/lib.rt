@@ -15,9 +15,9 @@ mod wholes;
 
 pub use addresses::Address;
 pub use faults::{RequestFault, StreamFault};
-pub use guards::{Guard, Ruling};
+pub use guards::{Guard, Verdict};
 pub use heads::Head;
-pub use laws::{one_parse, one_ruling, unfinished_is_open};
+pub use laws::{one_parse, one_verdict, unfinished_is_open};
 pub use requests::{Inbound, inbound_of, read_request};
 pub use routes::{Route, Routes};
 pub use wholes::{is_whole, least_bytes};

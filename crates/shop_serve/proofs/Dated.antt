@@ -2,12 +2,12 @@
 use Rattle.std.proofs.Common.{◌≡◌, ◌≢◌, ℕ, List, true, inl, inr, refl, sym, ap, subst}
 use Rattle.std.specs.Prelude.{◌⊎◌, Option, Some, None, IfSome}
 use Rattle.shop_book.specs.declared.books.Book.{Ghosts}
-use Rattle.shop_request.specs.Guards.{HasRuling}
+use Rattle.shop_request.specs.Guards.{HasVerdict}
 use Rattle.shop_request.specs.Parses.{IsHeadFault, MayBeEither}
 use Rattle.shop_request.specs.Requests.{ParseResult, silent, faulty, asking, ParsesTo}
-use Rattle.shop_request.specs.declared.guards.Ruling.{Ruling}
-use Rattle.shop_request.specs.declared.guards.Ruling.TheVariants.{Routed}
-use Rattle.shop_request.proofs.Guarding.{one_ruling}
+use Rattle.shop_request.specs.declared.guards.Verdict.{Verdict}
+use Rattle.shop_request.specs.declared.guards.Verdict.TheVariants.{Routed}
+use Rattle.shop_request.proofs.Guarding.{one_verdict}
 use Rattle.shop_request.proofs.Uniqueness.{one_parse}
 use Rattle.shop_wire.specs.Serves.{HandlesInputAt}
 use Rattle.shop_serve.specs.declared.sites.Site.{Site}
@@ -36,8 +36,8 @@ module _ (site : Site) {B : Type 0} (book : Ghosts B) (before after : B) (at : �
         by (inr faults) = no_message parsed faults.0
 
     -- what doesn't go to its route is handled by none
-    pub unrouted_timed : (r : Ruling) → HasRuling site.guard input r → r ≢ Routed → HandlesRequestAt site book before after at input
-    unrouted_timed r has other goes = absurd (other (one_ruling site.guard input r Routed has goes))
+    pub unrouted_timed : (r : Verdict) → HasVerdict site.guard input r → r ≢ Routed → HandlesRequestAt site book before after at input
+    unrouted_timed r has other goes = absurd (other (one_verdict site.guard input r Routed has goes))
 
 -- the time that was given was read, where it is known
 pub read_timed : (site : Site) {B : Type 0} (book : Ghosts B) (before after : B) (known : Option ℕ) (at : ℕ) (input : List ℕ) → IfSome known (λ second. at ≡ second)

@@ -14,9 +14,9 @@ use Rattle.shop_desk.specs.Faults.{CountsUp}
 use Rattle.shop_desk.proofs.Accounts.{account_same, account_more}
 use Rattle.shop_desk.proofs.Justified.{up_more, failed_first, failed_last}
 use Rattle.shop_records.specs.Content.{Content}
-use Rattle.shop_request.specs.Guards.{HasRuling}
-use Rattle.shop_request.specs.declared.guards.Ruling.{Ruling}
-use Rattle.shop_request.specs.declared.guards.Ruling.TheVariants.{Routed, Forbidden, OtherRun, Page, Health, OnlyGet, NoBackups}
+use Rattle.shop_request.specs.Guards.{HasVerdict}
+use Rattle.shop_request.specs.declared.guards.Verdict.{Verdict}
+use Rattle.shop_request.specs.declared.guards.Verdict.TheVariants.{Routed, Forbidden, OtherRun, Page, Health, OnlyGet, NoBackups}
 use Rattle.shop_forms.specs.Forms.{json_texts}
 use Rattle.shop_book.specs.declared.books.Book.{Ghosts}
 use Rattle.shop_planning.specs.declared.instance.PlanInstance.{PlanInstance}
@@ -28,10 +28,10 @@ use Rattle.shop_serve.specs.declared.answers.Made.TheVariants.{Answer, PlanTask}
 use Rattle.shop_serve.specs.Making.{IsMadeOf, IsMadeMeanwhile}
 use Rattle.shop_serve.specs.declared.sites.Site.{Site}
 use Rattle.shop_serve.specs.Sites.{is_routed, own_bytes}
-use Rattle.shop_serve.specs.Serving.{ServedRequest, Handling, HandlingStep, IsCounted, IsServedOnce, routed, ruled, begun, copied, ServedInOrder, asks_backup, is_backup, IsAnswered, IsAnsweredThen, IsBackupAnswer, exchange_of, exchanges, ReportsFailure, ReportOfFailures, HasServed, Advances}
+use Rattle.shop_serve.specs.Serving.{ServedRequest, Handling, HandlingStep, IsCounted, IsServedOnce, routed, checked, begun, copied, ServedInOrder, asks_backup, is_backup, IsAnswered, IsAnsweredThen, IsBackupAnswer, exchange_of, exchanges, ReportsFailure, ReportOfFailures, HasServed, Advances}
 
 -- what goes to its route, and what doesn't
-pub is_route : (r : Ruling) → is_routed r ≡ true → r ≡ Routed
+pub is_route : (r : Verdict) → is_routed r ≡ true → r ≡ Routed
 is_route Routed e = refl
 is_route Forbidden e = absurd (cc e)
 is_route OtherRun e = absurd (cc e)
@@ -40,7 +40,7 @@ is_route Health e = absurd (cc e)
 is_route OnlyGet e = absurd (cc e)
 is_route NoBackups e = absurd (cc e)
 
-pub no_route : (r : Ruling) → is_routed r ≡ false → r ≢ Routed
+pub no_route : (r : Verdict) → is_routed r ≡ false → r ≢ Routed
 no_route r e is = absurd (cc (sym (ap is_routed is) ∙ e))
 
 -- a backup is asked for by some body
@@ -123,7 +123,7 @@ module _ (site : Site) {B : Type 0} (book : Ghosts B) where
 
   -- by its head an input goes to its route
   abbrev GoesToRoute : List ℕ → Type 0
-  GoesToRoute input = HasRuling site.guard input Routed
+  GoesToRoute input = HasVerdict site.guard input Routed
 
   -- one was served
   served_once : (before after : B) (input : List ℕ) (old new : Option (List ℕ)) (unwritten : List ℕ) → 0 < length input → GoesToRoute input
@@ -216,12 +216,12 @@ module _ (site : Site) {B : Type 0} (book : Ghosts B) where
   answered-then before after seen seeing now received answer (still, stands, between, inr (outcome, is, same, copies), reports) = inr (outcome, is, same)
 
   -- the site answered one by itself
-  pub one_ruled : (before after : B) (input : List ℕ) (r : Ruling) (entries : Option ℕ) → 0 < length input → HasRuling site.guard input r → r ≢ Routed
+  pub one_checked : (before after : B) (input : List ℕ) (r : Verdict) (entries : Option ℕ) → 0 < length input → HasVerdict site.guard input r → r ≢ Routed
       → IsCounted book before after entries → HasServed site book before after 1
-  one_ruled before after input r entries some rules other counted clean_disk m held well_formed =
+  one_checked before after input r entries some rules other counted clean_disk m held well_formed =
       let holds : book.holds after m = counted.0.stays clean_disk m held in
-      let served_one : ServedRequest = record { input = input; handling = ruled r entries; answer = own_bytes site entries r } in
-      let once : IsServedOnce book before after m (ruled r entries) m =
+      let served_one : ServedRequest = record { input = input; handling = checked r entries; answer = own_bytes site entries r } in
+      let once : IsServedOnce book before after m (checked r entries) m =
       record {
         step = (refl, counted.1 clean_disk m held);
         clean_disk = clean_disk;

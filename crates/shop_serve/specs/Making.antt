@@ -9,8 +9,8 @@ use Rattle.shop_planning.specs.declared.instance.PlanInstance.{PlanInstance}
 use Rattle.shop_planning.specs.declared.task.PlanTask.{PlanTask as PlanTasks}
 use Rattle.shop_records.specs.declared.messages.Reply.TheVariants.{Refused}
 use Rattle.shop_records.specs.declared.refusals.Refusal.TheVariants.{NoMemory}
-use Rattle.shop_request.specs.Guards.{HasRuling}
-use Rattle.shop_request.specs.declared.guards.Ruling.TheVariants.{Routed}
+use Rattle.shop_request.specs.Guards.{HasVerdict}
+use Rattle.shop_request.specs.declared.guards.Verdict.TheVariants.{Routed}
 use Rattle.shop_request.specs.declared.routes.Route.TheVariants.{Plans}
 use Rattle.shop_serve.specs.declared.answers.Made.{Made}
 use Rattle.shop_serve.specs.declared.answers.Made.TheVariants.{Answer, PlanTask}
@@ -27,7 +27,7 @@ use Rattle.shop_wire.specs.Serves.{IsBegun}
 -- By their head some bytes went to their route, and are a query; this is what it asks of the content. Nothing is done.
 abbrev pub IsAsked : Site → {B : Type 0} → Ghosts B → B → B → (received : List ℕ) → PlanInstance → Type 0
 IsAsked site book before after received instance =
-    HasRuling site.guard received Routed × IsBegun book before after (Some received) instance
+    HasVerdict site.guard received Routed × IsBegun book before after (Some received) instance
 
 -- what was made of some bytes
 abbrev pub IsMadeOf : Site → {B : Type 0} → Ghosts B → B → B → (received : List ℕ) → Made → Type 0

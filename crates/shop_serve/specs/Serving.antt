@@ -11,9 +11,9 @@ use Rattle.shop_records.specs.declared.messages.Reply.{Reply}
 use Rattle.shop_records.specs.declared.messages.Reply.TheVariants.{Refused}
 use Rattle.shop_records.specs.declared.refusals.Refusal.{Refusal}
 use Rattle.shop_records.specs.declared.refusals.Refusal.TheVariants.{StoreFault}
-use Rattle.shop_request.specs.Guards.{HasRuling}
-use Rattle.shop_request.specs.declared.guards.Ruling.{Ruling}
-use Rattle.shop_request.specs.declared.guards.Ruling.TheVariants.{Routed}
+use Rattle.shop_request.specs.Guards.{HasVerdict}
+use Rattle.shop_request.specs.declared.guards.Verdict.{Verdict}
+use Rattle.shop_request.specs.declared.guards.Verdict.TheVariants.{Routed}
 use Rattle.shop_request.specs.Requests.{ParseResult, silent, faulty, asking, ParsesTo}
 use Rattle.shop_request.specs.declared.routes.Route.{Route}
 use Rattle.shop_request.specs.declared.routes.Route.TheVariants.{Message, Plans, Backup}
@@ -39,7 +39,7 @@ use Rattle.std.specs.declared.time.Instant.{Instant}
 -- this came of it.
 pub data Handling : Type 0 where
   routed : ParseResult → Response → Handling
-  ruled : Ruling → Option ℕ → Handling
+  checked : Verdict → Option ℕ → Handling
   begun : List ℕ → PlansQuery → PlanInstance → Handling
   copied : List ℕ → Result ℕ Refusal → Handling
 
@@ -74,13 +74,13 @@ pub record ServedRequest : Type 0 where
 -- and what came of it is reported.
 abbrev pub IsHandling : Site → (input answer : List ℕ) → Handling → Type 0
 IsHandling site input answer (routed parsed response) =
-    HasRuling site.guard input Routed × ParsesTo input parsed
+    HasVerdict site.guard input Routed × ParsesTo input parsed
     × ((unwritten : List ℕ) × (answer ++ unwritten ≡ bytes_of parsed response))
-IsHandling site input answer (ruled r entries) = HasRuling site.guard input r × (r ≢ Routed) × (answer ≡ own_bytes site entries r)
+IsHandling site input answer (checked r entries) = HasVerdict site.guard input r × (r ≢ Routed) × (answer ≡ own_bytes site entries r)
 IsHandling site input answer (begun body query instance) =
-    HasRuling site.guard input Routed × ParsesTo input (asking Plans body) × (body_plans body ≡ Some query) × (answer ≡ [])
+    HasVerdict site.guard input Routed × ParsesTo input (asking Plans body) × (body_plans body ≡ Some query) × (answer ≡ [])
 IsHandling site input answer (copied body outcome) =
-    HasRuling site.guard input Routed × ParsesTo input (asking Backup body) × (answer ≡ answer_bytes (backup_answer outcome))
+    HasVerdict site.guard input Routed × ParsesTo input (asking Backup body) × (answer ≡ answer_bytes (backup_answer outcome))
 
 -- some bytes came, and this is what was done with them
 abbrev pub IsServedRequest : Site → ServedRequest → Type 0
@@ -94,14 +94,14 @@ IsCount content entries = IfSome entries (λ count. count ≡ entry_count conten
 -- it is then, and the entries that are reported are those of it.
 abbrev pub HandlingStep : Content → Handling → Content → Type 0
 HandlingStep old (routed parsed response) new = ParsedStep old parsed response new
-HandlingStep old (ruled r entries) new = (new ≡ old) × IsCount old entries
+HandlingStep old (checked r entries) new = (new ≡ old) × IsCount old entries
 HandlingStep old (begun body query instance) new = (new ≡ old) × IsInstance old query instance
 HandlingStep old (copied body outcome) new = new ≡ old
 
 -- the message that was read, with its reply
 abbrev pub exchange_of : Handling → List (ShopMessage × Reply)
 exchange_of (routed parsed response) = exchanged parsed response
-exchange_of (ruled r entries) = []
+exchange_of (checked r entries) = []
 exchange_of (begun body query instance) = []
 exchange_of (copied body outcome) = []
 
@@ -112,7 +112,7 @@ exchanges = flat_map (λ t. exchange_of t.handling)
 -- a failed store is reported; a backup that wasn't made reports nothing of the store
 abbrev pub ReportsFailure : Handling → Type 0
 ReportsFailure (routed parsed response) = response ≡ replied (Refused StoreFault)
-ReportsFailure (ruled r entries) = ⊥
+ReportsFailure (checked r entries) = ⊥
 ReportsFailure (begun body query instance) = ⊥
 ReportsFailure (copied body outcome) = ⊥
 
@@ -174,7 +174,7 @@ IsUnserved site book before after limit Moved = HasServed site book before after
 
 -- a backup is asked for, at its route
 abbrev pub AsksBackup : Site → List ℕ → Type 0
-AsksBackup site received = HasRuling site.guard received Routed × ((body : List ℕ) × ParsesTo received (asking Backup body))
+AsksBackup site received = HasVerdict site.guard received Routed × ((body : List ℕ) × ParsesTo received (asking Backup body))
 
 -- something else is
 abbrev pub AsksElse : List ℕ → Type 0
@@ -186,15 +186,15 @@ abbrev pub IsCounted : {B : Type 0} → Ghosts B → B → B → Option ℕ → 
 IsCounted book before after entries = Unchanged book CountsUp before after × OnContent book before after (λ m. IsCount m entries)
 
 -- a book is the same, but where the state of the server is asked for: then it was asked how many entries it has
-abbrev pub IsAskedFor : {B : Type 0} → Ghosts B → B → B → Ruling → Option ℕ → Type 0
+abbrev pub IsAskedFor : {B : Type 0} → Ghosts B → B → B → Verdict → Option ℕ → Type 0
 IsAskedFor book before after r entries = (is_health r ≡ false → after ≡ before) × IsCounted book before after entries
 
 -- The whole answer to some bytes that ask for no backup: by their head they went to their route, and that is the answer to what they
 -- stand for; or the site answered by itself, and the book is the same but for what its state was asked for.
 abbrev pub IsAnsweredAlone : Site → {B : Type 0} → Ghosts B → B → B → (received answer : List ℕ) → Type 0
 IsAnsweredAlone site book before after received answer =
-    (HasRuling site.guard received Routed × IsServed book before after (Some received) (Some []) (Some answer) [] × AsksElse received)
-    ⊎ ((r : Ruling) × (entries : Option ℕ) × HasRuling site.guard received r × (r ≢ Routed) × (answer ≡ own_bytes site entries r)
+    (HasVerdict site.guard received Routed × IsServed book before after (Some received) (Some []) (Some answer) [] × AsksElse received)
+    ⊎ ((r : Verdict) × (entries : Option ℕ) × HasVerdict site.guard received r × (r ≢ Routed) × (answer ≡ own_bytes site entries r)
     × IsAskedFor book before after r entries)
 
 -- the whole answer to some bytes that ask for a backup, of which this came
@@ -220,4 +220,4 @@ IsAnsweredThen site book before after seen seeing now received answer =
 -- Where by its head an input goes to its route, the message that it is, if it is one, was handled as one that was given this time.
 abbrev pub HandlesRequestAt : Site → {B : Type 0} → Ghosts B → B → B → (at : ℕ) → (input : List ℕ) → Type 0
 HandlesRequestAt site book before after at input =
-    HasRuling site.guard input Routed → (parsed : ParseResult) → ParsesTo input parsed → HandlesInputAt book before after at parsed
+    HasVerdict site.guard input Routed → (parsed : ParseResult) → ParsesTo input parsed → HandlesInputAt book before after at parsed

@@ -2,8 +2,8 @@
 -- are made.
 use Rattle.std.specs.Prelude.{◌≡◌, ℕ, List, [], ◌++◌, length, Option, Some, None, Result, Err, Bool, true, false, string_bytes, codes, decimal}
 use Rattle.shop_request.specs.declared.faults.RequestFault.TheVariants as faults
-use Rattle.shop_request.specs.declared.guards.Ruling.{Ruling}
-use Rattle.shop_request.specs.declared.guards.Ruling.TheVariants.{Routed, Forbidden, OtherRun, Page, Health, OnlyGet, NoBackups}
+use Rattle.shop_request.specs.declared.guards.Verdict.{Verdict}
+use Rattle.shop_request.specs.declared.guards.Verdict.TheVariants.{Routed, Forbidden, OtherRun, Page, Health, OnlyGet, NoBackups}
 use Rattle.shop_serve.specs.declared.sites.Site.{Site}
 use Rattle.shop_records.specs.declared.refusals.Refusal.TheVariants.{StoreFault}
 use Rattle.shop_wire.specs.AnswerBytes.{answer_bytes, backup_answer, fault_answer}
@@ -47,17 +47,17 @@ health_bytes site (Some entries) = json_bytes (health_text entries (string_bytes
 health_bytes site None = answer_bytes (backup_answer (Err StoreFault))
 
 -- whether a request goes to its route
-abbrev pub is_routed : Ruling → Bool
+abbrev pub is_routed : Verdict → Bool
 is_routed Routed = true
 is_routed _ = false
 
 -- whether the state of the server is asked for
-abbrev pub is_health : Ruling → Bool
+abbrev pub is_health : Verdict → Bool
 is_health Health = true
 is_health _ = false
 
 -- what a site answers by itself, where its store has so many entries, or failed
-abbrev pub own_bytes : Site → (entries : Option ℕ) → Ruling → List ℕ
+abbrev pub own_bytes : Site → (entries : Option ℕ) → Verdict → List ℕ
 own_bytes site entries Routed = []
 own_bytes site entries Forbidden = forbidden_bytes
 own_bytes site entries OtherRun = other_run_bytes

@@ -3,8 +3,8 @@
 
 ghost use Rattle.std.specs.Prelude.{◌≡◌, ◌≢◌, ◌⊎◌, ◌<◌, ◌++◌, ℕ, Result, length, IfErr, IfOk, IfSome, None, Ok, Option, Some, true, [], string_bytes, decimal};
 ghost use Rattle.shop_records.specs.declared.refusals.Refusal.{Refusal as RefusalOf};
-ghost use Rattle.shop_request.specs.Guards.{HasRuling};
-ghost use Rattle.shop_request.specs.declared.guards.Ruling.TheVariants as ruling;
+ghost use Rattle.shop_request.specs.Guards.{HasVerdict};
+ghost use Rattle.shop_request.specs.declared.guards.Verdict.TheVariants as verdict;
 ghost use Rattle.shop_request.specs.declared.faults.RequestFault.TheVariants as faults;
 ghost use Rattle.shop_wire.specs.AnswerBytes.{answer_bytes, backup_answer};
 ghost use Rattle.shop_request.specs.Reading.{IsHeadIn};
@@ -18,7 +18,7 @@ use crate::clocks::ServerClock;
 use crate::sites::Site;
 use shop_book::{Book, BookFault};
 use shop_planning::PlanTask;
-use shop_request::{Head, Inbound, Route, Ruling, inbound_of};
+use shop_request::{Head, Inbound, Route, Verdict, inbound_of};
 use shop_rules::Refusal;
 use shop_text::{Failed, Sink};
 use shop_wire::{backup_answer, begin_inbound};
@@ -121,7 +121,7 @@ fn routed_answer<B: Book>(
 ) -> Option<Next>
     requires some { 0 < length received.now }
     requires head { IsHeadIn received.now head.now }
-    requires goes { HasRuling site.now.guard received.now ruling.Routed }
+    requires goes { HasVerdict site.now.guard received.now verdict.Routed }
     ensures made { IfSome result (IsNext site.now B.Book book.old book.new received.now) }
     ensures timed { HandlesRequestAt site.now B.Book book.old book.new at received.now }
     ensures step { HasServed site.now B.Book book.old book.new 1 }
@@ -197,17 +197,17 @@ fn health_of(alloc: Global, site: &Site, entries: Option<u64>) -> Result<Vec<u8>
 }
 
 // Whether a request goes to its route.
-fn is_routed(ruling: Ruling) -> bool
-    ensures { result ≡ is_routed ruling }
+fn is_routed(verdict: Verdict) -> bool
+    ensures { result ≡ is_routed verdict }
 {
-    matches!(ruling, Ruling::Routed)
+    matches!(verdict, Verdict::Routed)
 }
 
 // Whether the state of the server is asked for.
-fn is_health(ruling: Ruling) -> bool
-    ensures { result ≡ is_health ruling }
+fn is_health(verdict: Verdict) -> bool
+    ensures { result ≡ is_health verdict }
 {
-    matches!(ruling, Ruling::Health)
+    matches!(verdict, Verdict::Health)
 }
 
 // What the site answers by itself, where its store has so many entries, or failed.
@@ -215,18 +215,18 @@ fn own_answer(
     alloc: Global,
     site: &Site,
     entries: Option<u64>,
-    ruling: Ruling,
+    verdict: Verdict,
 ) -> Result<Vec<u8>, AllocError>
-    ensures { IfOk result (λ answer. answer.items ≡ own_bytes site.now entries ruling) }
+    ensures { IfOk result (λ answer. answer.items ≡ own_bytes site.now entries verdict) }
 {
-    match ruling {
-        Ruling::Routed => Ok(Vec::new(alloc)),
-        Ruling::Forbidden => Vec::from_slice(alloc, FORBIDDEN),
-        Ruling::OtherRun => Vec::from_slice(alloc, OTHER_RUN),
-        Ruling::OnlyGet => Vec::from_slice(alloc, ONLY_GET),
-        Ruling::NoBackups => Vec::from_slice(alloc, NOT_FOUND),
-        Ruling::Page => page_answer(alloc, &site.page),
-        Ruling::Health => health_of(alloc, site, entries),
+    match verdict {
+        Verdict::Routed => Ok(Vec::new(alloc)),
+        Verdict::Forbidden => Vec::from_slice(alloc, FORBIDDEN),
+        Verdict::OtherRun => Vec::from_slice(alloc, OTHER_RUN),
+        Verdict::OnlyGet => Vec::from_slice(alloc, ONLY_GET),
+        Verdict::NoBackups => Vec::from_slice(alloc, NOT_FOUND),
+        Verdict::Page => page_answer(alloc, &site.page),
+        Verdict::Health => health_of(alloc, site, entries),
     }
 }
 
@@ -244,37 +244,37 @@ fn count_entries<B: Book>(book: &mut B) -> Result<Option<u64>, AllocError>
 
 // How many entries there are, where that is asked for and the store is good.
 fn entries_for<B: Book>(
-    ruling: Ruling,
+    verdict: Verdict,
     failed: bool,
     book: &mut B,
 ) -> Result<Option<u64>, AllocError>
-    ensures ok { IfOk result (IsAskedFor B.Book book.old book.new ruling) }
-    ensures err { IfErr result (λ _. IsAskedFor B.Book book.old book.new ruling None) }
+    ensures ok { IfOk result (IsAskedFor B.Book book.old book.new verdict) }
+    ensures err { IfErr result (λ _. IsAskedFor B.Book book.old book.new verdict None) }
     ensures failed { failed ≡ true → result ≡ Ok None }
 {
-    if failed || !is_health(ruling) {
+    if failed || !is_health(verdict) {
         return Ok(None);
     }
     count_entries(book)
 }
 
 // What the site answers by itself, as its store failed or not.
-fn ruled_answer<B: Book>(
+fn checked_answer<B: Book>(
     alloc: Global,
     site: &Site,
     failed: bool,
-    ruling: Ruling,
+    verdict: Verdict,
     book: &mut B,
 ) -> Option<Vec<u8>>
     ensures made { IfSome result (λ answer. (entries : Option ℕ)
-        × (answer.items ≡ own_bytes site.now entries ruling)
-        × IsAskedFor B.Book book.old book.new ruling entries) }
-    ensures asked { (entries : Option ℕ) × IsAskedFor B.Book book.old book.new ruling entries }
+        × (answer.items ≡ own_bytes site.now entries verdict)
+        × IsAskedFor B.Book book.old book.new verdict entries) }
+    ensures asked { (entries : Option ℕ) × IsAskedFor B.Book book.old book.new verdict entries }
 {
-    let Ok(entries) = entries_for(ruling, failed, book) else {
+    let Ok(entries) = entries_for(verdict, failed, book) else {
         return None;
     };
-    match own_answer(alloc, site, entries, ruling) {
+    match own_answer(alloc, site, entries, verdict) {
         Ok(answer) => Some(answer),
         Err(_) => None,
     }
@@ -298,11 +298,11 @@ fn answer_of<B: Book>(
     ensures step { HasServed site.now B.Book book.old book.new 1 }
     ensures clean_disk { B.has_clean_disk book.new → B.has_clean_disk book.old }
 {
-    let ruling = site.guard.rule(head, received);
-    if is_routed(ruling) {
+    let verdict = site.guard.check(head, received);
+    if is_routed(verdict) {
         return routed_answer(alloc, site, head, received, at, book);
     }
-    match ruled_answer(alloc, site, failed, ruling, book) {
+    match checked_answer(alloc, site, failed, verdict, book) {
         Some(answer) => Some(Next::Made(Made::Answer(answer))),
         None => None,
     }

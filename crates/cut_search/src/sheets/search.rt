@@ -147,7 +147,7 @@ impl SheetSearch {
         Ok(())
     }
 
-    /// Goes on with the courses over one size. Returns how much work they did.
+    /// Continues the courses over one size, and returns how much work they did.
     fn go_on_alone(&mut self, alloc: Global) -> Result<u64, AllocError> {
         let most = MAX_WORK.saturating_sub(MIN_WHOLE);
         let mut spent = 0u64;
@@ -171,7 +171,7 @@ impl SheetSearch {
         Ok(spent)
     }
 
-    /// Goes on with the course over the whole stock, by about so much work at most.
+    /// Continues the course over the whole stock, by about so much work at most.
     fn go_on_whole(&mut self, alloc: Global, most: u64, goal: u64) -> Result<(), AllocError> {
         match self.whole.run(alloc, most, goal)? {
             Reported::Units => self.has_units = true,
@@ -216,8 +216,8 @@ impl SheetSearch {
         Ok(Found::Nothing)
     }
 
-    /// Goes on, by some 50 ms at most. `least` is the greatest bound that is certified so far,
-    /// `best` the cost of the best plan that makes all and was checked, if there is one.
+    /// Continues the search by some 50 ms. `least` is the greatest certified bound so far, `best`
+    /// the cost of the best checked plan that makes all pieces, if there is one.
     pub fn go_on(
         &mut self,
         alloc: Global,

@@ -7,6 +7,6 @@ returns-clause-decision c =
     λ at found.
     let work = c.in_ok-work.work in (
       c.in_ok-work.ensures.allowed at found,
-      worked c.args.stop.now (λ j part rule. IsEnd c.args.stop.now j part rule c.args.totals.now at c.in_ok-change.change) c.args.job c.args.part c.args.material at c.args.totals.now work.job work.part work.limits
+      worked c.args.stop.now (λ j part params. IsEnd c.args.stop.now j part params c.args.totals.now at c.in_ok-change.change) c.args.job c.args.part c.args.material at c.args.totals.now work.job work.part work.limits
           c.in_ok-work.ensures.work.0 c.in_ok-work.ensures.work.1 c.in_ok-work.ensures.work.2 (c.in_ok-work.ensures.allowed at found) (c.in_ok-change.ensures.change at found),
     )

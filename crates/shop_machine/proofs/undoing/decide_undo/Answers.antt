@@ -68,7 +68,7 @@ returns-clause-decision c =
           (holds_cells over.end over.job over.part over.limits c.args.totals c.in_ok-left.gone c.cells-most.result c.have_cells.result true gone c.cells-most.ensures.value c.have_cells.ensures c.if-not-have_cells.false)
           (holds_made over.end over.job at c.deref-laid.result.now c.args.leaves.now c.are_made.result true rows leaves (c.are_made.ensures.test at found) c.if-not-are_made.false)),
       of_found_rows c.args.job c.args.halt c.args.part c.args.material c.args.found.now at c.args.totals over.end over.job over.part over.limits is.0 is.1 is.2
-          c.in_ok-over.ensures.stop c.in_ok-over.ensures.fits (λ j p rule. IsUndo j c.args.halt p rule c.args.totals at c.in_ok-change.change)
+          c.in_ok-over.ensures.stop c.in_ok-over.ensures.fits (λ j p params. IsUndo j c.args.halt p params c.args.totals at c.in_ok-change.change)
           (record { end = over.end; ended = c.in_ok-over.ensures.stop; rows = made.0; recounted = made.1; is = made.2 }),
     )
 

@@ -1,5 +1,0 @@
-use Rattle.shop_request.proofs.Guarding as lemmas
-use Rattle.shop_request.proofs.laws.one_ruling.Goals as goal
-
-pub returns : goal.returns
-returns c = lemmas.one_ruling
