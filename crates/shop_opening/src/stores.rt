@@ -17,7 +17,7 @@ use shop_advice::{RowKey, RowName, StoreCause, StoreTable, VersionCause, look_at
 use shop_store::{
     BookFault, Loaded, SqlBook, load_earlier_ledger, load_ledger, load_second_ledger,
 };
-use shop_tables::{NoRow, TableFault, find_last_entry, stray_entry};
+use shop_tables::{NoRow, TableFault, count_entries, invalid_entry, stray_entry};
 use sqlite::{
     Alter, Connection, Error, ErrorCode, FileFrom, FileStore, Files, Leftover, Start, Unknown,
 };
@@ -218,14 +218,28 @@ fn stray_cause(row: Option<NoRow>) -> VersionCause
     }
 }
 
+// The row of an entry of version 3 whose number isn't one of those from 1 to how many there are, if there is one.
+fn stray_of<S: Alter>(conn: &mut Connection<S>) -> Option<NoRow> {
+    let count = count_entries(conn).ok()?;
+    stray_entry(conn, count).ok()?
+}
+
+// The first of two rows of entries, as far as there are such rows.
+fn first_row(stray: Option<NoRow>, invalid: Option<NoRow>) -> Option<NoRow> {
+    match (stray, invalid) {
+        (Some(NoRow::Entry(Some(outside))), Some(NoRow::Entry(Some(inside)))) if inside < outside =>
+            invalid,
+        (Some(row), _) => Some(row),
+        (None, _) => invalid,
+    }
+}
+
 // What is wrong in the entries of version 3.
 fn stray_in<S: Alter>(conn: &mut Connection<S>) -> VersionCause {
-    let Ok((count, _)) = find_last_entry(conn) else {
-        return VersionCause::Contradicting;
-    };
-    match stray_entry(conn, count) {
-        Ok(row) => stray_cause(row),
-        Err(_) => VersionCause::Contradicting,
+    let stray = stray_of(conn);
+    match invalid_entry(conn) {
+        Ok(invalid) => stray_cause(first_row(stray, invalid)),
+        Err(_) => stray_cause(stray),
     }
 }
 

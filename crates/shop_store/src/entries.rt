@@ -15,7 +15,7 @@ ghost use Rattle.shop_store.specs.Storing.{IsRemembered};
 use crate::remembered::Remembered;
 use crate::stories::MAX_STEPS;
 use shop_book::{JobEnds, NumberIndex};
-use shop_tables::{TableFault, entries_after, find_last_entry, stray_entry};
+use shop_tables::{TableFault, entries_after, find_last_entry, invalid_entry, stray_entry};
 use sqlite::{Alter, Connection};
 use std::alloc::Global;
 
@@ -98,8 +98,8 @@ fn find_last<S: Alter>(conn: &mut Connection<S>) -> Result<Option<(u64, u64)>, T
     }
 }
 
-/// What is remembered of the entries; None if they haven't the numbers from 1 to how many there are.
-pub(crate) fn find_remembered<S: Alter>(
+// What is remembered of the entries; None if they haven't the numbers from 1 to how many there are.
+fn read_remembered<S: Alter>(
     alloc: Global,
     conn: &mut Connection<S>,
 ) -> Result<Option<Remembered>, TableFault>
@@ -118,4 +118,38 @@ pub(crate) fn find_remembered<S: Alter>(
         ends,
         index,
     }))
+}
+
+// What is remembered if the entries couldn't be read because of this fault: None if one of their rows is no entry's.
+fn unread<S: Alter>(
+    conn: &mut Connection<S>,
+    fault: TableFault,
+) -> Result<Option<Remembered>, TableFault>
+    ensures found { OnBooks (state S.Store conn.old) (state S.Store conn.new)
+        (λ _. IfOk result (λ _. ⊥)) }
+    ensures leaves { Leaves (state S.Store conn.old) (state S.Store conn.new) }
+    ensures mode { conn.old.in_transaction ≡ false → conn.new.in_transaction ≡ false }
+{
+    match invalid_entry(conn)? {
+        Some(_) => Ok(None),
+        None => Err(fault),
+    }
+}
+
+/// What is remembered of the entries; None if they haven't the numbers from 1 to how many there are, or if one of their rows
+/// is no entry's.
+pub(crate) fn find_remembered<S: Alter>(
+    alloc: Global,
+    conn: &mut Connection<S>,
+) -> Result<Option<Remembered>, TableFault>
+    ensures found { OnBooks (state S.Store conn.old) (state S.Store conn.new)
+        (λ books. HasTrail books → IfOk result (IsFoundOf books.content)) }
+    ensures leaves { Leaves (state S.Store conn.old) (state S.Store conn.new) }
+    ensures mode { conn.old.in_transaction ≡ false → conn.new.in_transaction ≡ false }
+{
+    match read_remembered(alloc, conn) {
+        Ok(found) => Ok(found),
+        Err(TableFault::NoMemory) => Err(TableFault::NoMemory),
+        Err(TableFault::Store) => unread(conn, TableFault::Store),
+    }
 }

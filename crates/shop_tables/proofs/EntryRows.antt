@@ -58,3 +58,7 @@ all_values m keyed = all-map IsEntryValue (λ (e : ℕ × Entry). e.1) (entries 
 
 pub some_values : (m : Content) (after most : ℕ) → AllByRecursion IsEntryValue (values m.entries) → AllByRecursion IsEntryValue (take most (entries_behind m after))
 some_values m after most all = all_take IsEntryValue most (entries_behind m after) (all-filter IsEntryValue (λ (e : Entry). nat_lt after e.number) (values m.entries) all)
+
+-- the same of those from a number on
+pub some_from : (m : Content) (from most : ℕ) → AllByRecursion IsEntryValue (values m.entries) → AllByRecursion IsEntryValue (take most (entries_from m from))
+some_from m from most all = all_take IsEntryValue most (entries_from m from) (all-filter IsEntryValue (λ (e : Entry). nat_le from e.number) (values m.entries) all)

@@ -15,7 +15,7 @@ ghost use Rattle.shop_tables.specs.ListedRows.{listed_entry};
 ghost use Rattle.shop_tables.specs.RowsFrom.{HasNoneBut};
 
 use crate::chunks::entry_rows_from;
-use crate::invalid::int_in;
+use crate::invalid::{int_in, may_be_entry};
 use crate::listed_rows::up_to;
 use crate::valid_rows::NoRow;
 use shop_records::{Entry, EntryRows};
@@ -252,4 +252,62 @@ pub fn stray_entry<S: Alter>(
         Some(row) => Ok(Some(row)),
         None => stray_above(conn, count),
     }
+}
+
+/// How many rows are read at a time to find one that is no entry's.
+const ROWS_AT_ONCE: usize = 1000;
+
+/// How many times rows are read so at most.
+const MAX_CHUNKS: usize = 1000000000;
+
+// The first of these rows that is no entry's.
+fn invalid_row(rows: &[Row]) -> Option<NoRow>
+    ensures { (entries : List EntryRecord) → AllByRecursion IsEntryValue entries
+        → rows.now ≡ map listed_entry entries → result ≡ None }
+{
+    for row in rows {
+        if !may_be_entry(row) {
+            return Some(NoRow::Entry(int_in(row, 9)));
+        }
+    }
+    None
+}
+
+// The number after that of the last of these rows, if there are any.
+fn number_behind(rows: &[Row]) -> Option<usize> {
+    let number = int_in(rows.last()?, 9)?;
+    usize::try_from(number).ok()?.checked_add(1)
+}
+
+// The first row that is no entry's among some from a number on, if there is one, and from which number on others follow.
+fn invalid_row_from<S: Alter>(
+    conn: &mut Connection<S>,
+    from: usize,
+) -> Result<(Option<NoRow>, Option<usize>), TableFault>
+    ensures none { OnBooks (state S.Store conn.old) (state S.Store conn.new)
+        (λ _. IfOk result (λ found. found.0 ≡ None)) }
+    ensures leaves { Leaves (state S.Store conn.old) (state S.Store conn.new) }
+    ensures mode { conn.old.in_transaction ≡ false → conn.new.in_transaction ≡ false }
+{
+    let rows = entry_rows_from(conn, from, ROWS_AT_ONCE)?;
+    Ok((invalid_row(&rows), number_behind(&rows)))
+}
+
+/// The first row of the journal whose columns are no entry's, if there is one: none if the tables stand for books. Rows with
+/// a number below 0 aren't read.
+pub fn invalid_entry<S: Alter>(conn: &mut Connection<S>) -> Result<Option<NoRow>, TableFault>
+    ensures none { OnBooks (state S.Store conn.old) (state S.Store conn.new)
+        (λ _. IfOk result (λ invalid. invalid ≡ None)) }
+    ensures leaves { Leaves (state S.Store conn.old) (state S.Store conn.new) }
+    ensures mode { conn.old.in_transaction ≡ false → conn.new.in_transaction ≡ false }
+{
+    let mut from = 0;
+    'chunks: for _ in 0..MAX_CHUNKS {
+        match invalid_row_from(conn, from)? {
+            (Some(row), _) => return Ok(Some(row)),
+            (None, Some(next)) => from = next,
+            (None, None) => return Ok(None),
+        }
+    }
+    Ok(None)
 }

@@ -1,6 +1,6 @@
-//! Rows that stand for no part, no totals, no material, no job, no demand, no note and no begun job.
+//! Rows that stand for no part, no totals, no material, no job, no demand, no note, no begun job and no entry.
 
-ghost use Rattle.std.specs.Prelude.{◌≡◌, ◌<◌, ◌≤◌, ◌+◌, ◌^◌, ℕ, ℤ, Bool, List, pos, Some, IfSome, IsTrue, ◌↔◌};
+ghost use Rattle.std.specs.Prelude.{◌≡◌, ◌<◌, ◌≤◌, ◌+◌, ◌^◌, ℕ, ℤ, Bool, List, Option, pos, Some, IfSome, IsTrue, ◌↔◌};
 ghost use Rattle.sqlite_value.specs.declared.value.Value.TheVariants.{Int, Text as Word};
 ghost use Rattle.cut_measure.specs.Codes.{is_code};
 ghost use Rattle.cut_measure.specs.Measures.{is_size};
@@ -8,6 +8,9 @@ ghost use Rattle.cut_measure.specs.Names.{Name, IsName};
 ghost use Rattle.cut_measure.specs.declared.sizes.Kind.{Kind as KindOf};
 ghost use Rattle.cut_measure.specs.declared.sizes.Kind.TheVariants.{Sheet};
 ghost use Rattle.shop_records.specs.Columns.{state_of};
+ghost use Rattle.shop_records.specs.Journal.{word_name};
+ghost use Rattle.shop_records.specs.declared.journal.Entry.{Entry as EntryRecord};
+ghost use Rattle.shop_records.specs.declared.journal.Word.{Word as CommandWord};
 ghost use Rattle.shop_records.specs.declared.records.Demand.{Demand as DemandRecord};
 ghost use Rattle.shop_records.specs.declared.records.Job.{Job as JobRecord};
 ghost use Rattle.shop_records.specs.declared.records.JobBegin.{JobBegin as BeginRecord};
@@ -18,10 +21,10 @@ ghost use Rattle.shop_records.specs.declared.records.Part.{Part as PartRecord};
 ghost use Rattle.shop_records.specs.declared.records.State.{State as PartState};
 ghost use Rattle.shop_records.specs.declared.records.Totals.{Totals as TotalsRecord};
 ghost use Rattle.shop_tables.specs.Listing.{listed_row};
-ghost use Rattle.shop_tables.specs.ListedRows.{listed_begun, listed_demand, listed_job, listed_material, listed_note};
-ghost use Rattle.shop_statements.specs.Rows.{job_state_number, kind_number, part_row, state_number, turn_number};
+ghost use Rattle.shop_tables.specs.ListedRows.{listed_begun, listed_demand, listed_entry, listed_job, listed_material, listed_note};
+ghost use Rattle.shop_statements.specs.Rows.{act_number, job_state_number, kind_number, node_number, order_text, part_row, state_number, turn_number};
 ghost use Rattle.shop_tables.specs.Invalid.{HasCounts, HasValue};
-ghost use Rattle.shop_statements.specs.Values.{IsPartValue};
+ghost use Rattle.shop_statements.specs.Values.{IsEntryValue, IsPartValue};
 
 use cut_measure::{Code, MAX_HEIGHT, MAX_NUMBERS, MAX_WIDTH};
 use sqlite::Row;
@@ -236,4 +239,74 @@ pub(crate) fn may_be_demand(row: &Row) -> bool
                     && (has_count(row, 6)
                         && (has_count(row, 7)
                             && (has_count(row, 8) && (has_count(row, 9) && has_count(row, 10))))))))
+}
+
+// The word of a command.
+fn has_command_word(row: &Row, at: usize) -> bool
+    ensures { (word : CommandWord) → HasValue row.now at (Word (word_name word))
+        → IsTrue result }
+{
+    has_word(row, at, "material")
+        || has_word(row, at, "receive")
+        || has_word(row, at, "order")
+        || has_word(row, at, "reserve")
+        || has_word(row, at, "done")
+        || has_word(row, at, "break")
+        || has_word(row, at, "release")
+        || has_word(row, at, "scrap")
+        || has_word(row, at, "return")
+        || has_word(row, at, "import")
+        || has_word(row, at, "amend")
+        || has_word(row, at, "undo")
+        || has_word(row, at, "note")
+        || has_word(row, at, "extend")
+        || has_word(row, at, "begin")
+}
+
+// The order of an entry, empty if it has none.
+fn has_entry_order(row: &Row, at: usize) -> bool
+    ensures { (order : Option (List ℕ)) → IfSome order (λ code. IsTrue (is_code code))
+        → HasValue row.now at (Word (order_text order)) → IsTrue result }
+{
+    has_word(row, at, "") || has_code(row, at)
+}
+
+fn may_be_part_of_entry(act: i64, node: i64) -> bool
+    ensures { (part : Option Name) → IfSome part IsName → act ≡ pos (act_number part)
+        → node ≡ pos (node_number part) → IsTrue result }
+{
+    if act == 0 {
+        node == 0
+    } else {
+        0 < act && 0 <= node
+    }
+}
+
+// The act and the node of an entry's part, side by side, both 0 if it has none.
+fn has_entry_part(row: &Row, at: usize) -> bool
+    requires { at < 100 }
+    ensures { (part : Option Name) → IfSome part IsName
+        → HasValue row.now at (Int (pos (act_number part)))
+        → HasValue row.now (at + 1) (Int (pos (node_number part))) → IsTrue result }
+{
+    match (int_in(row, at), int_in(row, at + 1)) {
+        (Some(act), Some(node)) => may_be_part_of_entry(act, node),
+        (Some(_), None) => false,
+        (None, _) => false,
+    }
+}
+
+/// Whether a row may be an entry's, its number after it. The ranges of its numbers aren't tested.
+pub(crate) fn may_be_entry(row: &Row) -> bool
+    ensures { (entry : EntryRecord) → IsEntryValue entry → row.now ≡ listed_entry entry
+        → IsTrue result }
+{
+    has_count(row, 0)
+        && (has_count(row, 1)
+            && (has_count(row, 2)
+                && (has_command_word(row, 3)
+                    && (has_count(row, 4)
+                        && (has_count(row, 5)
+                            && (has_entry_order(row, 6)
+                                && (has_entry_part(row, 7) && has_count(row, 9))))))))
 }

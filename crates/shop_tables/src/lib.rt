@@ -27,7 +27,7 @@ mod writing;
 pub use adopting::{AdoptFault, Adopted, adopt_tables};
 pub use chunks::{begun_rows_from, demand_rows_from, entry_rows_from, job_rows_from, part_key_at};
 pub use committing::commit_change;
-pub use entries::{count_entries, entries_after, find_last_entry, stray_entry};
+pub use entries::{count_entries, entries_after, find_last_entry, invalid_entry, stray_entry};
 pub use kept_counts::{count_kept, count_texts};
 pub use last_numbers::find_last_number;
 pub use laws::visiting_limits;

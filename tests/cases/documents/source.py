@@ -441,6 +441,8 @@ LAWLESS = {
     "shop_store loading_parts PARTS_AT_ONCE": ("4096", "flush_many", "how many parts that were read wait before they are put into a ledger"),
     "shop_store numbered MAX_CHUNKS": ("4294967296", "load_numbered", "more times than a table has rows of different numbers of 32 bits"),
     "shop_store numbered ROWS_AT_ONCE": ("1000", "load_numbered", "how many rows of jobs or demands are in memory at once while a ledger is loaded"),
+    "shop_tables entries MAX_CHUNKS": ("1000000000", "invalid_entry", "more times than the journal's rows are read, some at once, to find one that is no entry's"),
+    "shop_tables entries ROWS_AT_ONCE": ("1000", "invalid_row_from", "how many rows of the journal are in memory at once while one that is no entry's is looked for"),
     "shop_store entries ENTRIES_AT_ONCE": ("1000", "step", "how many entries are in memory at once while a store is opened"),
     "shop_store stories MAX_STEPS": ("18446744073709551615", "find_trail list_uses scan", "more times than there are entries, or rows of orders of jobs"),
     "shop_store uses ROWS_AT_ONCE": ("1000", "push_rows", "how many rows of orders of jobs an audit reads at once, as its query has it"),

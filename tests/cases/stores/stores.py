@@ -318,21 +318,31 @@ SPOILS = [
     ("UPDATE materials SET kind = 3", "materials GLASS"),
     ("UPDATE parts SET state = 8 WHERE node = 1", "parts 1/1"),
     ("UPDATE parts SET batch = 'b-1' WHERE node = 0", "parts 1/0"),
+    ("UPDATE journal SET word = 'orders' WHERE entry = 2", "journal 2"),
+    ("UPDATE journal SET act = -1 WHERE entry >= 3", "journal 3"),
+    ("UPDATE journal SET at = -1 WHERE entry = 4", "journal 4"),
+    ("UPDATE journal SET ord = 'h-1' WHERE entry = 1", "journal 1"),
+    ("UPDATE journal SET part_node = 1 WHERE entry = 2", "journal 2"),
+    # Before an entry with a number that none has, and behind one.
+    ("UPDATE journal SET entry = 9 WHERE entry = 4; UPDATE journal SET word = 'orders' WHERE entry >= 2", "journal 2"),
+    ("UPDATE journal SET entry = 0 WHERE entry = 1; UPDATE journal SET word = 'orders' WHERE entry = 3", "journal 0"),
 ]
 # Numbers that are out of their ranges, together or alone.
 OUT_OF_RANGE = [
     "UPDATE materials SET kind = 0",
     "UPDATE demands SET w = 0 WHERE number = 2",
     "UPDATE demands SET line = 4294967296 WHERE number = 2",
+    "UPDATE journal SET act = 4294967296 WHERE entry = 2",
 ]
 DAMAGED = "it or its disk is damaged; put a copy of it and its log in its place"
 
 
 @case(
     "rows of no book",
-    "A job of state 9 or of a plan that is none, a turn of 5, a kind of 3, a part of state 8 or of a batch that is no code is "
-    "`fault version` at each start, and the second line names the row; a bar with the limits of a sheet, a width of 0 and a line over "
-    "32 bits are `fault store`; the file stays as it was.",
+    "A job of state 9 or of a plan that is none, a turn of 5, a kind of 3, a part of state 8 or of a batch that is no code, and an entry of "
+    "another word, of an act or a time below 0, of an order that is no code or of a node without an act are `fault version` at each start, and "
+    "the second line names the first such row; a bar with the limits of a sheet, a width of 0, and a line and an act over 32 bits are "
+    "`fault store`; the file stays as it was.",
 )
 def spoiled(trial):
     spoils = [(it, "version", NO_ROW + row) for it, row in SPOILS] + [(it, "store", DAMAGED) for it in OUT_OF_RANGE]
