@@ -1,4 +1,4 @@
-//! The arguments of the commands, as `clap` gets them.
+//! The arguments of the commands, for `clap`.
 
 ghost use Rattle.shop_words.specs.CommandLine as line;
 
@@ -402,7 +402,7 @@ fn shop_arg<'a>(alloc: Global) -> Arg<'a>
     )
 }
 
-/// An argument, as the command line knows it.
+/// The `clap` argument of an argument of the command line.
 pub(crate) fn arg_of<'a>(alloc: Global, argument: Argument) -> Arg<'a>
     ensures { line.IsArg (line.argument_rule argument) result }
 {

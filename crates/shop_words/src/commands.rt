@@ -1,4 +1,4 @@
-//! The commands of the program, as `clap` gets them.
+//! The program's commands, for `clap`.
 
 ghost use Rattle.std.specs.Prelude.{◌≡◌, IfOk};
 ghost use Rattle.clap.specs.Words.{app_of};
