@@ -371,10 +371,9 @@ fn evict_for_descriptor<C: Drop, P: Port<C>>(port: &P, clients: &mut Slab<Client
     if !port.is_scarce() {
         return;
     }
-    let Some(key) = oldest(clients) else {
-        return;
-    };
-    drop(clients.try_remove(key));
+    if let Some(key) = oldest(clients) {
+        drop(clients.try_remove(key));
+    }
 }
 
 /// Closes the oldest connection that may be closed, if the maximum is open, or if the port took its last descriptor for
