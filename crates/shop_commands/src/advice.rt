@@ -14,7 +14,7 @@ use crate::helping::{lines_cause, step_advice};
 use crate::memory::memory_advice;
 use shop_advice::{
     BackupCause, FileCause, ShopCause, StoreCause, VersionCause, is_there, look_at_file,
-    look_at_shop, printed_text,
+    look_at_shop,
 };
 use shop_audit::Row;
 use shop_files::TextCause;
@@ -191,7 +191,7 @@ fn has_line_feed(text: &str) -> bool
     text.as_bytes().contains(&b'\n')
 }
 
-// A text, or other words if it has a line feed, which no printed text has.
+// A text, or where it has a line feed, other words.
 fn shown<'a>(text: &'a str) -> &'a str
     ensures { IsPlain result.now }
 {
@@ -202,12 +202,11 @@ fn shown<'a>(text: &'a str) -> &'a str
     }
 }
 
-// A text as it is printed, on one line. None if memory ran out, as below.
+// The same, as a text of its own. None because memory ran out, as below.
 fn plain(alloc: Global, text: &str) -> Option<String>
     ensures { IfSome result (λ plain. IsPlain (string_bytes plain)) }
 {
-    let printed = printed_text(alloc, text).ok()?;
-    let text = shown(printed.as_str());
+    let text = shown(text);
     format!(in alloc; "{text}").ok()
 }
 

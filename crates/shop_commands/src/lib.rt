@@ -16,7 +16,6 @@ mod progress;
 mod replays;
 mod restoring;
 mod running;
-mod shown;
 mod stored;
 
 pub use advice::second_lines_are_lines;

@@ -4,7 +4,6 @@ ghost use Rattle.std.specs.Prelude.{◌≡◌, IfOk, string_bytes};
 ghost use Rattle.shop_commands.specs.Log as spec;
 
 use libc::{STDERR_FILENO, isatty};
-use shop_advice::printed_text;
 use shop_audit::Progress;
 use std::alloc::{AllocError, Global};
 use std::fs::{self, Files};
@@ -102,10 +101,7 @@ pub(crate) fn note_opening<R: Files + Eprint>(rt: &R, alloc: Global, store: &str
     if found.len() < LARGE_STORE || isatty(STDERR_FILENO) != 1 {
         return;
     }
-    let Ok(name) = printed_text(alloc, store) else {
-        return;
-    };
-    if let Ok(line) = opening_line(alloc, name.as_str(), found.len() / MEGABYTE) {
+    if let Ok(line) = opening_line(alloc, store, found.len() / MEGABYTE) {
         let _ = rt.eprint(line.as_str());
     }
 }

@@ -2,7 +2,6 @@
 
 use crate::faults::Fault;
 use crate::performing::{perform, report_fault};
-use crate::shown::Shown;
 use shop_opening::Opens;
 use shop_store::SqlBook;
 use shop_text::{Counted, Sink, write_all};
@@ -33,7 +32,7 @@ pub fn run<D: Alter + Drop, M: Alter + Drop, O: Opens<SqlBook<D>>, P: Opens<SqlB
 ) -> u8 {
     let mut source = Counted::new(rt.stdin());
     let mut sink = Counted::new(rt.stdout());
-    let mut errors = Shown::new(Counted::new(rt.stderr()));
+    let mut errors = Counted::new(rt.stderr());
     match read_words(rt) {
         Ok(words) => perform(
             rt,

@@ -6,7 +6,6 @@ ghost use Rattle.shop_serve.specs.Lines.{due_at, due_of, is_line, line_text, los
 
 use libc::net::{POLLOUT, poll};
 use libc::types::pollfd;
-use shop_advice::{has_control, printed_text};
 use std::alloc::{AllocError, Global};
 use std::io::Eprint;
 use std::time::{Clock, Duration, Instant};
@@ -126,19 +125,6 @@ fn is_written<R: Eprint>(rt: &R, text: &str) -> bool {
     takes(text.len()) && rt.eprint(text).is_ok()
 }
 
-// A line whose control characters before its line end are printed as numbers.
-fn printed_line(alloc: Global, line: &str) -> Result<String, AllocError> {
-    let bare = line.strip_suffix('\n').unwrap_or(line);
-    let mut printed = printed_text(alloc, bare)?;
-    printed.push_str("\n")?;
-    Ok(printed)
-}
-
-// Whether a line has a control character before its line end.
-fn has_control_inside(line: &str) -> bool {
-    has_control(line.strip_suffix('\n').unwrap_or(line))
-}
-
 // Forgets the first of the lines, where as many are known as may be.
 fn forget_oldest(known: &mut Vec<Known>) {
     if known.len() >= MAX_KNOWN {
@@ -215,29 +201,16 @@ impl Lines {
         self.lost = self.lost.saturating_add(1);
     }
 
-    // Writes a line that has no control character before its line end.
-    fn write_printed<R: Eprint + Clock>(&mut self, rt: &R, line: &str) {
+    /// Writes a line, which includes its line end. A line that can't be written at once is dropped, and the next line
+    /// is preceded by the number of dropped ones. A line equal to an earlier one is written again after a minute, with
+    /// how many were left out. If the clock can't be read, each line is written.
+    pub fn write<R: Eprint + Clock>(&mut self, rt: &R, line: &str) {
         match Instant::now(rt) {
             Ok(now) => match due_of(&self.known, line, now) {
                 Due::LeftOut => self.leave_out(line),
                 Due::Written(left_out) => self.write_now(rt, line, left_out, now),
             },
             Err(_) => self.write_undated(rt, line),
-        }
-    }
-
-    /// Writes a line, which includes its line end. Its other control characters are written as numbers, such as `\u{1b}`.
-    /// A line that can't be made or written at once is dropped, and the next line is preceded by the number of dropped
-    /// ones. A line equal to an earlier one is written again after a minute, with how many were left out. If the clock
-    /// can't be read, each line is written.
-    pub fn write<R: Eprint + Clock>(&mut self, rt: &R, line: &str) {
-        if !has_control_inside(line) {
-            self.write_printed(rt, line);
-            return;
-        }
-        match printed_line(self.alloc, line) {
-            Ok(printed) => self.write_printed(rt, printed.as_str()),
-            Err(_) => self.lose(),
         }
     }
 }

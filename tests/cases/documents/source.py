@@ -415,8 +415,6 @@ LAWLESS = {
     "shop_planning asking FIRST_ROWS": ("2000", "planned_parts", "so many rows are read first; where these don't suffice all are"),
     "shop_problems wholes DEFAULT_CALLS": ("500", "plan_from plan_order", "tables of a search where the words say no number, as the formats have it"),
     "shop_commands memory MIN_MEGABYTES": ("16", "wanted_megabytes", "what the program takes without a store, by the second line: the definition `wanted_megabytes` has the number"),
-    "shop_commands shown AFTER_HIGH": ("160", "put", "the first number after those of the control characters above 127: another number would print some as they are"),
-    "shop_commands shown HIGH": ("194", "is_shown put", "the first byte of these characters, in UTF-8"),
     "shop_commands progress PAUSE": ("500", "is_early", "milliseconds between two lines that say how far a work is: the definition `is_early` has the number"),
     "shop_commands progress MEGABYTE": ("1048576", "note_opening", "the unit of a size in the line of a large store: the case “a large store is opened” has the size"),
     "shop_commands progress LARGE_STORE": ("16777216", "note_opening", "from so many bytes on the line of a large store is written: the case “a large store is opened” has both sides of it"),
