@@ -26,17 +26,17 @@ module _ {C : Type 0} where
   none-few : (clients : Slab (Client C)) → ((key : ℕ) → get clients key ≡ None) → slab_len clients ≤ MAX_CLIENTS
   none-few clients none = omega (arith, count-fewer is_some refl [] clients.slots (λ key. omega (arith, ap counted (none key))))
 
-  cleared-made : {P : Type 0} (port : PortGhosts P C) (old cleared : Slab (Client C)) → slab_len old ≤ MAX_CLIENTS → EvictsOldest port old cleared → slab_len cleared < MAX_CLIENTS
-  cleared-made port old cleared few (inl (less, same)) = omega (arith, less, ap (count_by is_some) same)
-  cleared-made port old cleared few (inr (full, key, oldest, gone)) =
+  cleared-made : (old cleared : Slab (Client C)) → slab_len old ≤ MAX_CLIENTS → EvictsOldest old cleared → slab_len cleared < MAX_CLIENTS
+  cleared-made old cleared few (inl (less, same)) = omega (arith, less, ap (count_by is_some) same)
+  cleared-made old cleared few (inr (full, key, oldest, gone)) =
       omega (arith, few, count-but is_some refl key old.slots cleared.slots gone.others, ap counted gone.changed, ap counted oldest.there)
 
   opened-few : {P : Type 0} (port : PortGhosts P C) (now : Instant) (stream : C) (key : ℕ) (old new : Slab (Client C)) → slab_len old ≤ MAX_CLIENTS → IsOpened port now stream key old new → slab_len new ≤ MAX_CLIENTS
   opened-few port now stream key old new few o =
-      omega (arith, cleared-made port old o.cleared few o.made, count-but is_some refl key o.cleared.slots new.slots o.there.others, ap counted o.there.changed, ap counted o.free)
+      omega (arith, cleared-made old o.cleared few o.made, count-but is_some refl key o.cleared.slots new.slots o.there.others, ap counted o.there.changed, ap counted o.free)
 
   turned-few : {P : Type 0} (port : PortGhosts P C) (old new : Slab (Client C)) → slab_len old ≤ MAX_CLIENTS → IsTurnedAway port old new → slab_len new ≤ MAX_CLIENTS
-  turned-few port old new few t = omega (arith, cleared-made port old t.cleared few t.made, ap (count_by is_some) t.same)
+  turned-few port old new few t = omega (arith, cleared-made old t.cleared few t.made, ap (count_by is_some) t.same)
 
   received-few : {P : Type 0} (port : PortGhosts P C) (stream : C) (old new : Slab (Client C)) (seen seeing : Times) → slab_len old ≤ MAX_CLIENTS
       → IsReceived port stream old new seen seeing → slab_len new ≤ MAX_CLIENTS

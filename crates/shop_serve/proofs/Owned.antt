@@ -83,9 +83,9 @@ module _ (site : Site) {B : Type 0} (book : Ghosts B) where
         by_test true e = absurd (cc e)
         by_test false e = e
 
-    cleared-own : {P : Type 0} (port : PortGhosts P C) (old cleared : Slab (Client C)) → EvictsOldest port old cleared → (key : ℕ) (client : Client C) → get cleared key ≡ Some client → get old key ≡ Some client
-    cleared-own port old cleared (inl (few, same)) key client is = ap (λ slots. get (record old { slots = slots }) key) (sym same) ∙ is
-    cleared-own port old cleared (inr (full, gone, oldest, updates)) key client is = by_test (nat_eq key gone) refl
+    cleared-own : (old cleared : Slab (Client C)) → EvictsOldest old cleared → (key : ℕ) (client : Client C) → get cleared key ≡ Some client → get old key ≡ Some client
+    cleared-own old cleared (inl (few, same)) key client is = ap (λ slots. get (record old { slots = slots }) key) (sym same) ∙ is
+    cleared-own old cleared (inr (full, gone, oldest, updates)) key client is = by_test (nat_eq key gone) refl
       where
         by_test : (b : Bool) → nat_eq key gone ≡ b → get old key ≡ Some client
         by_test true e = absurd (cc (updates.changed, subst (λ k. get cleared k ≡ Some client) (eqb-true key gone e) is))
@@ -185,7 +185,7 @@ module _ {C : Type 0} (connection : ConnectionGhosts C) (site : Site) {B : Type 
   opened-own now stream key old new a b o own =
       at-key site book a b b o.cleared new key (stays site book b) o.there.others
       (λ client is. let same : o.client ≡ client = cc (o.there.changed, is) in subst (HasItsOwn site book a b) same (nothing o.client o.fresh.asks o.fresh.waits))
-      (fewer-own site book a b b old o.cleared (stays site book b) (cleared-own site book port old o.cleared o.made) own)
+      (fewer-own site book a b b old o.cleared (stays site book b) (cleared-own site book old o.cleared o.made) own)
     where
       nothing : (client : Client C) → client.task ≡ None → client.answer ≡ None → HasItsOwn site book a b client
       nothing client asks waits = (
@@ -196,7 +196,7 @@ module _ {C : Type 0} (connection : ConnectionGhosts C) (site : Site) {B : Type 
   turned-own : (old new : Slab (Client C)) (a b : B) → IsTurnedAway port old new → Own site book a b old → Own site book a b new
   turned-own old new a b t own =
       fewer-own site book a b b old new (stays site book b)
-      (λ key client is. cleared-own site book port old t.cleared t.made key client (ap (λ slots. get (record t.cleared { slots = slots }) key) (sym t.same) ∙ is)) own
+      (λ key client is. cleared-own site book old t.cleared t.made key client (ap (λ slots. get (record t.cleared { slots = slots }) key) (sym t.same) ∙ is)) own
 
   received-own : (stream : C) (old new : Slab (Client C)) (a b : B) (seen seeing : Times) → IsReceived port stream old new seen seeing → Open a b old → Open a b new
   received-own stream old new a b seen seeing (now, reported, inl away) (so_far, own) = (so_far, turned-own old new a b away own)

@@ -89,19 +89,15 @@ module _ {C : Type 0} where
   abbrev pub CanOpenOne : Slab (Client C) → Type 0
   CanOpenOne clients = (slab_len clients < MAX_CLIENTS) ⊎ ((key : ℕ) × IsOldest clients key)
 
-  -- as many are open as may be, or the port took the last descriptor for the connection that it gave
-  abbrev pub IsFull : {P : Type 0} → PortGhosts P C → Slab (Client C) → Type 0
-  IsFull {P} port clients = (MAX_CLIENTS ≤ slab_len clients) ⊎ ((p : P) × port.is_scarce p)
-
   -- none is closed while fewer than may be are open; else the oldest that may go is, and no other
-  abbrev pub EvictsOldest : {P : Type 0} → PortGhosts P C → Slab (Client C) → Slab (Client C) → Type 0
-  EvictsOldest port old new =
-      ((slab_len old < MAX_CLIENTS) × (new.slots ≡ old.slots)) ⊎ (IsFull port old × (key : ℕ) × IsOldest old key × Updates old new key None)
+  abbrev pub EvictsOldest : Slab (Client C) → Slab (Client C) → Type 0
+  EvictsOldest old new =
+      ((slab_len old < MAX_CLIENTS) × (new.slots ≡ old.slots)) ⊎ ((MAX_CLIENTS ≤ slab_len old) × (key : ℕ) × IsOldest old key × Updates old new key None)
 
   -- It isn't opened, though room was made: it can't be registered, or memory for one more runs out.
   pub record IsTurnedAway {P : Type 0} (port : PortGhosts P C) (old new : Slab (Client C)) : Type 0 where
     pub cleared : Slab (Client C)
-    pub made : EvictsOldest port old cleared
+    pub made : EvictsOldest old cleared
     pub same : new.slots ≡ cleared.slots
     pub why : ((p : P) × port.is_deaf p) ⊎ (HasRoomFor cleared 1 → ⊥)
 
@@ -117,7 +113,7 @@ module _ {C : Type 0} where
   -- it is open under a key that was free, once room was made for it, and is registered under this key
   pub record IsOpened {P : Type 0} (port : PortGhosts P C) (now : Instant) (stream : C) (key : ℕ) (old new : Slab (Client C)) : Type 0 where
     pub cleared : Slab (Client C)
-    pub made : EvictsOldest port old cleared
+    pub made : EvictsOldest old cleared
     pub client : Client C
     pub fresh : IsFresh now stream client
     pub free : get cleared key ≡ None

@@ -9,8 +9,6 @@ ghost use Rattle.shop_serve.specs.Clients.{AwaitsMore, ClosesLate, IsServiced, I
 ghost use Rattle.shop_serve.specs.Making.{IsAsked, put_answer, put_made, put_task};
 ghost use Rattle.shop_planning.specs.PlanTasks.{instance_in};
 ghost use Rattle.shop_serve.specs.declared.clients.ConnectionStatus.TheVariants as status;
-ghost use Rattle.shop_serve.specs.declared.clients.TheConstants.{MAX_CLIENTS};
-ghost use Rattle.slab.specs.Slab.{slab_len};
 ghost use Rattle.shop_serve.specs.Serving.{Advances, HasServed, IsAnsweredThen};
 ghost use Rattle.shop_serve.specs.Times.{StandsUntil, ReportsNone};
 ghost use Rattle.shop_serve.specs.declared.transfers.Given.TheVariants as given;
@@ -362,29 +360,13 @@ pub(crate) fn can_open_one<C>(clients: &Slab<Client<C>>) -> bool
     clients.len() < MAX_CLIENTS || oldest(clients).is_some()
 }
 
-// Closes the oldest connection that may be closed, if the port took its last descriptor for the newest.
-fn evict_for_descriptor<C: Drop, P: Port<C>>(port: &P, clients: &mut Slab<Client<C>>)
-    requires few { slab_len clients.old < MAX_CLIENTS }
-    ensures cleared { EvictsOldest P.Port clients.old clients.new }
-    ensures fewer { unanswered clients.new ≤ unanswered clients.old }
-{
-    if !port.is_scarce() {
-        return;
-    }
-    if let Some(key) = oldest(clients) {
-        drop(clients.try_remove(key));
-    }
-}
-
-/// Closes the oldest connection that may be closed, if the maximum is open, or if the port took its last descriptor for
-/// the newest.
-fn evict_oldest<C: Drop, P: Port<C>>(port: &P, clients: &mut Slab<Client<C>>)
+/// Closes the oldest connection that may be closed, if the maximum is open.
+fn evict_oldest<C: Drop>(clients: &mut Slab<Client<C>>)
     requires cleared { CanOpenOne clients.old }
-    ensures cleared { EvictsOldest P.Port clients.old clients.new }
+    ensures cleared { EvictsOldest clients.old clients.new }
     ensures fewer { unanswered clients.new ≤ unanswered clients.old }
 {
     if clients.len() < MAX_CLIENTS {
-        evict_for_descriptor(port, clients);
         return;
     }
     if let Some(key) = oldest(clients) {
@@ -409,7 +391,7 @@ pub(crate) fn open_client<C: Drop, P: Port<C>>(
     ensures reported { P.all_reported port.new ≡ P.all_reported port.old }
     ensures given { P.given port.new ≡ P.given port.old }
 {
-    evict_oldest(port, clients);
+    evict_oldest(clients);
     let mut stream = stream;
     if !port.register(&mut stream, clients.vacant_key()) {
         return None;

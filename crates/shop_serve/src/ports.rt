@@ -9,11 +9,10 @@ use crate::faults::ServeFault;
 use mio::net::{TcpListener, TcpStream as Stream};
 use mio::unix::SourceFd;
 use mio::{Events, Interest, Poll, Token};
-use os::FromRawFd;
 use std::alloc::{AllocError, Global};
 use std::io::{self, ErrorKind};
 use std::net::{Ipv4Addr, Net, SocketAddr, SocketAddrV4};
-use std::os::fd::{AsRawFd, OwnedFd};
+use std::os::fd::AsRawFd;
 use std::time::Duration;
 
 // How many are reported at once.
@@ -82,9 +81,6 @@ pub(crate) trait Port<C> {
     /// It can't report one more connection.
     ghost is_deaf: { Self → Type 0 };
 
-    /// It took its last descriptor for the connection that it accepted last.
-    ghost is_scarce: { Self → Type 0 };
-
     /// Waits until a connection is ready, or for this long.
     fn wait(&mut self, wait: Duration) -> Result<(), ServeFault>
         ensures reported { OnOk result (Adds (all_reported self.old) (all_reported self.new) (reported self.new)) }
@@ -98,10 +94,6 @@ pub(crate) trait Port<C> {
     fn accept(&mut self) -> Result<Option<C>, ServeFault>
         ensures given { Adds (given self.old) (given self.new) (given_by result) }
         ensures reported { all_reported self.new ≡ all_reported self.old };
-
-    /// Whether it took its last descriptor for the connection that it accepted last, so another one has to be closed.
-    fn is_scarce(&self) -> bool
-        ensures { result ≡ true → is_scarce self.now };
 
     /// Reports a connection under a key from now on; false if it can't.
     fn register(&mut self, stream: &mut C, key: usize) -> bool
@@ -119,18 +111,6 @@ pub(crate) struct RegisteredListener<'a> {
     poll: Poll,
     events: Events,
     keys: Vec<usize>,
-    // A descriptor that makes room for a connection if there is no other.
-    spare: Option<OwnedFd>,
-    is_scarce: bool,
-}
-
-// A descriptor whose only use is that it can be closed; none if there is none left.
-fn spare_descriptor() -> Option<OwnedFd> {
-    let number = os::open_dir_at(libc::AT_FDCWD, b"/");
-    if number < 0 {
-        return None;
-    }
-    Some(unsafe { OwnedFd::from_raw_fd(number) })
 }
 
 impl<'a> RegisteredListener<'a> {
@@ -148,8 +128,6 @@ impl<'a> RegisteredListener<'a> {
             poll,
             events,
             keys,
-            spare: spare_descriptor(),
-            is_scarce: false,
         })
     }
 }
@@ -200,54 +178,20 @@ fn is_of_connection(error: &io::Error) -> bool {
     }
 }
 
-// Whether an error says that no descriptor is left for a connection: EMFILE and ENFILE.
-fn lacks_descriptor(error: &io::Error) -> bool {
-    match error.raw_os_error() {
-        Some(number) => matches!(number, 23 | 24),
-        None => false,
-    }
-}
-
-// The outcome of an accept: a connection; none waits or can be accepted now; or no descriptor is left for one.
-#[derive(Drop)]
-enum Accepted {
-    Stream(Stream),
-    Nothing,
-    NoDescriptor,
-}
-
-// Accepts the next connection of a listener.
-fn next_stream(listener: &Listener) -> Result<Accepted, ServeFault> {
+// The next connection that a listener has, where one waits and can be accepted now.
+fn next_stream(listener: &Listener) -> Result<Option<Stream>, ServeFault> {
     for _ in 0..MAX_TRIES {
         match listener.socket.accept() {
-            Ok((stream, _)) => return Ok(Accepted::Stream(stream)),
+            Ok((stream, _)) => return Ok(Some(stream)),
             Err(error) => match error.kind() {
                 ErrorKind::Interrupted | ErrorKind::ConnectionAborted => (),
                 _ if is_of_connection(&error) => (),
                 _ if is_gone(&error) => return Err(ServeFault::Port),
-                _ if lacks_descriptor(&error) => return Ok(Accepted::NoDescriptor),
-                _ => return Ok(Accepted::Nothing),
+                _ => return Ok(None),
             },
         }
     }
-    Ok(Accepted::Nothing)
-}
-
-impl<'a> RegisteredListener<'a> {
-    // Accepts the next connection with the spare descriptor, if there is one.
-    fn accept_scarce(&mut self) -> Result<Option<Stream>, ServeFault> {
-        let Some(spare) = self.spare.take() else {
-            return Ok(None);
-        };
-        drop(spare);
-        match next_stream(self.listener)? {
-            Accepted::Stream(stream) => {
-                self.is_scarce = true;
-                Ok(Some(stream))
-            }
-            _ => Ok(None),
-        }
-    }
+    Ok(None)
 }
 
 impl<'a> Port<Stream> for RegisteredListener<'a> {
@@ -260,8 +204,6 @@ impl<'a> Port<Stream> for RegisteredListener<'a> {
     ghost is_registered = { λ _ _ _. ⊤ };
 
     ghost is_deaf = { λ _. ⊤ };
-
-    ghost is_scarce = { λ _. ⊤ };
 
     fn wait(&mut self, wait: Duration) -> Result<(), ServeFault> {
         if self.poll.poll(&mut self.events, Some(wait)).is_err() {
@@ -278,19 +220,7 @@ impl<'a> Port<Stream> for RegisteredListener<'a> {
     }
 
     fn accept(&mut self) -> Result<Option<Stream>, ServeFault> {
-        self.is_scarce = false;
-        if self.spare.is_none() {
-            self.spare = spare_descriptor();
-        }
-        match next_stream(self.listener)? {
-            Accepted::Stream(stream) => Ok(Some(stream)),
-            Accepted::Nothing => Ok(None),
-            Accepted::NoDescriptor => self.accept_scarce(),
-        }
-    }
-
-    fn is_scarce(&self) -> bool {
-        self.is_scarce
+        next_stream(self.listener)
     }
 
     fn register(&mut self, stream: &mut Stream, key: usize) -> bool {

@@ -1,9 +1,7 @@
 """Connections that hold up nobody: silent ones, slow ones, ones that go away, and many at once."""
 
-import os
 import resource
 import time
-from contextlib import suppress
 
 from kit import crowds
 from kit.beside import SOON, work, work_alone
@@ -52,37 +50,6 @@ def half(trial):
             seconds = time.monotonic() - begin
             trial.holds(REQUEST_SECONDS - 1 < seconds < REQUEST_SECONDS + 8, f"closed after {seconds:.1f} seconds")
     same_tables(trial, shop)
-
-
-# So many descriptors a shop has, and as many connections say nothing.
-SCARCE = 60
-
-
-def with_few_descriptors():
-    resource.setrlimit(resource.RLIMIT_NOFILE, (SCARCE, SCARCE))
-
-
-@case(
-    "silent connections and few descriptors",
-    "Where silent connections take all descriptors the oldest are closed, and a terminal has its 200 answers at once; the youngest "
-    "stay open. Behind them all answers come as before, and a backup is made.",
-)
-def few_descriptors(trial):
-    os.mkdir(trial.path("backups"))
-    shop = trial.shop(prepare=with_few_descriptors, words=("--backup", "backups"))
-    with crowds.silent(shop, 2 * SCARCE) as held:
-        for _ in range(200):
-            begin = time.monotonic()
-            trial.equal(shop.reply(TOTALS), b'{"name":"NoMaterial","refused":20}')
-            seconds = time.monotonic() - begin
-            trial.holds(seconds < SOON, f"an answer took {seconds:.2f} seconds")
-        for it in held[:SCARCE]:
-            it.settimeout(SOON)
-            trial.equal(it.recv(1), b"", "an old one stays open")
-        held[-1].settimeout(0.2)
-        with suppress(TimeoutError):
-            trial.equal(held[-1].recv(1), None, "the youngest is closed")
-    trial.equal(shop.exchange(b"POST /backup HTTP/1.1\r\nHost: shop\r\nContent-Length: 0\r\n\r\n"), answer(200, '{"backup":1,"ok":"backup"}'))
 
 
 @case(
