@@ -173,7 +173,11 @@ fn is_gone(error: &io::Error) -> bool {
 // EOPNOTSUPP, ENETDOWN, ENETUNREACH, EHOSTDOWN and EHOSTUNREACH. By these accept(2) reports errors of its network.
 fn is_of_connection(error: &io::Error) -> bool {
     match error.raw_os_error() {
-        Some(number) => matches!(number, 64 | 71 | 92 | 95 | 100 | 101 | 112 | 113),
+        Some(number) => {
+            let is_protocol = number == 71 || number == 92 || number == 95;
+            let is_network = number == 64 || number == 100 || number == 101;
+            is_protocol || is_network || number == 112 || number == 113
+        }
         None => false,
     }
 }
