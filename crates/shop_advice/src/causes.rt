@@ -17,7 +17,7 @@ pub enum FileCause {
     NotAllowed,
     /// It is longer than a page may be.
     Long,
-    /// It was read, and is no text.
+    /// It was read, and isn't text.
     NoText,
     /// Reading it failed.
     Unreadable,
@@ -26,11 +26,11 @@ pub enum FileCause {
 /// Why a store can't be opened.
 #[derive(Clone, Copy, Debug, PartialEq, Eq)]
 pub enum StoreCause {
-    /// The folder in which it would be isn't there.
+    /// Its folder isn't there.
     NoFolder,
     /// The name is a folder's.
     Folder,
-    /// This account may not read and write it, or not make it.
+    /// This account may not read and write it, or not create it.
     NotAllowed,
     /// Its disk takes no writes.
     ReadOnly,
@@ -40,27 +40,27 @@ pub enum StoreCause {
     Journal,
     /// The name is that of a device, or the file has a second name.
     NotPlain,
-    /// It isn't there, and has to be.
+    /// It isn't there, but must be.
     Missing,
     /// The name is that of a link that leads to nothing.
     DanglingLink,
     /// It has bytes, and its log isn't there.
     NoLog,
-    /// It isn't there, and its log is, with bytes.
+    /// It isn't there, but its log is, with bytes.
     LoneLog,
-    /// Its log isn't what a stop leaves.
+    /// No crash leaves its log.
     DamagedLog,
     /// It is a database with reserved bytes, with auto_vacuum, or in UTF-16.
     OtherForm,
     /// It has a trigger or a view on the shop's tables.
     Bound,
-    /// It is a file that SQLite didn't make.
+    /// SQLite didn't make this file.
     NoDatabase,
-    /// It is a database, and its bytes or its rows are none that it could have.
+    /// It is a damaged database, by its bytes or its rows.
     Damaged,
-    /// The disk has no room.
+    /// The disk is full.
     Full,
-    /// Under its names lie other files than those that were opened.
+    /// Its names lead to other files than those that were opened.
     Moved,
     /// Files that a restore put aside are still beside it.
     Before,
@@ -68,14 +68,14 @@ pub enum StoreCause {
     Failed,
 }
 
-/// Why a store that is open failed.
+/// Why an open store failed.
 #[derive(Clone, Copy, Debug, PartialEq, Eq)]
 pub enum FailureCause {
-    /// The disk has no room. Once it has, what comes then may be accepted.
+    /// The disk is full. Once it has space, later messages may be accepted.
     Full,
-    /// Nothing can be done with it until it is opened again.
+    /// It can't be used until it is opened again.
     Shut,
-    /// What came failed, and what comes next may not.
+    /// This message failed, but the next one may not.
     Passing,
 }
 
@@ -90,7 +90,7 @@ pub enum BackupCause {
     NotAllowed,
     /// Its disk takes no writes.
     ReadOnly,
-    /// Its disk has no room.
+    /// Its disk is full.
     Full,
     /// Others than its owner may write in it.
     Open,
@@ -98,11 +98,11 @@ pub enum BackupCause {
     Another,
     /// Each number is taken.
     NoNumber,
-    /// Under the store's names lie other files than those that are open.
+    /// The store's names lead to other files than those that are open.
     Moved,
     /// The store or its log can't be read.
     Unread,
-    /// It is to be restored, and hasn't both files, or they hold no book.
+    /// It is to be restored, but one of its files is missing, or they hold no book.
     NoBackup,
     /// Files can't be made in it, and nothing reports why.
     Failed,
@@ -121,7 +121,7 @@ pub enum StoreTable {
     Notes,
 }
 
-/// The key of a row, as far as it is one.
+/// The key of a row, if it is one.
 #[derive(Clone, Copy, Debug, PartialEq)]
 pub enum RowKey {
     /// It is none.
@@ -148,9 +148,9 @@ pub enum VersionCause {
     Newer,
     /// They are another program's.
     Foreign,
-    /// They are of a known version, and contradict each other.
+    /// They are of a known version, but contradict each other.
     Contradicting,
-    /// They are of a known version, and this row stands for nothing that a shop has.
+    /// They are of a known version, but this row stands for nothing that a shop has.
     Row(RowName),
 }
 
@@ -159,27 +159,27 @@ pub enum VersionCause {
 pub enum ShopCause {
     /// It is over 65536 bytes long.
     Long,
-    /// It is no UTF-8.
+    /// It isn't UTF-8.
     NoText,
-    /// It is no TOML from here on.
+    /// It isn't TOML from here on.
     NoDocument,
-    /// It has a key but `material`.
+    /// It has another key than `material`.
     OtherKey,
-    /// Under `material` is no list.
+    /// `material` isn't a list.
     NoList,
     /// It has over 1000 materials.
     Many,
-    /// A material is no table.
+    /// A material isn't a table.
     NoTable,
     /// A material has a key that none has.
     UnknownKey,
-    /// A material wants a key.
+    /// A material lacks a key.
     MissingKey,
-    /// The code is none.
+    /// The code isn't one.
     Code,
-    /// The kind is none.
+    /// The kind isn't one.
     Kind,
-    /// The value of a key is no length.
+    /// The value of a key isn't a length.
     Length,
     /// Nothing is found now: the file was changed meanwhile.
     Changed,
@@ -315,7 +315,7 @@ fn with_code(alloc: Global, table: &str, code: &Code) -> Result<String, AllocErr
 }
 
 impl RowName {
-    /// Its table, and behind a space its key, where that is one: a number, a part's name or a code.
+    /// Its table and, after a space, its key, if it is one: a number, a part's name or a code.
     pub fn text(&self, alloc: Global) -> Result<String, AllocError>
         ensures { IfOk result (λ text. string_bytes text ≡ spec.row_text self.now) }
     {
@@ -330,7 +330,7 @@ impl RowName {
 }
 
 impl ShopCause {
-    /// What is reported about it. After the last words of some stands a key, or what TOML wants.
+    /// What is reported about it. The texts of some causes are followed by a key, or by what TOML expects.
     pub fn text(self) -> &'static str
         ensures { result.now ≡ spec.shop_text self }
     {

@@ -1,5 +1,5 @@
-//! Why a file, a store or a shop file can't be used, in words to act on, and what looks for it. Nothing is changed by a look, but
-//! that one at a full disk makes a file and takes it away.
+//! Why a file, a store or a shop file can't be used, in words to act on, and the looks that find out. A look changes
+//! nothing, except that the look at a full disk makes a file and removes it.
 #![tactic(auto)]
 
 mod causes;

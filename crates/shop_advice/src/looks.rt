@@ -1,4 +1,4 @@
-//! Looks at files, once they couldn't be used.
+//! Looks at files that couldn't be used.
 
 use crate::causes::{BackupCause, FileCause, StoreCause};
 use std::alloc::Global;
@@ -18,7 +18,7 @@ pub fn is_there<R: Files>(rt: &R, path: &str) -> bool {
     }
 }
 
-/// Why a store couldn't be made, by the system's error.
+/// Why a store couldn't be created, by the system's error.
 pub fn kind_cause(kind: ErrorKind) -> StoreCause {
     match kind {
         ErrorKind::NotFound | ErrorKind::NotADirectory => StoreCause::NoFolder,
@@ -42,7 +42,7 @@ pub fn backup_cause(kind: ErrorKind) -> BackupCause {
     }
 }
 
-/// Why a file can't be read. `NoText` where it can.
+/// Why a file can't be read; `NoText` if it can.
 pub fn look_at_file<R: Files>(rt: &R, path: &str) -> FileCause {
     match fs::metadata(rt, path) {
         Ok(found) if found.is_dir() => return FileCause::Folder,
@@ -63,7 +63,7 @@ fn file_cause(kind: ErrorKind) -> FileCause {
     }
 }
 
-/// Why a store can't be opened. `Failed` where nothing is found.
+/// Why a store can't be opened; `Failed` if nothing is found.
 pub fn look_at_store<R: Files>(rt: &R, alloc: Global, path: &str) -> StoreCause {
     let found = match fs::metadata(rt, path) {
         Ok(found) => found,
@@ -133,8 +133,8 @@ fn try_room<R: Files>(rt: &R, path: &str) -> io::Result<()> {
     filled
 }
 
-/// Whether the disk of a store has no room: a new file beside it, `FILE-room`, doesn't take 64 KiB. It is taken away again. False
-/// where that can't be tried. The path is one under which no link leads elsewhere.
+/// Whether a store's disk is full: a new file beside it, `FILE-room`, doesn't take 64 KiB. That file is removed again.
+/// False if this can't be tried. The path mustn't contain links.
 pub fn is_disk_full<R: Files>(rt: &R, alloc: Global, store: &str) -> bool {
     let Ok(path) = format!(in alloc; "{store}-room") else {
         return false;

@@ -1,4 +1,4 @@
-//! What a server reports of an answer for which memory ran out, or the store failed, and of its backups.
+//! What a server logs about an answer if memory ran out or the store failed, and about its backups.
 
 ghost use Rattle.std.specs.Prelude.{◌≡◌, IfOk, option_map, string_bytes};
 ghost use Rattle.shop_advice.specs.Notes as spec;
@@ -20,7 +20,8 @@ fn reports_memory(answer: &[u8]) -> bool
     answer.ends_with(b":98}")
 }
 
-/// Whether an answer reports, by its bytes, that the store failed (99): it has the status 503, and isn't that of memory that ran out (98).
+/// Whether an answer's bytes report that the store failed (99): the status is 503, and it isn't the answer of memory
+/// that ran out (98).
 pub fn reports_failure(answer: &[u8]) -> bool
     ensures { result ≡ spec.reports_failure answer.now }
 {
@@ -42,9 +43,8 @@ fn failure_note(cause: FailureCause) -> &'static str
     }
 }
 
-/// What is reported about an answer, by its bytes: of one with the status 503 that memory ran out (98) or that the store failed
-/// (99), and for which cause, and nothing of another. `cause` says nothing but of an answer that reports a failure
-/// (`reports_failure`).
+/// The log line about an answer, by its bytes: if the status is 503, that memory ran out (98), or that the store failed
+/// (99) and why; none for another answer. `cause` matters only if the answer reports a failure (`reports_failure`).
 pub fn answer_note(answer: &[u8], cause: FailureCause) -> Option<&'static str>
     ensures { option_map (λ note. note.now) result ≡ spec.answer_note answer.now cause }
 {
@@ -59,14 +59,14 @@ pub fn answer_note(answer: &[u8], cause: FailureCause) -> Option<&'static str>
     None
 }
 
-/// What is reported about a backup that was made: its number, and the folder in which it is.
+/// The log line about a backup that was made: its number, and its folder.
 pub fn backup_note(alloc: Global, number: u32, folder: &str) -> Result<String, AllocError>
     ensures { IfOk result (λ note. string_bytes note ≡ spec.backup_note number folder.now) }
 {
     format!(in alloc; "cutshop: made backup {number} in {folder}\n")
 }
 
-/// What is reported about a backup that couldn't be made in a folder.
+/// The log line about a backup that couldn't be made in a folder.
 pub fn no_backup_note(alloc: Global, cause: BackupCause, folder: &str) -> Result<String, AllocError>
     ensures { IfOk result (λ note. string_bytes note ≡ spec.no_backup_note cause folder.now) }
 {

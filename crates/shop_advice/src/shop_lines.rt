@@ -1,4 +1,4 @@
-//! Where in a shop file its fault is, and which.
+//! Finds the error of a shop file, and its line.
 
 use crate::causes::ShopCause;
 use cut_measure::{Code, read_mm};
@@ -9,12 +9,12 @@ use toml::{Table, Value};
 // The keys of a material.
 const KEYS: [&str; 5] = ["code", "kind", "kerf", "min_long", "min_short"];
 
-/// What is wrong in a shop file, in which line where that is found, from 1, and at which key.
+/// What is wrong in a shop file, in which line (from 1, if it is found), and at which key.
 #[derive(Drop)]
 pub struct ShopPlace {
     pub line: Option<usize>,
     pub cause: ShopCause,
-    /// A key, what TOML wants, or nothing.
+    /// A key, what TOML expects, or nothing.
     pub word: String,
 }
 
@@ -213,7 +213,7 @@ fn look_at_document(
     }
 }
 
-/// What is wrong in a shop file's bytes, of which this entry is bad, from 1, or the whole.
+/// What is wrong in a shop file's bytes: in this entry, from 1, or in the file as a whole.
 pub fn look_at_shop(
     alloc: Global,
     bytes: &[u8],

@@ -212,13 +212,13 @@ fn pass_all<S: Source, W: Sink, T: BackupTarget<S, W>>(target: &mut T, old: &[u3
     }
 }
 
-/// Makes a backup under the number behind the greatest that is there, whole or not, from 1 on, and reports the number. A place that
-/// isn't the one of the start, or in which others may write, gets none.
+/// Makes a backup under the number after the greatest one there, complete or not, from 1 on, and returns the number. It
+/// makes none if the place isn't the one of the start, or if others may write in it.
 ///
-/// At `Ok` both files were copied whole, were on the disk before the backup got its name, and that is on the disk, too; then, where
-/// so many are kept, whole ones that were there were taken away, all but the newest, so that with this one so many stay; the place
-/// hears of each that couldn't be taken away. At `Err`, because memory ran out or something hindered it, none has a name, what was
-/// made of it was taken away, and none that was there. At most 64 KiB of the files are in memory at once.
+/// After an `Ok` both files were copied whole and synced before the backup got its name, and that is synced, too. With
+/// `keep`, older complete backups were then removed, except the newest, so that `keep` stay together with this one; the
+/// place reports each that couldn't be removed. An `Err` is lack of memory, or what hindered the backup: no backup has
+/// a name, what was made of it was removed, and no older one was. At most 64 KiB of the files are in memory at once.
 pub fn back_up<S: Source + Drop, W: Sink + Drop, T: BackupTarget<S, W>>(
     target: &mut T,
     keep: Option<u32>,

@@ -21,7 +21,7 @@ const MAX_TRIES: u32 = 1000;
 // The permission to write of all but a folder's owner. Where a list of permissions gives it to somebody, it is that of the group.
 const WRITE_OF_OTHERS: u32 = 0o022;
 
-/// Where the backups of an open store are made: its names, and the folder, and which that is.
+/// Where the backups of an open store are made: the store's names, the folder's name, and which folder that is.
 #[derive(Drop)]
 pub struct Backups {
     names: Names,
@@ -107,7 +107,7 @@ fn try_in<R: Files>(rt: &R, alloc: Global, folder: &str) -> Result<(), BackupFau
     Err(BackupFault::Failed(BackupCause::Failed))
 }
 
-/// Tests that backups can be made in a folder, and that nobody but its owner may write in it.
+/// Checks that backups can be made in a folder, and that nobody but its owner may write in it.
 pub fn test_folder<R: Files>(rt: &R, alloc: Global, folder: &str) -> Result<(), BackupFault> {
     folder_at(rt, folder)?;
     try_in(rt, alloc, folder)?;
@@ -161,7 +161,7 @@ fn numbers_in<R: Files + Clone + Drop>(
 }
 
 impl Backups {
-    /// The backups of a store that is open, in a folder, of which the newest so many are kept, or all.
+    /// The backups of an open store in a folder, where the newest `keep` stay, or all.
     pub fn new<R: Files>(
         rt: &R,
         alloc: Global,
@@ -180,17 +180,17 @@ impl Backups {
         })
     }
 
-    /// Whether the folder is on the disk of the store.
+    /// Whether the folder is on the store's disk.
     pub fn is_on_store_disk(&self) -> bool {
         self.folder_is.is_on_disk_of(self.names.store_is)
     }
 
-    /// The folder.
+    /// The folder's name.
     pub fn folder(&self) -> &str {
         self.folder.as_str()
     }
 
-    /// Makes a backup, and takes older ones away where only so many are kept.
+    /// Makes a backup, and removes older ones if only so many stay.
     pub fn make<R: Files>(&self, rt: &R, alloc: Global) -> Result<Made, BackupFault> {
         let mut target = Folder {
             rt,

@@ -1,5 +1,5 @@
-//! A folder that is held open: what is done in it is done there, whatever has its name meanwhile. And a file that is held, so that
-//! no program opens the store.
+//! A folder that is held open: what is done in it is done there, whatever has its name by then. And a file that is
+//! held, so that no program opens the store.
 
 use os::{FromRawFd, RangeLock};
 use std::io::{self, ErrorKind};
@@ -31,7 +31,7 @@ fn count_names(names: &[u8], wanted: [&str; 2]) -> Option<u32> {
 }
 
 impl HeldFolder {
-    /// Holds the folder that has this path. None where it is no folder, where it is a link to one, and where it can't be opened.
+    /// Holds the folder of this path. None if it isn't a folder, if it is a link to one, or if it can't be opened.
     pub(crate) fn open(path: &str) -> Option<HeldFolder> {
         let number = os::open_dir_at(libc::AT_FDCWD, path.as_bytes());
         if number < 0 {
@@ -41,7 +41,7 @@ impl HeldFolder {
         Some(HeldFolder { fd })
     }
 
-    /// Whether two things are in it, of these two names. It may be asked once.
+    /// Whether it contains exactly two things, of these two names. It may be asked only once.
     pub(crate) fn holds_just(&self, names: [&str; 2]) -> bool {
         let mut found = 0u32;
         let mut buffer = [0u8; NAMES_SIZE];
@@ -58,13 +58,13 @@ impl HeldFolder {
         false
     }
 
-    /// Takes a file away that is in it, or a link, and reports whether it did.
+    /// Removes a file or a link that is in it, and returns whether it did.
     pub(crate) fn remove(&self, name: &str) -> bool {
         os::unlink_at(self.fd.as_raw_fd(), name.as_bytes()) == 0
     }
 }
 
-/// A file of a store that is held: no program opens it as one meanwhile.
+/// A file of a store that is held: no program opens it as a store meanwhile.
 #[derive(Drop)]
 pub(crate) struct HeldFile {
     fd: OwnedFd,

@@ -1,5 +1,5 @@
-//! Backups of a store that is open: its two files, copied as they are between two requests into a new folder; and how one is put in
-//! the place of a store.
+//! Backups of an open store: its two files, copied as they are between two requests into a new folder; and how a backup
+//! replaces a store.
 #![tactic(auto)]
 
 mod backing;

@@ -1,4 +1,4 @@
-//! The names of a store that is open, and which files they lead to.
+//! The names of an open store, and which files they lead to.
 
 use crate::faults::BackupFault;
 use shop_advice::{BackupCause, is_disk_full};
@@ -21,7 +21,7 @@ impl Identity {
     }
 }
 
-/// The names of a store that is open: the one that it was given, those of its two files, and which these are.
+/// The names of an open store: the one that was given, those of its two files, and which files these are.
 #[derive(Drop)]
 pub struct Names {
     given: String,
@@ -76,7 +76,7 @@ fn leads_to<R: Files>(rt: &R, path: &str, file: Identity) -> bool {
 }
 
 impl Names {
-    /// The names of a store that is open.
+    /// The names of an open store.
     pub fn new<R: Files>(rt: &R, alloc: Global, store: &str) -> Result<Names, BackupFault> {
         let given = format!(in alloc; "{store}")?;
         let store = resolved(rt, alloc, store)?;
@@ -93,7 +93,7 @@ impl Names {
         })
     }
 
-    /// Whether the disk of the store has no room.
+    /// Whether the store's disk is full.
     pub fn is_disk_full<R: Files>(&self, rt: &R, alloc: Global) -> bool {
         is_disk_full(rt, alloc, self.store.as_str())
     }

@@ -1,4 +1,4 @@
-//! A store's place among files, in which a backup is put.
+//! A store's place among files, where a backup replaces it.
 
 ghost use Rattle.std.specs.Prelude.{None};
 
@@ -19,14 +19,14 @@ use std::os::unix::fs::{MetadataExt, OpenOptionsExt, PermissionsExt};
 pub struct BookEntries {
     /// How many there are.
     pub count: u64,
-    /// The second of the last one, counted from 1970-01-01 00:00 UTC; 0 where none has a time.
+    /// The second of the last one, since 1970-01-01 00:00 UTC; 0 if none has a time.
     pub last_time: u64,
 }
 
 /// What judges whether files hold a book.
 pub trait Judges {
-    /// What the book that a store's file and its log hold reports about its entries, or none where they hold no book. The files are
-    /// only read.
+    /// What the book of a store's file and its log reports about its entries, or none if they hold no book. The files
+    /// are only read.
     fn book_entries(
         &mut self,
         alloc: Global,
@@ -509,14 +509,15 @@ impl<'a, R: Files, J: Judges> Place for Replacing<'a, R, J> {
     }
 }
 
-/// Puts a backup in the place of a store: the files that were there are `FILE.before`, `FILE.before-wal` and, of another program's
-/// rollback journal, `FILE.before-journal` then, where they were there. `FILE.new` and `FILE.new-wal` are copies of the backup's files
-/// before they get their names; of an earlier try they are taken away. The answer is what the backup's book reports about its entries.
+/// Puts a backup in the place of a store, and returns what its book reports about its entries. Files that were there
+/// become `FILE.before` and `FILE.before-wal`, and another program's rollback journal `FILE.before-journal`. The copies
+/// are `FILE.new` and `FILE.new-wal` until they get their names; those of an earlier attempt are removed.
 ///
-/// `Store(InUse)` where a program has the store, or `FILE.new`, open; `NoBackup` where the folder has no store with its log, or they
-/// hold no book; `Before` where a file has one of the names with `.before`. At these nothing was changed. `NoMemory`, and `Store` with another
-/// cause, because memory ran out and for what the system refuses. Before the old files are renamed the copies are taken away then; behind
-/// that what was done stays, and the next start finds the old files, the new ones, or some that it refuses.
+/// Nothing was changed after `Store(InUse)` (a program has the store or `FILE.new` open), `NoBackup` (the folder has no
+/// store with its log, or they hold no book) and `Before` (a name with `.before` is taken). `NoMemory` (memory ran out)
+/// and `Store` with another cause (the system refused a step) come at any step: until the old files are renamed, the
+/// copies are removed; after that the steps done stay, and the next start finds the old files, the new ones, or some
+/// that it refuses.
 pub fn put_back<R: Files, J: Judges + Drop>(
     rt: &R,
     alloc: Global,

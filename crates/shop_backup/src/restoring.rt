@@ -1,4 +1,4 @@
-//! The steps by which a backup is put in the place of a store, over any place for it.
+//! The steps by which a backup replaces a store, over any place for it.
 
 ghost use Rattle.std.specs.Prelude.{◌≡◌, ◌∷◌, [], List, Option, OnErr, OnOk};
 ghost use Rattle.shop_backup.specs.Steps.{Adds};
@@ -8,16 +8,16 @@ use crate::shelves::StoreFile;
 use shop_advice::StoreCause;
 use std::alloc::AllocError;
 
-/// Why a backup wasn't put in the place of a store.
+/// Why a backup didn't replace a store.
 #[derive(Clone, Copy, Debug, PartialEq, Eq)]
 pub enum RestoreFault {
     /// Memory ran out.
     NoMemory,
     /// The store is in use, or its files can't be made or renamed.
     Store(StoreCause),
-    /// It is no backup: it hasn't both files, or they hold no book.
+    /// It is no backup: one of its files is missing, or they hold no book.
     NoBackup,
-    /// Files that were put aside by an earlier try are still there.
+    /// Files that an earlier attempt put aside are still there.
     Before,
 }
 
@@ -32,28 +32,28 @@ impl From<AllocError> for RestoreFault {
     }
 }
 
-/// What is done to put a backup in the place of a store.
+/// A step by which a backup replaces a store.
 #[derive(Clone, Copy, Debug, PartialEq, Eq)]
 pub enum RestoreStep {
-    /// Sees to it that no program has the store open, nor opens it meanwhile.
+    /// Makes sure that no program has the store open, or opens it meanwhile.
     Close,
-    /// Judges whether the backup has both files, and these hold a book.
+    /// Judges whether the backup has both files, and whether they hold a book.
     Judge,
-    /// Looks whether the names are free that the files get which were there.
+    /// Checks that the names are free which the old files will get.
     Look,
-    /// Copies a file of the backup beside the store, under a name of its own, and has it on the disk.
+    /// Copies a file of the backup beside the store, under its own name, and syncs it.
     Copy(StoreFile),
-    /// Gives a file that was there another name, if it is there.
+    /// Gives an old file another name, if it is there.
     PutAside(StoreFile),
     /// Gives a copy the name of the store's file.
     PutIn(StoreFile),
 }
 
-/// A store's place, in which a backup is put.
+/// A store's place, where a backup replaces it.
 pub trait Place {
     ghost use Rattle.shop_backup.specs.declared.restoring.RestoreStep.{RestoreStep as Step};
 
-    /// What was done so far, where that is known.
+    /// The steps done so far, if they are known.
     ghost done: { Self → Option (List Step) };
 
     /// Does a step.
@@ -73,8 +73,8 @@ fn take_all<P: Place>(place: &mut P, steps: &[RestoreStep]) -> Result<(), Restor
     Ok(())
 }
 
-/// Puts a backup in the place of a store, in the steps that `restored` lists, each of which is on the disk before the next. At `Err`
-/// only some first ones of them were done: the fault is that of the next one.
+/// Replaces a store by a backup, in the steps that `restored` lists, each of which is on the disk before the next.
+/// After an `Err` only a prefix of them was done, and the error is that of the next one.
 pub fn restore<P: Place>(place: &mut P) -> Result<(), RestoreFault>
     ensures ok { OnOk result (Adds (P.done place.old) (P.done place.new) restored) }
     ensures err { OnErr result (IsBrokenOff restored (P.done place.old) (P.done place.new)) }

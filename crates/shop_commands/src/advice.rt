@@ -1,4 +1,4 @@
-//! The second line of a fault: which file, entry or port it was, and why, in words to act on.
+//! The second line of an error: which file, entry or port it is about, and why, in words to act on.
 
 ghost use Rattle.std.specs.Prelude.{◌≡◌, ◌++◌, ℕ, List, false, IfSome, IfOk, string_bytes};
 ghost use Rattle.shop_advice.specs.declared.causes.ShopCause.{ShopCause as ShopCauseOf};
@@ -23,47 +23,47 @@ use shop_serve::PortCause;
 use shop_words::{Request, Serving};
 use std::alloc::{AllocError, Global};
 
-/// What stands after the line of a fault where memory ran out.
+/// The second line of an error if memory ran out.
 const NO_MEMORY: &str = "  memory ran out; end other programs, or give this one more\n";
 
-/// What is reported where no memory is there to report a fault.
+/// Both lines, if there is no memory even to report an error.
 pub(crate) const NO_MEMORY_REPORTED: &str =
     "fault memory\n  memory ran out; end other programs, or give this one more\n";
 
-/// Why a fault came, as far as it is known.
+/// Why an error occurred, as far as it is known.
 #[derive(Clone, Copy, Debug, PartialEq)]
 pub enum Cause {
     /// A file can't be read.
     File(FileCause),
-    /// A problem's text has a fault.
+    /// A problem's text has an error.
     Problem(TextCause),
-    /// A shop file has a fault.
+    /// A shop file has an error.
     Shop(ShopCause),
-    /// This is refused.
+    /// This refusal.
     Refused(Refusal),
-    /// A step is refused, or a rectangle too large, and a plan of all pieces without a step helps.
+    /// A step is refused, or a rectangle is too large, and `--whole` helps: a plan of all pieces, without a step.
     Whole,
     /// A bar is too long.
     LongBar,
-    /// A step is refused, or a rectangle too large, and other steps serve.
+    /// A step is refused, or a rectangle is too large, and other steps serve.
     Steps,
     /// A text is no size of the material.
     Size,
     /// No piece fits one of the sizes.
     NoFit,
-    /// There are no lines of the material, or others than can be planned.
+    /// No lines are of the material, or they can't be planned.
     Lines,
-    /// The store wasn't there, and was made.
+    /// The store wasn't there, and was created.
     Made,
     /// A store can't be opened.
     Store(StoreCause),
-    /// A database is no store of this program.
+    /// A database isn't a store of this program.
     Version(VersionCause),
     /// A port can't be listened to.
     Port(PortCause),
-    /// No backup can be made in a folder, or it is none.
+    /// No backup can be made in a folder, or the folder isn't a backup.
     Backup(BackupCause),
-    /// Memory ran out, and a store takes so much.
+    /// Memory ran out, and a store takes this much.
     Memory,
     /// Standard input can't be read.
     Input,
@@ -77,7 +77,7 @@ pub enum Cause {
     Row,
 }
 
-/// What a second line says: of what, why, and a word after that, or none.
+/// What a second line says: what it is about, why, and a word after that, or none.
 #[derive(Drop)]
 pub struct Advice {
     pub about: String,
@@ -210,7 +210,7 @@ fn plain(alloc: Global, text: &str) -> Option<String>
     format!(in alloc; "{text}").ok()
 }
 
-/// An advice of a cause. None because memory ran out.
+/// The advice for a cause; none if memory ran out.
 pub(crate) fn advice_of(alloc: Global, about: &str, cause: Cause, word: &str) -> Option<Advice>
     ensures { IfSome result (IsOf cause) }
 {
@@ -451,7 +451,7 @@ fn version_advice(alloc: Global, name: &str, cause: VersionCause) -> Option<Advi
     advice_of(alloc, name, Cause::Version(cause), "")
 }
 
-/// Why a stream failed. None of another fault, and because memory ran out.
+/// Why a stream failed; none for another error, or if memory ran out.
 pub(crate) fn stream_advice(alloc: Global, fault: &Fault) -> Option<Advice>
     ensures { IfSome result (IsAdviceOf fault.now) }
 {
@@ -505,8 +505,8 @@ fn system_advice(alloc: Global, request: &Request<'_>, fault: Fault) -> Option<A
     }
 }
 
-/// Why the work on a request stopped; `is_new` where its store wasn't there before. None because memory ran out to say it, of an order
-/// file's fault, and where memory ran out over no store.
+/// Why the work on a request stopped; `is_new`: its store wasn't there before. None for an order file's error, if
+/// memory ran out and there is no store, or if memory runs out here.
 pub(crate) fn advise<R: Reads>(
     rt: &R,
     alloc: Global,
@@ -541,7 +541,7 @@ pub(crate) fn advise<R: Reads>(
     }
 }
 
-/// Whether a request on a store will make it, since none is there: what is found now.
+/// Whether a request will create its store, because none is there now.
 pub(crate) fn makes_store<R: Reads>(rt: &R, request: &Request<'_>) -> bool {
     match request {
         Request::Ticket {
@@ -603,7 +603,7 @@ fn lines_without(alloc: Global, fault: Fault) -> Result<String, AllocError>
     Ok(text)
 }
 
-/// The lines of a fault: its own, and but for an order file's the advice, or that memory ran out.
+/// The lines of an error: its own and, except for an order file's, a second one: the advice, or that memory ran out.
 pub(crate) fn fault_lines(
     alloc: Global,
     fault: Fault,
@@ -621,7 +621,7 @@ pub(crate) fn fault_lines(
     }
 }
 
-/// After the line of a fault, an order file's aside, stands exactly one line, which begins with two spaces.
+/// After the line of an error, except an order file's, there is exactly one line, which begins with two spaces.
 pub fn second_lines_are_lines()
     ensures { (fault : FaultOf) (line : List ℕ) → spec.is_order fault ≡ false
         → spec.FollowsFault fault line → spec.IsSecondLine line }

@@ -1,4 +1,4 @@
-//! `cutshop history` and `cutshop audit`: what the entries of a store report.
+//! `cutshop history` and `cutshop audit`: prints and checks the entries of a store.
 
 ghost use Rattle.std.specs.Prelude.{◌≡◌, IfErr, IfOk, IsErr, Ok, OnOk, string_bytes};
 ghost use Rattle.shop_book.specs.Ledgers.{content_in};
@@ -67,7 +67,7 @@ fn number_of(after: Option<u32>) -> u64
     }
 }
 
-/// Prints the entries of a store behind a number, or all.
+/// Prints the entries of a store after a number, or all.
 pub(crate) fn print_history<R: Eprint + Clock, B: Book + Drop, O: Opens<B>, W: Sink>(
     rt: &R,
     stores: O,
@@ -195,7 +195,7 @@ fn judge<B: Book, W: Sink, P: Progress>(
     }
 }
 
-/// Reports whether a store is whole. Its files are read into memory, and neither of them changes.
+/// Checks whether a store is whole. Its files are read into memory, and don't change.
 pub(crate) fn audit_store<R: Eprint + Clock, B: Book + Drop, O: Opens<B>, W: Sink>(
     rt: &R,
     apart: O,

@@ -19,7 +19,7 @@ use std::alloc::AllocError;
 use std::error::Error;
 use std::fmt;
 
-/// What is wrong in an order file, at its first fault.
+/// What the first error of an order file is.
 #[derive(Clone, Copy, Debug, PartialEq, Eq)]
 pub enum OrderCause {
     /// The text is over 65536 bytes long.
@@ -55,8 +55,8 @@ pub enum OrderCause {
     Turned,
 }
 
-/// The first fault of an order file: the first bad record, the header being number 0, in it the first bad field from 0, and
-/// what is wrong there.
+/// The first error of an order file: the number of the first bad record (the header is 0), its first bad field from 0,
+/// and what is wrong there.
 #[derive(Clone, Copy, Debug, PartialEq, Eq)]
 pub struct OrderFault {
     pub row: usize,
@@ -69,11 +69,11 @@ pub struct OrderFault {
 pub enum Fault {
     /// The file can't be read.
     File,
-    /// The file's text spells no problem: its first fault and the byte where it shows.
+    /// The file's text isn't a problem: its first error, and the byte where it shows.
     Text(TextFault),
-    /// The shop file's text is no document with a list of materials.
+    /// The shop file's text isn't a document with a list of materials.
     ShopText,
-    /// The order file's first fault.
+    /// The order file's first error.
     Order(OrderFault),
     /// The first bad entry of the shop file, from 1.
     ShopEntry(usize),
@@ -85,15 +85,15 @@ pub enum Fault {
     Read,
     /// The output can't be written.
     Write,
-    /// Lack of memory.
+    /// Memory ran out.
     NoMemory,
-    /// The store can't be read and written, or is no database.
+    /// The store can't be read and written, or isn't a database.
     Store(StoreCause),
-    /// The store has the tables of something else, or of another version.
+    /// The store has another program's tables, or those of another version.
     Version(VersionCause),
     /// The port can't be listened to, or no connection can be accepted.
     Port(PortCause),
-    /// No backup can be made in the folder, or it is none.
+    /// No backup can be made in the folder, or the folder isn't a backup.
     Backup(BackupCause),
     /// A store isn't whole.
     Audit(Torn),
@@ -102,11 +102,11 @@ pub enum Fault {
 /// Why a store isn't whole.
 #[derive(Clone, Copy, Debug, PartialEq)]
 pub enum Torn {
-    /// So many messages were kept before entries began.
+    /// This many messages were kept before entries began.
     Before(u64),
     /// The message of this entry gets another reply.
     Reply(u64),
-    /// This row differs, or is there on one side alone.
+    /// This row differs, or is only on one side.
     Row(Row),
 }
 

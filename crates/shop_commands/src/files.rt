@@ -1,4 +1,4 @@
-//! Files read whole up to a limit, and texts written to the last byte.
+//! Reads whole files up to a limit, and writes whole texts.
 
 ghost use Rattle.std.specs.Prelude.{◌≡◌, ◌⊎◌, ◌≤◌, IfOk, IfErr, OnOk, length};
 ghost use Rattle.shop_files.specs.declared.limits.TheConstants.{MAX_TEXT_LEN};
@@ -16,11 +16,12 @@ use std::io::{self, Read};
 /// The longest page, in bytes.
 pub(crate) const MAX_PAGE_LEN: usize = 1_048_576;
 
-/// What reads the files that the words name.
+/// Reads the files that the command line names.
 pub trait Reads: Files {
     ghost use Rattle.std.specs.Prelude.{List, ℕ};
 
-    /// Reading a file of this path up to this many bytes may give these bytes: the whole file, or, if it is longer, as many and one more.
+    /// Reading the file of this path with this limit may give these bytes: the whole file or, if it is longer, one byte
+    /// more than the limit.
     ghost holds: { Self → List ℕ → ℕ → List ℕ → Type 0 };
 
     /// Reads a whole file, or, if it is longer than `most` bytes, its first `most` bytes and one more.
@@ -58,7 +59,7 @@ fn read_up_to<R: Reads>(rt: &R, alloc: Global, path: &str, most: usize) -> Resul
     }
 }
 
-/// What a file holds, up to one byte more than the longest text that is read.
+/// A file's bytes, up to one more than the longest text that is read.
 pub fn read_file<R: Reads>(rt: &R, alloc: Global, path: &str) -> Result<Vec<u8>, Fault>
     ensures ok { IfOk result (λ bytes. R.holds rt.now path.now MAX_TEXT_LEN bytes.items) }
     ensures err { IfErr result (λ f. (f ≡ fault.NoMemory) ⊎ (f ≡ fault.File)) }
@@ -66,7 +67,7 @@ pub fn read_file<R: Reads>(rt: &R, alloc: Global, path: &str) -> Result<Vec<u8>,
     read_up_to(rt, alloc, path, MAX_TEXT_LEN)
 }
 
-/// The page that a file holds, of at most 1048576 bytes.
+/// The page in a file, of at most 1048576 bytes.
 pub fn read_page<R: Reads>(rt: &R, alloc: Global, path: &str) -> Result<Vec<u8>, Fault>
     ensures ok { IfOk result (λ page. R.holds rt.now path.now MAX_PAGE_LEN page.items
         × (length page.items ≤ MAX_PAGE_LEN)) }
@@ -79,7 +80,7 @@ pub fn read_page<R: Reads>(rt: &R, alloc: Global, path: &str) -> Result<Vec<u8>,
     Ok(page)
 }
 
-/// Writes a text, if the sink takes it to the last byte.
+/// Writes a text to the last byte. The only error is `Write`.
 pub fn write_text<W: Sink>(sink: &mut W, text: &str) -> Result<(), Fault>
     ensures ok { OnOk result (Adds (change_of W.Sink sink.old sink.new) text.now) }
     ensures prefix { AddsPrefix (change_of W.Sink sink.old sink.new) text.now }

@@ -1,4 +1,4 @@
-//! What helps where a plan is refused.
+//! What helps if a plan is refused.
 
 ghost use Rattle.std.specs.Prelude.{◌≡◌, IfSome};
 ghost use Rattle.shop_commands.specs.Advice.{IsAdviceOf, IsOfStep, IsStepHelp};
@@ -65,8 +65,8 @@ fn help_advice(alloc: Global, file: &str, help: StepHelp) -> Option<Advice>
     }
 }
 
-/// What helps where a plan of a file is refused for its step, or as it is too large: the steps that serve it, `--whole`, or a
-/// shorter bar; or to write the problem to a file, if it can't be read again. None because memory ran out.
+/// What helps if the plan of a file is refused for its step or as too large: the steps that serve it, `--whole`, or a
+/// shorter bar; or to write the problem to a file, if it can't be read again. None if memory ran out.
 #[tactic(auto, using(crate::proofs::StepAdvice::of_help, crate::proofs::StepAdvice::of_refused))]
 pub(crate) fn step_advice<R: Reads>(
     rt: &R,

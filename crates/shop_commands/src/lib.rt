@@ -1,4 +1,4 @@
-//! The commands of the shop's program: what the words of its command line ask for, done over the streams that it is given.
+//! The program's commands: what its command line asks for, done over the streams that it is given.
 #![tactic(auto)]
 
 mod advice;

@@ -1,4 +1,4 @@
-//! The limits that definitions cite, tied to their numbers.
+//! The limits that definitions cite, with their numbers.
 
 ghost use Rattle.shop_commands.specs.Limits.{AreMeasures, ArePlans, AreFiles, AreCounts, AreRequests, AreConnections, AreWords};
 

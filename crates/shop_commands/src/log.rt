@@ -1,4 +1,4 @@
-//! What a server reports of itself on standard error. A line that can't be made or written is left out.
+//! What a server logs about itself on standard error. A line that can't be made or written is left out.
 
 ghost use Rattle.std.specs.Prelude.{◌≡◌, IfOk, string_bytes};
 ghost use Rattle.shop_commands.specs.Log as spec;
@@ -74,7 +74,7 @@ fn note<R: Eprint + Clock>(rt: &R, lines: &mut Lines, line: Result<String, Alloc
     }
 }
 
-/// Reports that a store is served, which was made or was there, and how many messages it keeps, where that was counted.
+/// Logs that a store is served, whether it was created, and how many messages it keeps, if they were counted.
 pub(crate) fn note_begin<R: Eprint + Clock>(
     rt: &R,
     alloc: Global,
@@ -94,14 +94,14 @@ pub(crate) fn note_begin<R: Eprint + Clock>(
     }
 }
 
-/// Reports that requests under whatever name are answered, if they are.
+/// Logs that requests under any host name are answered, if they are.
 pub(crate) fn note_host<R: Eprint + Clock>(rt: &R, lines: &mut Lines, site: &Site) {
     if !site.judges_host() {
         lines.write(rt, ANY_HOST);
     }
 }
 
-/// Reports that the backups lie where they are lost with the store, if they do.
+/// Logs that backups are where they are lost together with the store, if they are.
 pub(crate) fn note_disk<R: Eprint + Clock>(rt: &R, lines: &mut Lines, backups: Option<&Backups>) {
     if let Some(backups) = backups {
         if backups.is_on_store_disk() {
@@ -110,7 +110,7 @@ pub(crate) fn note_disk<R: Eprint + Clock>(rt: &R, lines: &mut Lines, backups: O
     }
 }
 
-/// Reports that the machine's clock is behind the last entry by over an hour, where it is, by its number and its time.
+/// Logs that the machine's clock is over an hour behind the last entry, if it is; `last`: that entry's number and time.
 pub(crate) fn note_last<R: Eprint + Clock>(
     rt: &R,
     lines: &mut Lines,
@@ -121,7 +121,7 @@ pub(crate) fn note_last<R: Eprint + Clock>(
     }
 }
 
-/// Reports that a store isn't served any more.
+/// Logs that a store isn't served any more.
 pub(crate) fn note_end<R: Eprint + Clock>(rt: &R, alloc: Global, lines: &mut Lines, store: &str) {
     note(rt, lines, end_line(alloc, store));
 }

@@ -1,4 +1,4 @@
-//! How much memory a store takes, where memory ran out.
+//! How much memory a store takes, after memory ran out.
 
 ghost use Rattle.std.specs.Prelude.{◌≡◌, IfSome, IfOk, string_bytes};
 ghost use Rattle.shop_commands.specs.Advice as spec;
@@ -93,7 +93,8 @@ fn wanted_text(alloc: Global, is_apart: bool, bytes: u64) -> Result<String, Allo
     format!(in alloc; "{megabytes} MB")
 }
 
-/// How much the store of a request takes about, where memory ran out. None because memory ran out, and where no store is there.
+/// About how much memory the store of a request takes, after memory ran out. None if there is no store, or if memory
+/// runs out here.
 pub(crate) fn memory_advice<R: Files>(
     rt: &R,
     alloc: Global,

@@ -1,4 +1,4 @@
-//! `cutshop orders`: an order file is judged, or becomes a message.
+//! `cutshop orders`: checks an order file, or makes a message of it.
 
 ghost use Rattle.std.specs.Prelude.{◌≡◌, None, Some, option_map, IfOk, IfErr, OnOk, string_bytes};
 ghost use Rattle.shop_files.specs.Orders.{IsOrders};
@@ -136,7 +136,7 @@ fn bad_fault(bad: BadField) -> Fault
     })
 }
 
-/// Judges lines by all that needs no store, and where there is a shop file, by its materials.
+/// Judges lines by all that needs no store and, if there is a shop file, by its materials.
 pub(crate) fn judge(shop: Option<&[MaterialEntry]>, lines: &[OrderLine]) -> Result<(), Fault>
     ensures ok { OnOk result
         (first_bad_field (option_map (λ entries. entries.now) shop.entry) lines.now ≡ None) }
@@ -228,9 +228,9 @@ fn line_of(
     }
 }
 
-/// The line that is reported about an order file's bytes: how many lines they have, or the message that makes an order of them. Their
-/// first fault, the shop file's, the first bad field of the lines, or lack of memory; `File` for a text that is no UTF-8 and has
-/// no fault.
+/// The line for an order file: how many lines it has, or the message that makes an order of them. An `Err` is the
+/// file's first error, the shop file's, the first bad field of the lines, or lack of memory; `File` if the text isn't
+/// UTF-8 and has no other error.
 #[tactic(auto, using(crate::proofs::JudgedFiles::line_ok, crate::proofs::JudgedFiles::line_err, crate::proofs::JudgedFiles::bad_file))]
 pub fn orders_line<R: Reads>(
     rt: &R,
@@ -249,7 +249,7 @@ pub fn orders_line<R: Reads>(
     line_of(alloc, reported, text, rows.len())
 }
 
-/// Writes the line that is reported about an order file.
+/// Writes the line for an order file.
 pub fn check_orders<R: Reads, W: Sink>(
     rt: &R,
     alloc: Global,

@@ -1,4 +1,4 @@
-//! From the words of a command line to the command that is done, and the status that is given back.
+//! From the words of a command line to the command that they ask for, and its status.
 
 ghost use Rattle.std.specs.Prelude.{◌≡◌, ◌+◌, ◌≤◌, IfOk, IfErr, IfSome, OnOk, map, string_bytes};
 ghost use Rattle.cut_measure.specs.declared.ranges.TheConstants.{MAX_KERF};
@@ -55,7 +55,7 @@ fn write_fault<E: Sink>(alloc: Global, fault: Fault, advice: Option<Advice>, err
     1
 }
 
-/// Writes the lines of a fault of a stream or of memory, and gives the status of a program that stopped.
+/// Writes the lines of an error of a stream or of memory, and returns the status of a program that stopped.
 pub(crate) fn report_fault<E: Sink>(alloc: Global, fault: Fault, errors: &mut E) -> u8
     ensures status { result ≡ 1 }
     ensures reported { ReportsFault fault (change_of E.Sink errors.old errors.new) }
@@ -345,9 +345,9 @@ fn report_mistake<E: Sink>(alloc: Global, mistake: Mistake<'_>, errors: &mut E) 
     2
 }
 
-/// Does what the words ask for, the program's own name before them, and gives the status: 0 where it was done and for
-/// help, 2 for a mistake in the words, and else 1, with the fault as one line of `errors`, and but for an order file's one more that
-/// begins with two spaces and reports why.
+/// Does what the words ask for (the first is the program's name) and returns the status: 0 if it was done, and for
+/// help; 2 for a mistake in the words; otherwise 1. Then `errors` has the error's line and, except for an order file's,
+/// a second line, which begins with two spaces and says why.
 pub fn perform<
     R: Reads + Net + Clock + Eprint + RandomSource,
     B: Book + Drop,

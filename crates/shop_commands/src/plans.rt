@@ -52,11 +52,11 @@ fn plan_problem(alloc: Global, problem: &Problem, kerf: u32, step: u32) -> Resul
     Ok(lines)
 }
 
-/// The lines of a plan of the problem that a file's bytes spell: the worth, a ceiling that no plan exceeds, how many
-/// pieces of a best tree were dropped, and the tree. The demand of the first piece is 1; none is turned.
+/// The lines of a plan of the problem in a file's bytes: the worth, a ceiling that no plan exceeds, how many pieces of
+/// a best tree were dropped, and the tree. The demand of the first piece is 1; none is turned.
 ///
-/// The text's first fault, or the planner's; a problem of over 40 pieces is a `BadWant`. Lack of memory may come at any
-/// point. The kerf is at most 200.
+/// An `Err` is the text's first error, or the planner's; a problem of over 40 pieces is a `BadWant`. Lack of memory may
+/// come at any point. The kerf is at most 200.
 pub fn plan_file(alloc: Global, bytes: &[u8], kerf: u32, step: u32) -> Result<String, Fault>
     requires { kerf ≤ MAX_KERF }
     ensures ok { IfOk result (λ text. spec.IsFilePlan bytes.now kerf step (string_bytes text)) }
@@ -79,11 +79,10 @@ fn plan_whole_problem(alloc: Global, problem: &Problem, how: WholePlan) -> Resul
     Ok(lines)
 }
 
-/// The lines of the plans of all pieces of the problem that a file's bytes spell, from as many of its rectangles as it
-/// takes.
+/// The lines of the plans of all pieces of the problem in a file's bytes, from as many of its rectangles as it takes.
 ///
-/// The text's first fault, or the order's; a problem of over 100 pieces is a `BadWant`. Lack of memory may come at any
-/// point. The kerf is at most 200.
+/// An `Err` is the text's first error, or the order's; a problem of over 100 pieces is a `BadWant`. Lack of memory may
+/// come at any point. The kerf is at most 200.
 pub fn plan_whole_file(alloc: Global, bytes: &[u8], how: WholePlan) -> Result<String, Fault>
     requires kerf { how.kerf ≤ MAX_KERF }
     requires limit { IsStageLimit how.stages }
@@ -154,10 +153,11 @@ fn plan_good_lines<R: Reads>(
     plan_from(alloc, lines, entries.as_slice(), asked)
 }
 
-/// The lines of the plans of what an order file's bytes have of a material of a shop file, from as many units of some sizes as
+/// The lines of the plans of an order file's lines of one material of a shop file, from as many units of some sizes as
 /// it takes.
 ///
-/// The faults of the order file, then those of the shop file, then those of the plan. Lack of memory may come at any point.
+/// The errors of the order file come first, then those of the shop file, then those of the plan. Lack of memory may
+/// come at any point.
 #[tactic(auto, using(crate::proofs::OrderLines::few_lines, crate::proofs::PlannedFiles::from_file, crate::proofs::PlannedFiles::from_file_fault, crate::proofs::PlannedFiles::bad_rows))]
 pub fn plan_order_file<R: Reads>(
     rt: &R,

@@ -1,4 +1,4 @@
-//! How far an audit or a history is, and that a large store is being opened, shown on a terminal at standard error.
+//! Shows on a terminal at standard error how far an audit or a history is, and that a large store is being opened.
 
 ghost use Rattle.std.specs.Prelude.{◌≡◌, IfOk, string_bytes};
 ghost use Rattle.shop_commands.specs.Log as spec;
@@ -10,7 +10,7 @@ use std::fs::{self, Files};
 use std::io::Eprint;
 use std::time::{Clock, Duration, Instant};
 
-/// How long nothing is reported behind a line, and at first, in milliseconds.
+/// For how long after a line, and at first, nothing is reported, in milliseconds.
 const PAUSE: u64 = 500;
 
 /// A megabyte, in bytes.
@@ -19,7 +19,8 @@ const MEGABYTE: u64 = 1_048_576;
 /// A store of fewer bytes than these opens within a second.
 const LARGE_STORE: u64 = 16_777_216;
 
-/// Shows on a terminal at standard error how far a work is. It shows nothing where there is none, or the clock can't be read.
+/// Shows on a terminal at standard error how far the work is. It shows nothing if there is no terminal, or if the clock
+/// can't be read.
 #[derive_where(Clone, Copy)]
 pub(crate) struct Meter<'a, R> {
     rt: &'a R,

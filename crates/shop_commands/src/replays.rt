@@ -1,4 +1,4 @@
-//! `cutshop replay`: lines are answered over a fresh book in memory.
+//! `cutshop replay`: answers lines over a new book in memory.
 
 ghost use Rattle.std.specs.Prelude.{◌+◌, ◌≤◌, IfErr, OnOk};
 ghost use Rattle.shop_wire.specs.Streams.{most_reads};
@@ -12,7 +12,7 @@ use shop_text::{Sink, Source};
 use shop_wire::replay;
 use std::alloc::Global;
 
-/// Writes the replies to the lines of the input, over a fresh book, under which no store can fail.
+/// Writes the replies to the lines of the input, over a new book in memory, whose store can't fail.
 pub fn replay_fresh<S: Source, W: Sink>(
     alloc: Global,
     source: &mut S,

@@ -1,4 +1,4 @@
-//! `cutshop restore`: a backup is put in the place of a store.
+//! `cutshop restore`: replaces a store by a backup.
 
 ghost use Rattle.std.specs.Prelude.{◌≡◌, IfErr, IfOk, OnOk, string_bytes};
 ghost use Rattle.shop_commands.specs.Restoring as spec;
@@ -118,8 +118,8 @@ fn reported_lines(
     restored_lines(alloc, store, from, entries.count, until.as_str())
 }
 
-/// Puts a backup in the place of a store, and reports so, with how many entries it has and until when; `opener` only reads the
-/// backup's files.
+/// Replaces a store by a backup, and prints that, with its number of entries and the time of the last. `opener` only
+/// reads the backup's files.
 pub(crate) fn restore<R: Files, B: Book + Drop, O: Opens<B>, W: Sink>(
     rt: &R,
     opener: O,

@@ -23,8 +23,8 @@ fn refuse_words<E: Sink>(rt: &HostRuntime, error: &io::Error, errors: &mut E) ->
     2
 }
 
-/// Does what the words of the command line ask for, over standard input, standard output and standard error and the book
-/// of the store that is opened (`stores`), or whose files are only read (`apart`), and gives the status.
+/// Does what the words of the command line ask for, over the standard streams and the book of the store that is opened
+/// (`stores`), or whose files are only read (`apart`), and returns the status.
 pub fn run<D: Alter + Drop, M: Alter + Drop, O: Opens<SqlBook<D>>, P: Opens<SqlBook<M>>>(
     rt: &HostRuntime,
     stores: O,

@@ -1,4 +1,4 @@
-//! `cutshop serve`, `cutshop ticket` and `cutshop yield`: what is done over the book of a store file.
+//! `cutshop serve`, `cutshop ticket` and `cutshop yield`: the commands over the book of a store file.
 
 ghost use Rattle.std.specs.Prelude.{◌≡◌, ◌≤◌, ◌⊎◌, IfOk, IfErr, OnOk, length, option_map, string_bytes};
 ghost use Rattle.shop_files.specs.declared.limits.TheConstants.{MAX_ENTRIES};
@@ -50,7 +50,7 @@ fn open_store<B: Book + Drop, O: Opens<B>>(
     }
 }
 
-/// What is printed of a store: the ticket of a job, or the yield report of a material.
+/// A text of a store: the ticket of a job, or the yield report of a material.
 #[derive(Clone, Copy)]
 pub enum StoreText {
     Ticket(u32),
@@ -363,8 +363,8 @@ fn end_store<R: Files, B: Book + Drop, O: Opens<B>>(
     }
 }
 
-/// Adds the materials of a shop file to the book of a store, reports the port, and serves connections on it. Where it ends before
-/// that, a store that was made for it is taken away.
+/// Adds the materials of a shop file to a store's book, prints the port, and serves connections on it. If it ends
+/// before it serves, a store that was created for it is removed.
 pub fn serve<R: Reads + Net + Clock + Eprint + RandomSource, B: Book + Drop, O: Opens<B>, W: Sink>(
     rt: &R,
     stores: O,

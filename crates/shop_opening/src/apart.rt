@@ -1,4 +1,4 @@
-//! The book of a store that is read into memory and opened there, so that neither file changes by a byte.
+//! The book of a store that is read into memory and opened there, so that its files don't change by a byte.
 
 ghost use Rattle.std.specs.Prelude.{◌≡◌, IfOk, IsTrue};
 ghost use Rattle.sqlite.specs.Files.{image_of};
@@ -23,7 +23,7 @@ use std::fs::{self, File};
 /// A book over copies of a store's files in memory.
 pub type ApartBook = SqlBook<FileStore<Memory>>;
 
-/// What both files of a store hold, as they were read.
+/// The bytes of both files of a store, as they were read.
 #[derive(Drop)]
 pub struct Pair {
     pub store: Vec<u8>,
@@ -101,10 +101,10 @@ fn read_named(rt: &HostRuntime, alloc: Global, path: &str) -> Result<Pair, LookF
     read_at(rt, alloc, real.as_str())
 }
 
-/// Reads both files of a store, and changes neither. A store without a byte may have no log.
+/// Reads both files of a store, and changes neither. A store with 0 bytes may have no log.
 ///
-/// `NoMemory` because memory ran out; `Store` where it isn't there, another program has it open, it can't be read, or its files aren't
-/// what a stop leaves.
+/// `NoMemory`: memory ran out. `Store`: the store isn't there, another program has it open, it can't be read, or it has
+/// files that no crash leaves.
 pub fn read_pair(rt: &HostRuntime, alloc: Global, path: &str) -> Result<Pair, OpenFault> {
     match read_named(rt, alloc, path) {
         Ok(pair) => Ok(pair),
@@ -162,9 +162,10 @@ fn files_of(alloc: Global, pair: &Pair) -> Result<Files<Memory>, AllocError>
     Ok(Files { log, db })
 }
 
-/// Opens the book of a pair of files that were read, in memory, where tables of version 1 or 2 become tables of version 3.
+/// Opens the book of a pair of files that were read, in memory, where tables of version 1 or 2 become tables of version
+/// 3.
 ///
-/// `NoMemory` because memory ran out; `Store` where it is no database; `Version` where it has other tables under a book's names, or
+/// `NoMemory`: memory ran out. `Store`: it isn't a database. `Version`: it has other tables under a book's names, or
 /// those of another version.
 pub fn open_pair(alloc: Global, pair: &Pair) -> Result<ApartBook, OpenFault>
     ensures { IfOk result (λ book. IsOpenedOn (pair_image pair.now.log.items pair.now.store.items)
@@ -212,8 +213,8 @@ fn open_shop(alloc: Global, pair: &Pair, existing: bool) -> Result<ApartBook, Op
     }
 }
 
-/// Opens the book of a store in memory, and changes neither of its files: `read_pair`, and `open_pair`. With `existing` a database
-/// that has no table of a shop is `Version`.
+/// Opens the book of a store in memory, and changes neither of its files: `read_pair`, then `open_pair`. With
+/// `existing` a database that has no table of a shop is `Version`.
 pub fn read_apart(
     rt: &HostRuntime,
     alloc: Global,
@@ -228,15 +229,15 @@ pub fn read_apart(
     }
 }
 
-/// What opens the book of one store in memory, whose files it only reads. It has to be there, with the tables of a shop where it has
-/// to exist, and is never merged.
+/// Opens the book of one store in memory, and only reads its files. The store must be there (with a shop's tables, if
+/// it has to exist), and is never merged.
 #[derive(Drop)]
 pub struct ApartOpener<'a> {
     rt: &'a HostRuntime,
 }
 
 impl<'a> ApartOpener<'a> {
-    /// It reads at the path that it is given then.
+    /// It reads at the path that `open` is given.
     pub fn new(rt: &'a HostRuntime) -> ApartOpener<'a> {
         ApartOpener { rt }
     }

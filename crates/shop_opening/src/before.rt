@@ -1,4 +1,4 @@
-//! What is looked at before a store is opened. Its files are only read.
+//! What is checked before a store is opened. Its files are only read.
 
 ghost use Rattle.std.specs.Prelude.{◌≡◌, IfOk, IsTrue};
 ghost use Rattle.sqlite_disk.specs.Memory.{memory_bytes, memory_is_usable};
@@ -39,7 +39,7 @@ const TABLES: [&str; 15] = [
     "halts",
 ];
 
-/// Why a store isn't to be opened.
+/// Why a store mustn't be opened.
 #[derive(Clone, Copy, Debug)]
 pub(crate) enum LookFault {
     /// Memory ran out.
@@ -50,9 +50,9 @@ pub(crate) enum LookFault {
 /// What has the name of a store.
 #[derive(Clone, Copy, Debug, PartialEq, Eq)]
 pub(crate) enum Found {
-    /// Nothing, so that the store is to be made.
+    /// Nothing, so the store is to be created.
     Nothing,
-    /// A file, or something that the open refuses. No commit is to be taken of a log.
+    /// A file, or something that the open refuses. Its log has no commit to take.
     Files,
     /// A file, and its log has commits.
     Commits,
@@ -92,7 +92,7 @@ impl Head {
     }
 }
 
-/// What the system's error says of a store.
+/// The system's error, as one of a store.
 pub(crate) fn kind_fault(kind: ErrorKind) -> LookFault {
     match kind {
         ErrorKind::OutOfMemory => LookFault::NoMemory,
@@ -104,7 +104,7 @@ pub(crate) fn refused<T>(cause: StoreCause) -> Result<T, LookFault> {
     Err(LookFault::Store(cause))
 }
 
-/// What the system answered. A store that can't be looked at isn't opened, since it may be one that is refused.
+/// What the system answered. If a store can't be looked at it isn't opened, since it may be one that has to be refused.
 pub(crate) fn looked<T>(answer: io::Result<T>) -> Result<T, LookFault> {
     match answer {
         Ok(found) => Ok(found),
@@ -112,7 +112,7 @@ pub(crate) fn looked<T>(answer: io::Result<T>) -> Result<T, LookFault> {
     }
 }
 
-/// What the system found under a name, if anything has it.
+/// What the system found under a name, or none if nothing has it.
 pub(crate) fn if_there<T>(answer: io::Result<T>) -> Result<Option<T>, LookFault> {
     match answer {
         Ok(found) => Ok(Some(found)),
@@ -245,7 +245,7 @@ fn given<T>(answer: Result<T, Error>) -> Result<Option<T>, AllocError> {
     }
 }
 
-/// The rows that a statement finds in the database of files in memory. None where the port can't open it, or can't run the
+/// The rows that a statement finds in the database of files in memory. None if the port can't open it, or can't run the
 /// statement.
 pub(crate) fn rows_in(
     alloc: Global,
@@ -331,7 +331,7 @@ fn is_bound(alloc: Global, log: &[u8], store: &[u8]) -> Result<bool, AllocError>
     }
 }
 
-/// Whether the database of a log and a store, where it is one, has a trigger or a view on a shop's tables.
+/// Whether the database of a log and a store, if it is one, has a trigger or a view on a shop's tables.
 pub(crate) fn is_bound_in(alloc: Global, log: &[u8], store: &[u8]) -> Result<bool, AllocError> {
     if may_bind(log) || may_bind(store) {
         is_bound(alloc, log, store)
@@ -340,7 +340,7 @@ pub(crate) fn is_bound_in(alloc: Global, log: &[u8], store: &[u8]) -> Result<boo
     }
 }
 
-/// What a file holds.
+/// The bytes of a file.
 pub(crate) fn content_of(rt: &HostRuntime, path: &str) -> Result<Vec<u8>, LookFault> {
     looked(fs::read(rt, path))
 }
@@ -464,8 +464,8 @@ fn look_beside(
     }
 }
 
-/// Looks at the files of a store before they are opened, and reports what is there. `existing`: it has to be there. What is wrong
-/// with them otherwise the open reports.
+/// Looks at the files of a store before they are opened, and reports what is there; `existing`: the store must be
+/// there. Other defects are for the open to report.
 pub(crate) fn look_before(
     rt: &HostRuntime,
     alloc: Global,
@@ -481,7 +481,7 @@ pub(crate) fn look_before(
     }
 }
 
-/// Looks for a store that is only read, and reports the name to which no link leads any more.
+/// Looks for a store that is only read, and returns the name to which its links lead.
 pub(crate) fn look_before_apart(
     rt: &HostRuntime,
     alloc: Global,

@@ -1,4 +1,5 @@
-//! The books of store files, opened and closed, what a stop leaves of them, and the materials of a shop file, added to a book.
+//! Opens and closes the books of store files, says what a crash leaves of them, and adds the materials of a shop file
+//! to a book.
 #![tactic(auto)]
 
 mod apart;

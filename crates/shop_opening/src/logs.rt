@@ -1,4 +1,4 @@
-//! What the bytes of a store's log report: SQLite's format, as the port (`sqlite_wal`) writes it.
+//! What the bytes of a store's log say: SQLite's format, as the port (`sqlite_wal`) writes it.
 
 use sqlite_wal::checksum_of;
 
@@ -11,14 +11,14 @@ const FRAME_HEAD: usize = 24;
 
 const NO_FRAME: usize = 41;
 
-/// What a log's bytes report.
+/// What a log's bytes say.
 #[derive(Clone, Copy, Debug, PartialEq, Eq)]
 pub(crate) enum LogState {
-    /// No commit is to be taken of it.
+    /// It has no commit to take.
     Empty,
     /// It has commits.
     Commits,
-    /// It isn't what a stop leaves.
+    /// No crash leaves it.
     Damaged,
 }
 
@@ -121,7 +121,7 @@ fn headless(log: &[u8], is_begun: bool) -> LogState {
     }
 }
 
-/// What a log's bytes report. `is_begun`: the store beside it has no first byte yet, as one that is being made.
+/// What a log's bytes say. `is_begun`: the store beside it is still empty, as one that is being created.
 pub(crate) fn log_state(log: &[u8], is_begun: bool) -> LogState {
     if log.len() <= NO_FRAME {
         return LogState::Empty;

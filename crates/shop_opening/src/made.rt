@@ -1,5 +1,5 @@
-//! The files of a store that a start makes, and takes away again where it ends before it serves. What it didn't make itself stays,
-//! whatever has the names by then.
+//! The files of a store that a start creates, and removes again if it ends before it serves. Files that it didn't
+//! create itself stay, whatever has the names by then.
 
 use crate::before::{LookFault, kind_fault};
 use os::RangeLock;
@@ -16,8 +16,8 @@ struct Identity {
     number: u64,
 }
 
-/// Which files of a store an open has made itself: none, or the store, with which log beside it, and whether that was made too, or
-/// was there without a byte.
+/// Which files of a store an open has created: none; or the store, and beside it a log that it created, or one that was
+/// there with 0 bytes.
 #[derive(Clone, Copy, Debug)]
 pub struct Made {
     store: Option<Identity>,
@@ -122,7 +122,7 @@ impl Made {
         }
     }
 
-    /// Whether the store was made.
+    /// Whether the store was created.
     pub fn is_new(&self) -> bool {
         self.store.is_some()
     }
@@ -155,8 +155,9 @@ impl Made {
         }
     }
 
-    /// Takes away the files that were made, and leaves a log that was there without a byte again. The store is open, so that no
-    /// other program has them, and nothing is done with it behind this. A stop within it leaves what a start takes for a store.
+    /// Removes the files that were created; a log that was there with 0 bytes stays, with 0 bytes. The store is still
+    /// open, so no other program has the files, and nothing is done with it afterwards. A crash within this leaves
+    /// files that a start accepts.
     pub fn take_away<R: Files>(&self, rt: &R, alloc: Global, path: &str) {
         if !is_own(rt, path, self.store) {
             return;

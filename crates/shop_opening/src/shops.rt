@@ -24,7 +24,7 @@ pub struct EntryRefused {
     pub refusal: Refusal,
 }
 
-/// Why a shop file's materials aren't all there.
+/// Why the materials of a shop file weren't all added.
 #[derive(Clone, Copy, Debug, PartialEq, Eq)]
 pub enum AddFault {
     /// Memory ran out, and nothing was done.
@@ -103,11 +103,10 @@ fn first_refused(replies: &[Reply]) -> Option<EntryRefused>
     None
 }
 
-/// Handles a shop file's entries, the i-th, from 1, as message number i of terminal 0: each is added once, however often
-/// the file is read, and one that was changed is refused 11. Each is given this time, the one of the start.
+/// Handles the entries of a shop file, the i-th (from 1) as message i of terminal 0. So each is added once, however
+/// often the file is read, and a changed one is refused 11. Each gets the time of the start.
 ///
-/// `NoMemory` if there is no memory for the replies, and then nothing was done; `Refused` the first entry that was
-/// refused, where one was.
+/// `NoMemory`: there is no memory for the replies, and nothing was done. `Refused`: the first entry that was refused.
 pub fn add_shop<B: Book>(
     alloc: Global,
     book: &mut B,

@@ -1,4 +1,4 @@
-//! What a stop leaves of an open store, and what the next opening of it finds.
+//! What a crash leaves of an open store, and what the next opening of it finds.
 
 ghost use Rattle.std.specs.Prelude.{IsTrue, List, ℕ};
 ghost use Rattle.sqlite.specs.Files.{file_state};
@@ -20,16 +20,17 @@ ghost use Rattle.shop_opening.specs.Stops.{IsAfter, IsLeftOf, WasRefused};
 
 use sqlite_disk::Disk;
 
-/// What a stop leaves of an open store shows the content after each answer that was given, and the book that the next opening
-/// of those files gives (`open_file`) holds it.
+/// The files that a crash of an open store leaves show the content after each answer that was given, and the book that
+/// the next opening of these files gives (`open_file`) holds it.
 ///
-/// - `only`: a connection that leaves a content alone, as one of a book that was just opened: the files show that content.
-/// - `held`: so of one that holds a content, as long as no fault of the disk has shut it.
-/// - `refused`: so where the tables of opened files weren't taken over.
-/// - `after`: a book that left a content alone had messages handled, whatever came of its disk (`Leads`, of `run`, of `replay`
-///   and of what is served): the files show the content after the last answer, or one step further, by a message that was
-///   refused.
-/// - `again`: files that show a content were opened as a book, perhaps in another run of the program: it holds that content.
+/// - `only`: if the connection leaves only one content, as one of a book just opened does, the files show it.
+/// - `held`: so they do if the connection holds one, and no disk error has shut it.
+/// - `refused`: so they do if the tables of opened files weren't taken over.
+/// - `after`: if a book that left only one content had messages handled, whatever happened to its disk (`Leads`, of
+///   `run`, `replay` and `serve_on`), the files show the content after the last answer, or one step further, by a
+///   message that was refused.
+/// - `again`: if files that show a content were opened as a book, perhaps in another run of the program, it holds that
+///   content.
 pub fn stopped_stores_are_found<D: Disk>()
     ensures only { (last : Held (StoreOf D D.Disk)) (m : Content) → HasCleanDisk (file_state last)
         → LeavesOnly (file_state last) m → (image : Image) → IsLeftOf last image

@@ -1,4 +1,4 @@
-//! The books of store files: what opens and closes one.
+//! Opens and closes the books of store files.
 
 ghost use Rattle.std.specs.Prelude.{◌≡◌, ◌⊎◌, IfOk, IfErr, IfSome};
 ghost use Rattle.sqlite_wal.specs.Files.{image_at};
@@ -24,7 +24,7 @@ use sqlite::{
 use sqlite_disk::Disk;
 use std::alloc::Global;
 
-/// A book in the SQL tables of files that held what `S` says.
+/// A book in the SQL tables of files whose contents, before the open, `S` describes.
 pub type StoreBook<S> = SqlBook<FileStore<FileFrom<S>>>;
 
 /// Why a store can't be opened.
@@ -32,39 +32,38 @@ pub type StoreBook<S> = SqlBook<FileStore<FileFrom<S>>>;
 pub enum OpenFault {
     /// Memory ran out.
     NoMemory,
-    /// It can't be read and written, or is no database.
+    /// It can't be read and written, or isn't a database.
     Store(StoreCause),
-    /// Its tables are none of a book, or of another version.
+    /// Its tables aren't a book's, or are of another version.
     Version(VersionCause),
 }
 
 /// How a store is opened.
 #[derive(Clone, Copy, Debug)]
 pub struct OpenAs {
-    /// Whether it has to be there; else it is made where it isn't.
+    /// Whether the store must be there; otherwise a missing one is created.
     pub existing: bool,
-    /// Whether it is merged with its log before.
+    /// Whether its log is merged into it first.
     pub merged: bool,
 }
 
-/// What opens the book of a store, which is known by a path, once.
+/// Opens the book of a store, once, at a path.
 pub trait Opens<B>: Drop {
     ghost use Rattle.std.specs.Prelude.{◌≡◌, List, Result, ℕ};
     ghost use Rattle.shop_opening.specs.declared.stores.OpenFault.{OpenFault as OpenFaultOf};
 
-    /// An open of this path may give this: a book, or the fault for which there is none.
+    /// An open of this path may return this: a book, or the error.
     ghost gives: { Self → List ℕ → Result B OpenFaultOf → Type 0 };
 
-    /// Opens a store's book.
+    /// Opens a store's book. After an `Ok`, `made` reports which of its files were created for it.
     ///
-    /// `NoMemory` because memory ran out; `Store` where the store can't be read and written, is in use, is no database, or has
-    /// files that aren't what a stop leaves; `Version` where it has other tables under a book's names, or those of another
-    /// version. Such a store is left as it was, and one that was made for this is taken away. Where a book is given, `made` reports
-    /// which of its files were made for it.
+    /// `NoMemory`: memory ran out. `Store`: the store can't be read and written, is in use, isn't a database, or has
+    /// files that no crash leaves. `Version`: it has other tables under a book's names, or those of another version.
+    /// After `Store` and `Version` a store is as it was. A store that was created for a failed call is removed.
     fn open(self, alloc: Global, path: &str, how: OpenAs, made: &mut Made) -> Result<B, OpenFault>
         ensures { gives self path.now result };
 
-    /// Closes a store. What was accepted is in it before.
+    /// Closes a store. Accepted messages are in it before.
     fn close(book: B);
 }
 
@@ -285,7 +284,7 @@ fn failure_of<D: Disk + Drop>(store: FileStore<D>) -> StoreCause
     }
 }
 
-/// What the failure to take a database over is.
+/// The error for a database that couldn't be taken over.
 pub(crate) fn adopt_fault<D: Disk + Drop>(
     alloc: Global,
     fault: BookFault,
@@ -404,7 +403,7 @@ fn merge(rt: &HostRuntime, alloc: Global, path: &str) {
     }
 }
 
-/// What a look found, as the fault of an open.
+/// The result of a look, as the error of an open.
 pub(crate) fn look_fault(fault: LookFault) -> OpenFault
     ensures { IsLookFault result }
 {
@@ -430,8 +429,8 @@ fn open_there<S: Start>(
     open_looked(rt, alloc, path, start, Made::nothing())
 }
 
-/// Opens the book of a store file. `start` stands for what the files held, once they were looked at and merged. `made` reports then
-/// which files were made for it.
+/// Opens the book of a store file. `start` stands for what the files held, once they were looked at and merged. `made`
+/// then reports which files were created for it.
 pub fn open_file<S: Start>(
     rt: &HostRuntime,
     alloc: Global,
@@ -452,8 +451,8 @@ pub fn open_file<S: Start>(
     }
 }
 
-/// What opens the book of one store file. `S` stands for what the files hold before, and `start` is used up by the open, so
-/// that no second store is opened under the same `S`.
+/// Opens the book of one store file. `S` stands for what the files held before. The open consumes `start`, so no second
+/// store is opened under the same `S`.
 #[derive(Drop)]
 pub struct Opener<'a, S: Start> {
     rt: &'a HostRuntime,
@@ -461,7 +460,7 @@ pub struct Opener<'a, S: Start> {
 }
 
 impl<'a, S: Start> Opener<'a, S> {
-    /// It opens at the path that it is given then.
+    /// It opens at the path that `open` is given.
     pub fn new(rt: &'a HostRuntime, start: S) -> Opener<'a, S> {
         Opener { rt, start }
     }

@@ -1,5 +1,5 @@
-//! What is made of the bytes of a request: its route's answer, what the site answers by itself, a query that is to be
-//! searched, or a backup that is to be made.
+//! Makes something of a request's bytes: its route's answer, the site's own, a query to be searched, or a backup to be
+//! made.
 
 ghost use Rattle.std.specs.Prelude.{◌≡◌, ◌≢◌, ◌⊎◌, ◌<◌, ◌++◌, ℕ, Result, length, IfErr, IfOk, IfSome, None, Ok, Option, Some, true, [], string_bytes, decimal};
 ghost use Rattle.shop_records.specs.declared.refusals.Refusal.{Refusal as RefusalOf};
@@ -46,14 +46,14 @@ const JSON_START: &str = "HTTP/1.1 200 OK\r\nContent-Type: application/json\r\nC
 
 const JSON_FIELDS: &str = "\r\nConnection: close\r\n\r\n";
 
-/// What is made of a request: its whole answer, or what it asks, which is to be searched.
+/// What a request leads to: its whole answer, or a query to be searched.
 #[derive(Drop)]
 pub(crate) enum Made {
     Answer(Vec<u8>),
     PlanTask(PlanTask),
 }
 
-/// What is next with a request: what was made of it is there, or a backup is to be made.
+/// What comes next for a request: its result is there, or a backup has to be made.
 #[derive(Drop)]
 pub(crate) enum Next {
     Made(Made),
@@ -342,8 +342,9 @@ fn copied_answer<K: ServerClock>(alloc: Global, clock: &mut K) -> Option<Vec<u8>
     }
 }
 
-/// Serves the bytes that came, by their head, and gives the whole answer, or begins their query. A message is given the time
-/// that it is. A backup that they ask for is made. If memory runs out there is nothing, though what was asked for may be done.
+/// Serves the bytes that arrived, by their head: returns the whole answer, or their query, which is to be searched. It
+/// makes the backup that they ask for. A message gets the clock's time. If memory runs out it returns nothing, though
+/// the request may have been executed.
 pub(crate) fn made_of<K: ServerClock, B: Book>(
     alloc: Global,
     site: &Site,

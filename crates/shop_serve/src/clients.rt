@@ -1,5 +1,4 @@
-//! The open connections: since when each has its seconds, what came of it, the query that it asks, and how much of its
-//! answer was handed over.
+//! The open connections: each with its deadline's start, its query, and how much of its answer was sent.
 
 ghost use Rattle.std.specs.Prelude.{◌≡◌, ◌≢◌, ◌⊎◌, ◌<◌, ◌≤◌, ◌+◌, ◌-◌, ◌*◌, ◌↔◌, length, None, Some, true, false, IfSome, IsSome, IsSomeAnd};
 ghost use Rattle.std.specs.Time.{instant_nanos};
@@ -29,14 +28,14 @@ use slab::Slab;
 use std::alloc::Global;
 use std::time::{Duration, Instant};
 
-/// How many seconds a connection has to send its request, from when it was accepted, and then to take its answer.
+/// How many seconds a connection has to send its request, from accept, and then to take its answer.
 pub const PATIENCE: u64 = 10;
 
 /// The most connections that are open at once.
 pub const MAX_CLIENTS: usize = 256;
 
-/// An open connection: when it was accepted, its query was read or its answer was made, the bytes that came, how many are
-/// needed at least, the query that is searched, and the answer with how much of it was handed over.
+/// An open connection: when it was accepted, its query was read or its answer was made; the bytes that arrived; at
+/// least how many its request needs; its query, if one is searched; its answer, and how much of it was sent.
 #[derive(Drop)]
 pub(crate) struct Client<C> {
     pub(crate) stream: C,
@@ -48,7 +47,7 @@ pub(crate) struct Client<C> {
     pub(crate) sent: usize,
 }
 
-/// What comes of a connection that is serviced: it stays, or is closed, since it is over or memory ran out.
+/// What happens to a serviced connection: it stays open, or it is closed because it is over or memory ran out.
 #[derive(Clone, Copy, PartialEq, Eq)]
 pub(crate) enum ConnectionStatus {
     Stays,
@@ -85,7 +84,7 @@ fn answer_on<C: Connection>(client: &mut Client<C>) -> Given
     hand_over(&mut client.stream, answer, &mut client.sent)
 }
 
-/// Puts an answer into a connection. It has its seconds to take it from now on.
+/// Gives a connection its answer. From now on it has its seconds to take it.
 pub(crate) fn put_answer<C>(client: &mut Client<C>, answer: Vec<u8>, now: Instant)
     ensures { client.new ≡ put_answer client.old answer now }
 {
@@ -277,7 +276,7 @@ fn service_once<C: Connection, K: ServerClock, B: Book>(
     }
 }
 
-/// Services the connection of a key, and closes it when it is over or memory runs out.
+/// Services the connection under a key, and closes it if it is over or memory runs out.
 pub(crate) fn service_at<C: Connection + Drop, K: ServerClock, B: Book>(
     alloc: Global,
     site: &Site,
@@ -354,14 +353,14 @@ fn oldest<C>(clients: &Slab<Client<C>>) -> Option<usize>
     }
 }
 
-/// Whether one connection more may be open, perhaps in another's place.
+/// Whether another connection may be opened, perhaps in place of an open one.
 pub(crate) fn can_open_one<C>(clients: &Slab<Client<C>>) -> bool
     ensures { result ≡ true ↔ CanOpenOne clients.now }
 {
     clients.len() < MAX_CLIENTS || oldest(clients).is_some()
 }
 
-/// Closes the oldest connection that may go, where there are as many as may be.
+/// Closes the oldest connection that may be closed, if the maximum is open.
 fn evict_oldest<C: Drop>(clients: &mut Slab<Client<C>>)
     requires cleared { CanOpenOne clients.old }
     ensures cleared { EvictsOldest clients.old clients.new }
@@ -375,8 +374,8 @@ fn evict_oldest<C: Drop>(clients: &mut Slab<Client<C>>)
     }
 }
 
-/// Opens a connection, perhaps in another's place, and returns its key, under which it is registered. One that can't be opened
-/// is closed.
+/// Opens a connection, perhaps in place of another, and returns the key under which it is registered. If it can't be
+/// opened it is closed.
 pub(crate) fn open_client<C: Drop, P: Port<C>>(
     alloc: Global,
     port: &mut P,
@@ -416,7 +415,7 @@ fn is_late<C>(client: &Client<C>, now: Instant) -> bool
     client.task.is_none() && now.duration_since(client.since) >= Duration::from_secs(PATIENCE)
 }
 
-/// Closes the connections that have had their time.
+/// Closes the connections whose seconds are over.
 pub(crate) fn close_late<C: Drop>(clients: &mut Slab<Client<C>>, now: Instant)
     ensures late { ClosesLate now clients.old clients.new }
     ensures fewer { unanswered clients.new ≤ unanswered clients.old }

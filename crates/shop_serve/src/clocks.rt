@@ -1,5 +1,5 @@
-//! What a server learns beside its connections: its time, which stands still while a request is answered, backups, and whether
-//! the store's names still lead to its files.
+//! What a server needs beside its connections: its time, which stands still while a request is answered, its backups,
+//! and whether the store's names still lead to its files.
 
 ghost use Rattle.std.specs.Prelude.{◌≡◌, ◌+◌, ◌-◌, ◌<◌, ◌≤◌, IfSome, None, min, unwrap_or, option_map};
 ghost use Rattle.std.specs.Duration.{as_nanos, max_nanos};
@@ -17,19 +17,19 @@ use std::fs::Files;
 use std::io::Eprint;
 use std::time::{Clock, Duration, Instant};
 
-/// What reports a server's time, and makes its backups.
+/// The server's clock, which also makes its backups.
 pub(crate) trait ServerClock {
     ghost use Rattle.std.specs.Prelude.{◌≡◌, ℕ, IfSome, Option};
     ghost use Rattle.shop_serve.specs.Times.{Copies, Looks, Stands, Times, Reports, ReportsNone};
 
-    /// The times that it reported so far, where it stood still, what came of backups meanwhile, and where the store's names led, where they
+    /// The times reported so far, where it stood still, what backups led to, and where the store's names led, if these
     /// are known.
     ghost times: { Self → Times };
 
-    /// The second that its clock reads, where it is known.
+    /// The second that its clock reads, if it is known.
     ghost date: { Self → Option ℕ };
 
-    /// Reports the time, and goes on where it stood still.
+    /// Reports the time; the clock runs again if it stood still.
     fn now(&mut self) -> Instant
         ensures { Reports (times self.old) (times self.new) result };
 
@@ -37,7 +37,7 @@ pub(crate) trait ServerClock {
     fn stop(&mut self)
         ensures { Stands (times self.old) (times self.new) };
 
-    /// The second that it is, counted from 1970-01-01 00:00 UTC; 0 where it can't be read, or is before that.
+    /// The current second since 1970-01-01 00:00 UTC; 0 if it can't be read or is before that.
     fn second(&self) -> u64
         ensures { IfSome (date self.now) (λ second. result ≡ second) };
 
@@ -45,16 +45,16 @@ pub(crate) trait ServerClock {
     fn is_in_place(&mut self) -> bool
         ensures { Looks (times self.old) (times self.new) result };
 
-    /// Makes a backup of the store, and reports its number: 99 where it can't be made, and 98 because memory ran out. Who runs the
-    /// server is reported about all but the last.
+    /// Makes a backup of the store, and returns its number; 99 if it can't be made, 98 if memory ran out. Everything
+    /// but lack of memory is logged.
     fn back_up(&mut self, alloc: Global) -> Result<u32, Refusal>
         ensures { Copies (times self.old) (times self.new) result };
 
-    /// Whether the store failed at a message, and none was done since.
+    /// Whether the store failed at a message, and no message succeeded since.
     fn has_failed(&self) -> bool;
 
-    /// Notes an answer, to a message or to something else: whether the store failed; and reports who runs the server of one of 98
-    /// or 99.
+    /// Takes note of an answer, to a message or to something else: records whether the store failed, and logs an answer
+    /// 98 or 99.
     fn note(&mut self, is_message: bool, answer: &[u8])
         ensures { ReportsNone (times self.old) (times self.new) };
 }
@@ -67,7 +67,7 @@ struct Timer {
     still: Duration,
 }
 
-/// The timer of a clock, the names of a store, its backups, where any are made, and whether it failed.
+/// The timer of a clock, the names of a store, its backups, if any are made, and whether it failed.
 #[derive(Drop)]
 pub(crate) struct PausableClock<'a, R> {
     clock: &'a R,
@@ -80,7 +80,7 @@ pub(crate) struct PausableClock<'a, R> {
 }
 
 impl<'a, R: Clock> PausableClock<'a, R> {
-    /// The time of this clock, from now on. `Port` where it can't be read.
+    /// The time of this clock, from now on. `Port`: it can't be read.
     pub(crate) fn new(
         clock: &'a R,
         alloc: Global,
@@ -162,7 +162,7 @@ fn stand_still(timer: Timer, reading: Option<Instant>) -> Timer
     }
 }
 
-/// Whether an answer reports that what was asked for was done: its request was read to the last byte.
+/// Whether an answer reports success: then its request was read to the last byte.
 pub(crate) fn is_done(answer: &[u8]) -> bool
     ensures { result ≡ is_done answer.now }
 {

@@ -1,4 +1,4 @@
-//! What a server reads from and writes to, as far as it goes without waiting: a connection, and that of a socket.
+//! Connections that a server reads and writes without waiting, and sockets as such.
 
 ghost use Rattle.std.specs.Prelude.{◌≡◌, ◌<◌, ◌≤◌, ℕ, List, Option, None, Err, length, IfOk, ⊤};
 ghost use Rattle.shop_serve.specs.declared.connections.Stall.TheVariants.{Waits, Lost};
@@ -18,27 +18,27 @@ pub(crate) enum Stall {
     Lost,
 }
 
-/// A connection: bytes come of it, and it takes bytes, as far as that goes without waiting.
+/// A connection, read and written without waiting.
 pub(crate) trait Connection {
-    /// What still comes of it, where that is known.
+    /// The input that is still to be read, if it is known.
     ghost remaining: { Self → Option (List ℕ) };
 
-    /// What it took, where that is known.
+    /// The output that it took, if it is known.
     ghost contents: { Self → Option (List ℕ) };
 
-    /// It was given the end of what it takes.
+    /// The end of its output was sent.
     ghost has_ended: { Self → Type 0 };
 
-    /// Nothing more came of it so far.
+    /// No more input arrived so far.
     ghost is_drained: { Self → Type 0 };
 
-    /// It takes no more now.
+    /// It takes no more output now.
     ghost is_full: { Self → Type 0 };
 
-    /// It can't be read any more, or takes nothing more.
+    /// It can't be read any more, or takes no more output.
     ghost is_lost: { Self → Type 0 };
 
-    /// Reads the next bytes that came of it, or none at their end.
+    /// Reads the next bytes that arrived, or none at their end.
     fn read_some(&mut self, buffer: &mut [u8]) -> Result<usize, Stall>
         ensures within { IfOk result (λ count. count ≤ length buffer.old) }
         ensures long { length buffer.new ≡ length buffer.old }
@@ -48,7 +48,7 @@ pub(crate) trait Connection {
         ensures kept { contents self.new ≡ contents self.old }
         ensures ended { has_ended self.old → has_ended self.new };
 
-    /// Has it take the first of some bytes.
+    /// Lets it take a prefix of some bytes.
     fn write_some(&mut self, bytes: &[u8]) -> Result<usize, Stall>
         ensures within { IfOk result (λ count. count ≤ length bytes.now) }
         ensures some { IfOk result (λ count. 0 < count) }
@@ -57,7 +57,7 @@ pub(crate) trait Connection {
         ensures lost { result ≡ Err Lost → is_lost self.new }
         ensures kept { remaining self.new ≡ remaining self.old };
 
-    /// Ends what it takes.
+    /// Ends its output.
     fn end_writing(&mut self)
         ensures ended { has_ended self.new }
         ensures kept { contents self.new ≡ contents self.old };

@@ -13,7 +13,7 @@ const HOUR: u64 = 3600;
 // What is reported about a clock that is behind.
 const BEHIND: &str = "cutshop: the clock is behind the last entry by over an hour\n";
 
-/// The second that the machine's clock reads, counted from 1970-01-01 00:00 UTC. 0 where it can't be read, or is before that.
+/// The second that the machine's clock reads, since 1970-01-01 00:00 UTC; 0 if it can't be read or is before that.
 pub fn second_now<R: Clock>(rt: &R) -> u64 {
     match SystemTime::now(rt) {
         Ok(now) => match now.duration_since(SystemTime::UNIX_EPOCH) {
@@ -31,7 +31,7 @@ fn is_behind(second: u64, last: u64) -> bool
     last.saturating_sub(second) > HOUR
 }
 
-/// Reports that the machine's clock is behind the last entry by over an hour, where it is.
+/// Logs that the machine's clock is over an hour behind the last entry, if it is.
 pub fn note_clock<R: Eprint + Clock>(rt: &R, lines: &mut Lines, last: u64) {
     if is_behind(second_now(rt), last) {
         lines.write(rt, BEHIND);

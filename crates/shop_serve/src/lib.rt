@@ -1,5 +1,5 @@
-//! Connections of a listener, many at once: whichever has bytes is read, and each request is answered whole, one after
-//! another, from a book. `plans` queries are searched beside that.
+//! A server for many connections at once: it reads whichever has bytes, and answers each whole request from a book, one
+//! after another. Between requests it searches `plans` queries.
 #![tactic(auto)]
 
 mod answers;

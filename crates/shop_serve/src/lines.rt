@@ -1,5 +1,5 @@
-//! Lines for standard error. One that can't be written at once is dropped and counted, and equal ones are written once a minute, so
-//! that nobody has to read them.
+//! Lines for standard error, which nobody has to read: a line that can't be written at once is dropped and counted, and
+//! equal lines are written once a minute.
 
 ghost use Rattle.std.specs.Prelude.{◌≡◌, IfOk, string_bytes};
 ghost use Rattle.shop_serve.specs.Lines.{due_at, due_of, is_line, line_text, lost_text, times_text};
@@ -30,14 +30,14 @@ pub(crate) struct Known {
     left_out: u32,
 }
 
-/// What is to be done with a line: it is written, behind as many equal ones as were left out; or it is left out.
+/// What to do with a line: write it, with the number of equal ones that were left out; or leave it out.
 #[derive(Clone, Copy, Debug, PartialEq, Eq)]
 pub(crate) enum Due {
     Written(u32),
     LeftOut,
 }
 
-/// Lines for standard error: those that were written, and how many couldn't be since the last that was.
+/// Lines for standard error: those already written, and how many were dropped since the last one.
 #[derive(Drop)]
 pub struct Lines {
     alloc: Global,
@@ -133,7 +133,7 @@ fn forget_oldest(known: &mut Vec<Known>) {
 }
 
 impl Lines {
-    /// Without any so far.
+    /// No line was written so far.
     pub fn new(alloc: Global) -> Lines {
         Lines {
             alloc,
@@ -201,8 +201,9 @@ impl Lines {
         self.lost = self.lost.saturating_add(1);
     }
 
-    /// Writes a line, which has its end. One that can't be written at once is dropped; where some were, their number stands before the next. An equal
-    /// one is written again after a minute, with how many were left out. Where the clock can't be read each one is written.
+    /// Writes a line, which includes its line end. A line that can't be written at once is dropped, and the next line
+    /// is preceded by the number of dropped ones. A line equal to an earlier one is written again after a minute, with
+    /// how many were left out. If the clock can't be read, each line is written.
     pub fn write<R: Eprint + Clock>(&mut self, rt: &R, line: &str) {
         match Instant::now(rt) {
             Ok(now) => match due_of(&self.known, line, now) {

@@ -1,4 +1,4 @@
-//! What connections come by: a port, and a listener that is registered.
+//! Where connections come from: a port, and a listener that is registered.
 
 ghost use Rattle.std.specs.Prelude.{◌≡◌, ℕ, List, Option, None, OnOk, map, true, false, ⊤};
 ghost use Rattle.mio.specs.Events.{items};
@@ -52,7 +52,7 @@ fn port_cause(error: &io::Error) -> PortCause {
     }
 }
 
-/// Listens on a port of this machine, with the longest row of connections waiting that the system allows.
+/// Listens on a port of this machine, with the longest queue of waiting connections that the system allows.
 pub fn listen<R: Net>(rt: &R, port: u32) -> Result<Listener, PortCause> {
     let Ok(number) = u16::try_from(port) else {
         return Err(PortCause::Refused);
@@ -64,24 +64,24 @@ pub fn listen<R: Net>(rt: &R, port: u32) -> Result<Listener, PortCause> {
     }
 }
 
-/// What connections come by: it reports which of them have something, and gives those that come.
+/// Where connections come from: it reports which of them are ready, and accepts new ones.
 pub(crate) trait Port<C> {
-    /// The keys that it reported so far, where they are known.
+    /// The keys reported so far, if they are known.
     ghost all_reported: { Self → Option (List ℕ) };
 
-    /// The connections that it gave so far, where they are known.
+    /// The connections accepted so far, if they are known.
     ghost given: { Self → Option (List C) };
 
     /// The keys that the last wait reported.
     ghost reported: { Self → List ℕ };
 
-    /// It has a connection reported under a key.
+    /// It reports a connection under a key.
     ghost is_registered: { Self → C → ℕ → Type 0 };
 
-    /// It can't have one more connection reported.
+    /// It can't report one more connection.
     ghost is_deaf: { Self → Type 0 };
 
-    /// Waits until something is reported, or for so long.
+    /// Waits until a connection is ready, or for this long.
     fn wait(&mut self, wait: Duration) -> Result<(), ServeFault>
         ensures reported { OnOk result (Adds (all_reported self.old) (all_reported self.new) (reported self.new)) }
         ensures given { given self.new ≡ given self.old };
@@ -90,12 +90,12 @@ pub(crate) trait Port<C> {
     fn keys(&self) -> &[usize]
         ensures { result.now ≡ reported self.now };
 
-    /// The next connection, where one waits and can be accepted now.
+    /// The next connection, if one waits and can be accepted now.
     fn accept(&mut self) -> Result<Option<C>, ServeFault>
         ensures given { Adds (given self.old) (given self.new) (given_by result) }
         ensures reported { all_reported self.new ≡ all_reported self.old };
 
-    /// Has a connection reported under a key from now on.
+    /// Reports a connection under a key from now on; false if it can't.
     fn register(&mut self, stream: &mut C, key: usize) -> bool
         ensures same { stream.new ≡ stream.old }
         ensures registered { result ≡ true → is_registered self.new stream.new key }
@@ -104,7 +104,7 @@ pub(crate) trait Port<C> {
         ensures given { given self.new ≡ given self.old };
 }
 
-/// A listener that is registered beside the connections that it gave.
+/// A listener that is registered beside the connections that it accepted.
 #[derive(Drop)]
 pub(crate) struct RegisteredListener<'a> {
     listener: &'a Listener,

@@ -1,4 +1,4 @@
-//! The run of a server, by which one that was started anew is distinguished from the one before.
+//! The run of a server, which distinguishes a restarted server from the one before.
 
 ghost use Rattle.std.specs.Prelude.{IfOk, IfSome, string_bytes};
 ghost use Rattle.shop_serve.specs.Runs.{IsRun};
@@ -6,8 +6,8 @@ ghost use Rattle.shop_serve.specs.Runs.{IsRun};
 use std::alloc::{AllocError, Global};
 use std::random::RandomSource;
 
-/// Draws a run: 16 hexadecimal digits, of random bytes of the system; or none, where it gives no such bytes. The only error is
-/// lack of memory.
+/// Draws a run: 16 hexadecimal digits from the system's random bytes, or none if the system gives no such bytes. The
+/// only error is lack of memory.
 pub fn draw_run<R: RandomSource>(rt: &R, alloc: Global) -> Result<Option<String>, AllocError>
     ensures { IfOk result (λ drawn. IfSome drawn (λ run. IsRun (string_bytes run))) }
 {

@@ -1,4 +1,4 @@
-//! Queries that are searched beside serving: one of them, once a round.
+//! Queries that are searched between requests: one of them, one step a round.
 
 ghost use Rattle.std.specs.Prelude.{◌≡◌, ◌≢◌, ◌≤◌, ℕ, None, true, false, IfOk, IfSome, IsSome, string_bytes};
 ghost use Rattle.std.specs.Duration.{as_nanos};
@@ -22,14 +22,14 @@ use slab::Slab;
 use std::alloc::{AllocError, Global};
 use std::time::{Duration, Instant};
 
-/// How many queries are searched at once at most.
+/// The most queries that are searched at once.
 pub const MAX_PLAN_TASKS: usize = 8;
 
-/// How many calls of a search a query has, though others wait to be begun.
+/// How many calls a query's search gets while others wait to be begun.
 pub const FAIR_CALLS: u32 = 200;
 
-/// A query that is searched, with what was found so far, when that was done last, and how many calls it still has though
-/// others wait. It waits where it has had no search step yet.
+/// A query being searched: what was found so far, when it last had a step, and how many calls it still has if others
+/// wait. Until its first step it waits.
 #[derive(Drop)]
 pub(crate) struct RunningTask {
     pub(crate) task: PlanTask,
@@ -144,7 +144,7 @@ fn advance(alloc: Global, task: &mut PlanTask, ends: bool) -> Result<Option<Stri
     Ok(Some(answer))
 }
 
-/// What came of a search step: it goes on, or its answer was made, or there was no memory to refuse it.
+/// The outcome of a search step: the search goes on, its answer was made, or memory was too short even to refuse it.
 #[derive(Clone, Copy)]
 pub(crate) enum Progress {
     GoesOn,
@@ -250,7 +250,8 @@ fn step_search_at<C: Connection + Drop, K: ServerClock>(
     }
 }
 
-/// Thinks once on one of the queries, where there is any, and hands over its answer where that is done or ends.
+/// Advances one of the queries, if there is any, by one step, and gives its connection the answer if the query is done
+/// or ends.
 pub(crate) fn step_search<C: Connection + Drop, K: ServerClock, B: Book>(
     alloc: Global,
     site: &Site,
@@ -289,7 +290,7 @@ fn time_to_wait<C>(clients: &Slab<Client<C>>, wait: Duration) -> Duration
     wait
 }
 
-/// For how long is waited next, where one may wait: for no time, while a query is searched.
+/// How long the next wait may take: no time while a query is searched. None if there is to be no wait.
 pub(crate) fn next_wait<C>(clients: &Slab<Client<C>>, wait: Option<Duration>) -> Option<Duration>
     ensures never { wait ≡ None → result ≡ None }
     ensures idle { NoneAsks clients.now → result ≡ wait }

@@ -1,5 +1,5 @@
-//! The rounds of a server: it waits, services connections, closes late ones, takes one search step of a query and accepts those that
-//! wait.
+//! The rounds of a server: it waits, services connections, closes late ones, advances one query by a search step, and
+//! accepts the connections that wait.
 
 ghost use Rattle.std.specs.Prelude.{◌≡◌, ◌≤◌, ◌+◌, ◌⊎◌, ℕ, List, length, IfErr, IfSome, OnOk};
 ghost use Rattle.std.specs.Duration.{as_nanos};
@@ -204,15 +204,17 @@ fn most_served(limit: Option<u32>) -> u64
     }
 }
 
-/// Serves connections, at most 256 at once, until as many as the limit says were accepted and are done with; without a limit
-/// it serves on, to 18446744073709551615. Whichever has bytes is read; a request is answered once it is whole, one after
-/// another. A fault of one ends that one alone. Each has 10 seconds from when it was accepted to the last byte of its request,
-/// and 10 more to take its answer; the time in which a request is answered isn't counted. Where 256 are open, the oldest that
-/// has no answer on its way and whose query has had no search step makes room for the next; where there is none, the next
-/// waits. A backup that is asked for is made between two requests.
+/// Serves connections until `limit` were accepted and closed again; without a limit, 18446744073709551615. At most 256
+/// are open at once. The server reads whichever has bytes, and answers each request once it is whole, one after
+/// another. An error of one connection ends only that one.
 ///
-/// `NoMemory` before the first connection; `Port` where none can be accepted for good, or waited for, and `Moved` where the names
-/// of the store lead to other files than at first, and then the rest isn't served.
+/// A connection has 10 seconds from accept to its request's last byte, and 10 more to take its answer; the time in
+/// which the server answers any request doesn't count. If 256 are open, the oldest that has no answer on its way, and
+/// whose query has had no search step, is closed for the next; if there is none, the next waits. The server makes a
+/// backup between two requests.
+///
+/// `NoMemory` comes only before the first connection. `Port`: connections can't be accepted any more, or waited for.
+/// `Moved`: the store's names lead to other files than at first. After these two the other connections aren't served.
 #[tactic(auto, using(crate::proofs::ServedRequests::none_served))]
 pub fn serve_on<R: Net + Clock + Eprint + Files, B: Book>(
     rt: &R,

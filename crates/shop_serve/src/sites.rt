@@ -1,4 +1,4 @@
-//! What is served on a port: the routes, the guard before them, a page, whether backups are made, and the run of the server.
+//! What is served on a port: the routes, the guard before them, a page, whether backups are made, and the server's run.
 
 ghost use Rattle.std.specs.Prelude.{◌≡◌, IfOk, is_some, option_map, string_bytes};
 ghost use Rattle.shop_request.specs.Guards.{IsGuardOf};
@@ -6,7 +6,8 @@ ghost use Rattle.shop_request.specs.Guards.{IsGuardOf};
 use shop_request::{Address, Guard, Routes};
 use std::alloc::{AllocError, Global};
 
-/// What is served on a port: the routes, a page, if there is one, and the run and the version of the server.
+/// What is served on a port: the routes, their guard, a page, which is empty if there is none, and the server's run and
+/// version.
 #[derive(Drop)]
 pub struct Site {
     pub(crate) routes: Routes,
@@ -17,7 +18,7 @@ pub struct Site {
 }
 
 impl Site {
-    /// Whether only requests under its own names are answered.
+    /// Whether only requests under the site's own host names are answered.
     pub fn judges_host(&self) -> bool
         ensures { result ≡ self.now.guard.judges_host }
     {
@@ -26,8 +27,8 @@ impl Site {
 
     ghost use Rattle.shop_serve.specs.Sites.{HasPage};
 
-    /// The site of what is reached at an address, with a page of these bytes, or without one, and with backups or without any; of
-    /// a run and a version of the server, of letters and digits. The only error is lack of memory.
+    /// The site at an address, with a page of these bytes or none, with backups or without, and with the server's run
+    /// and version, of letters and digits. The only error is lack of memory.
     pub fn new(
         alloc: Global,
         address: &Address,

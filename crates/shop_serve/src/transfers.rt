@@ -1,4 +1,4 @@
-//! Bytes taken from a connection until they are a whole request, and the bytes of its answer handed over.
+//! Reads a connection until its bytes are a whole request, and sends the bytes of its answer.
 
 ghost use Rattle.std.specs.Prelude.{◌≡◌, ◌≢◌, ◌⊎◌, ◌<◌, ◌≤◌, ◌++◌, ℕ, List, Option, [], length, take};
 ghost use Rattle.shop_serve.specs.Clients.{AwaitsMore, IsMute, StopsAt};
@@ -21,7 +21,7 @@ const MAX_BYTES: usize = 150_000;
 // How often is read at once of what is dropped: more than a socket keeps.
 const MAX_DROPS: u32 = 1024;
 
-/// What a read brought.
+/// The outcome of one read.
 #[derive(Clone, Copy, PartialEq, Eq)]
 pub(crate) enum ReadOutcome {
     More,
@@ -31,7 +31,7 @@ pub(crate) enum ReadOutcome {
     NoMemory,
 }
 
-/// What came of taking bytes.
+/// The outcome of reading a request.
 #[derive(Clone, Copy, PartialEq, Eq)]
 pub(crate) enum Taken {
     Whole,
@@ -81,8 +81,8 @@ fn at_end(received: &[u8]) -> Taken
     Taken::Whole
 }
 
-/// Takes the bytes that have come, until they make a whole request or a fault, or end; and gives what was read of their head.
-/// `needed` is how many that takes at least, as far as it is known: with fewer the head isn't read again.
+/// Takes the bytes that have arrived until they are a whole request or an error, or end, and reads their head.
+/// `needed`, if known, is how many bytes that takes at least: with fewer the head isn't parsed again.
 pub(crate) fn take_bytes<C: Connection>(
     routes: &Routes,
     stream: &mut C,
@@ -126,7 +126,7 @@ pub(crate) fn take_bytes<C: Connection>(
     Taken::Over
 }
 
-/// What came of handing over bytes.
+/// The outcome of sending an answer.
 #[derive(Clone, Copy, PartialEq, Eq)]
 pub(crate) enum Given {
     Whole,
@@ -135,8 +135,8 @@ pub(crate) enum Given {
     NoMemory,
 }
 
-/// Hands over what is left of an answer, as far as it is taken: after what was handed over before come the next of its
-/// bytes, and no others. After its last byte it is ended.
+/// Sends what is left of an answer, as far as the connection takes it: the bytes after those already sent, and no
+/// others. After the last byte the output is ended.
 pub(crate) fn hand_over<C: Connection>(stream: &mut C, answer: &[u8], sent: &mut usize) -> Given
     requires { sent.old ≤ length answer.now }
     ensures within { sent.new ≤ length answer.now }
@@ -160,8 +160,8 @@ pub(crate) fn hand_over<C: Connection>(stream: &mut C, answer: &[u8], sent: &mut
     Given::Whole
 }
 
-/// What is left of a connection's input, after what was dropped of it: more may come, and nothing did so far, or it comes without
-/// a pause; or nothing does.
+/// What may still follow the input that was dropped: more may arrive but hasn't so far, more arrives without a pause,
+/// or nothing does, because the input ended or is lost.
 #[derive(Clone, Copy, PartialEq, Eq)]
 pub(crate) enum Rest {
     MayCome,
@@ -170,7 +170,7 @@ pub(crate) enum Rest {
     Lost,
 }
 
-/// Reads what still comes and drops it.
+/// Reads the remaining input and drops it.
 pub(crate) fn drop_rest<C: Connection>(stream: &mut C) -> Rest
     ensures drained { result ≡ rest.MayCome → C.is_drained stream.new }
     ensures ended { result ≡ rest.Ended → IsAtEnd (C.remaining stream.new) }

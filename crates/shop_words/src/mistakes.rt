@@ -1,4 +1,4 @@
-//! What is wrong with words that `clap` takes and that ask for nothing.
+//! What is wrong with words that `clap` accepts but that aren't a request.
 
 ghost use Rattle.std.specs.Prelude.{◌≡◌, true, IfOk, IfSome, string_bytes};
 ghost use Rattle.clap.specs.Words.{first_of, found_of, rows_of, subcommand_rows_of};
@@ -14,16 +14,16 @@ use clap::ArgMatches;
 use cut_measure::Code;
 use std::alloc::{AllocError, Global};
 
-/// Why words that `clap` takes ask for nothing.
+/// Why words that `clap` accepts aren't a request.
 #[derive(Clone, Copy, Debug)]
 pub enum Mistake<'a> {
-    /// What stands for MATERIAL is no code.
+    /// MATERIAL isn't a code.
     Material(&'a str),
-    /// What stands for `--order` is no code.
+    /// The text of `--order` isn't a code.
     Order(&'a str),
-    /// What stands for an `--origin` is none.
+    /// The text of an `--origin` isn't one.
     Origin(&'a str),
-    /// A message is to be made of an order file, without this option.
+    /// A message is to be made of an order file, but this option is missing.
     NoOrder,
     NoTerminal,
     NoNumber,
@@ -31,9 +31,9 @@ pub enum Mistake<'a> {
     NoKerf,
     /// A plan of one rectangle has no step.
     NoStep,
-    /// `--calls` stands without `--whole`.
+    /// `--calls` is given without `--whole`.
     LoneCalls,
-    /// `--stages` stands without `--whole`.
+    /// `--stages` is given without `--whole`.
     LoneStages,
     /// A plan of an order file lacks this option.
     NoWhole,
@@ -45,9 +45,9 @@ pub enum Mistake<'a> {
     WithStep,
     /// There are over 10 sizes.
     ManySizes,
-    /// `--keep` stands without `--backup`.
+    /// `--keep` is given without `--backup`.
     LoneKeep,
-    /// There are over 10 names of hosts.
+    /// There are over 10 host names.
     ManyHosts,
     /// There are over 10 origins.
     ManyOrigins,
@@ -250,7 +250,7 @@ fn lines_reason(mistake: Mistake<'_>) -> &'static str
     }
 }
 
-/// The text that reports a mistake, as `clap` reports its own.
+/// The text that reports a mistake, in the form of `clap`'s own.
 pub fn mistake_text(alloc: Global, mistake: Mistake<'_>) -> Result<String, AllocError>
     ensures { IfOk result (λ text. string_bytes text ≡ spec.mistake_text mistake.entry) }
 {

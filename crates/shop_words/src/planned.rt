@@ -64,7 +64,7 @@ fn problem_request<'a>(plan: &ArgMatches<'a>) -> Option<Request<'a>>
     }
 }
 
-/// Whether one of the options is there that only the plan of an order file has.
+/// Whether an option is given that belongs only to the plan of an order file.
 pub(crate) fn names_stock(plan: &ArgMatches<'_>) -> bool
     ensures { result ≡ line.names_stock (rows_of (found_of plan.now)) }
 {

@@ -69,7 +69,8 @@ fn reading_of<'a>(alloc: Global, matches: &ArgMatches<'a>) -> Result<Reading<'a>
     }
 }
 
-/// What the words ask for, the program's own name before them. An Err is `clap`'s, for help and for a fault of the words.
+/// The request of the words, the first of which is the program's name. An `Err` is `clap`'s, for help or an error in
+/// the words.
 pub fn request_of<'a>(alloc: Global, words: &'a [String]) -> Result<Reading<'a>, Error>
     ensures ok { IfOk result (λ reading.
         (fault_of line.shop_app (map string_bytes words.entry.now) ≡ [])

@@ -97,7 +97,7 @@ fn first_bad<'a>(texts: &[&'a str]) -> Option<&'a str>
     None
 }
 
-/// The first text behind `--origin` that is no origin.
+/// The first text of an `--origin` that isn't an origin.
 pub(crate) fn bad_origin<'a>(serve: &ArgMatches<'a>) -> Option<&'a str>
     ensures { option_map (λ text. text.now) result
         ≡ line.bad_origin (line.texts_under (codes "origin") (rows_of (found_of serve.now))) }

@@ -7,7 +7,7 @@ ghost use Rattle.shop_words.specs.CommandLine as line;
 use clap::ArgMatches;
 use std::alloc::{AllocError, Global};
 
-/// The number that an option was given, if it is in a range.
+/// An option's number, if it is in a range.
 pub(crate) fn number_of(matches: &ArgMatches<'_>, name: &str, least: u32, most: u32) -> Option<u32>
     ensures { line.AsAsked result
         (line.HasNumber name.now (rows_of (found_of matches.now)) least most) }
@@ -22,14 +22,14 @@ pub(crate) fn number_of(matches: &ArgMatches<'_>, name: &str, least: u32, most: 
     Some(number)
 }
 
-/// Whether there is an option of this name.
+/// Whether an option of this name is given.
 pub(crate) fn has_option(matches: &ArgMatches<'_>, name: &str) -> bool
     ensures { result ≡ is_some (first_of name.now (rows_of (found_of matches.now))) }
 {
     matches.get_str(name).is_some()
 }
 
-/// The number that an option was given, if it is in a range; or none, where it isn't there.
+/// An option's number, if it is in a range; or none, if the option isn't given.
 pub(crate) fn number_if_any(
     matches: &ArgMatches<'_>,
     name: &str,
@@ -46,7 +46,7 @@ pub(crate) fn number_if_any(
     Some(Some(number))
 }
 
-/// Whether a flag is there.
+/// Whether a flag is given.
 pub(crate) fn has_flag(matches: &ArgMatches<'_>, name: &str) -> bool
     ensures { IsTrue result ↔ line.HasFlag name.now (rows_of (found_of matches.now)) }
 {
@@ -73,7 +73,7 @@ fn listed<'a>(alloc: Global, texts: &[&'a str]) -> Result<Vec<&'a str>, AllocErr
     texts.to_vec(alloc)
 }
 
-/// The texts that stand behind an option, one for each time that it is given.
+/// The texts of an option, one for each time that it is given.
 pub(crate) fn texts_under<'a>(
     alloc: Global,
     matches: &ArgMatches<'a>,

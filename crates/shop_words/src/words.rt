@@ -1,4 +1,4 @@
-//! The words of the command line, and what they may ask for.
+//! The words of the command line, and the requests that they may be.
 
 ghost use Rattle.std.specs.Prelude.{◌≡◌};
 ghost use Rattle.shop_words.specs.CommandLine as line;
@@ -21,25 +21,25 @@ pub const MIN_STAGES: u32 = 2;
 /// The greatest limit of a plan's stages.
 pub const MAX_STAGES: u32 = 255;
 
-/// The most connections that a limit says, and that are served without one where there is no page.
+/// The greatest limit of connections, which also holds without a limit if there is no page.
 pub const MAX_CONNECTIONS: u32 = 1_000_000;
 
 /// The greatest terminal, and the greatest number of a message.
 pub const MAX_PAIR: u32 = 4_294_967_295;
 
-/// The greatest number of an entry behind which entries are asked for.
+/// The greatest number of an entry after which entries are asked for.
 pub const MAX_AFTER: u32 = 4_294_967_295;
 
-/// The most backups of which `--keep` says that they stay.
+/// The most backups that stay by `--keep`.
 pub const MAX_KEPT: u32 = 10_000;
 
-/// The most names, and the most origins, that a server takes for its own.
+/// The most host names, and the most origins, that a server takes for its own.
 pub const MAX_NAMES: usize = 10;
 
 /// The most sizes of units from which an order file is planned.
 pub const MAX_SIZES: usize = 10;
 
-/// The program's version. One that was built without proofs reports another, with ` (unproved)` behind it.
+/// The program's version. A program built without proofs reports it followed by ` (unproved)`.
 pub const VERSION: &str = "1.1.0";
 
 /// Which message an order file becomes.
@@ -59,22 +59,22 @@ pub struct Serving<'a> {
     pub port: u32,
     pub store: &'a str,
     pub shop: &'a str,
-    /// How many connections, 1 to 1000000; where there is none, no number of them ends it.
+    /// How many connections, 1 to 1000000. None: no limit.
     pub limit: Option<u32>,
     pub page: Option<&'a str>,
     /// The folder of backups.
     pub backup: Option<&'a str>,
-    /// Whether a store that isn't there is a fault.
+    /// Whether a missing store is an error.
     pub existing: bool,
-    /// How many backups stay there, 1 to 10000, the newest; where there is none, all.
+    /// How many of the newest backups stay, 1 to 10000. None: all.
     pub keep: Option<u32>,
-    /// The names under which it is reached besides this machine's, at most 10, as they were given.
+    /// The host names besides this machine's, at most 10, as they were given.
     pub hosts: Vec<&'a str>,
     /// The origins of its pages besides this machine's, at most 10: `http://` or `https://`, a host, and maybe a port.
     pub origins: Vec<&'a str>,
 }
 
-/// From what the lines of an order file are planned, and for how long.
+/// The material and the units from which the lines of an order file are planned, and for how long.
 #[derive(Debug, Drop)]
 pub struct OrderPlan<'a> {
     pub file: &'a str,
@@ -162,7 +162,7 @@ pub enum Request<'a> {
     },
 }
 
-/// How words that `clap` takes are read: as what they ask for, or as a mistake, as they ask for nothing.
+/// What words that `clap` accepts are: a request, or a mistake.
 #[derive(Debug, Drop)]
 pub enum Reading<'a> {
     Request(Request<'a>),
@@ -212,7 +212,9 @@ pub(crate) enum Argument {
     Origin,
     Job,
     Material,
+    PrintedStore,
     KeptStore,
+    ReplacedStore,
     After,
     ReadOnly,
     From,
