@@ -1,5 +1,5 @@
 #!/usr/bin/env python3
-"""Prints all parts that stand, as CSV for a spreadsheet: material, part, batch, size in millimetres, state.
+"""Prints all standing and reserved parts, as CSV for a spreadsheet: material, part, batch, size in millimetres, state.
 
     examples/stock_report.py [http://127.0.0.1:8017] > stock.csv
 """
