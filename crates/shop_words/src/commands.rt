@@ -66,7 +66,7 @@ fn orders_command<'a>(alloc: Global) -> Result<Command<'a>, AllocError>
     new_command(
         alloc,
         "orders",
-        "Checks an order file: prints how many lines it has, or with --order, --terminal and --number the message that makes the order, to be posted as it is",
+        "Judges an order file: tells how many lines it has, or with three options the message that makes the order, to be posted as it is",
         "Examples:\n  cutshop orders orders.csv\n  cutshop orders orders.csv --shop shop.toml\n  cutshop orders orders.csv --order A-1 --terminal 1 --number 7",
         &[
             Argument::OrderFile,
@@ -109,7 +109,7 @@ fn ticket_command<'a>(alloc: Global) -> Result<Command<'a>, AllocError>
         "ticket",
         "Prints the ticket of a job: what is cut in which order, where, and for whom",
         "Example:\n  cutshop ticket --store shop.db 2",
-        &[Argument::PrintedStore, Argument::Job, Argument::ReadOnly],
+        &[Argument::Store, Argument::Job, Argument::ReadOnly],
     )
 }
 
@@ -121,11 +121,7 @@ fn yield_command<'a>(alloc: Global) -> Result<Command<'a>, AllocError>
         "yield",
         "Prints what became of a material, and which parts of it stand",
         "Example:\n  cutshop yield --store shop.db STEEL",
-        &[
-            Argument::PrintedStore,
-            Argument::Material,
-            Argument::ReadOnly,
-        ],
+        &[Argument::Store, Argument::Material, Argument::ReadOnly],
     )
 }
 
@@ -135,7 +131,7 @@ fn history_command<'a>(alloc: Global) -> Result<Command<'a>, AllocError>
     new_command(
         alloc,
         "history",
-        "Prints the entries of a shop's history, one a line: what was accepted, when, and the reply",
+        "Prints the entries of a shop's history, one a line: what was accepted, when, and what was told",
         "Examples:\n  cutshop history --store shop.db\n  cutshop history --store shop.db --after 812",
         &[Argument::KeptStore, Argument::After, Argument::ReadOnly],
     )
@@ -147,7 +143,7 @@ fn audit_command<'a>(alloc: Global) -> Result<Command<'a>, AllocError>
     new_command(
         alloc,
         "audit",
-        "Checks whether a store is whole: executes its history again in memory, and compares all replies and rows",
+        "Tells whether a store is whole: does its history anew in memory, and compares all replies and rows",
         "Example:\n  cutshop audit --store backups/3/shop.db",
         &[Argument::KeptStore, Argument::ReadOnly],
     )
@@ -159,9 +155,9 @@ fn restore_command<'a>(alloc: Global) -> Result<Command<'a>, AllocError>
     new_command(
         alloc,
         "restore",
-        "Puts a backup in the place of a store, whose old files stay as FILE.before and FILE.before-wal",
+        "Puts a backup in the place of a store, whose files stay under other names",
         "Example:\n  cutshop restore --store shop.db --from backups/3",
-        &[Argument::ReplacedStore, Argument::From],
+        &[Argument::KeptStore, Argument::From],
     )
 }
 
