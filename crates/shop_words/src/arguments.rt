@@ -57,15 +57,41 @@ fn store_arg<'a>(alloc: Global) -> Arg<'a>
     path_arg(
         alloc,
         "store",
-        "The file that keeps the shop's book; it is made where it isn't there",
+        "The file that keeps the shop's book; it is created if it doesn't exist",
     )
 }
 
-// The store of a command that makes none.
+// The store of a command that creates it, unless it only reads.
+fn printed_store_arg<'a>(alloc: Global) -> Arg<'a>
+    ensures { line.IsArg line.store_rule result }
+{
+    path_arg(
+        alloc,
+        "store",
+        "The file that keeps the shop's book; without --read-only it is created if it doesn't exist",
+    )
+}
+
+// The store of a command that never creates it.
 fn kept_store_arg<'a>(alloc: Global) -> Arg<'a>
     ensures { line.IsArg line.store_rule result }
 {
-    path_arg(alloc, "store", "The file that keeps the shop's book")
+    path_arg(
+        alloc,
+        "store",
+        "The file that keeps the shop's book; it has to exist",
+    )
+}
+
+// The store that a restore replaces.
+fn replaced_store_arg<'a>(alloc: Global) -> Arg<'a>
+    ensures { line.IsArg line.store_rule result }
+{
+    path_arg(
+        alloc,
+        "store",
+        "The file that keeps the shop's book, which is replaced; it may be missing or damaged, or have lost its log",
+    )
 }
 
 fn after_arg<'a>(alloc: Global) -> Arg<'a>
@@ -87,7 +113,7 @@ fn kerf_arg<'a>(alloc: Global) -> Arg<'a>
         alloc,
         "kerf",
         "N",
-        "What the saw takes, in tenths of a millimetre: 0 to 200; with --shop it isn't given",
+        "The width of the saw's cut, in tenths of a millimetre: 0 to 200; needed without --shop, and with it not allowed",
     )
     .value_parser(value_parser!(u32).range(0..=200))
 }
@@ -99,7 +125,7 @@ fn step_arg<'a>(alloc: Global) -> Arg<'a>
         alloc,
         "step",
         "N",
-        "The step to which sides are rounded, in tenths of a millimetre: 0 to 200000; with --whole it may be left out, and with --shop it isn't given",
+        "The step to whose multiples sides are rounded up, in tenths of a millimetre: 0 to 200000; needed without --whole, and with --shop not allowed",
     )
     .value_parser(value_parser!(u32).range(0..=200000))
 }
@@ -131,7 +157,7 @@ fn calls_arg<'a>(alloc: Global) -> Arg<'a>
         alloc,
         "calls",
         "N",
-        "With --whole, how long plans are searched for, in tables: 1 to 5000, else 500",
+        "With --whole, how long plans are searched for, in tables: 1 to 5000. Without it 500",
     )
     .value_parser(value_parser!(u32).range(1..=5000))
 }
@@ -143,7 +169,7 @@ fn stages_arg<'a>(alloc: Global) -> Arg<'a>
         alloc,
         "stages",
         "N",
-        "With --whole, how many stages a plan may have at most, runs of parallel cuts one behind another: 2 to 255, else any number",
+        "With --whole, how many stages a plan may have at most, each a run of parallel cuts: 2 to 255. Without it any number",
     )
     .value_parser(value_parser!(u32).range(2..=255))
 }
@@ -177,7 +203,7 @@ fn limit_arg<'a>(alloc: Global) -> Arg<'a>
         alloc,
         "limit",
         "N",
-        "How many connections are served before it ends: 1 to 1000000. Without it a page is served without an end, and else 1000000 are",
+        "How many connections are served before it ends: 1 to 1000000. Without it 1000000, or with --page no limit",
     )
     .value_parser(value_parser!(u32).range(1..=1000000))
 }
@@ -189,7 +215,7 @@ fn page_arg<'a>(alloc: Global) -> Arg<'a>
         alloc,
         "page",
         "FILE",
-        "The page that browsers get at http://127.0.0.1:N/, at most 1 MiB",
+        "The page that browsers get at http://127.0.0.1:PORT/, at most 1 MiB",
     )
 }
 
@@ -200,7 +226,7 @@ fn backup_arg<'a>(alloc: Global) -> Arg<'a>
         alloc,
         "backup",
         "FOLDER",
-        "The folder in which a backup of the store is made for each POST to /backup: 1, 2 and so on; it has to be there",
+        "The folder in which a backup of the store is made for each POST to /backup: 1, 2 and so on; it has to exist, and only its owner may write in it",
     )
 }
 
@@ -210,7 +236,7 @@ fn existing_arg<'a>(alloc: Global) -> Arg<'a>
     flag_arg(
         alloc,
         "existing",
-        "Makes no store: one that isn't there is a fault",
+        "Creates no store: if there is none, that is an error",
     )
 }
 
@@ -221,7 +247,7 @@ fn keep_arg<'a>(alloc: Global) -> Arg<'a>
         alloc,
         "keep",
         "N",
-        "With --backup, how many backups stay, the newest: 1 to 10000. Without it all do",
+        "With --backup, how many of the newest backups stay: 1 to 10000. Without it all do",
     )
     .value_parser(value_parser!(u32).range(1..=10000))
 }
@@ -254,7 +280,7 @@ fn read_only_arg<'a>(alloc: Global) -> Arg<'a>
     flag_arg(
         alloc,
         "read-only",
-        "Only reads the store's files, and makes none",
+        "Only reads the store's files: changes none, and creates none",
     )
 }
 
@@ -277,7 +303,7 @@ fn order_arg<'a>(alloc: Global) -> Arg<'a>
         alloc,
         "order",
         "CODE",
-        "The order's code in the message: 1 to 16 of A-Z, 0-9 and -; it stands with --terminal and --number",
+        "The order's code in the message: 1 to 16 of A-Z, 0-9 and -; it needs --terminal and --number",
     )
 }
 
@@ -340,7 +366,7 @@ fn plan_shop_arg<'a>(alloc: Global) -> Arg<'a>
         alloc,
         "shop",
         "FILE",
-        "The shop file of an order file's materials; it stands with --whole, --material and --size",
+        "The shop file of an order file's materials; it needs --whole, --material and --size",
     )
 }
 
@@ -407,7 +433,9 @@ pub(crate) fn arg_of<'a>(alloc: Global, argument: Argument) -> Arg<'a>
         Argument::Origin => origin_arg(alloc),
         Argument::Job => job_arg(alloc),
         Argument::Material => word_arg(alloc, "MATERIAL", "The material's code"),
+        Argument::PrintedStore => printed_store_arg(alloc),
         Argument::KeptStore => kept_store_arg(alloc),
+        Argument::ReplacedStore => replaced_store_arg(alloc),
         Argument::After => after_arg(alloc),
         Argument::ReadOnly => read_only_arg(alloc),
         Argument::From => from_arg(alloc),

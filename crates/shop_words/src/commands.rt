@@ -66,7 +66,7 @@ fn orders_command<'a>(alloc: Global) -> Result<Command<'a>, AllocError>
     new_command(
         alloc,
         "orders",
-        "Judges an order file: tells how many lines it has, or with three options the message that makes the order, to be posted as it is",
+        "Checks an order file: prints how many lines it has, or with --order, --terminal and --number the message that makes the order, to be posted as it is",
         "Examples:\n  cutshop orders orders.csv\n  cutshop orders orders.csv --shop shop.toml\n  cutshop orders orders.csv --order A-1 --terminal 1 --number 7",
         &[
             Argument::OrderFile,
@@ -109,7 +109,7 @@ fn ticket_command<'a>(alloc: Global) -> Result<Command<'a>, AllocError>
         "ticket",
         "Prints the ticket of a job: what is cut in which order, where, and for whom",
         "Example:\n  cutshop ticket --store shop.db 2",
-        &[Argument::Store, Argument::Job, Argument::ReadOnly],
+        &[Argument::PrintedStore, Argument::Job, Argument::ReadOnly],
     )
 }
 
@@ -121,7 +121,11 @@ fn yield_command<'a>(alloc: Global) -> Result<Command<'a>, AllocError>
         "yield",
         "Prints what became of a material, and which parts of it stand",
         "Example:\n  cutshop yield --store shop.db STEEL",
-        &[Argument::Store, Argument::Material, Argument::ReadOnly],
+        &[
+            Argument::PrintedStore,
+            Argument::Material,
+            Argument::ReadOnly,
+        ],
     )
 }
 
@@ -131,7 +135,7 @@ fn history_command<'a>(alloc: Global) -> Result<Command<'a>, AllocError>
     new_command(
         alloc,
         "history",
-        "Prints the entries of a shop's history, one a line: what was accepted, when, and what was told",
+        "Prints the entries of a shop's history, one a line: what was accepted, when, and the reply",
         "Examples:\n  cutshop history --store shop.db\n  cutshop history --store shop.db --after 812",
         &[Argument::KeptStore, Argument::After, Argument::ReadOnly],
     )
@@ -143,7 +147,7 @@ fn audit_command<'a>(alloc: Global) -> Result<Command<'a>, AllocError>
     new_command(
         alloc,
         "audit",
-        "Tells whether a store is whole: does its history anew in memory, and compares all replies and rows",
+        "Checks whether a store is whole: executes its history again in memory, and compares all replies and rows",
         "Example:\n  cutshop audit --store backups/3/shop.db",
         &[Argument::KeptStore, Argument::ReadOnly],
     )
@@ -155,9 +159,9 @@ fn restore_command<'a>(alloc: Global) -> Result<Command<'a>, AllocError>
     new_command(
         alloc,
         "restore",
-        "Puts a backup in the place of a store, whose files stay under other names",
+        "Puts a backup in the place of a store, whose old files stay as FILE.before and FILE.before-wal",
         "Example:\n  cutshop restore --store shop.db --from backups/3",
-        &[Argument::KeptStore, Argument::From],
+        &[Argument::ReplacedStore, Argument::From],
     )
 }
 

@@ -453,10 +453,19 @@ COMMANDS = {
 }
 
 
+# What help says of the stores of commands.
+STORED = {
+    "book; it is created if it doesn't exist": ("serve",),
+    "without --read-only it is created if it doesn't exist": ("ticket", "yield"),
+    "it has to exist\n": ("history", "audit"),
+    "it may be missing or damaged": ("restore",),
+}
+
+
 @case(
     "help",
     "Help names each command, says what it is for, and names each of its options on standard output, with status 0. It says of the "
-    "store of `serve`, `ticket` and `yield` that it is made, and of no other.",
+    "store of each whether it is created, has to exist, or may be missing.",
 )
 def helped(trial):
     for asked in (["--help"], ["help"]):
@@ -468,8 +477,7 @@ def helped(trial):
         for asked in ([command, "--help"], ["help", command]):
             ran = trial.run(*asked)
             trial.equal((ran.status, ran.err, [it for it in [about, *named] if it not in ran.out.decode()]), (0, b"", []), asked)
-            made = b"it is made where it isn't there" in ran.out
-            trial.equal(made, command in ("serve", "ticket", "yield"), asked)
+            trial.equal([it for it in STORED if it in ran.out.decode()], [it for it, of in STORED.items() if command in of], asked)
 
 
 @case(
