@@ -160,11 +160,24 @@ fn note_keys(events: &Events, keys: &mut Vec<usize>) -> Result<(), AllocError>
     Ok(())
 }
 
-// Whether an error says that no connection can be accepted for good: EBADF, EINVAL, ENOTSOCK and EOPNOTSUPP. Any other, as
-// running out of descriptors or memory, is temporary.
+// Whether an error says that no connection can be accepted for good: EBADF, EINVAL and ENOTSOCK. Any other, as running out of
+// descriptors or memory, is temporary.
 fn is_gone(error: &io::Error) -> bool {
     match error.raw_os_error() {
-        Some(number) => number == 9 || number == 22 || number == 88 || number == 95,
+        Some(number) => number == 9 || number == 22 || number == 88,
+        None => false,
+    }
+}
+
+// Whether an error concerns only the connection that waited, which it takes from the queue: ENONET, EPROTO, ENOPROTOOPT,
+// EOPNOTSUPP, ENETDOWN, ENETUNREACH, EHOSTDOWN and EHOSTUNREACH. By these accept(2) reports errors of its network.
+fn is_of_connection(error: &io::Error) -> bool {
+    match error.raw_os_error() {
+        Some(number) => {
+            let is_protocol = number == 71 || number == 92 || number == 95;
+            let is_network = number == 64 || number == 100 || number == 101;
+            is_protocol || is_network || number == 112 || number == 113
+        }
         None => false,
     }
 }
@@ -176,6 +189,7 @@ fn next_stream(listener: &Listener) -> Result<Option<Stream>, ServeFault> {
             Ok((stream, _)) => return Ok(Some(stream)),
             Err(error) => match error.kind() {
                 ErrorKind::Interrupted | ErrorKind::ConnectionAborted => (),
+                _ if is_of_connection(&error) => (),
                 _ if is_gone(&error) => return Err(ServeFault::Port),
                 _ => return Ok(None),
             },

@@ -15,6 +15,20 @@ NONE_YET = b'{"name":"NoMaterial","refused":20}'
 # An accept is tried so often where those that waited went away.
 TRIES = 1000
 
+# By these accept(2) reports that it was interrupted, or that the connection that waited went away or failed on its network.
+AGAIN = (
+    errno.EINTR,
+    errno.ECONNABORTED,
+    errno.EPROTO,
+    errno.EOPNOTSUPP,
+    errno.ENOPROTOOPT,
+    errno.ENETDOWN,
+    errno.ENETUNREACH,
+    errno.EHOSTDOWN,
+    errno.EHOSTUNREACH,
+    errno.ENONET,
+)
+
 # A turn takes a second at most where nothing comes.
 SOON = 4
 
@@ -109,7 +123,7 @@ def unwatched(trial):
 )
 def gone(trial):
     shop_file = trial.write("shop.toml", "")
-    for error in (errno.EBADF, errno.EINVAL, errno.ENOTSOCK, errno.EOPNOTSUPP):
+    for error in (errno.EBADF, errno.EINVAL, errno.ENOTSOCK):
         port, faults = free_port(), Faults(trial, "accept", at=1, error=error)
         store = f"{error}.db"
         ran = serving(trial, port, store, shop_file, environment=faults.environment)
@@ -122,7 +136,7 @@ def gone(trial):
     "Where descriptors or memory are wanting, or a connection is bad, the shop goes on: the connections that wait are answered soon.",
 )
 def passes(trial):
-    for error in (errno.EMFILE, errno.ENFILE, errno.ENOMEM, errno.ENOBUFS, errno.EPROTO, errno.EPERM, errno.ECONNABORTED, errno.EINTR):
+    for error in (errno.EMFILE, errno.ENFILE, errno.ENOMEM, errno.ENOBUFS, errno.EPERM, *AGAIN):
         shop = trial.shop(f"{error}.db", environment=Faults(trial, "accept", at=1, error=error).environment)
         for _ in range(2):
             begin = time.monotonic()
@@ -134,11 +148,11 @@ def passes(trial):
 
 @case(
     "an accept that is made again",
-    "Where it is interrupted, or the connection that waited went away, it is made again at once, 1000 times in a row, and the shop "
-    "goes on.",
+    "Where it is interrupted, or the connection that waited went away or failed on the network, it is made again at once, 1000 times in a "
+    "row, and the shop goes on.",
 )
 def again(trial):
-    for error in (errno.EINTR, errno.ECONNABORTED):
+    for error in AGAIN:
         says = errno.errorcode[error]
         faults = Faults(trial, "accept", at=2, on=True, error=error)
         shop = trial.shop(f"{error}.db", environment=faults.environment)
