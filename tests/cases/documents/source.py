@@ -256,6 +256,7 @@ FAULTED = {
     "shop_machine/src/entering.rt enter StoreFault": (1, "an entry behind the last of all numbers of 64 bits"),
     "shop_statements/src/columns.rt order_of_text Store": (1, "a text that is no code"),
     "shop_statements/src/columns.rt word_of_entry Store": (1, "a text that is no word of a command"),
+    "shop_store/src/entries.rt find_remembered Store": (1, "hands on a fault of the tables, unless a row is no entry's"),
     "shop_store/src/ledger_book.rt fault Store": (1, "numbers or totals that a ledger can't hold, by its contract"),
     "shop_store/src/loading.rt load_orders Store": (1, "more orders than a shop has"),
     "shop_store/src/numbered.rt load_numbered Store": (1, "more rows than a table of numbers has"),
