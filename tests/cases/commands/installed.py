@@ -7,24 +7,19 @@ import subprocess
 
 from kit.case import TOP, Skipped, case
 
-# Each file with its mode.
+# Each file with its mode, and then the documents, which stand below one folder as in a checkout.
 INSTALLED = {
     "bin/cutshop": 0o755,
     "share/cutshop/page.html": 0o644,
     "share/man/man1/cutshop.1": 0o644,
     "lib/systemd/system/cutshop@.service": 0o644,
-    "share/doc/cutshop/README.md": 0o644,
-    "share/doc/cutshop/CHANGELOG.md": 0o644,
-    "share/doc/cutshop/LICENSE-MIT": 0o644,
-    "share/doc/cutshop/LICENSE-APACHE": 0o644,
-    "share/doc/cutshop/OPERATING.md": 0o644,
-    "share/doc/cutshop/FORMATS.md": 0o644,
-    "share/doc/cutshop/openapi.json": 0o644,
-    "share/doc/cutshop/SHOP.md": 0o644,
-    "share/doc/cutshop/SPREADSHEETS.md": 0o644,
-    "share/doc/cutshop/PLANNING.md": 0o644,
-    "share/doc/cutshop/errors.txt": 0o644,
 }
+DOCUMENTS = "share/doc/cutshop"
+TEXTS = ("README.md", "CHANGELOG.md", "CONTRIBUTING.md", "LICENSE-MIT", "LICENSE-APACHE")
+FOLDERS = ("docs", "examples")
+
+# A link of a document to another file.
+LINK = re.compile(r"\]\(([^)#:]+)(?:#[^)]*)?\)")
 
 
 def text_of(*parts):
@@ -37,11 +32,28 @@ def checkout(trial):
     top = trial.path("checkout")
     os.makedirs(os.path.join(top, "crates", "cutshop", "out"))
     shutil.copy(trial.program, os.path.join(top, "crates", "cutshop", "out", "cutshop"))
-    for name in ("install", "README.md", "CHANGELOG.md", "LICENSE-MIT", "LICENSE-APACHE"):
+    for name in ("install", *TEXTS):
         shutil.copy(os.path.join(TOP, name), top)
-    for name in ("packaging", "docs", "page"):
-        shutil.copytree(os.path.join(TOP, name), os.path.join(top, name))
+    for name in ("packaging", "page", *FOLDERS):
+        shutil.copytree(os.path.join(TOP, name), os.path.join(top, name), ignore=shutil.ignore_patterns("__pycache__"))
     return top
+
+
+def documents():
+    """The documents of a checkout, by their places below it."""
+    found = [f"{folder}/{name}" for folder in FOLDERS for name in os.listdir(os.path.join(TOP, folder)) if name != "__pycache__"]
+    return [*TEXTS, *found]
+
+
+def lost_links(folder):
+    """The links of the documents below a folder that lead to no file there."""
+    found = []
+    for at, _, names in os.walk(folder):
+        for name in (it for it in names if it.endswith(".md")):
+            with open(os.path.join(at, name), encoding="utf-8") as file:
+                links = LINK.findall(file.read())
+            found += [(name, it) for it in links if not os.path.exists(os.path.join(at, it))]
+    return found
 
 
 def files_below(folder):
@@ -57,16 +69,19 @@ def files_below(folder):
 @case(
     "installed below a folder",
     "`./install PREFIX` puts the program, the page, the manual page, the unit, the documents and the licences below PREFIX and names each; "
-    "the unit starts that program with that page; a second install replaces them; without a built program it says so and ends with 1.",
+    "the documents' links lead to installed files; the unit starts that program with that page; a second install replaces them; without a "
+    "built program it says so and ends with 1.",
 )
 def install(trial):
     top, prefix = checkout(trial), trial.path("prefix")
+    wanted = {**INSTALLED, **{f"{DOCUMENTS}/{it}": 0o644 for it in documents()}}
     for _ in range(2):
         ran = subprocess.run(["./install", prefix], cwd=top, capture_output=True, text=True, timeout=60)
         trial.equal((ran.returncode, ran.stderr), (0, ""), "status and errors")
-        trial.equal(files_below(prefix), INSTALLED, "what was installed")
+        trial.equal(files_below(prefix), wanted, "what was installed")
         said = sorted(line.removeprefix("installed ") for line in ran.stdout.splitlines() if line.startswith("installed "))
-        trial.equal(said, sorted(os.path.join(prefix, it) for it in INSTALLED), "what it says")
+        trial.equal(said, sorted(os.path.join(prefix, it) for it in wanted), "what it says")
+    trial.equal(lost_links(os.path.join(prefix, DOCUMENTS)), [], "links that lead nowhere")
     version = subprocess.run([f"{prefix}/bin/cutshop", "--version"], capture_output=True, text=True, timeout=60).stdout
     trial.equal(ran.stdout.splitlines()[-1], f"{version.strip()} is in {prefix}", "last line")
     with open(f"{prefix}/lib/systemd/system/cutshop@.service", encoding="utf-8") as file:
