@@ -268,11 +268,11 @@ def waiting(trial):
         it.click(by_id("reserve"))
         it.until(f"{by_id('planNow')}.textContent === '0 of 3 answered'")
         trial.equal(it.value(f"[{by_id('planBar')}.value, {by_id('planBar')}.max]"), [0, 3])
-        trial.holds("all that aren't made are reserved" not in it.text("wanted"), it.text("wanted"))
-        trial.holds("is being reserved" in it.text("wanted"), it.text("wanted"))
+        trial.holds("all made or reserved" not in it.text("wanted"), it.text("wanted"))
+        trial.holds("1 kind of pieces: all being reserved." in it.text("wanted"), it.text("wanted"))
         os.kill(shop.process.pid, signal.SIGCONT)
         it.until(ALL_ANSWERED)
-        it.until(f"{by_id('wanted')}.textContent.includes('all that aren\\'t made are reserved')")
+        it.until(f"{by_id('wanted')}.textContent.includes('1 kind of pieces: all made or reserved.')")
         is_quiet(it)
 
 
