@@ -186,7 +186,10 @@ function lineForm(row, key) {
   const state = going !== undefined ? tr`waits for its answer` : row.wanted ? progressWords(row) : tr`cancelled`;
   // (where nothing is left its room stays, so that the lines' fields and buttons stand below one another)
   const cancel = cancelButton(`${key}l${demand}`, tr`Cancel`, tr`Cancel line ${line} of order ${order}`, () => cancelLine(row));
-  if (!leftOf(row)) cancel.style.visibility = "hidden";
+  if (!leftOf(row)) {
+    cancel.style.visibility = "hidden";
+    delete cancel.dataset.key;
+  }
   const submit = event => {
     event.preventDefault();
     changeLine(row, field);

@@ -10,7 +10,7 @@ from kit.page_saw import LINES, shop_with_jobs
 
 VIEWS = ("cut", "cut/GLASS", "saw/4", "saw/3", "orders", "order/A-1", "stock/GLASS", "part/1/0", "part/9/9", "batch/G-1", "yield", "happened", "happened/order/A-1")
 # A file of which three columns have a bad cell, and a material another name.
-BAD = "Pos.;Werkstoff;Länge (cm);Breite (cm);Stück\n1.1;Flachglas klar;79,7;59,7;3\n1.2;Flachglas klar;x;597;8 Stk\n2.1;GLASS;120,05;y;viele\n"
+BAD = "Pos.;Werkstoff;Länge (cm);Breite (cm);Stück\n1.1;Float 8;79,7;59,7;3\n1.2;Float 8;x;597;8 Stk\n2.1;GLASS;120,05;y;viele\n"
 ROWS = "Werkstoff;Länge (mm);Breite (mm);Stück;Preis\nGLASS;797;597;3;9\nGLASS;497;397;x;9\nFloat 4;497;397;2;9\n"
 
 # What can't be told to somebody who doesn't see: a field, button, region or picture without a name, a table without heads or a head
