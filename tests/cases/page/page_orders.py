@@ -174,7 +174,7 @@ def cancelled(trial):
         trial.equal(it.value(cancels), [])
         it.view("tocut")
         it.material("tocut", "STEEL")
-        it.until(f"{by_id('wanted')}.textContent.startsWith('Of 1 kind of pieces all that aren')")
+        it.until(f"{by_id('wanted')}.textContent.startsWith('1 kind of pieces: all made or reserved.')")
         send(do="done", job=4)
         it.view("orders")
         it.until(f"{by_id('orderList')}.textContent === 'No order is open.'")
