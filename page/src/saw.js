@@ -104,7 +104,7 @@ function kindOfPlan(row, tree = planOfJob(row)) {
 function showSaw() {
   const rows = waitingJobs(), kinds = groupsOf(rows, row => kindOfPlan(row)).sort(([a], [b]) => byDay(a, b) || byMaterial(a, b));
   fill($("jobList"),
-    () => [...kinds.map(jobRow), ...(kinds.length ? [] : [quiet(tr`No job waits.`), opener("tocut", tr`Plan${""}`)]),
+    () => [...kinds.map(jobRow), ...(kinds.length ? [] : [quiet(tr`No job waits.`), opener("tocut", tr`Plan`)]),
       moreButton(shop.moreJobs, "jobPages")]);
   const ended = lastEnded();
   fill($("endedJobs"), () => ended.length && [el("h3", {text: tr`Ended last`}), ...ended.map(endedRow)]);

@@ -100,7 +100,6 @@ const GERMAN = new Map(Object.entries({
   "cut before": "vorher geschnitten",
   "{0} of {1} with {2}": "{0} von {1} mit {2}",
   "What was planned": "Was geplant war",
-  "Plan{0}": "Planen",
   "Plan": "Plan",
   "kerf {0} mm": "Schnittbreite {0} mm",
   "rest": "Rest",
