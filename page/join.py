@@ -91,11 +91,18 @@ def own_names(script):
     return sorted(own, key=lambda it: (-(len(it) - 3) * counts[it], it))
 
 
-def shortened(page):
-    """A page whose script has short names in place of its own long ones."""
-    head, script, end = re.split(r"(?s)(?<=<script>)(.*)(?=</script>)", page)
+def short_names(names, mark):
+    """A short name for each of these, behind a mark."""
     letters = "abcdefghijklmnopqrstuvwxyzABCDEFGHIJKLMNOPQRSTUVWXYZ"
-    short = {name: "_" + (letters[i] if i < 52 else letters[i // 52 - 1] + letters[i % 52]) for i, name in enumerate(own_names(script))}
+    return {name: mark + (letters[i] if i < 52 else letters[i // 52 - 1] + letters[i % 52]) for i, name in enumerate(names)}
+
+
+def shortened(page):
+    """A page whose script and style have short names in place of their own long ones."""
+    head, script, end = re.split(r"(?s)(?<=<script>)(.*)(?=</script>)", page)
+    short = short_names(own_names(script), "_")
+    of_style = short_names(sorted(set(re.findall(r"--[a-z][a-z-]*(?=:)", head))), "--")
+    head = re.sub(r"--[a-z][a-z-]*", lambda found: of_style.get(found[0], found[0]), head)
     return head + NAME.sub(lambda found: short.get(found[0], found[0]), script) + end
 
 

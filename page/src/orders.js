@@ -184,14 +184,19 @@ function lineForm(row, key) {
     "aria-label": tr`Change line ${line} of order ${order}`
   });
   const state = going !== undefined ? tr`waits for its answer` : row.wanted ? progressWords(row) : tr`cancelled`;
-  const go = () => cancelLine(row), submit = event => {
+  // (where nothing is left its room stays, so that the lines' fields and buttons stand below one another)
+  const cancel = cancelButton(`${key}l${demand}`, tr`Cancel`, tr`Cancel line ${line} of order ${order}`, () => cancelLine(row));
+  if (!leftOf(row)) {
+    cancel.style.visibility = "hidden";
+    delete cancel.dataset.key;
+  }
+  const submit = event => {
     event.preventDefault();
     changeLine(row, field);
   };
   return el("form", {class: "stocked", novalidate: "", on: {submit}},
     el("div", {}, el("b", {text: `${tr`line ${line}`}: ${row.material} ${size}`}), el("div", {class: "quiet", text: state})),
-    el("div", {class: "buttons"}, el("label", {class: "quiet"}, tr`wanted `, field), change,
-      leftOf(row) ? cancelButton(`${key}l${demand}`, tr`Cancel`, tr`Cancel line ${line} of order ${order}`, go) : null));
+    el("div", {class: "buttons"}, el("label", {class: "quiet"}, tr`wanted `, field), change, cancel));
 }
 
 // What is wrong with a number that is typed for a demand, or nothing.

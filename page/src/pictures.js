@@ -73,13 +73,13 @@ function hatch(at, how) {
   return path;
 }
 
-// As many of the lines of words as the rectangle holds, upright where it is narrow; where none fits, the first word alone.
+// As many of the lines of words as the rectangle holds, upright where it is narrow; where none fits, the number or the name alone.
 // Gives the rectangle that they cover, or null.
 function addWords(canvas, at, words) {
   const upright = at.height > at.width * 1.3 && at.width < 90;
   const room = upright ? at.height : at.width, depth = upright ? at.width : at.height;
   for (const [size, lines] of [
-         [14, words], [12, words], [10, words], [10, words.slice(0, 1).map(text => text.split(" ")[0])]]) {
+         [14, words], [12, words], [10, words], [10, words.slice(0, 1).map(text => text.replace(/^\D*(?=\d)/, "").split(" ")[0])]]) {
     const fitting =
       lines.filter(text => text.length * size * 0.66 + 6 <= room).slice(0, Math.floor((depth - 4) / (size * 1.25)));
     if (!fitting.length || (size > 10 && fitting.length < words.length)) continue;

@@ -44,9 +44,9 @@ function noteJob(part, tree, job, cuts) {
 }
 
 // A waiting job is known by its row and its plan.
-function noteWaiting({job, part, cuts, material, w, h}, tree) {
+function noteWaiting({job, part, cuts, material, w, h, begun = 0}, tree) {
   const {kerf} = materialOf(material) || {};
-  if (kerf !== undefined) noteFact(`/job/${job}`, {ok: "job", job, part, tree, cuts, state: "waiting", material, kerf, w, h});
+  if (kerf !== undefined) noteFact(`/job/${job}`, {ok: "job", job, part, tree, cuts, state: "waiting", material, kerf, w, h, begun});
 }
 
 // Some that were refused are told, and what is left is planned anew by one press.

@@ -67,7 +67,7 @@ function waitingJobs() {
 // Reads the plans of waiting jobs whose material, sides and cuts are those of another.
 async function readPlans() {
   const alike = groupsOf(shop.jobs, row => [row.material, row.w, row.h, row.cuts].join(" ")).filter(rows => rows.length > 1);
-  await learnPlans(alike.flat().filter(({job}) => !factOf(`/job/${job}`)));
+  await learnPlans(alike.flat());
   for (const {job} of alike.flat()) await askCalmly(`/job/${job}`);
 }
 
@@ -75,12 +75,19 @@ async function readPlans() {
 const MANY_PLANS = 3, MAX_BACK = 20;
 
 async function learnPlans(rows) {
-  const lacking = new Map(rows.map(row => [row.job, row]));
-  await readBack(() => lacking.size > MANY_PLANS, ({message, reply}) => {
+  const {lacking, look} = plansLacking(rows);
+  await readBack(() => lacking.size > MANY_PLANS, look);
+}
+
+// The jobs whose plan isn't known, and what learns it of the entry that reserved one.
+function plansLacking(rows) {
+  const lacking = new Map(rows.filter(({job}) => !factOf(`/job/${job}`)).map(row => [row.job, row]));
+  const look = ({message, reply}) => {
     if (message.do !== "reserve" || !lacking.has(reply.job)) return;
     noteWaiting(lacking.get(reply.job), message.tree);
     lacking.delete(reply.job);
-  });
+  };
+  return {lacking, look};
 }
 
 // Reads entries page by page back from the last one, as long as some are lacking.
@@ -161,7 +168,12 @@ function lastEnded() {
   return [...ended.values()];
 }
 
-function readEnded() { return readBack(() => lastEnded().length < MAX_ENDED, () => {}); }
+// Reads the jobs that ended last; the entries tell plans of jobs that wait, too.
+async function readEnded() {
+  const {lacking, look} = plansLacking(shop.jobs);
+  await readBack(() => lastEnded().length < MAX_ENDED, () => {});
+  for (const entry of lacking.size ? facts.entries.values() : []) look(entry);
+}
 
 // Numbers that rise, those that follow one another as a range.
 function rangesOf(numbers) {
@@ -335,7 +347,7 @@ function showJob() {
   $("jobPanel").hidden = !told;
   if (!told) return;
   const work = workOf(told), {isWaiting, made} = work;
-  const same = isWaiting ? sameJobs(told) : [told.job];
+  const same = isWaiting && !atSaw.breaking ? sameJobs(told) : [told.job];
   $("jobTitle").textContent = tr`Job ${told.job}${isWaiting ? "" : `, ${stateWords(work)}`}: ${told.material}, part ${told.part}`;
   $("jobWords").textContent = jobWords(work);
   $("jobPage").textContent = pageWords(told.material);
@@ -482,17 +494,20 @@ function cutRow(cut, work) {
   return el("button", {...given, "data-key": `c${cut.cut}`, "aria-pressed": String(state !== "")}, mark, words);
 }
 
-// The rectangles that lie beside a cut and aren't cut again.
-function besideCut(cut, left) { return [cut.first, cut.second].map(node => node && left.get(node.node)).filter(Boolean); }
+// The rectangles that lie beside a cut and aren't cut again; one that a wrong cut spoiled lies at that.
+function besideCut(cut, left) {
+  return [cut.first, cut.second].map(node => node && left.get(node.node)).filter(box => box && box.fate !== "lost");
+}
 
 // What falls off at a cut: pieces and rests, or nothing that is named yet; of one that isn't made what it was to give.
 function cutGives(cut, {told, isPlan, halt, made, left}) {
   const isMade = !isPlan && (!halt || made.has(cut.cut));
   const ends = [cut.first, cut.second].filter(node => node && node.kind !== "cut");
   const given = (isMade ? besideCut(cut, left) : ends).map(box => partWords(box, told));
-  const trims = !cut.second && cut.first.kind === "cut", saved = halt?.lost === cut.cut && halt.rest ? left.get(cut.node + 1) : null;
+  const trims = !cut.second && cut.first.kind === "cut", isWrong = halt?.lost === cut.cut, lost = isWrong && left.get(cut.node);
+  const saved = isWrong && halt.rest ? left.get(cut.node + 1) : null;
   return [
-    saved ? tr`left of it: ${partWords(saved, told)}` : "",
+    lost ? partWords(lost, told) : "", saved ? tr`left of it: ${partWords(saved, told)}` : "",
     given.length ? `${isMade ? tr`gives` : tr`was to give`} ${given.join("; ")}` : "",
     trims ? tr`${isMade ? tr`trims` : tr`was to trim`} ${mm(cut.side - cut.at)} mm off` : ""
   ].filter(Boolean).join("; ");

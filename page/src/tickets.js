@@ -92,8 +92,9 @@ function restNames(jobs, node) {
   return rangesOf(jobs).split(", ").map(range => range.split(/ \D+ /).map(job => `${job}/${node}`).join(" … ")).join(", ");
 }
 
-// A ticket that has so many cuts leaves room for a second one on its page.
-const HALF_CUTS = 24;
+// A ticket that has so many cuts leaves room for a second one on its page, with more rows in smaller print. One that is taller all the
+// same has a page of its own, as nothing of it is cut off.
+const HALF_CUTS = 24, HALF_ROWS = 36;
 
 // A sheet for jobs of one plan: picture, pieces and cuts.
 function ticketSheet(jobs) {
@@ -105,12 +106,13 @@ function ticketSheet(jobs) {
     {wordsOf: pieceWords, restName: box => namesIn(told, box), made: work.made, room: 720});
   const isMany = jobs.length > 1, many = isMany ? `${jobs.length} × ` : "";
   const saids = ordersOfJob(told).map(order => [order, saidOf(order)]).filter(([, said]) => said);
-  const name = isMany ? tr`Jobs ${told.jobs.join(", ")}` : tr`Job ${told.job}`;
-  return el("section", {class: `ticket ${isHalf ? "half" : linesClass(root)}`}, el("p", {class: "pagehead", text: pageWords(material)}),
+  const name = isMany ? tr`Jobs ${told.jobs.join(", ")}` : tr`Job ${told.job}`, [pieces] = jobPieces(work);
+  const half = `half${pieces.rows.length + root.cuts > HALF_ROWS ? " dense" : ""}`;
+  return el("section", {class: `ticket ${isHalf ? half : linesClass(root)}`}, el("p", {class: "pagehead", text: pageWords(material)}),
     el("h2", {text: `${many}${material} ${sizeText(kind, w, h)}`}),
     el("p", {text: `${name} (${namesOf(jobs)}), ${count(root.cuts, "cut")}  ${jobs.map(() => "☐").join(" ")}`}),
-    saids.length ? el("p", {class: "said", text: saids.map(([order, said]) => `${order}: ${said}`).join("; ")}) : null, holder,
-    el("div", {class: "pieces"}, ...jobPieces(work)), el("div", {class: `cutlines ${linesClass(root)}`}, ...cutLines(work)));
+    saids.length ? el("p", {class: "said", text: saids.map(([order, said]) => `${order}: ${said}`).join("; ")}) : null,
+    el("div", {class: "flow"}, holder, el("div", {class: "pieces"}, pieces), el("div", {class: `cutlines ${linesClass(root)}`}, ...cutLines(work))));
 }
 
 const LABELS_A_PAGE = 24;

@@ -71,8 +71,8 @@ function wantedRows() {
   return [
     out.length ? el("div", {class: "buttons"}, tr`${count(out.length, ...KINDS)} left out`, putBackButton(out)) : null,
     left.length ? demandTable(left) : null,
-    going ? quiet(tr`Of ${count(going, ...KINDS)} all is being reserved.`) : null,
-    all ? quiet(tr`Of ${count(all, ...left.length ? OTHER_KINDS : KINDS)} all that aren't made are reserved.`) : null,
+    going ? quiet(tr`${count(going, ...KINDS)}: all being reserved.`) : null,
+    all ? quiet(tr`${count(all, ...left.length ? OTHER_KINDS : KINDS)}: all made or reserved.`) : null,
     left.length ? null : opener("saw", tr`At the saw`), andMore(shownCodes().some(code => knownOf(code).moreDemands))
   ];
 }

@@ -114,13 +114,15 @@ def while_searching(trial):
     "bars, at least 10. A later answer that is worse leaves the earlier one's own bound.",
 )
 def not_joined(trial):
-    shop, _ = bars(trial)
+    shop, send = bars(trial)
     one = lambda bars: [([f"1/{n}" for n in range(bars)], 0, "x10000 p1 r", 60000, 1)]
-    replies = [plans(one(12), 12 * COST, 11 * COST), plans(one(11), 11 * COST, 10 * COST), plans(one(12), 12 * COST, 11 * COST)]
+    replies = [plans(one(12), 12 * COST, 11 * COST), plans(one(11), 11 * COST, 10 * COST), plans(one(11), 12 * COST, 11 * COST)]
     asked = []
 
     def answer(question):
         asked.append(question)
+        if len(asked) == 2:
+            send(do="amend", demand=1, wanted=11)
         return (200, replies[len(asked) - 1]) if len(asked) <= len(replies) else None
 
     with Terminal(trial, shop) as it:
@@ -130,11 +132,14 @@ def not_joined(trial):
         with answering(it, "/plans", answer):
             it.click(by_id("planAll"))
             it.until("toCut.found?.plans[0].parts.length === 11")
+            # (the third is worse; the fourth doesn't come)
+            for _ in range(400):
+                if len(asked) == 4:
+                    break
+                it.value("pause(50)")
             it.click(by_id("stopPlan"))
             it.until("!toCut.planning", 5)
-        # (the third is of other pieces again, so it is shown in place of the second)
-        trial.holds(it.text("planNow") in ("11 bars, at least 10", "12 bars, at least 11"), it.text("planNow"))
-        trial.equal(it.value("toCut.found.proved"), False)
+        trial.equal((it.text("planNow"), it.value("toCut.found.proved")), ("11 bars, at least 10", False))
         is_quiet(it)
 
 
@@ -268,11 +273,11 @@ def waiting(trial):
         it.click(by_id("reserve"))
         it.until(f"{by_id('planNow')}.textContent === '0 of 3 answered'")
         trial.equal(it.value(f"[{by_id('planBar')}.value, {by_id('planBar')}.max]"), [0, 3])
-        trial.holds("all that aren't made are reserved" not in it.text("wanted"), it.text("wanted"))
-        trial.holds("is being reserved" in it.text("wanted"), it.text("wanted"))
+        trial.holds("all made or reserved" not in it.text("wanted"), it.text("wanted"))
+        trial.holds("1 kind of pieces: all being reserved." in it.text("wanted"), it.text("wanted"))
         os.kill(shop.process.pid, signal.SIGCONT)
         it.until(ALL_ANSWERED)
-        it.until(f"{by_id('wanted')}.textContent.includes('all that aren\\'t made are reserved')")
+        it.until(f"{by_id('wanted')}.textContent.includes('1 kind of pieces: all made or reserved.')")
         is_quiet(it)
 
 

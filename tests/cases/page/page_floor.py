@@ -228,6 +228,8 @@ def third_cut(trial):
         it.until(f"document.readyState === 'complete' && {by_id('jobWords')}.textContent.endsWith('what was left.')")
         trial.holds(f"left of it: rest 2390.0\u00a0mm, kept as {kept}" in it.text("cutList"), it.text("cutList"))
         trial.equal(it.value("[...document.querySelectorAll('#cutList .cut')].map(e => e.className)"), ["cut made", "cut made", "cut lost", "cut "])
+        lost = it.value("[...document.querySelectorAll('#cutList .cut .quiet')].map(e => e.textContent.split('; ').filter(words => words.includes('lost')))")
+        trial.equal(lost, [[], [], ["1205.0\u00a0mm, lost"], []])
         it.value("void (location.hash = 'happened')")
         it.until(f"happenedList.textContent.includes('job {job} broken off, 2 cuts made, cut 3 went wrong, rest 2390.0\u00a0mm')")
         it.value(f"undoJob({job})")

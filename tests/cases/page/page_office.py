@@ -473,7 +473,7 @@ def demand_table(trial):
         trial.holds("ok" in exchange(it.shop, "/message", reserve), reserve)
         it.until(f"{rows}.length === 1")
         trial.equal(it.value(rows)[0][4], "3")
-        trial.holds("Of 1 other kind of pieces all that aren't made are reserved." in it.text("wanted"), it.text("wanted"))
+        trial.holds("1 other kind of pieces: all made or reserved." in it.text("wanted"), it.text("wanted"))
         is_quiet(it)
 
 

@@ -174,7 +174,7 @@ def cancelled(trial):
         trial.equal(it.value(cancels), [])
         it.view("tocut")
         it.material("tocut", "STEEL")
-        it.until(f"{by_id('wanted')}.textContent.startsWith('Of 1 kind of pieces all that aren')")
+        it.until(f"{by_id('wanted')}.textContent.startsWith('1 kind of pieces: all made or reserved.')")
         send(do="done", job=4)
         it.view("orders")
         it.until(f"{by_id('orderList')}.textContent === 'No order is open.'")
@@ -417,6 +417,68 @@ def typed(trial):
         trial.equal(lines_of(it, "A-1"), [[2, 0, 2], [4, 3, 1], [2, 2, 0]])
         it.until(f"{field}.value === '4'", 10)
         is_quiet(it)
+
+
+SUMMARY = "foundOrder.querySelector('summary')"
+LINES_SHOWN = "[...foundOrder.querySelectorAll('[data-field=wanted]')].filter(e => e.checkVisibility()).length"
+
+
+@case(
+    "an order of many lines at the page",
+    "An order that is looked for shows at most twelve lines at once. More are folded behind how many they are, as its jobs stand below them. "
+    "Unfolded they stay so, with what is typed, while another terminal works, and are changed as ever; in the list they aren't folded.",
+)
+def many_lines(trial):
+    shop = open_shop(trial)
+    send = sender(shop)
+    send(do="receive", material="STEEL", batch="S-1", w=60000, h=1, count=2)
+    for code, lines in (("A-1", 13), ("B-1", 12)):
+        send(do="order", order=code, lines=[{**LINE, "line": line, "count": 2} for line in range(1, lines + 1)])
+    send(do="reserve", part="1/0", tree="x10000 p1 r")
+    with Terminal(trial, shop) as it:
+        it.begin(7)
+        for code, lines in (("B-1", 12), ("A-1", 0)):
+            it.value(f"void (location.hash = 'order/{code}')")
+            it.until(f"foundOrder.textContent.includes('Order {code}') && {LINES_SHOWN} === {lines}")
+        it.until("foundOrder.textContent.includes('Jobs')")
+        trial.equal(it.value(f"{SUMMARY}.textContent"), "13 lines")
+        trial.holds(it.value(f"foundOrder.querySelector('.links').getBoundingClientRect().top - {SUMMARY}.getBoundingClientRect().bottom < 200"), "its jobs are far below")
+        it.click(SUMMARY)
+        it.until(f"{LINES_SHOWN} === 13")
+        it.type(within("foundOrder", "fw3"), "7")
+        send(do="amend", demand=2, wanted=5)
+        it.until("foundOrder.textContent.includes('left of 5')")
+        trial.equal(it.value(f"[{LINES_SHOWN}, {within('foundOrder', 'fw3')}.value]"), [13, "7"])
+        it.click(within("foundOrder", "fa3"))
+        it.says("Order A-1, line 3: 7 wanted in place of 2: done")
+        it.until(f"foundOrder.textContent.includes('left of 7') && {LINES_SHOWN} === 13")
+        it.click(SUMMARY)
+        it.until(f"{LINES_SHOWN} === 0")
+        it.click(within("orderList", "uA-1"))
+        it.until("orderList.querySelectorAll('[data-field=wanted]').length === 13 && !orderList.querySelector('details')")
+        is_quiet(it)
+
+
+@case(
+    "lines of an order at the page that stand below one another",
+    "At 1280, 768 and 400 pixels, in English and in German, the fields and the buttons of an order's lines stand below one another, also of a "
+    "line of which nothing is left, and so nothing can be cancelled.",
+)
+def in_columns(trial):
+    shop = open_shop(trial)
+    half_made(sender(shop))
+    lefts = "[...new Set([...foundOrder.querySelectorAll('{}')].map(e => Math.round(e.getBoundingClientRect().left)))].length"
+    for language in ("en", "de-DE"):
+        with Terminal(trial, shop, language) as it:
+            it.begin(7)
+            it.value("void (location.hash = 'order/A-1')")
+            it.until("foundOrder.querySelectorAll('[data-field=wanted]').length === 3 && !refresh.running")
+            trial.equal(it.value("[...foundOrder.querySelectorAll('[data-key^=cfl]')].filter(e => e.checkVisibility({checkVisibilityCSS: true})).length"), 2)
+            for width in (1280, 768, 400):
+                it.size(width)
+                for find in ("[data-field=wanted]", "[data-key^=fa]"):
+                    trial.equal(it.value(lefts.format(find)), 1, f"{find} at {width}, {language}")
+            is_quiet(it)
 
 
 @case(

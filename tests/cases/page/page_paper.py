@@ -94,6 +94,48 @@ def few_on_paper(trial):
         is_quiet(it)
 
 
+TEXTS = {code: f"{code}: due Dec {day:02}, 2026, {'edges ground ' * 12}".strip() for day, code in enumerate(("A-1", "BALKON-NORD-2026", "C-1"), 1)}
+
+
+@case(
+    "texts of orders on paper",
+    "A ticket of a sheet has the day and the text of each order that has a piece of it, and none of another. Of a ticket of 24 cuts in 20 "
+    "lines of three orders with long texts nothing is cut off, nor of a label with the longest code and text.",
+)
+def texts_on_paper(trial):
+    shop = open_shop(trial)
+    send = sender(shop)
+    send(do="receive", material="GLASS", batch="G-1", w=32000, h=22000, count=2)
+    lines = [{**LINE, "line": line, "material": "GLASS", "w": 4000, "h": 3000 + line} for line in range(1, 8)]
+    for day, code in enumerate((*TEXTS, "D-1"), 1):
+        send(do="order", order=code, lines=lines)
+        send(do="note", order=code, due=20261200 + day, text=("edges ground " * 12).strip())
+    column = lambda first: "x4000 " + " ".join(f"y{3000 + (demand - 1) % 7 + 1} p{demand}" for demand in range(first, first + 5)) + " r"
+    send(do="reserve", part="1/0", tree=" ".join(map(column, (1, 6, 11, 16))) + " r")
+    said = "[...document.querySelectorAll('#sheets .ticket .said')].map(e => e.textContent)"
+    cut_off = "[...document.querySelectorAll('#sheets :is(.ticket, .label)')].filter(e => e.scrollHeight > e.clientHeight || e.scrollWidth > e.clientWidth).map(e => e.textContent)"
+    with Terminal(trial, shop) as it:
+        it.begin(7)
+        it.view("saw")
+        it.until("!printWaiting.disabled && !refresh.running")
+        for button, shown in (("printWaiting", "#sheets .ticket"), ("labelWaiting", "#sheets .label")):
+            asked_to_print(it, button)
+            trial.equal(it.value(f"document.querySelectorAll('{shown}').length"), {"printWaiting": 1, "labelWaiting": 20}[button])
+            if button == "printWaiting":
+                trial.equal(it.value(said), ["; ".join(TEXTS.values())])
+                words = it.value("document.querySelector('#sheets .ticket').textContent")
+                trial.equal([line for line in range(1, 25) if f"☐ {line} " not in words], [], "a cut isn't on the ticket")
+            it.call("Emulation.setEmulatedMedia", media="print")
+            # (as wide as a sheet of A4 without its margins)
+            it.size(710, 1000)
+            trial.equal(it.value(cut_off), [], f"{button}: cut off")
+            it.call("Emulation.setEmulatedMedia", media="")
+            it.size(1280)
+            trial.equal(it.sheets(f"texts-{button}"), 1)
+            it.until("!document.body.classList.contains('sheets')")
+        is_quiet(it)
+
+
 @case(
     "one ticket and a report on paper",
     "The ticket that is shown, and a material's report, are printed with the shop's name, the day and the material.",

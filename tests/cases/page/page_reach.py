@@ -9,6 +9,8 @@ from kit.page import is_quiet
 from kit.page_saw import LINES, shop_with_jobs
 
 VIEWS = ("cut", "cut/GLASS", "saw/4", "saw/3", "orders", "order/A-1", "stock/GLASS", "part/1/0", "part/9/9", "batch/G-1", "yield", "happened", "happened/order/A-1")
+# A file of which three columns have a bad cell, and a material another name.
+BAD = "Pos.;Werkstoff;Länge (cm);Breite (cm);Stück\n1.1;Float 8;79,7;59,7;3\n1.2;Float 8;x;597;8 Stk\n2.1;GLASS;120,05;y;viele\n"
 ROWS = "Werkstoff;Länge (mm);Breite (mm);Stück;Preis\nGLASS;797;597;3;9\nGLASS;497;397;x;9\nFloat 4;497;397;2;9\n"
 
 # What can't be told to somebody who doesn't see: a field, button, region or picture without a name, a table without heads or a head
@@ -146,11 +148,13 @@ def together(trial):
                     it.size(width)
                     trial.equal(it.value(BROKEN), [], f"{address} at {width}, {language}")
             it.size(1280)
-            it.order_file("f-1", "file.csv", ROWS)
-            for width in (1280, 1024, 768, 400):
-                it.size(width)
-                trial.equal(it.value(BROKEN), [], f"a file at {width}, {language}")
-            it.size(1280)
+            for name, rows in (("file.csv", ROWS), ("bad.csv", BAD)):
+                it.order_file("f-1", name, rows)
+                it.until("csvPreview.querySelectorAll('tbody th').length === 3")
+                for width in (1280, 1024, 768, 400):
+                    it.size(width)
+                    trial.equal(it.value(BROKEN), [], f"{name} at {width}, {language}")
+                it.size(1280)
             shown(it, "yield")
             it.click("document.querySelector('#yieldBars [data-key=yGLASS]')")
             it.until("document.querySelector('#report table')")

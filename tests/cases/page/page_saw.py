@@ -1,5 +1,6 @@
 """The page's view of the saw, in a real browser where one is installed."""
 
+import json
 import re
 import shutil
 import signal
@@ -565,6 +566,25 @@ def break_kept(trial):
         it.call("Page.reload")
         it.until(f"document.readyState === 'complete' && atSaw.told?.job === {jobs[1]} && !refresh.running")
         trial.equal(it.value(f"{by_id('breakPanel')}.hidden"), True)
+        is_quiet(it)
+
+
+@case(
+    "plans at the saw that differ",
+    "The row of each waiting job tells its pieces, also of a job that has no equal and was never opened: they come from the entries that are "
+    "read for what ended last, and which terminal has begun it stays known.",
+)
+def differing(trial):
+    shop, send, _ = shop_with_jobs(trial, 0)
+    jobs = [send(do="reserve", part=f"1/{place}", tree="x1000 p1 " * (place + 1) + "r")["job"] for place in range(3)]
+    send(do="begin", job=jobs[1])
+    rows = "[...document.querySelectorAll('#jobList .row b')].map(e => e.textContent)"
+    with Terminal(trial, shop) as it:
+        it.begin(7)
+        it.view("saw")
+        it.until(f"JSON.stringify({rows}) === {json.dumps(json.dumps(['600.0: ' + ' | '.join(['100.0'] * pieces) for pieces in (1, 2, 3)], separators=(',', ':')))}")
+        it.value(f"void (location.hash = 'saw/{jobs[1]}')")
+        it.until(f"atSaw.told?.job === {jobs[1]} && {by_id('jobFigures')}.textContent.includes('Terminal 8')")
         is_quiet(it)
 
 

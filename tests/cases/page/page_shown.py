@@ -287,8 +287,8 @@ def next_cut(trial):
 
 @case(
     "eight equal plans at the saw",
-    "Equal plans are one row with the cuts and the jobs' numbers. *One done* opens the next of them and takes no press for a second; "
-    "*All 7 done* asks once, and all are done.",
+    "Equal plans are one row with the cuts and the jobs' numbers, and the ticket has the names of the rests of all; of one that is broken "
+    "off it has that one's alone. *One done* opens the next of them and takes no press for a second; *All 7 done* asks once, and all are done.",
 )
 def eight(trial):
     shop, _, jobs = shop_with_jobs(trial, 8, "x4185 p1 r".replace("4185", "1000"))
@@ -299,6 +299,12 @@ def eight(trial):
         it.until(f"{rows}.length === 1")
         trial.equal(it.value(rows), [["8 × 600.0: 100.0", f"STEEL, jobs {jobs[0]} to {jobs[-1]}"]])
         trial.equal([it.text("done"), it.text("allDone")], ["One done", "All 8 done"])
+        names = f"{by_id('jobPieces')}.textContent.match(/label it (.*)/)[1]"
+        trial.equal(it.value(names), ", ".join(f"{job}/2" for job in jobs))
+        it.click(by_id("startBreak"))
+        it.click("document.querySelector('#cutList .cut')")
+        trial.equal(it.value(names), f"{jobs[0]}/0", "another job's rest is labelled where one is broken off")
+        it.click(by_id("stopBreak"))
         it.click(by_id("done"))
         it.until(f"atSaw.told.job === {jobs[1]} && atSaw.deaf > performance.now()")
         it.value("done.click()")
