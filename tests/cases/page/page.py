@@ -423,7 +423,7 @@ def hundreds(trial):
         for code in ("A-1", "A-2"):
             it.click(f"document.querySelector('#wanted [data-key=\"fold{code}\"]')")
         it.until("document.querySelectorAll('#wanted .demand').length === 135")
-        trial.holds("Of 104 other kinds of pieces all" in it.text("wanted"), it.text("wanted")[-200:])
+        trial.holds("104 other kinds of pieces: all" in it.text("wanted"), it.text("wanted")[-200:])
         it.until("document.querySelector('#cutFrom .row .tag').textContent === 'remnant'")
         it.view("saw")
         it.until("document.querySelectorAll('#jobList button.row').length === 100")
