@@ -3,7 +3,7 @@ use Rattle.std.proofs.Common.{◌≡◌, ℕ, ◌+◌, ◌-◌, ◌≤◌, true,
 use Rattle.std.specs.Prelude.{Contains}
 use Rattle.std.proofs.lemmas.Bool.{false≢true}
 use Rattle.cut_measure.specs.declared.sizes.Axis.TheVariants.{X, Y}
-use Rattle.cut_measure.specs.Measures.{Extent}
+use Rattle.cut_measure.specs.Measures.{Size}
 use Rattle.cut_tree.specs.Tree.{Tree, Rest, Piece, Trim, Cut, leaf_sum}
 use Rattle.cut_wants.specs.declared.wants.Want.{Want}
 use Rattle.cut_wants.specs.Legal.{Legal, HaveOwnDemands, IsWithinCounts, of_demand}
@@ -13,7 +13,7 @@ use Rattle.cut_bars.specs.Counts.{AreCounts, AreUprightOfHeightOne, span_taken, 
 use Rattle.cut_bars.specs.Reached.{AreReached}
 use Rattle.cut_bars.proofs.BarCounts.{tree_counts, tree_total}
 use Rattle.cut_bound.specs.Bounds.{IsGreatest, IsMost}
-use Rattle.cut_bound.specs.Ratings.{IsBarRating}
+use Rattle.cut_bound.specs.UnitBounds.{IsBarBound}
 
 no_counts : (xs : List Want) (k : ℕ) → (ns : List ℕ) × AreCounts xs ns × (span_taken k xs ns ≡ 0) × (worth_of_counts xs ns ≡ 0)
 no_counts [] k = ([], tt, refl, refl)
@@ -23,7 +23,7 @@ no_counts (x ∷ xs) k =
 
 -- the greatest worth within a bar and a kerf is that of best counts
 pub bar_rating : (wants : List Want) (k whole w best : ℕ) (entries : List Entry) → AreReached k wants whole (Contains entries) → w + k ≤ whole
-    → IsGreatest (λ e. e.span ≤ w + k) (λ e. e.worth) entries best → IsBarRating wants k w best
+    → IsGreatest (λ e. e.span ≤ w + k) (λ e. e.worth) entries best → IsBarBound wants k w best
 bar_rating wants k whole w best entries reach inside g =
     elim g.reached [
       | inl none ↦
@@ -70,7 +70,7 @@ tree_few wants (x ∷ xs) t own within sub = (
   tree_few wants xs t own within (λ y h. sub y (Contains-tail x xs y h)),
 )
 
-pub bar_most : (wants : List Want) (k : ℕ) (size : Extent) (best : ℕ) → HaveOwnDemands wants → AreUprightOfHeightOne wants → size.h ≡ 1 → IsBarRating wants k size.w best → IsMost wants k size best
+pub bar_most : (wants : List Want) (k : ℕ) (size : Size) (best : ℕ) → HaveOwnDemands wants → AreUprightOfHeightOne wants → size.h ≡ 1 → IsBarBound wants k size.w best → IsMost wants k size best
 bar_most wants k size best own upright flat rate = λ t legal within.
     let span = tree_total (λ x. x.size.w + k) wants t ∙ weigh-count (λ x. x.size.w + k) wants t own in
     let value = tree_total (λ x. x.worth) wants t ∙ weigh-count (λ x. x.worth) wants t own in

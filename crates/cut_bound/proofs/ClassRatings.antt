@@ -4,7 +4,7 @@ use Rattle.std.specs.Prelude.{Contains, if◌then◌else◌, nat_lt}
 use Rattle.std.proofs.lemmas.List.Sums.{sum_by-cons}
 use Rattle.cut_measure.specs.declared.sizes.Kind.{Kind}
 use Rattle.cut_measure.specs.declared.sizes.Kind.TheVariants.{Bar, Sheet}
-use Rattle.cut_measure.specs.Measures.{Extent}
+use Rattle.cut_measure.specs.Measures.{Size}
 use Rattle.cut_wants.specs.declared.wants.Want.{Want}
 use Rattle.cut_wants.specs.Legal.{HaveOwnDemands}
 use Rattle.cut_wants.proofs.LeafSums.{Contains-cases, Contains-head, Contains-tail}
@@ -13,7 +13,7 @@ use Rattle.cut_classes.specs.Classes.{Classes}
 use Rattle.cut_classes.specs.Grids.{AreUsable, counted, is_counted}
 use Rattle.cut_bound.specs.declared.stock.StockSize.{StockSize}
 use Rattle.cut_bound.specs.Prices.{ArePicked, IsPickedWant}
-use Rattle.cut_bound.specs.Ratings.{IsClassRating, rated_wants}
+use Rattle.cut_bound.specs.UnitBounds.{IsClassBound, wants_in_bound}
 
 -- ---- counted wants
 
@@ -45,23 +45,23 @@ pub counted_less : (k : ℕ) (xs ys : Classes) (wants : List Want) → worth_lef
 counted_less k xs ys [] = omega arith
 counted_less k xs ys (x ∷ wants) = less_by (is_counted k xs ys x) x (counted k xs ys wants) wants (counted_less k xs ys wants)
 
-pub rated_own : (kind : Kind) (k : ℕ) (step : Option ℕ) (xs ys : Classes) (wants : List Want) → HaveOwnDemands wants → HaveOwnDemands (rated_wants kind k step xs ys wants)
-rated_own Bar k step xs ys wants own = own
-rated_own Sheet k (Some s) xs ys wants own = own
-rated_own Sheet k None xs ys wants own = counted_own k xs ys wants own
+pub bounded_own : (kind : Kind) (k : ℕ) (step : Option ℕ) (xs ys : Classes) (wants : List Want) → HaveOwnDemands wants → HaveOwnDemands (wants_in_bound kind k step xs ys wants)
+bounded_own Bar k step xs ys wants own = own
+bounded_own Sheet k (Some s) xs ys wants own = own
+bounded_own Sheet k None xs ys wants own = counted_own k xs ys wants own
 
 picked_itself : (wants : List Want) → ArePicked wants wants
 picked_itself wants x has = record { want = x; there = has; same = refl }
 
-pub rated_picked : (kind : Kind) (k : ℕ) (step : Option ℕ) (xs ys : Classes) (wants : List Want) → ArePicked wants (rated_wants kind k step xs ys wants)
-rated_picked Bar k step xs ys wants = picked_itself wants
-rated_picked Sheet k (Some s) xs ys wants = picked_itself wants
-rated_picked Sheet k None xs ys wants = λ x has. picked_itself wants x (counted_within k xs ys wants x has)
+pub bounded_picked : (kind : Kind) (k : ℕ) (step : Option ℕ) (xs ys : Classes) (wants : List Want) → ArePicked wants (wants_in_bound kind k step xs ys wants)
+bounded_picked Bar k step xs ys wants = picked_itself wants
+bounded_picked Sheet k (Some s) xs ys wants = picked_itself wants
+bounded_picked Sheet k None xs ys wants = λ x has. picked_itself wants x (counted_within k xs ys wants x has)
 
-pub rated_none : (kind : Kind) (k : ℕ) (step : Option ℕ) (xs ys : Classes) → rated_wants kind k step xs ys [] ≡ []
-rated_none Bar k step xs ys = refl
-rated_none Sheet k (Some s) xs ys = refl
-rated_none Sheet k None xs ys = refl
+pub bounded_none : (kind : Kind) (k : ℕ) (step : Option ℕ) (xs ys : Classes) → wants_in_bound kind k step xs ys [] ≡ []
+bounded_none Bar k step xs ys = refl
+bounded_none Sheet k (Some s) xs ys = refl
+bounded_none Sheet k None xs ys = refl
 
 -- ---- classes that begin past all sizes
 
@@ -101,7 +101,7 @@ far_usable most some = record {
     near (suc zero) lt = omega (arith, some)
     near (suc (suc i)) lt = absurd (omega (arith, lt))
 
-pub unrated_classes : (k most : ℕ) (size : Extent) → size.w + k < most → size.h + k < most → IsClassRating [] k (far_classes most) (far_classes most) size 0
+pub unrated_classes : (k most : ℕ) (size : Size) → size.w + k < most → size.h + k < most → IsClassBound [] k (far_classes most) (far_classes most) size 0
 unrated_classes k most size wide high = record {
   table = λ i j. 0;
   least = record {

@@ -5,7 +5,7 @@ use Rattle.std.proofs.lemmas.Bool.{and_from, cases_lt, eq-eqb, false≢true, le-
 use Rattle.std.proofs.lemmas.Bool.Decides.{eqb_tells}
 use Rattle.std.proofs.Math.Nat.{le_refl}
 use Rattle.cut_measure.specs.declared.sizes.Axis.TheVariants.{X, Y}
-use Rattle.cut_measure.specs.Measures.{Extent}
+use Rattle.cut_measure.specs.Measures.{Size}
 use Rattle.cut_tree.specs.Tree.{Tree, Piece, Rest, Trim, Cut, count_of}
 use Rattle.cut_wants.specs.declared.wants.Want.{Want}
 use Rattle.cut_wants.specs.Legal.{HasSides, HaveOwnDemands, IsWantedPiece, Legal, of_demand}
@@ -15,7 +15,7 @@ use Rattle.cut_plan.specs.Faults.{is_fitting}
 use Rattle.cut_bound.specs.Planned.{HoldsPiece}
 
 -- a want's piece that fits, alone on the size
-pub held : (wants : List Want) (k : ℕ) (size : Extent) (x : Want) → Contains wants x → 1 ≤ x.size.w → 1 ≤ x.size.h → IsTrue (is_fitting size x) → HoldsPiece wants k size x
+pub held : (wants : List Want) (k : ℕ) (size : Size) (x : Want) → Contains wants x → 1 ≤ x.size.w → 1 ≤ x.size.h → IsTrue (is_fitting size x) → HoldsPiece wants k size x
 held wants k size x has wide tall fits =
     let p = fitted k wants x size.w size.h has wide tall fits in
     let one : count_of p.tree x.demand ≡ cond (eqb x.demand x.demand) 1 0 = p.sums (λ f. if f == x.demand then 1 else 0) in
@@ -77,7 +77,7 @@ same_bit a true is same = refl
 same_bit a false is same = absurd (omega (arith, rw is at same))
 
 -- a want with the sides of a piece that is no longer fits
-by_sides : (size : Extent) (x y : Want) (turned : Bool) (w h : ℕ) → ((f : Want → ℕ) → f y ≡ f x) → HasSides y turned w h → w ≤ size.w → h ≤ size.h → IsTrue (is_fitting size x)
+by_sides : (size : Size) (x y : Want) (turned : Bool) (w h : ℕ) → ((f : Want → ℕ) → f y ≡ f x) → HasSides y turned w h → w ≤ size.w → h ≤ size.h → IsTrue (is_fitting size x)
 by_sides size x y false w h same sides wide tall =
     or_first _ _ (and_from _ _ (le-leb x.size.w size.w (omega (arith, same (λ z. z.size.w), sides.0))) (le-leb x.size.h size.h (omega (arith, same (λ z. z.size.h), sides.1))))
 by_sides size x y true w h same sides wide tall =
@@ -85,7 +85,7 @@ by_sides size x y true w h same sides wide tall =
     (and_from _ _ (and_from _ _ (same_bit y.may_turn x.may_turn sides.0 (same (λ z. cond z.may_turn 1 0))) (le-leb x.size.h size.w (omega (arith, same (λ z. z.size.h), sides.1))))
     (le-leb x.size.w size.h (omega (arith, same (λ z. z.size.w), sides.2))))
 
-pub fitting : (wants : List Want) (k : ℕ) (size : Extent) (x : Want) → HaveOwnDemands wants → Contains wants x → HoldsPiece wants k size x → IsTrue (is_fitting size x)
+pub fitting : (wants : List Want) (k : ℕ) (size : Size) (x : Want) → HaveOwnDemands wants → Contains wants x → HoldsPiece wants k size x → IsTrue (is_fitting size x)
 fitting wants k size x own has is =
     let p = small wants k is.tree size.w size.h x.demand is.legal is.some_piece in
     let y = p.wanted.0 in

@@ -7,7 +7,7 @@ use Rattle.cut_measure.specs.declared.sizes.Axis.TheVariants.{X, Y}
 use Rattle.cut_tree.specs.declared.leaves.Leaf.{Leaf}
 use Rattle.cut_tree.specs.Tree.{Tree, Piece, Rest, Trim, Cut, CutsInto, IsShaped}
 use Rattle.cut_tree.specs.Leaves.{leaves_of}
-use Rattle.cut_measure.specs.Measures.{Extent}
+use Rattle.cut_measure.specs.Measures.{Size}
 use Rattle.cut_tree.specs.Patterns.{Pattern, IsPlan}
 use Rattle.cut_tree.proofs.ListedLeaves.{all_listed}
 use Rattle.cut_wants.specs.declared.wants.Want.{Want}
@@ -52,7 +52,7 @@ leaves_counted (Cut Y a first second) w h k =
     omega (arith, length-append (leaves_of first w a k) (leaves_of second w (h - a - k) k), leaves_counted first w a k, leaves_counted second w (h - a - k) k)
 
 -- a plan for a size is one that is made for it, and lists wanted leaves
-pub plan_by_leaves : (wants : List Want) (k : ℕ) (size : Extent) (plan : Pattern) (leaves : List Leaf) → IsPlan plan → (plan.w ≡ size.w) × (plan.h ≡ size.h) × (plan.kerf ≡ k)
+pub plan_by_leaves : (wants : List Want) (k : ℕ) (size : Size) (plan : Pattern) (leaves : List Leaf) → IsPlan plan → (plan.w ≡ size.w) × (plan.h ≡ size.h) × (plan.kerf ≡ k)
     → leaves ≡ leaves_of plan.tree plan.w plan.h plan.kerf → ArePieces wants leaves ↔ IsPlanFor wants k size plan
 plan_by_leaves wants k size plan leaves kept made listed =
     let here : leaves ≡ leaves_of plan.tree size.w size.h k =

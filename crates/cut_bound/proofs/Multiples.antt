@@ -12,7 +12,7 @@ use Rattle.std.proofs.lemmas.Nat.Gcd.{dvd-zero, dvd_trans, mod-eq-zero_of_dvd}
 use Rattle.std.proofs.Math.Nat.{le_refl, mod-add-div}
 use Rattle.cut_wants.specs.declared.wants.Want.{Want}
 use Rattle.cut_bound.specs.declared.stock.StockSize.{StockSize}
-use Rattle.cut_bound.specs.Cuttings.{CutUnit, Cutting, IsCostBound, cost_of}
+use Rattle.cut_bound.specs.Solutions.{CutUnit, Solution, IsCostBound, cost_of}
 use Rattle.cut_bound.specs.Orders.{IsCommonDivisor, reported_cost}
 use Rattle.cut_bound.proofs.ListedPlans.{All-left, All-right}
 use Rattle.cut_bound.proofs.PaidWorths.{ceil_le}
@@ -54,7 +54,7 @@ cost_at_place : (sizes : List StockSize) (g p : ℕ) → All (λ s. g ∣ s.cost
 cost_at_place sizes g p all None is = record { times = 0; is = omega arith }
 cost_at_place sizes g p all (Some s) is = multiple g s.cost (each_at (λ (z : StockSize). g ∣ z.cost) sizes p s all is)
 
-cost_multiple : (sizes : List StockSize) (g : ℕ) (us : Cutting) → All (λ s. g ∣ s.cost) sizes → IsMultiple g (cost_of sizes us)
+cost_multiple : (sizes : List StockSize) (g : ℕ) (us : Solution) → All (λ s. g ∣ s.cost) sizes → IsMultiple g (cost_of sizes us)
 cost_multiple sizes g [] all = record { times = 0; is = omega arith }
 cost_multiple sizes g (u ∷ us) all =
     let cost = λ (x : CutUnit). option_map_or (λ (s : StockSize). s.cost) (slice_get sizes x.place) 0 in

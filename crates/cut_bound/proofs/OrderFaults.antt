@@ -7,7 +7,7 @@ use Rattle.std.proofs.lemmas.List.{map-append, take_more}
 use Rattle.std.proofs.lemmas.List.Elements.{All-cons, All-get_or, All-head, All-map, All-nil, All-push, All-tail}
 use Rattle.cut_measure.specs.declared.sizes.Kind.{Kind}
 use Rattle.cut_measure.specs.declared.sizes.Kind.TheVariants.{Bar, Sheet}
-use Rattle.cut_measure.specs.Measures.{Extent}
+use Rattle.cut_measure.specs.Measures.{Size}
 use Rattle.cut_tree.specs.Tree.{Tree, Piece, Rest, Trim, Cut, leaf_sum}
 use Rattle.cut_wants.specs.declared.wants.Want.{Want}
 use Rattle.cut_wants.specs.Legal.{HaveOwnDemands, of_demand}
@@ -24,16 +24,16 @@ use Rattle.cut_classes.specs.Grids.{AreUsable}
 use Rattle.cut_classes.proofs.LegalTrees.{ceiling_bounds}
 use Rattle.cut_bound.specs.declared.limits.TheConstants.{MAX_ORDER_WANTS}
 use Rattle.cut_bound.specs.declared.stock.StockSize.{StockSize}
-use Rattle.cut_bound.specs.declared.stock.RatedSize.{RatedSize}
-use Rattle.cut_bound.specs.Cuttings.{IsCostBound}
-use Rattle.cut_bound.specs.Bounds.{AreRated, IsGreatestCost, IsMost, SetsPrice, cost_at, sizes_of}
-use Rattle.cut_bound.specs.Ratings.{AreRatable, IsRating, is_large, rated_wants}
+use Rattle.cut_bound.specs.declared.stock.BoundedSize.{BoundedSize}
+use Rattle.cut_bound.specs.Solutions.{IsCostBound}
+use Rattle.cut_bound.specs.Bounds.{AreBounded, IsGreatestCost, IsMost, SetsPrice, cost_at, sizes_of}
+use Rattle.cut_bound.specs.UnitBounds.{CanBeBounded, IsUnitBound, is_large, wants_in_bound}
 use Rattle.cut_bound.specs.Prices.{is_below_step, priced, step_of}
-use Rattle.cut_bound.specs.Orders.{IsCommonDivisor, IsPricedBound, IsRatedBound, reported_cost, cost_fault, fault_by, is_bad_step, is_no_step, order_fault}
+use Rattle.cut_bound.specs.Orders.{IsCommonDivisor, IsPricedBound, IsBoundByUnits, reported_cost, cost_fault, fault_by, is_bad_step, is_no_step, order_fault}
 use Rattle.cut_bound.proofs.BarRatings.{bar_most}
 use Rattle.cut_bound.proofs.Multiples.{multiple_bound}
 use Rattle.cut_bound.proofs.PaidWorths.{bound_holds}
-use Rattle.cut_bound.proofs.ClassRatings.{far, far_classes, far_some, far_usable, inside_far, rated_none, rated_own, rated_picked, unrated_classes}
+use Rattle.cut_bound.proofs.ClassRatings.{far, far_classes, far_some, far_usable, inside_far, bounded_none, bounded_own, bounded_picked, unrated_classes}
 use Rattle.cut_bound.proofs.PickedWants.{picked_bound}
 use Rattle.cut_bound.proofs.PricedWants.{each_priced, is_price, priced_few, priced_none, priced_own, priced_picked}
 
@@ -89,7 +89,7 @@ none_large kind k s (z ∷ zs) e =
     parts false b e = (refl, e)
 
 pub ratable : (kind : Kind) (k : ℕ) (o : Option ℕ) (sizes : List StockSize) (wants : List Want) (ns : List ℕ) → order_fault kind k o sizes wants ≡ None
-    → AreRatable kind k o sizes (priced kind k (step_of o) wants ns)
+    → CanBeBounded kind k o sizes (priced kind k (step_of o) wants ns)
 ratable kind k o sizes wants ns e =
     record {
       own = priced_own kind k s wants ns (sound.own _ kind wants f.in_range);
@@ -149,69 +149,69 @@ ratable kind k o sizes wants ns e =
 pub each_size : (P : StockSize → Type 0) (zs : List StockSize) (i : ℕ) (z : StockSize) → i < length zs → z ≡ get_or zs i z → All P zs → P z
 each_size P zs i z lt is all = subst P (sym is) (All-get_or P zs i z lt all)
 
-pub rated_next : (P : RatedSize → Type 0) (sizes : List StockSize) (old new : List RatedSize) (i : ℕ) (z : StockSize) (best : ℕ) → sizes_of old ≡ take i sizes → All P old → i < length sizes
+pub bounded_next : (P : BoundedSize → Type 0) (sizes : List StockSize) (old new : List BoundedSize) (i : ℕ) (z : StockSize) (best : ℕ) → sizes_of old ≡ take i sizes → All P old → i < length sizes
     → z ≡ get_or sizes i z → P (record { stock = z; best = best }) → new ≡ old ++ record { stock = z; best = best } ∷ [] → (sizes_of new ≡ take (i + 1) sizes) × All P new
-rated_next P sizes old new i z best same all lt is rate grown =
-    let r : RatedSize = record { stock = z; best = best } in (
-      ap sizes_of grown ∙ map-append (λ (q : RatedSize). q.stock) old (r ∷ []) ∙ ap (λ zs. zs ++ z ∷ []) same ∙ ap (λ y. take i sizes ++ y ∷ []) is ∙ sym (take_more sizes i z lt),
-      subst (λ (rs : List RatedSize). All P rs) (sym grown) (All-push P old r all rate),
+bounded_next P sizes old new i z best same all lt is rate grown =
+    let r : BoundedSize = record { stock = z; best = best } in (
+      ap sizes_of grown ∙ map-append (λ (q : BoundedSize). q.stock) old (r ∷ []) ∙ ap (λ zs. zs ++ z ∷ []) same ∙ ap (λ y. take i sizes ++ y ∷ []) is ∙ sym (take_more sizes i z lt),
+      subst (λ (rs : List BoundedSize). All P rs) (sym grown) (All-push P old r all rate),
     )
 
 -- ---- the greatest cost is a bound
 
-pub greatest_holds : (wants : List Want) (k : ℕ) (sizes : List StockSize) (rated : List RatedSize) (cost : ℕ) → HaveOwnDemands wants → AreRated wants k rated → sizes_of rated ≡ sizes
-    → IsGreatestCost rated (worth_left wants) cost → IsCostBound wants k sizes cost
-greatest_holds wants k sizes rated cost own most same g =
+pub greatest_holds : (wants : List Want) (k : ℕ) (sizes : List StockSize) (bounded : List BoundedSize) (cost : ℕ) → HaveOwnDemands wants → AreBounded wants k bounded → sizes_of bounded ≡ sizes
+    → IsGreatestCost bounded (worth_left wants) cost → IsCostBound wants k sizes cost
+greatest_holds wants k sizes bounded cost own most same g =
     subst (λ zs. IsCostBound wants k zs cost) same (λ us is all.
     elim g.reached [
       | inl none ↦ omega arith
-      | inr (i, t, lt, at, (sets, e)) ↦ omega (arith, bound_holds wants k rated t own most sets us is all)
+      | inr (i, t, lt, at, (sets, e)) ↦ omega (arith, bound_holds wants k bounded t own most sets us is all)
     ])
 
-rating_most : (kind : Kind) (k : ℕ) (step : Option ℕ) (xs ys : Classes) (sizes : List StockSize) (wants : List Want) (r : RatedSize) → AreRatable kind k step sizes wants
-    → (kind ≡ Sheet → step ≡ None → AreUsable xs × AreUsable ys) → (kind ≡ Bar → r.stock.size.h ≡ 1) → IsRating kind k step xs ys (rated_wants kind k step xs ys wants) r.stock.size r.best
-    → IsMost (rated_wants kind k step xs ys wants) k r.stock.size r.best
+rating_most : (kind : Kind) (k : ℕ) (step : Option ℕ) (xs ys : Classes) (sizes : List StockSize) (wants : List Want) (r : BoundedSize) → CanBeBounded kind k step sizes wants
+    → (kind ≡ Sheet → step ≡ None → AreUsable xs × AreUsable ys) → (kind ≡ Bar → r.stock.size.h ≡ 1) → IsUnitBound kind k step xs ys (wants_in_bound kind k step xs ys wants) r.stock.size r.best
+    → IsMost (wants_in_bound kind k step xs ys wants) k r.stock.size r.best
 rating_most Bar k step xs ys sizes wants r good usable flat rate = bar_most wants k r.stock.size r.best good.own (good.flat refl) (flat refl) rate
 rating_most Sheet k (Some s) xs ys sizes wants r good usable flat rate = λ t legal within. ceiling_holds wants k s r.stock.size.w r.stock.size.h r.best (good.stepped refl s refl) rate t legal
 rating_most Sheet k None xs ys sizes wants r good usable flat rate = λ t legal within.
     let u = usable refl refl in
     let most =
-    ceiling_bounds (rated_wants Sheet k None xs ys wants) k xs ys rate.table r.stock.size.w r.stock.size.h rate.worth.i rate.worth.j t (rated_own Sheet k None xs ys wants good.own)
+    ceiling_bounds (wants_in_bound Sheet k None xs ys wants) k xs ys rate.table r.stock.size.w r.stock.size.h rate.worth.i rate.worth.j t (bounded_own Sheet k None xs ys wants good.own)
     (record { some = omega (arith, u.0.some); none = u.0.none }) (record { some = omega (arith, u.1.some); none = u.1.none }) rate.least.ceiling rate.worth.in_across rate.worth.in_down legal in
     omega (arith, most, rate.worth.read)
 
-pub rated_holds : (kind : Kind) (k : ℕ) (step : Option ℕ) (sizes : List StockSize) (wants : List Want) (bound : ℕ) → AreRatable kind k step sizes wants → (kind ≡ Bar → All (λ z. z.size.h ≡ 1) sizes)
-    → IsRatedBound kind k step sizes wants bound → IsCostBound wants k sizes bound
-rated_holds kind k step sizes wants bound good flat b =
-    picked_bound wants rated k sizes bound good.own (rated_picked kind k step b.across b.down wants)
-    (subst (IsCostBound rated k sizes) (sym b.reported)
-    (multiple_bound rated k sizes b.cost b.divisor b.common (greatest_holds rated k sizes b.rated b.cost (rated_own kind k step b.across b.down wants good.own) most b.all_rated b.greatest)))
+pub bounded_holds : (kind : Kind) (k : ℕ) (step : Option ℕ) (sizes : List StockSize) (wants : List Want) (bound : ℕ) → CanBeBounded kind k step sizes wants → (kind ≡ Bar → All (λ z. z.size.h ≡ 1) sizes)
+    → IsBoundByUnits kind k step sizes wants bound → IsCostBound wants k sizes bound
+bounded_holds kind k step sizes wants bound good flat b =
+    picked_bound wants bounded k sizes bound good.own (bounded_picked kind k step b.across b.down wants)
+    (subst (IsCostBound bounded k sizes) (sym b.reported)
+    (multiple_bound bounded k sizes b.cost b.divisor b.common (greatest_holds bounded k sizes b.bounded b.cost (bounded_own kind k step b.across b.down wants good.own) most b.all_bounded b.greatest)))
   where
-    rated : List Want
-    rated = rated_wants kind k step b.across b.down wants
+    bounded : List Want
+    bounded = wants_in_bound kind k step b.across b.down wants
 
-    high : (i : ℕ) (d : RatedSize) → i < length b.rated → kind ≡ Bar → (get_or b.rated i d).stock.size.h ≡ 1
+    high : (i : ℕ) (d : BoundedSize) → i < length b.bounded → kind ≡ Bar → (get_or b.bounded i d).stock.size.h ≡ 1
     high i d lt bar =
-        let all = subst (λ zs. All (λ (z : StockSize). z.size.h ≡ 1) zs) (sym b.all_rated) (flat bar) in
-        flat_at b.rated i d lt all
+        let all = subst (λ zs. All (λ (z : StockSize). z.size.h ≡ 1) zs) (sym b.all_bounded) (flat bar) in
+        flat_at b.bounded i d lt all
       where
-        flat_at : (rs : List RatedSize) (i : ℕ) (d : RatedSize) → i < length rs → All (λ (z : StockSize). z.size.h ≡ 1) (sizes_of rs) → (get_or rs i d).stock.size.h ≡ 1
+        flat_at : (rs : List BoundedSize) (i : ℕ) (d : BoundedSize) → i < length rs → All (λ (z : StockSize). z.size.h ≡ 1) (sizes_of rs) → (get_or rs i d).stock.size.h ≡ 1
         flat_at [] i d lt all = absurd (omega arith)
         flat_at (r ∷ rs) zero d lt all = All-head (λ (z : StockSize). z.size.h ≡ 1) r.stock (sizes_of rs) all
         flat_at (r ∷ rs) (suc i) d lt all = flat_at rs i d (omega arith) (All-tail (λ (z : StockSize). z.size.h ≡ 1) r.stock (sizes_of rs) all)
 
-    most : AreRated rated k b.rated
-    most = λ i d lt. rating_most kind k step b.across b.down sizes wants (get_or b.rated i d) good b.usable (high i d lt) (b.ratings i d lt)
+    most : AreBounded bounded k b.bounded
+    most = λ i d lt. rating_most kind k step b.across b.down sizes wants (get_or b.bounded i d) good b.usable (high i d lt) (b.unit_bounds i d lt)
 
 pub priced_holds : (kind : Kind) (k : ℕ) (step : Option ℕ) (sizes : List StockSize) (wants : List Want) (ns : List ℕ) (bound : ℕ) → order_fault kind k step sizes wants ≡ None
-    → (kind ≡ Bar → All (λ z. z.size.h ≡ 1) sizes) → IsRatedBound kind k step sizes (priced kind k (step_of step) wants ns) bound → IsPricedBound kind k step sizes wants ns bound
+    → (kind ≡ Bar → All (λ z. z.size.h ≡ 1) sizes) → IsBoundByUnits kind k step sizes (priced kind k (step_of step) wants ns) bound → IsPricedBound kind k step sizes wants ns bound
 priced_holds kind k step sizes wants ns bound e flat b =
     let f = faultless (is_no_step kind step) kind k step sizes wants e in
     record {
       exact = b;
       least =
           picked_bound wants (priced kind k (step_of step) wants ns) k sizes bound (sound.own _ kind wants f.in_range) (priced_picked kind k (step_of step) wants ns)
-          (rated_holds kind k step sizes (priced kind k (step_of step) wants ns) bound (ratable kind k step sizes wants ns e) flat b);
+          (bounded_holds kind k step sizes (priced kind k (step_of step) wants ns) bound (ratable kind k step sizes wants ns e) flat b);
     }
 
 -- ---- no prices
@@ -222,7 +222,7 @@ worthless (Piece d turned) = refl
 worthless (Trim axis a t) = worthless t
 worthless (Cut axis a t u) = omega (arith, worthless t, worthless u)
 
-no_rating : (kind : Kind) (k : ℕ) (step : Option ℕ) (most : ℕ) (size : Extent) → size.w + k < most → size.h + k < most → IsRating kind k step (far_classes most) (far_classes most) [] size 0
+no_rating : (kind : Kind) (k : ℕ) (step : Option ℕ) (most : ℕ) (size : Size) → size.w + k < most → size.h + k < most → IsUnitBound kind k step (far_classes most) (far_classes most) [] size 0
 no_rating Bar k step most size wide high = record {
   counts = [];
   best_counts = record { within = tt; fit = omega arith; most = λ others few fit. omega arith };
@@ -231,7 +231,7 @@ no_rating Bar k step most size wide high = record {
 no_rating Sheet k (Some s) most size wide high = record { found = (Rest, tt, refl); most = λ t legal. omega (arith, worthless t) }
 no_rating Sheet k None most size wide high = unrated_classes k most size wide high
 
-unrated : StockSize → RatedSize
+unrated : StockSize → BoundedSize
 unrated s = record { stock = s; best = 0 }
 
 all_unrated : (sizes : List StockSize) → sizes_of (map unrated sizes) ≡ sizes
@@ -248,18 +248,18 @@ unpriced kind k step sizes wants divisor bound common reported =
         across = xs;
         down = xs;
         usable = λ sheet none. (far_usable (far k sizes) (far_some k sizes), far_usable (far k sizes) (far_some k sizes));
-        rated = map unrated sizes;
-        all_rated = all_unrated sizes;
-        ratings =
-            All-map (λ (r : RatedSize). IsRating kind k step xs xs (rated_wants kind k step xs xs (priced kind k (step_of step) wants [])) r.stock.size r.best) unrated sizes
+        bounded = map unrated sizes;
+        all_bounded = all_unrated sizes;
+        unit_bounds =
+            All-map (λ (r : BoundedSize). IsUnitBound kind k step xs xs (wants_in_bound kind k step xs xs (priced kind k (step_of step) wants [])) r.stock.size r.best) unrated sizes
             (λ i d lt.
             let inside = inside_far k sizes i d lt in
-            subst (λ (ws : List Want). IsRating kind k step xs xs ws (get_or sizes i d).size 0) (sym none) (no_rating kind k step (far k sizes) (get_or sizes i d).size inside.0 inside.1));
+            subst (λ (ws : List Want). IsUnitBound kind k step xs xs ws (get_or sizes i d).size 0) (sym none) (no_rating kind k step (far k sizes) (get_or sizes i d).size inside.0 inside.1));
         cost = 0;
         greatest = record {
           reached = inl refl;
           most =
-              All-map (λ (t : RatedSize). SetsPrice t (map unrated sizes) → cost_at t (map unrated sizes) (worth_left (rated_wants kind k step xs xs (priced kind k (step_of step) wants []))) ≤ 0) unrated sizes
+              All-map (λ (t : BoundedSize). SetsPrice t (map unrated sizes) → cost_at t (map unrated sizes) (worth_left (wants_in_bound kind k step xs xs (priced kind k (step_of step) wants []))) ≤ 0) unrated sizes
               (λ i d lt sets. absurd (omega (arith, sets.some)));
         };
         divisor = divisor;
@@ -272,5 +272,5 @@ unpriced kind k step sizes wants divisor bound common reported =
     xs : Classes
     xs = far_classes (far k sizes)
 
-    none : rated_wants kind k step xs xs (priced kind k (step_of step) wants []) ≡ []
-    none = ap (λ ws. rated_wants kind k step xs xs ws) (priced_none kind k (step_of step) wants) ∙ rated_none kind k step xs xs
+    none : wants_in_bound kind k step xs xs (priced kind k (step_of step) wants []) ≡ []
+    none = ap (λ ws. wants_in_bound kind k step xs xs ws) (priced_none kind k (step_of step) wants) ∙ bounded_none kind k step xs xs

@@ -13,7 +13,7 @@ use Rattle.cut_wants.specs.declared.wants.Want.{Want}
 use Rattle.cut_wants.specs.Legal.{HasSides, HaveOwnDemands, IsWantedPiece, Legal}
 use Rattle.cut_wants.proofs.LeafSums.{Contains-cases, Contains-head, Contains-tail}
 use Rattle.cut_bound.specs.declared.stock.StockSize.{StockSize}
-use Rattle.cut_bound.specs.Cuttings.{CutUnit, Cutting, IsCutUnit, IsCutting, IsCostBound, MakesAll, cost_of, pieces_of, units_at}
+use Rattle.cut_bound.specs.Solutions.{CutUnit, Solution, IsCutUnit, IsSolution, IsCostBound, MakesAll, cost_of, pieces_of, units_at}
 use Rattle.cut_bound.specs.Prices.{ArePicked, at_price}
 
 -- two wants of one demand are one
@@ -103,21 +103,21 @@ picked_tree wants picked k (Cut Y a t u) w h own are l =
     record { tree = Cut Y a r.tree q.tree; legal = (l.0, l.1, r.legal, q.legal); enough = λ x has. omega (arith, r.enough x has, q.enough x has) }
 
 -- units of the same sizes, with all the pieces of the picked wants
-record IsPickedCutting (picked : List Want) (k : ℕ) (sizes : List StockSize) (us : Cutting) : Type 0 where
-  units : Cutting
+record IsPickedSolution (picked : List Want) (k : ℕ) (sizes : List StockSize) (us : Solution) : Type 0 where
+  units : Solution
   legal : All (IsCutUnit picked k sizes) units
   same_units : (place : ℕ) → units_at units place ≡ units_at us place
   same_cost : cost_of sizes units ≡ cost_of sizes us
   enough : (x : Want) → Contains picked x → pieces_of us x.demand ≤ pieces_of units x.demand
 
-picked_cutting : (wants picked : List Want) (k : ℕ) (sizes : List StockSize) (us : Cutting) → HaveOwnDemands wants → ArePicked wants picked → All (IsCutUnit wants k sizes) us
-    → IsPickedCutting picked k sizes us
-picked_cutting wants picked k sizes [] own are legal =
+picked_solution : (wants picked : List Want) (k : ℕ) (sizes : List StockSize) (us : Solution) → HaveOwnDemands wants → ArePicked wants picked → All (IsCutUnit wants k sizes) us
+    → IsPickedSolution picked k sizes us
+picked_solution wants picked k sizes [] own are legal =
     record { units = []; legal = All-nil (IsCutUnit picked k sizes); same_units = λ p. refl; same_cost = refl; enough = λ x has. omega arith }
-picked_cutting wants picked k sizes (u ∷ us) own are legal =
+picked_solution wants picked k sizes (u ∷ us) own are legal =
     let is = All-head (IsCutUnit wants k sizes) u us legal in
     let r = picked_tree wants picked k u.tree is.stock.size.w is.stock.size.h own are is.legal in
-    let below = picked_cutting wants picked k sizes us own are (All-tail (IsCutUnit wants k sizes) u us legal) in
+    let below = picked_solution wants picked k sizes us own are (All-tail (IsCutUnit wants k sizes) u us legal) in
     let v : CutUnit = record { place = u.place; tree = r.tree } in
     let cut : IsCutUnit picked k sizes v = record { stock = is.stock; there = is.there; legal = r.legal } in
     let cost = λ (x : CutUnit). option_map_or (λ (s : StockSize). s.cost) (slice_get sizes x.place) 0 in
@@ -142,8 +142,8 @@ picked_cutting wants picked k sizes (u ∷ us) own are legal =
 pub picked_bound : (wants picked : List Want) (k : ℕ) (sizes : List StockSize) (bound : ℕ) → HaveOwnDemands wants → ArePicked wants picked → IsCostBound picked k sizes bound
     → IsCostBound wants k sizes bound
 picked_bound wants picked k sizes bound own are least us is makes =
-    let p = picked_cutting wants picked k sizes us own are is.legal in
-    let cut : IsCutting picked k sizes p.units = record {
+    let p = picked_solution wants picked k sizes us own are is.legal in
+    let cut : IsSolution picked k sizes p.units = record {
       legal = p.legal;
       at_hand = λ place s there. subst (λ m. IfSome s.limit (λ n. m ≤ n)) (sym (p.same_units place)) (is.at_hand place s there);
     } in

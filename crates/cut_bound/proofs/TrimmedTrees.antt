@@ -6,7 +6,7 @@ use Rattle.std.proofs.lemmas.Bool.Decides.{eqb_tells}
 use Rattle.std.proofs.lemmas.Nat.{mul-le}
 use Rattle.std.proofs.Math.Nat.{le_refl}
 use Rattle.cut_measure.specs.declared.sizes.Axis.TheVariants.{X, Y}
-use Rattle.cut_measure.specs.Measures.{Extent}
+use Rattle.cut_measure.specs.Measures.{Size}
 use Rattle.cut_tree.specs.Tree.{Tree, Rest, Piece, Trim, Cut, count_of}
 use Rattle.cut_wants.specs.declared.wants.Want.{Want}
 use Rattle.cut_wants.specs.Legal.{Legal, of_demand, HaveOwnDemands}
@@ -83,7 +83,7 @@ weigh-le f g h (x ∷ xs) each =
     )
 
 -- the pieces of a legal tree, of each want as many as are left, are worth at most what the best tree within the counts is
-pub trimmed_worth : (wants : List Want) (k : ℕ) (size : Extent) (best : ℕ) (t : Tree) → HaveOwnDemands wants → IsMost wants k size best → Legal wants k t size.w size.h
+pub trimmed_worth : (wants : List Want) (k : ℕ) (size : Size) (best : ℕ) (t : Tree) → HaveOwnDemands wants → IsMost wants k size best → Legal wants k t size.w size.h
     → weigh (λ x. x.worth) (λ d. min (count_of t d) (of_demand (λ x. x.left) wants d)) wants ≤ best
 trimmed_worth wants k size best t own most l =
     let left : ℕ → ℕ = of_demand (λ x. x.left) wants in

@@ -11,7 +11,7 @@ use Rattle.std.proofs.lemmas.Nat.{mul-le}
 use Rattle.std.proofs.Math.Nat.{le_refl}
 use Rattle.cut_wants.specs.declared.wants.Want.{Want}
 use Rattle.cut_bound.specs.declared.stock.StockSize.{StockSize}
-use Rattle.cut_bound.specs.Cuttings.{CutUnit, Cutting, IsCutUnit, IsCutting, MakesAll, IsCostBound, cost_of, cost_at_hand, units_at}
+use Rattle.cut_bound.specs.Solutions.{CutUnit, Solution, IsCutUnit, IsSolution, MakesAll, IsCostBound, cost_of, cost_at_hand, units_at}
 
 -- what a list has at a unit's place
 abbrev pub at : {A : Type 0} → (A → ℕ) → List A → CutUnit → ℕ
@@ -75,7 +75,7 @@ along-one f (y ∷ xs) (suc p) x is =
     let next = along-same f (λ i. cond (eqb (suc p) (suc i)) 1 0) (λ i. cond (eqb p i) 1 0) xs (next_place p) in
     omega (arith, ap (λ n. n * f y) here, next, along-one f xs p x is)
 
-along-units : {A : Type 0} (f : A → ℕ) (xs : List A) (us : Cutting) → All (IsPlaced xs) us → along f (units_at us) xs ≡ sum_by (at f xs) us
+along-units : {A : Type 0} (f : A → ℕ) (xs : List A) (us : Solution) → All (IsPlaced xs) us → along f (units_at us) xs ≡ sum_by (at f xs) us
 along-units f xs [] placed = along-zero f xs
 along-units f xs (u ∷ us) placed =
     let is = All-head (IsPlaced xs) u us placed in
@@ -95,7 +95,7 @@ along-le f m g [] each = omega arith
 along-le f m g (x ∷ xs) each = omega (arith, each 0 x refl, along-le f m (λ i. g (suc i)) xs (λ i y is. each (suc i) y is), sum_by-cons m x xs)
 
 -- what the units of each size add up to is at most what all of it at hand would
-pub units_le : {A : Type 0} (f m : A → ℕ) (xs : List A) (us : Cutting) → All (IsPlaced xs) us → ((i : ℕ) (x : A) → slice_get xs i ≡ Some x → units_at us i * f x ≤ m x)
+pub units_le : {A : Type 0} (f m : A → ℕ) (xs : List A) (us : Solution) → All (IsPlaced xs) us → ((i : ℕ) (x : A) → slice_get xs i ≡ Some x → units_at us i * f x ≤ m x)
     → sum_by (at f xs) us ≤ sum_by m xs
 units_le f m xs us placed each = omega (arith, along-units f xs us placed, along-le f m (units_at us) xs each)
 
@@ -110,12 +110,12 @@ has_limit : (limit : Option ℕ) (e : ℕ) → IsSome limit → IfNone limit (e 
 has_limit None e some = absurd (cc)
 has_limit (Some m) e some = tt
 
-cost_le : (wants : List Want) (k : ℕ) (sizes : List StockSize) (us : Cutting) → All (λ s. IsSome s.limit) sizes → IsCutting wants k sizes us → cost_of sizes us ≤ cost_at_hand sizes
+cost_le : (wants : List Want) (k : ℕ) (sizes : List StockSize) (us : Solution) → All (λ s. IsSome s.limit) sizes → IsSolution wants k sizes us → cost_of sizes us ≤ cost_at_hand sizes
 cost_le wants k sizes us all is =
     units_le (λ (s : StockSize). s.cost) (λ (s : StockSize). unwrap_or s.limit 0 * s.cost) sizes us
     (All-weaker (IsCutUnit wants k sizes) (IsPlaced sizes) (λ u c. record { item = c.stock; there = c.there }) us is.legal)
     (λ i s there. limited s.limit (units_at us i) s.cost (is.at_hand i s there) (has_limit s.limit s.cost (each_at (λ (z : StockSize). IsSome z.limit) sizes i s all there)))
 
 pub falls_short : (wants : List Want) (k : ℕ) (sizes : List StockSize) (bound : ℕ) → All (λ s. IsSome s.limit) sizes → IsCostBound wants k sizes bound → cost_at_hand sizes < bound
-    → (us : Cutting) → IsCutting wants k sizes us → MakesAll wants us → ⊥
+    → (us : Solution) → IsSolution wants k sizes us → MakesAll wants us → ⊥
 falls_short wants k sizes bound all holds more us is makes = absurd (omega (arith, holds us is makes, cost_le wants k sizes us all is))

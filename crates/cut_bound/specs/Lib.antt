@@ -1,7 +1,7 @@
-pub mod Cuttings
+pub mod Solutions
 pub mod Bounds
 pub mod Prices
-pub mod Ratings
+pub mod UnitBounds
 pub mod Orders
 pub mod Planned
 pub mod Stages

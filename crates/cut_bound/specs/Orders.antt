@@ -14,11 +14,11 @@ use Rattle.cut_plan.specs.Faults as plan
 use Rattle.cut_plan.specs.Faults.{are_bad_wants, is_fitting}
 use Rattle.cut_bound.specs.declared.limits.TheConstants.{MAX_BOUND, MAX_ORDER_WANTS}
 use Rattle.cut_bound.specs.declared.stock.StockSize.{StockSize}
-use Rattle.cut_bound.specs.declared.stock.RatedSize.{RatedSize}
-use Rattle.cut_bound.specs.Cuttings.{IsCostBound}
+use Rattle.cut_bound.specs.declared.stock.BoundedSize.{BoundedSize}
+use Rattle.cut_bound.specs.Solutions.{IsCostBound}
 use Rattle.cut_bound.specs.Bounds.{IsGreatestCost, sizes_of}
 use Rattle.cut_bound.specs.Prices.{priced, step_of}
-use Rattle.cut_bound.specs.Ratings.{IsRating, is_large, rated_wants}
+use Rattle.cut_bound.specs.UnitBounds.{IsUnitBound, is_large, wants_in_bound}
 
 -- a sheet's step of 0
 abbrev pub is_no_step : Kind → (step : Option ℕ) → Bool
@@ -59,20 +59,20 @@ reported_cost divisor cost = min (div_ceil cost divisor * divisor) MAX_BOUND
 -- Each size with what a unit of it is worth at most at the wants' worths, and the greatest cost at the rate of a size that
 -- sets the price, as a multiple of what divides all costs. Without a step sheets are rated over some classes of widths and
 -- of heights, which else are of no concern.
-pub record IsRatedBound (kind : Kind) (kerf : ℕ) (step : Option ℕ) (sizes : List StockSize) (wants : List Want) (bound : ℕ) : Type 0 where
+pub record IsBoundByUnits (kind : Kind) (kerf : ℕ) (step : Option ℕ) (sizes : List StockSize) (wants : List Want) (bound : ℕ) : Type 0 where
   pub across : Classes
   pub down : Classes
   pub usable : kind ≡ Sheet → step ≡ None → AreUsable across × AreUsable down
-  pub rated : List RatedSize
-  pub all_rated : sizes_of rated ≡ sizes
-  pub ratings : All (λ r. IsRating kind kerf step across down (rated_wants kind kerf step across down wants) r.stock.size r.best) rated
+  pub bounded : List BoundedSize
+  pub all_bounded : sizes_of bounded ≡ sizes
+  pub unit_bounds : All (λ r. IsUnitBound kind kerf step across down (wants_in_bound kind kerf step across down wants) r.stock.size r.best) bounded
   pub cost : ℕ
-  pub greatest : IsGreatestCost rated (worth_left (rated_wants kind kerf step across down wants)) cost
+  pub greatest : IsGreatestCost bounded (worth_left (wants_in_bound kind kerf step across down wants)) cost
   pub divisor : ℕ
   pub common : IsCommonDivisor sizes divisor
   pub reported : bound ≡ reported_cost divisor cost
 
 -- the same at the prices of those wants that have one: no cutting of the sizes at hand that makes all wants costs less
 pub record IsPricedBound (kind : Kind) (kerf : ℕ) (step : Option ℕ) (sizes : List StockSize) (wants : List Want) (numbers : List ℕ) (bound : ℕ) : Type 0 where
-  pub exact : IsRatedBound kind kerf step sizes (priced kind kerf (step_of step) wants numbers) bound
+  pub exact : IsBoundByUnits kind kerf step sizes (priced kind kerf (step_of step) wants numbers) bound
   pub least : IsCostBound wants kerf sizes bound

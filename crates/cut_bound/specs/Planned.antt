@@ -1,6 +1,6 @@
 -- Planned units: when a list of them is a plan of an order, and what a check reports it.
 use Rattle.std.specs.Prelude.{◌≡◌, ℕ, ◌+◌, ◌-◌, ◌<◌, ◌≤◌, ◌^◌, ◌↔◌, IsTrue, List, [], ◌∷◌, ◌++◌, All, IfSome, Some, length, map, replicate, slice_get}
-use Rattle.cut_measure.specs.Measures.{Extent}
+use Rattle.cut_measure.specs.Measures.{Size}
 use Rattle.cut_tree.specs.declared.token.TheConstants.{MAX_CUTS}
 use Rattle.cut_tree.specs.declared.leaves.Leaf.{Leaf}
 use Rattle.cut_tree.specs.Tree.{Tree, count_of, cut_count}
@@ -13,16 +13,16 @@ use Rattle.cut_bound.specs.declared.planned.PlannedUnit.{PlannedUnit}
 use Rattle.cut_bound.specs.declared.check.CheckedOrder.{CheckedOrder}
 use Rattle.cut_bound.specs.declared.check.CheckFault.{CheckFault}
 use Rattle.cut_bound.specs.declared.check.CheckFault.TheVariants.{BadPlan, NotAtHand, TooMany, TooCostly, NoMemory}
-use Rattle.cut_bound.specs.Cuttings.{CutUnit, Cutting, IsCutting, AreAtHand, MakesAll, IsCostBound, cost_of, pieces_of, units_at}
+use Rattle.cut_bound.specs.Solutions.{CutUnit, Solution, IsSolution, AreAtHand, MakesAll, IsCostBound, cost_of, pieces_of, units_at}
 
 -- one of the units that are planned alike
 abbrev pub one_of : PlannedUnit → CutUnit
 one_of u = record { place = u.place; tree = u.plan.tree }
 
 -- the units that are planned, one by one
-abbrev pub cutting_of : List PlannedUnit → Cutting
-cutting_of [] = []
-cutting_of (u ∷ us) = replicate u.times (one_of u) ++ cutting_of us
+abbrev pub solution_of : List PlannedUnit → Solution
+solution_of [] = []
+solution_of (u ∷ us) = replicate u.times (one_of u) ++ solution_of us
 
 -- the leaf has the demand and the sides of the want
 abbrev pub IsPieceOf : Leaf → Want → Type 0
@@ -34,7 +34,7 @@ pub record ArePieces (wants : List Want) (leaves : List Leaf) : Type 0 where
   pub wanted : All (λ l. IsWantedPiece wants l.demand l.turned l.w l.h) leaves
 
 -- The plan is made for this size and kerf. It cuts the size into wanted pieces, at least one, by at most 255 cuts.
-pub record IsPlanFor (wants : List Want) (kerf : ℕ) (size : Extent) (plan : Pattern) : Type 0 where
+pub record IsPlanFor (wants : List Want) (kerf : ℕ) (size : Size) (plan : Pattern) : Type 0 where
   pub wide : plan.w ≡ size.w
   pub high : plan.h ≡ size.h
   pub sawn : plan.kerf ≡ kerf
@@ -50,54 +50,54 @@ pub record IsPlannedUnit (wants : List Want) (kerf : ℕ) (sizes : List StockSiz
   pub planned : IsPlanFor wants kerf stock.size unit.plan
 
 -- of each want at most as many pieces as are left to make
-abbrev pub MakesNoMore : List Want → Cutting → Type 0
-MakesNoMore wants cutting = All (λ x. pieces_of cutting x.demand ≤ x.left) wants
+abbrev pub MakesNoMore : List Want → Solution → Type 0
+MakesNoMore wants solution = All (λ x. pieces_of solution x.demand ≤ x.left) wants
 
 -- each unit has a plan for its size, as many units are at hand, and they make no more than is left
 pub record IsOrderPlan (wants : List Want) (kerf : ℕ) (sizes : List StockSize) (units : List PlannedUnit) : Type 0 where
   pub planned : All (IsPlannedUnit wants kerf sizes) units
-  pub at_hand : AreAtHand sizes (cutting_of units)
-  pub no_more : MakesNoMore wants (cutting_of units)
+  pub at_hand : AreAtHand sizes (solution_of units)
+  pub no_more : MakesNoMore wants (solution_of units)
 
 -- how many pieces of a want are left to make after a cutting
-abbrev pub missing_of : Cutting → Want → ℕ
-missing_of cutting x = x.left - pieces_of cutting x.demand
+abbrev pub missing_of : Solution → Want → ℕ
+missing_of solution x = x.left - pieces_of solution x.demand
 
 -- the cutting makes all that is left, and none that does costs less
-pub record IsCheapest (wants : List Want) (kerf : ℕ) (sizes : List StockSize) (cutting : Cutting) : Type 0 where
-  pub cut : IsCutting wants kerf sizes cutting
-  pub makes_all : MakesAll wants cutting
-  pub least : IsCostBound wants kerf sizes (cost_of sizes cutting)
+pub record IsCheapest (wants : List Want) (kerf : ℕ) (sizes : List StockSize) (solution : Solution) : Type 0 where
+  pub cut : IsSolution wants kerf sizes solution
+  pub makes_all : MakesAll wants solution
+  pub least : IsCostBound wants kerf sizes (cost_of sizes solution)
 
 -- The units are a plan of the order and so a cutting. Of each want the pieces planned and those missing are what is left,
 -- the cost is what the units cost, and `proved` says that they make all and cost as much as the bound.
 pub record IsChecked (wants : List Want) (kerf : ℕ) (sizes : List StockSize) (bound : ℕ) (units : List PlannedUnit) (checked : CheckedOrder) : Type 0 where
   pub plan : IsOrderPlan wants kerf sizes units
-  pub cut : IsCutting wants kerf sizes (cutting_of units)
-  pub missing_pieces : checked.missing.items ≡ map (missing_of (cutting_of units)) wants
-  pub adds_up : All (λ x. pieces_of (cutting_of units) x.demand + missing_of (cutting_of units) x ≡ x.left) wants
-  pub paid : checked.cost ≡ cost_of sizes (cutting_of units)
-  pub proof : IsTrue checked.proved ↔ (MakesAll wants (cutting_of units) × (checked.cost ≡ bound))
+  pub cut : IsSolution wants kerf sizes (solution_of units)
+  pub missing_pieces : checked.missing.items ≡ map (missing_of (solution_of units)) wants
+  pub adds_up : All (λ x. pieces_of (solution_of units) x.demand + missing_of (solution_of units) x ≡ x.left) wants
+  pub paid : checked.cost ≡ cost_of sizes (solution_of units)
+  pub proof : IsTrue checked.proved ↔ (MakesAll wants (solution_of units) × (checked.cost ≡ bound))
 
 -- why units are refused: what they fail, or that their cost has no number of 128 bits
 abbrev pub IsCheckFault : List Want → (kerf : ℕ) → List StockSize → List PlannedUnit → CheckFault → Type 0
 IsCheckFault wants k sizes units BadPlan = All (IsPlannedUnit wants k sizes) units → ⊥
-IsCheckFault wants k sizes units NotAtHand = AreAtHand sizes (cutting_of units) → ⊥
-IsCheckFault wants k sizes units TooMany = MakesNoMore wants (cutting_of units) → ⊥
-IsCheckFault wants k sizes units TooCostly = 2 ^ 128 ≤ cost_of sizes (cutting_of units)
+IsCheckFault wants k sizes units NotAtHand = AreAtHand sizes (solution_of units) → ⊥
+IsCheckFault wants k sizes units TooMany = MakesNoMore wants (solution_of units) → ⊥
+IsCheckFault wants k sizes units TooCostly = 2 ^ 128 ≤ cost_of sizes (solution_of units)
 IsCheckFault wants k sizes units NoMemory = Unit {0}
 
 -- a legal tree of the size has a piece of the want
-pub record HoldsPiece (wants : List Want) (kerf : ℕ) (size : Extent) (x : Want) : Type 0 where
+pub record HoldsPiece (wants : List Want) (kerf : ℕ) (size : Size) (x : Want) : Type 0 where
   pub tree : Tree
   pub legal : Legal wants kerf tree size.w size.h
   pub some_piece : 1 ≤ count_of tree x.demand
 
 -- no unit at hand that the cutting does not use holds a piece of the want, turned where it may be
-abbrev pub IsUnheld : List StockSize → Cutting → Want → Type 0
-IsUnheld sizes cutting x =
-    (place : ℕ) (s : StockSize) → slice_get sizes place ≡ Some s → IfSome s.limit (λ n. units_at cutting place < n) → IsTrue (is_fitting s.size x) → ⊥
+abbrev pub IsUnheld : List StockSize → Solution → Want → Type 0
+IsUnheld sizes solution x =
+    (place : ℕ) (s : StockSize) → slice_get sizes place ≡ Some s → IfSome s.limit (λ n. units_at solution place < n) → IsTrue (is_fitting s.size x) → ⊥
 
 -- a piece of the want is missing only where no unit that is not used holds one
-pub record IsFilled (sizes : List StockSize) (cutting : Cutting) (x : Want) : Type 0 where
-  pub unheld : pieces_of cutting x.demand < x.left → IsUnheld sizes cutting x
+pub record IsFilled (sizes : List StockSize) (solution : Solution) (x : Want) : Type 0 where
+  pub unheld : pieces_of solution x.demand < x.left → IsUnheld sizes solution x

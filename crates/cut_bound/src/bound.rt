@@ -5,18 +5,18 @@ ghost use Rattle.cut_measure.specs.declared.sizes.Kind.{Kind};
 ghost use Rattle.cut_measure.specs.declared.sizes.Kind.TheVariants.{Bar, Sheet};
 ghost use Rattle.cut_wants.specs.declared.wants.Want.{Want};
 ghost use Rattle.cut_plan.specs.declared.faults.PlanFault.TheVariants.{NoMemory};
-ghost use Rattle.cut_bound.specs.Ratings.{AreRatable};
+ghost use Rattle.cut_bound.specs.UnitBounds.{CanBeBounded};
 ghost use Rattle.cut_sheets.specs.Bound.{worth_left};
 ghost use Rattle.cut_bound.specs.Orders as orders;
-ghost use Rattle.cut_bound.specs.Orders.{IsPricedBound, IsRatedBound};
+ghost use Rattle.cut_bound.specs.Orders.{IsPricedBound, IsBoundByUnits};
 
 use crate::divisors::divisor_of;
 use crate::faults::cost_fault;
 use crate::limits::MAX_BOUND;
 use crate::price::greatest_cost;
 use crate::prices::priced;
-use crate::ratings::{rated_bars, rated_classes, rated_sheets, stock_grid};
-use crate::stock::{RatedSize, StockSize};
+use crate::unit_bounds::{bounded_bars, bounded_classes, bounded_sheets, stock_grid};
+use crate::stock::{BoundedSize, StockSize};
 use cut_classes::counted_wants;
 use cut_measure::{Kind, MAX_KERF};
 use cut_plan::{PlanFault, Want};
@@ -46,12 +46,12 @@ fn bars_bound(
     priced: &[Want],
 ) -> Result<u64, AllocError>
     requires kerf { kerf ≤ MAX_KERF }
-    requires ratable { (step : Option ℕ) × AreRatable Bar kerf step sizes.now priced.now }
+    requires ratable { (step : Option ℕ) × CanBeBounded Bar kerf step sizes.now priced.now }
     ensures { IfOk result (λ bound. (step : Option ℕ)
-        → IsRatedBound Bar kerf step sizes.now priced.now bound) }
+        → IsBoundByUnits Bar kerf step sizes.now priced.now bound) }
 {
-    let rated = rated_bars(alloc, kerf, sizes, priced)?;
-    let cost = greatest_cost(&rated, total_left(priced));
+    let bounded = bounded_bars(alloc, kerf, sizes, priced)?;
+    let cost = greatest_cost(&bounded, total_left(priced));
     Ok(reported_cost(divisor_of(sizes), cost))
 }
 
@@ -64,11 +64,11 @@ fn steps_bound(
     priced: &[Want],
 ) -> Result<u64, AllocError>
     requires kerf { kerf ≤ MAX_KERF }
-    requires ratable { AreRatable Sheet kerf (Some step) sizes.now priced.now }
-    ensures { IfOk result (IsRatedBound Sheet kerf (Some step) sizes.now priced.now) }
+    requires ratable { CanBeBounded Sheet kerf (Some step) sizes.now priced.now }
+    ensures { IfOk result (IsBoundByUnits Sheet kerf (Some step) sizes.now priced.now) }
 {
-    let rated = rated_sheets(alloc, kerf, step, sizes, priced)?;
-    let cost = greatest_cost(&rated, total_left(priced));
+    let bounded = bounded_sheets(alloc, kerf, step, sizes, priced)?;
+    let cost = greatest_cost(&bounded, total_left(priced));
     Ok(reported_cost(divisor_of(sizes), cost))
 }
 
@@ -82,17 +82,17 @@ fn classes_bound(
 ) -> Result<u64, AllocError>
     requires kerf { kerf ≤ MAX_KERF }
     requires total { worth_left priced.now < 2 ^ 64 }
-    ensures { IfOk result (IsRatedBound Sheet kerf None sizes.now priced.now) }
+    ensures { IfOk result (IsBoundByUnits Sheet kerf None sizes.now priced.now) }
 {
     let grid = stock_grid(alloc, kerf, points, sizes, priced)?;
     let counted = counted_wants(alloc, kerf, &grid, priced)?;
-    let rated = rated_classes(alloc, kerf, &grid, sizes, priced)?;
-    let cost = greatest_cost(&rated, total_left(&counted));
+    let bounded = bounded_classes(alloc, kerf, &grid, sizes, priced)?;
+    let cost = greatest_cost(&bounded, total_left(&counted));
     Ok(reported_cost(divisor_of(sizes), cost))
 }
 
 // The bound at the prices of some of the wants.
-fn rated_bound(
+fn bound_by_units(
     alloc: Global,
     kind: Kind,
     kerf: u32,
@@ -102,8 +102,8 @@ fn rated_bound(
     priced: &[Want],
 ) -> Result<u64, AllocError>
     requires kerf { kerf ≤ MAX_KERF }
-    requires ratable { AreRatable kind kerf step sizes.now priced.now }
-    ensures { IfOk result (IsRatedBound kind kerf step sizes.now priced.now) }
+    requires ratable { CanBeBounded kind kerf step sizes.now priced.now }
+    ensures { IfOk result (IsBoundByUnits kind kerf step sizes.now priced.now) }
 {
     match kind {
         Kind::Bar => bars_bound(alloc, kerf, sizes, priced),
@@ -139,7 +139,7 @@ pub fn priced_cost(
     ensures { IfOk result (IsPricedBound kind kerf step sizes.now wants.now numbers.now) }
 {
     let priced = priced(alloc, kind, kerf, step, wants, numbers)?;
-    let bound = rated_bound(alloc, kind, kerf, step, points, sizes, &priced)?;
+    let bound = bound_by_units(alloc, kind, kerf, step, points, sizes, &priced)?;
     Ok(bound)
 }
 

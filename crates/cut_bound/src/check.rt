@@ -2,9 +2,9 @@
 //! and reports what they leave and cost. So whoever made them need not be trusted.
 
 ghost use Rattle.std.specs.Prelude.{◌≡◌, ◌-◌, ◌≤◌, ◌<◌, ◌^◌, ◌↔◌, ◌⊎◌, All, IfErr, IfNone, IfOk, IfSome, IsTrue, map};
-ghost use Rattle.cut_bound.specs.Cuttings.{AreAtHand, IsCostBound, cost_of, pieces_of, units_at};
+ghost use Rattle.cut_bound.specs.Solutions.{AreAtHand, IsCostBound, cost_of, pieces_of, units_at};
 ghost use Rattle.cut_bound.specs.Planned as planned;
-ghost use Rattle.cut_bound.specs.Planned.{IsCheapest, IsCheckFault, IsChecked, IsOrderPlan, MakesNoMore, cutting_of};
+ghost use Rattle.cut_bound.specs.Planned.{IsCheapest, IsCheckFault, IsChecked, IsOrderPlan, MakesNoMore, solution_of};
 ghost use Rattle.cut_bound.specs.declared.check.CheckFault.TheVariants as fault;
 
 use crate::planned::{PlannedUnit, are_planned, cost_of, pieces_of, units_at};
@@ -51,7 +51,7 @@ fn are_enough(limit: Option<u32>, used: u128) -> bool
 
 // Whether of each limited size at most as many units are used as are at hand.
 fn are_at_hand(sizes: &[StockSize], units: &[PlannedUnit]) -> bool
-    ensures { IsTrue result ↔ AreAtHand sizes.now (cutting_of units.now) }
+    ensures { IsTrue result ↔ AreAtHand sizes.now (solution_of units.now) }
 {
     for place in 0..sizes.len() {
         let stock = &sizes[place];
@@ -64,9 +64,9 @@ fn are_at_hand(sizes: &[StockSize], units: &[PlannedUnit]) -> bool
 
 // How many pieces of a want are left to make, or None where there are too many.
 fn missing_of(want: &Want, units: &[PlannedUnit]) -> Option<u32>
-    ensures some { IfSome result (λ missing. (missing ≡ planned.missing_of (cutting_of units.now) want.now)
-        × (pieces_of (cutting_of units.now) want.now.demand ≤ want.now.left)) }
-    ensures none { IfNone result (want.now.left < pieces_of (cutting_of units.now) want.now.demand) }
+    ensures some { IfSome result (λ missing. (missing ≡ planned.missing_of (solution_of units.now) want.now)
+        × (pieces_of (solution_of units.now) want.now.demand ≤ want.now.left)) }
+    ensures none { IfNone result (want.now.left < pieces_of (solution_of units.now) want.now.demand) }
 {
     let pieces = pieces_of(units, want.demand);
     let left = want.left as u128;
@@ -83,11 +83,11 @@ fn missing_pieces(
     wants: &[Want],
     units: &[PlannedUnit],
 ) -> Result<Vec<u32>, CheckFault>
-    ensures no_more { IfOk result (λ _. MakesNoMore wants.now (cutting_of units.now)) }
+    ensures no_more { IfOk result (λ _. MakesNoMore wants.now (solution_of units.now)) }
     ensures missing { IfOk result
-        (λ missing. missing.items ≡ map (planned.missing_of (cutting_of units.now)) wants.now) }
+        (λ missing. missing.items ≡ map (planned.missing_of (solution_of units.now)) wants.now) }
     ensures err { IfErr result (λ f. (f ≡ fault.NoMemory)
-        ⊎ ((f ≡ fault.TooMany) × (MakesNoMore wants.now (cutting_of units.now) → ⊥))) }
+        ⊎ ((f ≡ fault.TooMany) × (MakesNoMore wants.now (solution_of units.now) → ⊥))) }
 {
     let mut missing = Vec::new(alloc);
     for want in wants {
@@ -155,10 +155,10 @@ pub fn check_order(
 ) -> Result<CheckedOrder, CheckFault>
     ensures ok { IfOk result (IsChecked wants.now kerf sizes.now bound units.now) }
     ensures proved { IfOk result (λ checked. IsCostBound wants.now kerf sizes.now bound
-        → IsTrue checked.proved → IsCheapest wants.now kerf sizes.now (cutting_of units.now)) }
+        → IsTrue checked.proved → IsCheapest wants.now kerf sizes.now (solution_of units.now)) }
     ensures err { IfErr result (IsCheckFault wants.now kerf sizes.now units.now) }
     ensures passes { IsOrderPlan wants.now kerf sizes.now units.now
-        → cost_of sizes.now (cutting_of units.now) < 2 ^ 128 → IfErr result (λ f. f ≡ fault.NoMemory) }
+        → cost_of sizes.now (solution_of units.now) < 2 ^ 128 → IfErr result (λ f. f ≡ fault.NoMemory) }
 {
     checked_units(alloc, kerf, sizes, wants, units, bound)
 }

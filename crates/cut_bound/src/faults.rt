@@ -4,7 +4,7 @@ ghost use Rattle.std.specs.Prelude.{◌≡◌, ◌≤◌, ℕ, Some, false};
 ghost use Rattle.std.specs.List.{list_any};
 ghost use Rattle.cut_measure.specs.declared.sizes.Kind.TheVariants.{Sheet};
 ghost use Rattle.cut_plan.specs.Faults as faults;
-ghost use Rattle.cut_bound.specs.Ratings as ratings;
+ghost use Rattle.cut_bound.specs.UnitBounds as unit_bounds;
 ghost use Rattle.cut_bound.specs.Orders as orders;
 
 use crate::limits::MAX_ORDER_WANTS;
@@ -40,7 +40,7 @@ fn is_bad_step(kind: Kind, wants: &[Want], kerf: u32, step: Option<u32>) -> bool
 fn is_large(kind: Kind, size: Size, kerf: u32, step: Option<u32>) -> bool
     requires kerf { kerf ≤ MAX_KERF }
     requires step { kind ≡ Sheet → (s : ℕ) → step ≡ Some s → 1 ≤ s }
-    ensures { result ≡ ratings.is_large kind size kerf step }
+    ensures { result ≡ unit_bounds.is_large kind size kerf step }
 {
     match kind {
         Kind::Bar => cut_plan::is_large(Kind::Bar, size, kerf, 0),
@@ -55,7 +55,7 @@ fn is_large(kind: Kind, size: Size, kerf: u32, step: Option<u32>) -> bool
 fn has_large_size(kind: Kind, kerf: u32, step: Option<u32>, sizes: &[StockSize]) -> bool
     requires kerf { kerf ≤ MAX_KERF }
     requires step { kind ≡ Sheet → (s : ℕ) → step ≡ Some s → 1 ≤ s }
-    ensures { result ≡ list_any (λ z. ratings.is_large kind z.size kerf step) sizes.now }
+    ensures { result ≡ list_any (λ z. unit_bounds.is_large kind z.size kerf step) sizes.now }
 {
     sizes
         .iter()

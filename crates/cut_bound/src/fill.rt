@@ -2,8 +2,8 @@
 
 ghost use Rattle.std.specs.Prelude.{◌≡◌, ◌<◌, ◌↔◌, All, IfSome, IsTrue};
 ghost use Rattle.cut_plan.specs.Faults as faults;
-ghost use Rattle.cut_bound.specs.Cuttings.{units_at};
-ghost use Rattle.cut_bound.specs.Planned.{IsFilled, IsUnheld, cutting_of};
+ghost use Rattle.cut_bound.specs.Solutions.{units_at};
+ghost use Rattle.cut_bound.specs.Planned.{IsFilled, IsUnheld, solution_of};
 
 use crate::planned::{PlannedUnit, pieces_of, units_at};
 use crate::stock::StockSize;
@@ -23,14 +23,14 @@ fn has_unused(limit: Option<u32>, used: u128) -> bool
 fn is_held_at(stock: &StockSize, place: usize, want: &Want, units: &[PlannedUnit]) -> bool
     ensures { IsTrue result
         ↔ (IsTrue (faults.is_fitting stock.now.size want.now)
-        × IfSome stock.now.limit (λ n. units_at (cutting_of units.now) place < n)) }
+        × IfSome stock.now.limit (λ n. units_at (solution_of units.now) place < n)) }
 {
     is_fitting(stock.size, want) && has_unused(stock.limit, units_at(units, place))
 }
 
 // Whether no unused unit holds a piece of a want.
 fn is_unheld(sizes: &[StockSize], want: &Want, units: &[PlannedUnit]) -> bool
-    ensures { IsTrue result ↔ IsUnheld sizes.now (cutting_of units.now) want.now }
+    ensures { IsTrue result ↔ IsUnheld sizes.now (solution_of units.now) want.now }
 {
     for place in 0..sizes.len() {
         let stock = &sizes[place];
@@ -43,7 +43,7 @@ fn is_unheld(sizes: &[StockSize], want: &Want, units: &[PlannedUnit]) -> bool
 
 // Whether no piece of a want is missing, or no unused unit holds one.
 fn is_want_filled(sizes: &[StockSize], want: &Want, units: &[PlannedUnit]) -> bool
-    ensures { IsTrue result ↔ IsFilled sizes.now (cutting_of units.now) want.now }
+    ensures { IsTrue result ↔ IsFilled sizes.now (solution_of units.now) want.now }
 {
     want.left as u128 <= pieces_of(units, want.demand) || is_unheld(sizes, want, units)
 }
@@ -51,7 +51,7 @@ fn is_want_filled(sizes: &[StockSize], want: &Want, units: &[PlannedUnit]) -> bo
 /// Whether of each want a piece is missing only where no unit at hand that is not used holds one,
 /// turned where it may be.
 pub fn is_filled(sizes: &[StockSize], wants: &[Want], units: &[PlannedUnit]) -> bool
-    ensures { IsTrue result ↔ All (IsFilled sizes.now (cutting_of units.now)) wants.now }
+    ensures { IsTrue result ↔ All (IsFilled sizes.now (solution_of units.now)) wants.now }
 {
     for want in wants {
         if !is_want_filled(sizes, want, units) {

@@ -3,15 +3,15 @@
 
 ghost use Rattle.std.specs.Prelude.{◌≡◌, ◌≤◌, ◌<◌, ◌^◌, ℕ, List, [], ◌∷◌, All, Contains, IsSome, IsTrue, None};
 ghost use Rattle.std.specs.Int.{div_ceil};
-ghost use Rattle.cut_measure.specs.Measures.{Extent};
+ghost use Rattle.cut_measure.specs.Measures.{Size};
 ghost use Rattle.cut_wants.specs.declared.wants.Want.{Want};
 ghost use Rattle.cut_wants.specs.Legal.{HaveOwnDemands};
 ghost use Rattle.cut_sheets.specs.Bound.{worth_left};
 ghost use Rattle.cut_plan.specs.Faults.{is_fitting};
 ghost use Rattle.cut_bound.specs.declared.stock.StockSize.{StockSize};
-ghost use Rattle.cut_bound.specs.declared.stock.RatedSize.{RatedSize};
-ghost use Rattle.cut_bound.specs.Cuttings.{Cutting, IsCostBound, IsCutting, MakesAll, cost_at_hand};
-ghost use Rattle.cut_bound.specs.Bounds.{AreRated, IsGreatestCost, SetsPrice, cost_at, sizes_of};
+ghost use Rattle.cut_bound.specs.declared.stock.BoundedSize.{BoundedSize};
+ghost use Rattle.cut_bound.specs.Solutions.{Solution, IsCostBound, IsSolution, MakesAll, cost_at_hand};
+ghost use Rattle.cut_bound.specs.Bounds.{AreBounded, IsGreatestCost, SetsPrice, cost_at, sizes_of};
 ghost use Rattle.cut_bound.specs.Prices.{ArePicked};
 ghost use Rattle.cut_bound.specs.Orders.{IsCommonDivisor, reported_cost};
 ghost use Rattle.cut_bound.specs.Planned.{HoldsPiece};
@@ -23,14 +23,14 @@ ghost use Rattle.cut_bound.specs.declared.limits.TheConstants.{MAX_BOUGHT_SIZES,
 /// 1961). So the greatest of those costs is a bound. Of one size without a limit and a cost of 1 it
 /// is that worth, divided by the best worth of a unit and rounded up.
 pub fn priced_bound()
-    ensures bound { (wants : List Want) (k : ℕ) (rated : List RatedSize) (t : RatedSize)
-        → HaveOwnDemands wants → AreRated wants k rated → SetsPrice t rated
-        → IsCostBound wants k (sizes_of rated) (cost_at t rated (worth_left wants)) }
-    ensures greatest { (wants : List Want) (k : ℕ) (rated : List RatedSize) (cost : ℕ)
-        → HaveOwnDemands wants → AreRated wants k rated
-        → IsGreatestCost rated (worth_left wants) cost
-        → IsCostBound wants k (sizes_of rated) cost }
-    ensures units { (t : RatedSize) (worth cost : ℕ) → t.stock.cost ≡ 1 → t.stock.limit ≡ None
+    ensures bound { (wants : List Want) (k : ℕ) (bounded : List BoundedSize) (t : BoundedSize)
+        → HaveOwnDemands wants → AreBounded wants k bounded → SetsPrice t bounded
+        → IsCostBound wants k (sizes_of bounded) (cost_at t bounded (worth_left wants)) }
+    ensures greatest { (wants : List Want) (k : ℕ) (bounded : List BoundedSize) (cost : ℕ)
+        → HaveOwnDemands wants → AreBounded wants k bounded
+        → IsGreatestCost bounded (worth_left wants) cost
+        → IsCostBound wants k (sizes_of bounded) cost }
+    ensures units { (t : BoundedSize) (worth cost : ℕ) → t.stock.cost ≡ 1 → t.stock.limit ≡ None
         → 1 ≤ t.best → IsGreatestCost (t ∷ []) worth cost → cost ≡ div_ceil worth t.best }
 {}
 
@@ -65,15 +65,15 @@ pub fn order_limits()
 pub fn stock_falls_short()
     ensures { (wants : List Want) (k : ℕ) (sizes : List StockSize) (bound : ℕ)
         → All (λ s. IsSome s.limit) sizes → IsCostBound wants k sizes bound
-        → cost_at_hand sizes < bound → (cutting : Cutting) → IsCutting wants k sizes cutting
-        → MakesAll wants cutting → ⊥ }
+        → cost_at_hand sizes < bound → (solution : Solution) → IsSolution wants k sizes solution
+        → MakesAll wants solution → ⊥ }
 {}
 
 /// A size holds a piece of a want exactly where its sides are no longer than those of the size,
 /// turned where it may be.
 pub fn fitting_pieces_are_held()
-    ensures held { (wants : List Want) (k : ℕ) (size : Extent) (x : Want) → Contains wants x
+    ensures held { (wants : List Want) (k : ℕ) (size : Size) (x : Want) → Contains wants x
         → 1 ≤ x.size.w → 1 ≤ x.size.h → IsTrue (is_fitting size x) → HoldsPiece wants k size x }
-    ensures fitting { (wants : List Want) (k : ℕ) (size : Extent) (x : Want) → HaveOwnDemands wants
+    ensures fitting { (wants : List Want) (k : ℕ) (size : Size) (x : Want) → HaveOwnDemands wants
         → Contains wants x → HoldsPiece wants k size x → IsTrue (is_fitting size x) }
 {}

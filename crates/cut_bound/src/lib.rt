@@ -12,7 +12,7 @@ mod limits;
 mod planned;
 mod price;
 mod prices;
-mod ratings;
+mod unit_bounds;
 mod stages;
 mod stock;
 
@@ -31,6 +31,6 @@ pub use limits::{
 pub use planned::{PlannedUnit, are_planned, cost_of, pieces_of, units_at};
 pub use price::greatest_cost;
 pub use prices::{Price, has_price, priced, prices_of};
-pub use ratings::{rated_bars, rated_sheets};
+pub use unit_bounds::{bounded_bars, bounded_sheets};
 pub use stages::{count_stages, is_staged, stages_of_examples};
-pub use stock::{RatedSize, StockSize};
+pub use stock::{BoundedSize, StockSize};

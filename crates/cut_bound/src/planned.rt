@@ -4,8 +4,8 @@
 ghost use Rattle.std.specs.Prelude.{◌≡◌, ◌≤◌, ◌^◌, ◌↔◌, All, IfNone, IfOk, IfSome, IsTrue, slice_get};
 ghost use Rattle.std.specs.Option.{option_map_or};
 ghost use Rattle.cut_wants.specs.Legal.{IsWantedPiece};
-ghost use Rattle.cut_bound.specs.Cuttings as cuttings;
-ghost use Rattle.cut_bound.specs.Planned.{ArePieces, IsPieceOf, IsPlanFor, IsPlannedUnit, cutting_of};
+ghost use Rattle.cut_bound.specs.Solutions as cuttings;
+ghost use Rattle.cut_bound.specs.Planned.{ArePieces, IsPieceOf, IsPlanFor, IsPlannedUnit, solution_of};
 
 use crate::stock::StockSize;
 use cut_measure::Size;
@@ -129,7 +129,7 @@ pub fn are_planned(
 
 /// How many units are of the size at a place.
 pub fn units_at(units: &[PlannedUnit], place: usize) -> u128
-    ensures { result ≡ cuttings.units_at (cutting_of units.now) place }
+    ensures { result ≡ cuttings.units_at (solution_of units.now) place }
 {
     let mut count: u128 = 0;
     for unit in units {
@@ -142,7 +142,7 @@ pub fn units_at(units: &[PlannedUnit], place: usize) -> u128
 
 /// How many pieces of a demand the units have together.
 pub fn pieces_of(units: &[PlannedUnit], demand: u32) -> u128
-    ensures { result ≡ cuttings.pieces_of (cutting_of units.now) demand }
+    ensures { result ≡ cuttings.pieces_of (solution_of units.now) demand }
 {
     let mut count: u128 = 0;
     for unit in units {
@@ -163,8 +163,8 @@ fn cost_at_place(sizes: &[StockSize], place: usize) -> u64
 
 /// What the units cost together, if that has a number of 128 bits.
 pub fn cost_of(sizes: &[StockSize], units: &[PlannedUnit]) -> Option<u128>
-    ensures some { IfSome result (λ cost. cost ≡ cuttings.cost_of sizes.now (cutting_of units.now)) }
-    ensures none { IfNone result (2 ^ 128 ≤ cuttings.cost_of sizes.now (cutting_of units.now)) }
+    ensures some { IfSome result (λ cost. cost ≡ cuttings.cost_of sizes.now (solution_of units.now)) }
+    ensures none { IfNone result (2 ^ 128 ≤ cuttings.cost_of sizes.now (solution_of units.now)) }
 {
     let mut cost: u128 = 0;
     for unit in units {

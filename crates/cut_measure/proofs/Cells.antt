@@ -4,7 +4,7 @@ use Rattle.std.specs.Prelude.{sum_by}
 use Rattle.std.proofs.lemmas.List.{length-map}
 use Rattle.std.proofs.lemmas.List.Sums.{sum_by-cons}
 use Rattle.std.proofs.lemmas.List.Concat.{length-flat_map}
-use Rattle.cut_measure.specs.Measures.{Extent, below, cells_of}
+use Rattle.cut_measure.specs.Measures.{Size, below, cells_of}
 
 pub length-below : (n : ℕ) → length (below n) ≡ n
 length-below zero = refl
@@ -17,7 +17,7 @@ sum_by-constant : {X : Type 0} (f : X → ℕ) (c : ℕ) → ((x : X) → f x �
 sum_by-constant f c same [] = omega arith
 sum_by-constant f c same (x ∷ xs) = sum_by-cons f x xs ∙ one_more (f x) (sum_by f xs) (length xs) c (same x) (sum_by-constant f c same xs)
 
-pub length-cells_of : (size : Extent) → length (cells_of size) ≡ size.w * size.h
+pub length-cells_of : (size : Size) → length (cells_of size) ≡ size.w * size.h
 unfolding cells_of
 length-cells_of size =
     length-flat_map (λ y. map (λ x. (x, y)) (below size.w)) (below size.h)

@@ -6,7 +6,7 @@ use Rattle.cut_measure.specs.declared.sizes.Kind.{Kind}
 use Rattle.cut_measure.specs.declared.sizes.Kind.TheVariants.{Bar, Sheet}
 
 -- the sides of a rectangle
-pub record Extent : Type 0 where
+pub record Size : Type 0 where
   pub w : ℕ
   pub h : ℕ
 
@@ -16,7 +16,7 @@ is_size Bar w h = nat_le 1 w && nat_le w MAX_WIDTH && h == 1
 is_size Sheet w h = nat_le 1 w && nat_le w MAX_WIDTH && nat_le 1 h && nat_le h MAX_HEIGHT
 
 -- the size of these sides, where they are those of a unit of the kind
-abbrev pub size_of : Kind → ℕ → ℕ → Option Extent
+abbrev pub size_of : Kind → ℕ → ℕ → Option Size
 size_of kind w h = if is_size kind w h then Some (record { w = w; h = h }) else None
 
 -- the numbers below n, in order
@@ -25,7 +25,7 @@ below zero = []
 below (suc n) = below n ++ n ∷ []
 
 -- the places (x, y) of a rectangle's cells, row by row
-unfoldable pub cells_of : Extent → List (ℕ × ℕ)
+unfoldable pub cells_of : Size → List (ℕ × ℕ)
 cells_of size = flat_map (λ y. map (λ x. (x, y)) (below size.w)) (below size.h)
 
 -- how the saw cuts a material, and which rests are kept
@@ -43,5 +43,5 @@ params_of kind kerf min_long min_short =
     if are_params kind kerf min_long min_short then Some (record { kerf = kerf; min_long = min_long; min_short = min_short }) else None
 
 -- a rest of this size is a remnant, and else scrap
-abbrev pub is_kept : CutParams → Extent → Bool
+abbrev pub is_kept : CutParams → Size → Bool
 is_kept params size = nat_le params.min_long (max size.w size.h) && nat_le params.min_short (min size.w size.h)

@@ -34,9 +34,9 @@ pub struct Size {
 impl Model for Size {
     ghost use Rattle.std.specs.Prelude.{◌≤◌};
     ghost use Rattle.cut_measure.specs.declared.ranges.TheConstants.{MAX_WIDTH, MAX_HEIGHT};
-    ghost use Rattle.cut_measure.specs.Measures.{Extent};
+    ghost use Rattle.cut_measure.specs.Measures.{Size};
 
-    ghost Value = { Extent };
+    ghost Value = { Size };
 
     ghost view = { λ s. record { w = s.w; h = s.h } };
 

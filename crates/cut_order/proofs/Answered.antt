@@ -13,14 +13,14 @@ use Rattle.cut_bound.specs.declared.limits.TheConstants.{MAX_ORDER_UNITS}
 use Rattle.cut_bound.specs.declared.stock.StockSize.{StockSize}
 use Rattle.cut_bound.specs.declared.planned.PlannedUnit.{PlannedUnit}
 use Rattle.cut_bound.specs.declared.check.CheckedOrder.{CheckedOrder}
-use Rattle.cut_bound.specs.Cuttings.{CutUnit, IsCostBound, cost_at_hand, cost_of}
+use Rattle.cut_bound.specs.Solutions.{CutUnit, IsCostBound, cost_at_hand, cost_of}
 use Rattle.cut_bound.specs.Orders.{IsPricedBound}
-use Rattle.cut_bound.specs.Planned.{IsChecked, cutting_of}
+use Rattle.cut_bound.specs.Planned.{IsChecked, solution_of}
 use Rattle.cut_bound.specs.Prices.{price_of, priced, step_of}
 use Rattle.cut_bound.proofs.CheckedOrders.{cheapest_order}
 use Rattle.cut_bound.proofs.PlannedUnits.{planned_all}
 use Rattle.cut_bound.proofs.UnitSums.{each_at, falls_short}
-use Rattle.cut_order.specs.declared.question.TheConstants.{MAX_COST}
+use Rattle.cut_order.specs.declared.instance.TheConstants.{MAX_COST}
 use Rattle.cut_order.specs.declared.answer.OrderPlan.{OrderPlan}
 use Rattle.cut_order.specs.Answers.{IsAnswerOf, IsReportedBound}
 use Rattle.cut_order.specs.Places.{IsFewOrderPlan, IsFilledOrFull, unit_count}
@@ -43,7 +43,7 @@ planned_cost sizes cheap (u ∷ us) =
       planned_cost sizes cheap us,
     )
 
-pub small_cost : (sizes : List StockSize) (us : List PlannedUnit) → All (λ s. s.cost ≤ MAX_COST) sizes → unit_count us ≤ MAX_ORDER_UNITS → cost_of sizes (cutting_of us) < 2 ^ 63
+pub small_cost : (sizes : List StockSize) (us : List PlannedUnit) → All (λ s. s.cost ≤ MAX_COST) sizes → unit_count us ≤ MAX_ORDER_UNITS → cost_of sizes (solution_of us) < 2 ^ 63
 small_cost sizes us cheap few =
     omega (
       arith,

@@ -7,7 +7,7 @@ use Rattle.std.proofs.lemmas.List.{append-nil}
 use Rattle.std.proofs.lemmas.Option.{slice_get_within}
 use Rattle.std.proofs.lemmas.List.Elements.{All-contains, All-push, All-weaker, All-contains_itself}
 use Rattle.std.proofs.lemmas.List.Sums.{sum_by-append, sum_by-cons}
-use Rattle.cut_measure.specs.Measures.{Extent}
+use Rattle.cut_measure.specs.Measures.{Size}
 use Rattle.cut_tree.specs.Tree.{CutsInto, count_of, cut_count}
 use Rattle.cut_wants.specs.declared.wants.Want.{Want}
 use Rattle.cut_wants.specs.Legal.{HaveOwnDemands, IsWantedPiece, leaf_count, of_demand}
@@ -16,11 +16,11 @@ use Rattle.cut_plan.specs.Faults.{is_fitting}
 use Rattle.cut_bound.specs.declared.limits.TheConstants.{MAX_ORDER_UNITS}
 use Rattle.cut_bound.specs.declared.stock.StockSize.{StockSize}
 use Rattle.cut_bound.specs.declared.planned.PlannedUnit.{PlannedUnit}
-use Rattle.cut_bound.specs.Cuttings.{AreAtHand, CutUnit, pieces_of, units_at}
-use Rattle.cut_bound.specs.Planned.{IsPlannedUnit, MakesNoMore, cutting_of, one_of}
+use Rattle.cut_bound.specs.Solutions.{AreAtHand, CutUnit, pieces_of, units_at}
+use Rattle.cut_bound.specs.Planned.{IsPlannedUnit, MakesNoMore, solution_of, one_of}
 use Rattle.cut_bound.specs.Stages.{IsStaged, stage_count}
 use Rattle.cut_bound.proofs.PlannedUnits.{planned_all, planned_sum}
-use Rattle.cut_order.specs.declared.question.TheConstants.{MIN_STAGES, MAX_STAGES}
+use Rattle.cut_order.specs.declared.instance.TheConstants.{MIN_STAGES, MAX_STAGES}
 use Rattle.cut_order.specs.Stocks.{IsStageLimit}
 use Rattle.cut_order.specs.Places.{IsAddition, IsDoneAt, IsFewOrderPlan, IsFilledOrFull, IsGrown, unit_count}
 use Rattle.cut_order.specs.Singles.{single}
@@ -34,7 +34,7 @@ grown_on us vs ws a b = record { more = a.more ++ b.more; same = b.same ∙ ap (
 
 -- ---- sums only grow
 
-pub sum_grows : (f : CutUnit → ℕ) (us vs : List PlannedUnit) → IsGrown us vs → sum_by f (cutting_of us) ≤ sum_by f (cutting_of vs)
+pub sum_grows : (f : CutUnit → ℕ) (us vs : List PlannedUnit) → IsGrown us vs → sum_by f (solution_of us) ≤ sum_by f (solution_of vs)
 sum_grows f us vs g =
     omega (
       arith,
@@ -60,7 +60,7 @@ done_on sizes us vs x place g few is =
         | inl full ↦ inl (omega (arith, full, few, count_grows us vs g))
         | inr (inl made) ↦ inr (inl (omega (arith, made, sum_grows (λ (u : CutUnit). count_of u.tree x.demand) us vs g)))
         | inr (inr none) ↦
-            inr (inr (λ s there unused fits. none s there (more_used s.limit (units_at (cutting_of us) place) (units_at (cutting_of vs) place) (sum_grows (λ (u : CutUnit). cond (eqb u.place place) 1 0) us vs g) unused) fits))
+            inr (inr (λ s there unused fits. none s there (more_used s.limit (units_at (solution_of us) place) (units_at (solution_of vs) place) (sum_grows (λ (u : CutUnit). cond (eqb u.place place) 1 0) us vs g) unused) fits))
       ];
     }
 
@@ -72,7 +72,7 @@ filled_on sizes us vs x g few is =
           inr (record {
             unheld = λ missing place s there unused fits.
                 filled.unheld (omega (arith, missing, sum_grows (λ (u : CutUnit). count_of u.tree x.demand) us vs g)) place s there
-                (more_used s.limit (units_at (cutting_of us) place) (units_at (cutting_of vs) place) (sum_grows (λ (u : CutUnit). cond (eqb u.place place) 1 0) us vs g) unused) fits;
+                (more_used s.limit (units_at (solution_of us) place) (units_at (solution_of vs) place) (sum_grows (λ (u : CutUnit). cond (eqb u.place place) 1 0) us vs g) unused) fits;
           })
     ]
 
@@ -94,24 +94,24 @@ done_next sizes us vs x i g few before here place lt =
 pub all_done : (sizes : List StockSize) (us : List PlannedUnit) (x : Want) → unit_count us ≤ MAX_ORDER_UNITS → AreDoneTo sizes us x (length sizes) → IsFilledOrFull sizes us x
 all_done sizes us x most done =
     elim (cases_lt (unit_count us) MAX_ORDER_UNITS) [
-      | inl few ↦ elim (cases_lt (pieces_of (cutting_of us) x.demand) x.left) [
+      | inl few ↦ elim (cases_lt (pieces_of (solution_of us) x.demand) x.left) [
         | inl missing ↦ inr (record { unheld = λ _ place s there unused fits. at few missing place s there unused fits (done place (slice_get_within sizes place s there)).done })
         | inr made ↦ inr (record { unheld = λ missing. absurd (omega (arith, made, missing)) })
       ]
       | inr many ↦ inl (omega (arith, most, many))
     ]
   where
-    at : unit_count us < MAX_ORDER_UNITS → pieces_of (cutting_of us) x.demand < x.left → (place : ℕ) (s : StockSize) → slice_get sizes place ≡ Some s
-        → IfSome s.limit (λ n. units_at (cutting_of us) place < n) → IsTrue (is_fitting s.size x)
-        → (unit_count us ≡ MAX_ORDER_UNITS) ⊎ (x.left ≤ pieces_of (cutting_of us) x.demand)
-        ⊎ ((s : StockSize) → slice_get sizes place ≡ Some s → IfSome s.limit (λ n. units_at (cutting_of us) place < n) → IsTrue (is_fitting s.size x) → ⊥) → ⊥
+    at : unit_count us < MAX_ORDER_UNITS → pieces_of (solution_of us) x.demand < x.left → (place : ℕ) (s : StockSize) → slice_get sizes place ≡ Some s
+        → IfSome s.limit (λ n. units_at (solution_of us) place < n) → IsTrue (is_fitting s.size x)
+        → (unit_count us ≡ MAX_ORDER_UNITS) ⊎ (x.left ≤ pieces_of (solution_of us) x.demand)
+        ⊎ ((s : StockSize) → slice_get sizes place ≡ Some s → IfSome s.limit (λ n. units_at (solution_of us) place < n) → IsTrue (is_fitting s.size x) → ⊥) → ⊥
     at few missing place s there unused fits (inl full) = absurd (omega (arith, few, full))
     at few missing place s there unused fits (inr (inl made)) = absurd (omega (arith, missing, made))
     at few missing place s there unused fits (inr (inr none)) = none s there unused fits
 
 -- ---- one more kind of units
 
-pub sum_pushed : (f : CutUnit → ℕ) (us : List PlannedUnit) (u : PlannedUnit) → sum_by f (cutting_of (us ++ u ∷ [])) ≡ sum_by f (cutting_of us) + u.times * f (one_of u)
+pub sum_pushed : (f : CutUnit → ℕ) (us : List PlannedUnit) (u : PlannedUnit) → sum_by f (solution_of (us ++ u ∷ [])) ≡ sum_by f (solution_of us) + u.times * f (one_of u)
 sum_pushed f us u =
     let g = λ (v : PlannedUnit). v.times * f (one_of v) in
     omega (arith, planned_all f us, planned_all f (us ++ u ∷ []), sum_by-append g us (u ∷ []), sum_by-cons g u [])
@@ -131,15 +131,15 @@ pub record IsSingleUnit (wants : List Want) (k : ℕ) (stock : StockSize) (x : W
   pub some_w : 1 ≤ x.size.w
   pub some_h : 1 ≤ x.size.h
 
-pub is_single : (wants : List Want) (k : ℕ) (size : Extent) (stock : StockSize) (x : Want) (u : PlannedUnit) → size ≡ stock.size → 1 ≤ u.times → IsTrue (is_fitting stock.size x)
+pub is_single : (wants : List Want) (k : ℕ) (size : Size) (stock : StockSize) (x : Want) (u : PlannedUnit) → size ≡ stock.size → 1 ≤ u.times → IsTrue (is_fitting stock.size x)
     → u.plan.tree ≡ single k size x → u.plan.w ≡ size.w → u.plan.h ≡ size.h → u.plan.kerf ≡ k → Contains wants x → 1 ≤ x.size.w → 1 ≤ x.size.h → IsSingleUnit wants k stock x u
 is_single wants k size stock x u same some fits tree wide high sawn has some_w some_h =
     record {
       some = some;
       fits = fits;
-      tree = tree ∙ ap (λ (s : Extent). single k s x) same;
-      wide = wide ∙ ap (λ (s : Extent). s.w) same;
-      high = high ∙ ap (λ (s : Extent). s.h) same;
+      tree = tree ∙ ap (λ (s : Size). single k s x) same;
+      wide = wide ∙ ap (λ (s : Size). s.w) same;
+      high = high ∙ ap (λ (s : Size). s.h) same;
       sawn = sawn;
       has = has;
       some_w = some_w;
@@ -174,54 +174,54 @@ at_hand_on None old new le is = tt
 at_hand_on (Some n) old new le is = omega (arith, le, is)
 
 module _ (wants : List Want) (k : ℕ) (sizes : List StockSize) (us : List PlannedUnit) (x : Want) (u : PlannedUnit) (add : IsAddition sizes us x u.place u.times) (is : IsSingleUnit wants k add.stock x u) where
-  units_pushed : (p : ℕ) → units_at (cutting_of (us ++ u ∷ [])) p ≡ units_at (cutting_of us) p + u.times * cond (eqb u.place p) 1 0
+  units_pushed : (p : ℕ) → units_at (solution_of (us ++ u ∷ [])) p ≡ units_at (solution_of us) p + u.times * cond (eqb u.place p) 1 0
   units_pushed p = sum_pushed (λ (v : CutUnit). cond (eqb v.place p) 1 0) us u
 
-  pieces_pushed : (d : ℕ) → pieces_of (cutting_of (us ++ u ∷ [])) d ≡ pieces_of (cutting_of us) d + u.times * cond (eqb x.demand d) 1 0
-  pieces_pushed d = sum_pushed (λ (v : CutUnit). count_of v.tree d) us u ∙ ap (λ n. pieces_of (cutting_of us) d + u.times * n) (single_count wants k add.stock x u d is)
+  pieces_pushed : (d : ℕ) → pieces_of (solution_of (us ++ u ∷ [])) d ≡ pieces_of (solution_of us) d + u.times * cond (eqb x.demand d) 1 0
+  pieces_pushed d = sum_pushed (λ (v : CutUnit). count_of v.tree d) us u ∙ ap (λ n. pieces_of (solution_of us) d + u.times * n) (single_count wants k add.stock x u d is)
 
-  units_here : units_at (cutting_of (us ++ u ∷ [])) u.place ≡ units_at (cutting_of us) u.place + u.times
+  units_here : units_at (solution_of (us ++ u ∷ [])) u.place ≡ units_at (solution_of us) u.place + u.times
   units_here =
       let one : cond {A = ℕ} (eqb u.place u.place) 1 0 ≡ 1 = rw (eq-eqb u.place u.place refl) refl in
-      units_pushed u.place ∙ ap (λ n. units_at (cutting_of us) u.place + u.times * n) one ∙ omega arith
+      units_pushed u.place ∙ ap (λ n. units_at (solution_of us) u.place + u.times * n) one ∙ omega arith
 
-  pieces_here : pieces_of (cutting_of (us ++ u ∷ [])) x.demand ≡ pieces_of (cutting_of us) x.demand + u.times
+  pieces_here : pieces_of (solution_of (us ++ u ∷ [])) x.demand ≡ pieces_of (solution_of us) x.demand + u.times
   pieces_here =
       let one : cond {A = ℕ} (eqb x.demand x.demand) 1 0 ≡ 1 = rw (eq-eqb x.demand x.demand refl) refl in
-      pieces_pushed x.demand ∙ ap (λ n. pieces_of (cutting_of us) x.demand + u.times * n) one ∙ omega arith
+      pieces_pushed x.demand ∙ ap (λ n. pieces_of (solution_of us) x.demand + u.times * n) one ∙ omega arith
 
-  at_hand_pushed : AreAtHand sizes (cutting_of us) → AreAtHand sizes (cutting_of (us ++ u ∷ []))
+  at_hand_pushed : AreAtHand sizes (solution_of us) → AreAtHand sizes (solution_of (us ++ u ∷ []))
   at_hand_pushed before p s there =
       elim (eqb_tells u.place p) [
         | inl (test, same) ↦
             let here : slice_get sizes u.place ≡ Some s = ap (slice_get sizes) same ∙ there in
             let stock : add.stock ≡ s = same_some add.stock s (sym add.there ∙ here) in
-            at_hand_on s.limit (units_at (cutting_of us) u.place + u.times) (units_at (cutting_of (us ++ u ∷ [])) p)
-            (omega (arith, ap (units_at (cutting_of (us ++ u ∷ []))) same, units_here)) (subst (λ (z : StockSize). IfSome z.limit (λ n. units_at (cutting_of us) u.place + u.times ≤ n)) stock add.at_hand)
+            at_hand_on s.limit (units_at (solution_of us) u.place + u.times) (units_at (solution_of (us ++ u ∷ [])) p)
+            (omega (arith, ap (units_at (solution_of (us ++ u ∷ []))) same, units_here)) (subst (λ (z : StockSize). IfSome z.limit (λ n. units_at (solution_of us) u.place + u.times ≤ n)) stock add.at_hand)
         | inr (test, other) ↦
             let none : cond {A = ℕ} (eqb u.place p) 1 0 ≡ 0 = rw test refl in
-            let same : units_at (cutting_of (us ++ u ∷ [])) p ≡ units_at (cutting_of us) p = units_pushed p ∙ ap (λ n. units_at (cutting_of us) p + u.times * n) none ∙ omega arith in
-            at_hand_on s.limit (units_at (cutting_of us) p) (units_at (cutting_of (us ++ u ∷ [])) p) (omega (arith, same)) (before p s there)
+            let same : units_at (solution_of (us ++ u ∷ [])) p ≡ units_at (solution_of us) p = units_pushed p ∙ ap (λ n. units_at (solution_of us) p + u.times * n) none ∙ omega arith in
+            at_hand_on s.limit (units_at (solution_of us) p) (units_at (solution_of (us ++ u ∷ [])) p) (omega (arith, same)) (before p s there)
       ]
 
   single_staged : (stages : Option ℕ) → IsStageLimit stages → IsStaged stages u.plan.tree
   single_staged None limit = tt
   single_staged (Some n) limit = omega (arith, leb-true MIN_STAGES n (and_parts (nat_le MIN_STAGES n) (nat_le n MAX_STAGES) limit).0, ap stage_count is.tree, single_few_stages k add.stock.size x is.fits)
 
-  no_more_pushed : HaveOwnDemands wants → MakesNoMore wants (cutting_of us) → MakesNoMore wants (cutting_of (us ++ u ∷ []))
+  no_more_pushed : HaveOwnDemands wants → MakesNoMore wants (solution_of us) → MakesNoMore wants (solution_of (us ++ u ∷ []))
   no_more_pushed own before =
-      All-weaker (Contains wants) (λ (y : Want). pieces_of (cutting_of (us ++ u ∷ [])) y.demand ≤ y.left) each wants (All-contains_itself wants)
+      All-weaker (Contains wants) (λ (y : Want). pieces_of (solution_of (us ++ u ∷ [])) y.demand ≤ y.left) each wants (All-contains_itself wants)
     where
-      each : (y : Want) → Contains wants y → pieces_of (cutting_of (us ++ u ∷ [])) y.demand ≤ y.left
+      each : (y : Want) → Contains wants y → pieces_of (solution_of (us ++ u ∷ [])) y.demand ≤ y.left
       each y has =
           elim (eqb_tells x.demand y.demand) [
             | inl (test, same) ↦
                 let left : x.left ≡ y.left = sym (of_demand_found (λ z. z.left) wants x own is.has) ∙ ap (of_demand (λ z. z.left) wants) same ∙ of_demand_found (λ z. z.left) wants y own has in
-                omega (arith, ap (pieces_of (cutting_of (us ++ u ∷ []))) same, pieces_here, add.no_more is.some, left)
+                omega (arith, ap (pieces_of (solution_of (us ++ u ∷ []))) same, pieces_here, add.no_more is.some, left)
             | inr (test, other) ↦
                 let none : cond {A = ℕ} (eqb x.demand y.demand) 1 0 ≡ 0 = rw test refl in
-                let old : pieces_of (cutting_of us) y.demand ≤ y.left = All-contains (λ (z : Want). pieces_of (cutting_of us) z.demand ≤ z.left) wants y before has in
-                omega (arith, pieces_pushed y.demand, ap (λ n. pieces_of (cutting_of us) y.demand + u.times * n) none, old)
+                let old : pieces_of (solution_of us) y.demand ≤ y.left = All-contains (λ (z : Want). pieces_of (solution_of us) z.demand ≤ z.left) wants y before has in
+                omega (arith, pieces_pushed y.demand, ap (λ n. pieces_of (solution_of us) y.demand + u.times * n) none, old)
           ]
 
   pub plan_pushed : (stages : Option ℕ) → IsStageLimit stages → HaveOwnDemands wants → IsFewOrderPlan wants k stages sizes us → IsFewOrderPlan wants k stages sizes (us ++ u ∷ [])
@@ -245,7 +245,7 @@ module _ (wants : List Want) (k : ℕ) (sizes : List StockSize) (us : List Plann
           | inr (inr none) ↦
               inr (inr (λ s there unused fits.
               let stock : add.stock ≡ s = same_some add.stock s (sym add.there ∙ there) in
-              none (subst (λ (z : StockSize). IfSome z.limit (λ n. units_at (cutting_of us) u.place + u.times < n)) (sym stock) (subst (λ m. IfSome s.limit (λ n. m < n)) units_here unused))
+              none (subst (λ (z : StockSize). IfSome z.limit (λ n. units_at (solution_of us) u.place + u.times < n)) (sym stock) (subst (λ m. IfSome s.limit (λ n. m < n)) units_here unused))
               (subst (λ (z : StockSize). IsTrue (is_fitting z.size x)) (sym stock) fits)))
         ];
       }
@@ -260,8 +260,8 @@ done_already sizes us x place times add none =
         | inr (inr never) ↦
             inr (inr (λ s there unused fits.
             let stock : add.stock ≡ s = same_some add.stock s (sym add.there ∙ there) in
-            let same : units_at (cutting_of us) place ≡ units_at (cutting_of us) place + times = omega (arith, none) in
-            never (subst (λ (z : StockSize). IfSome z.limit (λ n. units_at (cutting_of us) place + times < n)) (sym stock) (subst (λ m. IfSome s.limit (λ n. m < n)) same unused))
+            let same : units_at (solution_of us) place ≡ units_at (solution_of us) place + times = omega (arith, none) in
+            never (subst (λ (z : StockSize). IfSome z.limit (λ n. units_at (solution_of us) place + times < n)) (sym stock) (subst (λ m. IfSome s.limit (λ n. m < n)) same unused))
             (subst (λ (z : StockSize). IsTrue (is_fitting z.size x)) (sym stock) fits)))
       ];
     }

@@ -3,22 +3,22 @@ use Rattle.std.specs.Prelude.{◌≡◌, ◌↔◌, ℕ, ◌+◌, ◌<◌, ◌^�
 use Rattle.cut_measure.specs.declared.sizes.Kind.{Kind}
 use Rattle.cut_wants.specs.declared.wants.Want.{Want}
 use Rattle.cut_bound.specs.declared.stock.StockSize.{StockSize}
-use Rattle.cut_bound.specs.Cuttings.{Cutting, IsCostBound, IsCutting, MakesAll, cost_at_hand, cost_of, pieces_of}
+use Rattle.cut_bound.specs.Solutions.{Solution, IsCostBound, IsSolution, MakesAll, cost_at_hand, cost_of, pieces_of}
 use Rattle.cut_bound.specs.Orders.{IsPricedBound}
-use Rattle.cut_bound.specs.Planned.{IsCheapest, cutting_of, missing_of}
+use Rattle.cut_bound.specs.Planned.{IsCheapest, solution_of, missing_of}
 use Rattle.cut_bound.specs.Prices.{price_of, priced, step_of}
-use Rattle.cut_order.specs.declared.question.Question.{Question}
+use Rattle.cut_order.specs.declared.instance.Instance.{Instance}
 use Rattle.cut_order.specs.declared.answer.OrderPlan.{OrderPlan}
 use Rattle.cut_order.specs.Places.{IsFewOrderPlan, IsFilledOrFull}
 
 -- it asks for these wants from these sizes
-pub record Asks (kind : Kind) (kerf : ℕ) (step stages : Option ℕ) (sizes : List StockSize) (wants : List Want) (question : Question) : Type 0 where
-  pub kind_asked : question.kind ≡ kind
-  pub kerf_asked : question.kerf ≡ kerf
-  pub step_asked : question.step ≡ step
-  pub stages_asked : question.stages ≡ stages
-  pub sizes_asked : question.sizes.items ≡ sizes
-  pub wants_asked : question.wants.items ≡ wants
+pub record Asks (kind : Kind) (kerf : ℕ) (step stages : Option ℕ) (sizes : List StockSize) (wants : List Want) (instance : Instance) : Type 0 where
+  pub kind_asked : instance.kind ≡ kind
+  pub kerf_asked : instance.kerf ≡ kerf
+  pub step_asked : instance.step ≡ step
+  pub stages_asked : instance.stages ≡ stages
+  pub sizes_asked : instance.sizes.items ≡ sizes
+  pub wants_asked : instance.wants.items ≡ wants
 
 -- the bound, and its prices
 pub record IsReportedBound (kind : Kind) (kerf : ℕ) (step : Option ℕ) (sizes : List StockSize) (wants : List Want) (plan : OrderPlan) : Type 0 where
@@ -32,18 +32,18 @@ pub record IsReportedBound (kind : Kind) (kerf : ℕ) (step : Option ℕ) (sizes
 -- `short` that all that is at hand costs less than the bound, and nothing may be bought.
 pub record IsAnswerOf (kind : Kind) (kerf : ℕ) (step stages : Option ℕ) (sizes : List StockSize) (wants : List Want) (plan : OrderPlan) : Type 0 where
   pub planned : IsFewOrderPlan wants kerf stages sizes plan.units.items
-  pub missing_pieces : plan.missing.items ≡ map (missing_of (cutting_of plan.units.items)) wants
-  pub adds_up : All (λ x. pieces_of (cutting_of plan.units.items) x.demand + missing_of (cutting_of plan.units.items) x ≡ x.left) wants
+  pub missing_pieces : plan.missing.items ≡ map (missing_of (solution_of plan.units.items)) wants
+  pub adds_up : All (λ x. pieces_of (solution_of plan.units.items) x.demand + missing_of (solution_of plan.units.items) x ≡ x.left) wants
   pub filled : All (IsFilledOrFull sizes plan.units.items) wants
-  pub paid : plan.cost ≡ cost_of sizes (cutting_of plan.units.items)
+  pub paid : plan.cost ≡ cost_of sizes (solution_of plan.units.items)
   pub small : plan.cost < 2 ^ 63
   pub least : IsCostBound wants kerf sizes plan.bound
   pub exact : ∥ IsReportedBound kind kerf step sizes wants plan ∥₁
-  pub proof : IsTrue plan.proved ↔ (MakesAll wants (cutting_of plan.units.items) × (plan.cost ≡ plan.bound))
-  pub cheapest : IsTrue plan.proved → IsCheapest wants kerf sizes (cutting_of plan.units.items)
+  pub proof : IsTrue plan.proved ↔ (MakesAll wants (solution_of plan.units.items) × (plan.cost ≡ plan.bound))
+  pub cheapest : IsTrue plan.proved → IsCheapest wants kerf sizes (solution_of plan.units.items)
   pub lacking : IsTrue plan.short ↔ (All (λ s. IsSome s.limit) sizes × (cost_at_hand sizes < plan.bound))
-  pub none_makes_all : IsTrue plan.short → (cutting : Cutting) → IsCutting wants kerf sizes cutting → MakesAll wants cutting → ⊥
+  pub none_makes_all : IsTrue plan.short → (solution : Solution) → IsSolution wants kerf sizes solution → MakesAll wants solution → ⊥
 
 -- the answer to a question
-abbrev pub IsOrderAnswer : Question → OrderPlan → Type 0
+abbrev pub IsOrderAnswer : Instance → OrderPlan → Type 0
 IsOrderAnswer q plan = IsAnswerOf q.kind q.kerf q.step q.stages q.sizes.items q.wants.items plan

@@ -5,8 +5,8 @@ use Rattle.cut_plan.specs.Faults.{is_fitting}
 use Rattle.cut_bound.specs.declared.limits.TheConstants.{MAX_ORDER_UNITS}
 use Rattle.cut_bound.specs.declared.stock.StockSize.{StockSize}
 use Rattle.cut_bound.specs.declared.planned.PlannedUnit.{PlannedUnit}
-use Rattle.cut_bound.specs.Cuttings.{pieces_of, units_at}
-use Rattle.cut_bound.specs.Planned.{IsFilled, IsOrderPlan, cutting_of}
+use Rattle.cut_bound.specs.Solutions.{pieces_of, units_at}
+use Rattle.cut_bound.specs.Planned.{IsFilled, IsOrderPlan, solution_of}
 use Rattle.cut_bound.specs.Stages.{IsStaged}
 
 -- how many units they are
@@ -30,8 +30,8 @@ pub record IsGrown (old new : List PlannedUnit) : Type 0 where
 
 -- of the size at a place none is unused that holds a missing piece of the want, or there are 100000 units
 pub record IsDoneAt (sizes : List StockSize) (units : List PlannedUnit) (x : Want) (place : ℕ) : Type 0 where
-  pub done : (unit_count units ≡ MAX_ORDER_UNITS) ⊎ (x.left ≤ pieces_of (cutting_of units) x.demand)
-      ⊎ ((s : StockSize) → slice_get sizes place ≡ Some s → IfSome s.limit (λ n. units_at (cutting_of units) place < n) → IsTrue (is_fitting s.size x) → ⊥)
+  pub done : (unit_count units ≡ MAX_ORDER_UNITS) ⊎ (x.left ≤ pieces_of (solution_of units) x.demand)
+      ⊎ ((s : StockSize) → slice_get sizes place ≡ Some s → IfSome s.limit (λ n. units_at (solution_of units) place < n) → IsTrue (is_fitting s.size x) → ⊥)
 
 -- so many units of the size at a place, one piece of the want each, may be added, and no more can or need be
 pub record IsAddition (sizes : List StockSize) (units : List PlannedUnit) (x : Want) (place times : ℕ) : Type 0 where
@@ -39,11 +39,11 @@ pub record IsAddition (sizes : List StockSize) (units : List PlannedUnit) (x : W
   pub there : slice_get sizes place ≡ Some stock
   pub fits : 1 ≤ times → IsTrue (is_fitting stock.size x)
   pub few : unit_count units + times ≤ MAX_ORDER_UNITS
-  pub no_more : 1 ≤ times → pieces_of (cutting_of units) x.demand + times ≤ x.left
-  pub at_hand : IfSome stock.limit (λ n. units_at (cutting_of units) place + times ≤ n)
-  pub all : (unit_count units + times ≡ MAX_ORDER_UNITS) ⊎ (x.left ≤ pieces_of (cutting_of units) x.demand + times)
-      ⊎ (IfSome stock.limit (λ n. units_at (cutting_of units) place + times < n) → IsTrue (is_fitting stock.size x) → ⊥)
+  pub no_more : 1 ≤ times → pieces_of (solution_of units) x.demand + times ≤ x.left
+  pub at_hand : IfSome stock.limit (λ n. units_at (solution_of units) place + times ≤ n)
+  pub all : (unit_count units + times ≡ MAX_ORDER_UNITS) ⊎ (x.left ≤ pieces_of (solution_of units) x.demand + times)
+      ⊎ (IfSome stock.limit (λ n. units_at (solution_of units) place + times < n) → IsTrue (is_fitting stock.size x) → ⊥)
 
 -- a piece of the want is missing only where no unused unit holds one, or there are 100000 units
 abbrev pub IsFilledOrFull : List StockSize → List PlannedUnit → Want → Type 0
-IsFilledOrFull sizes units x = (unit_count units ≡ MAX_ORDER_UNITS) ⊎ IsFilled sizes (cutting_of units) x
+IsFilledOrFull sizes units x = (unit_count units ≡ MAX_ORDER_UNITS) ⊎ IsFilled sizes (solution_of units) x

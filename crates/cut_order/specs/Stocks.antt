@@ -4,7 +4,7 @@ use Rattle.cut_measure.specs.declared.sizes.Kind.{Kind}
 use Rattle.cut_measure.specs.declared.sizes.Kind.TheVariants.{Bar}
 use Rattle.cut_bound.specs.declared.limits.TheConstants.{MAX_BOUGHT_SIZES, MAX_PARTS}
 use Rattle.cut_bound.specs.declared.stock.StockSize.{StockSize}
-use Rattle.cut_order.specs.declared.question.TheConstants.{MIN_STAGES, MAX_COST, MAX_STAGES}
+use Rattle.cut_order.specs.declared.instance.TheConstants.{MIN_STAGES, MAX_COST, MAX_STAGES}
 
 -- the units at hand of the limited sizes, together
 abbrev pub parts_of : List StockSize → ℕ

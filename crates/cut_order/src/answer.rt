@@ -3,14 +3,14 @@
 ghost use Rattle.std.specs.Prelude.{◌≡◌, ◌≤◌, ◌<◌, ◌^◌, ◌↔◌, All, IfOk, IsSome, IsTrue, length, map};
 ghost use Rattle.cut_bound.specs.Prices as prices;
 ghost use Rattle.cut_bound.specs.Prices.{price_of};
-ghost use Rattle.cut_bound.specs.Cuttings as cuttings;
+ghost use Rattle.cut_bound.specs.Solutions as cuttings;
 ghost use Rattle.cut_bound.specs.Planned.{IsChecked};
 ghost use Rattle.cut_bound.specs.declared.check.CheckFault.TheVariants as fault;
 ghost use Rattle.cut_order.specs.Answers.{IsOrderAnswer};
 ghost use Rattle.cut_order.specs.Places.{IsFewOrderPlan, IsFilledOrFull};
 
 use crate::certified::Certified;
-use crate::question::Question;
+use crate::instance::Instance;
 use cut_bound::{
     CheckFault, CheckedOrder, PlannedUnit, Price, StockSize, check_order, priced, prices_of,
 };
@@ -67,18 +67,18 @@ fn want_of_memory(_fault: CheckFault) -> AllocError
 // What the check reports of units that are a plan of the order.
 fn checked(
     alloc: Global,
-    question: &Question,
+    instance: &Instance,
     units: &[PlannedUnit],
     bound: u64,
 ) -> Result<CheckedOrder, AllocError>
-    requires { IsFewOrderPlan question.now.wants.items question.now.kerf question.now.stages
-        question.now.sizes.items units.now }
-    ensures checked { IfOk result (IsChecked question.now.wants.items question.now.kerf
-        question.now.sizes.items bound units.now) }
+    requires { IsFewOrderPlan instance.now.wants.items instance.now.kerf instance.now.stages
+        instance.now.sizes.items units.now }
+    ensures checked { IfOk result (IsChecked instance.now.wants.items instance.now.kerf
+        instance.now.sizes.items bound units.now) }
     ensures small { IfOk result (λ checked. checked.cost < 2 ^ 63) }
 {
-    let (sizes, wants) = (&question.sizes, &question.wants);
-    match check_order(alloc, question.kerf, sizes, wants, units, bound as u128) {
+    let (sizes, wants) = (&instance.sizes, &instance.wants);
+    match check_order(alloc, instance.kerf, sizes, wants, units, bound as u128) {
         Ok(checked) => Ok(checked),
         Err(fault) => Err(want_of_memory(fault)),
     }
@@ -87,14 +87,14 @@ fn checked(
 // The prices of a bound.
 fn reported_prices(
     alloc: Global,
-    question: &Question,
+    instance: &Instance,
     numbers: &[u32],
 ) -> Result<Vec<Price>, AllocError>
-    ensures { IfOk result (λ reported. reported.items ≡ map price_of (prices.priced question.now.kind
-        question.now.kerf (prices.step_of question.now.step) question.now.wants.items numbers.now)) }
+    ensures { IfOk result (λ reported. reported.items ≡ map price_of (prices.priced instance.now.kind
+        instance.now.kerf (prices.step_of instance.now.step) instance.now.wants.items numbers.now)) }
 {
-    let (kind, kerf, step) = (question.kind, question.kerf, question.step);
-    let priced = priced(alloc, kind, kerf, step, &question.wants, numbers)?;
+    let (kind, kerf, step) = (instance.kind, instance.kerf, instance.step);
+    let priced = priced(alloc, kind, kerf, step, &instance.wants, numbers)?;
     let reported = prices_of(alloc, &priced)?;
     Ok(reported)
 }
@@ -105,17 +105,17 @@ pub fn answer_of(
     certified: &Certified,
     units: Vec<PlannedUnit>,
 ) -> Result<OrderPlan, AllocError>
-    requires plan { IsFewOrderPlan certified.now.question.wants.items certified.now.question.kerf
-        certified.now.question.stages certified.now.question.sizes.items units.items }
-    requires filled { All (IsFilledOrFull certified.now.question.sizes.items units.items)
-        certified.now.question.wants.items }
-    ensures { IfOk result (IsOrderAnswer certified.now.question) }
+    requires plan { IsFewOrderPlan certified.now.instance.wants.items certified.now.instance.kerf
+        certified.now.instance.stages certified.now.instance.sizes.items units.items }
+    requires filled { All (IsFilledOrFull certified.now.instance.sizes.items units.items)
+        certified.now.instance.wants.items }
+    ensures { IfOk result (IsOrderAnswer certified.now.instance) }
 {
-    let question = &certified.question;
+    let instance = &certified.instance;
     let bound = certified.certificate.bound;
-    let checked = checked(alloc, question, &units, bound)?;
-    let prices = reported_prices(alloc, question, &certified.certificate.numbers)?;
-    let short = is_short(&question.sizes, bound);
+    let checked = checked(alloc, instance, &units, bound)?;
+    let prices = reported_prices(alloc, instance, &certified.certificate.numbers)?;
+    let short = is_short(&instance.sizes, bound);
     Ok(OrderPlan {
         units,
         missing: checked.missing,

@@ -3,7 +3,7 @@
 ghost use Rattle.std.specs.Prelude.{◌≡◌, IfOk};
 ghost use Rattle.cut_bound.specs.Orders.{IsPricedBound};
 
-use crate::question::Question;
+use crate::instance::Instance;
 use cut_bound::{priced_cost, unpriced_cost};
 use std::alloc::{AllocError, Global};
 
@@ -19,43 +19,43 @@ pub struct Certificate {
 /// A question, and a bound that is exactly that of its prices.
 #[derive(Drop)]
 pub struct Certified {
-    pub question: Question,
+    pub instance: Instance,
     pub certificate: Certificate,
-    ghost exact: { ∥ IsPricedBound question.kind question.kerf question.step question.sizes.items
-        question.wants.items certificate.numbers.items certificate.bound ∥₁ },
+    ghost exact: { ∥ IsPricedBound instance.kind instance.kerf instance.step instance.sizes.items
+        instance.wants.items certificate.numbers.items certificate.bound ∥₁ },
 }
 
 impl Certified {
     /// A question with the bound at no prices.
-    pub fn new(alloc: Global, question: Question) -> Certified
-        ensures { result.question ≡ question }
+    pub fn new(alloc: Global, instance: Instance) -> Certified
+        ensures { result.instance ≡ instance }
     {
         let certificate = Certificate {
             numbers: Vec::new(alloc),
-            bound: unpriced_cost(&question.sizes),
+            bound: unpriced_cost(&instance.sizes),
         };
         Certified {
-            question,
+            instance,
             certificate,
         }
     }
 
     // The bound at other prices.
-    fn rated(&self, alloc: Global, numbers: &[u32], points: usize) -> Result<u64, AllocError>
-        ensures { IfOk result (IsPricedBound self.now.question.kind self.now.question.kerf
-            self.now.question.step self.now.question.sizes.items self.now.question.wants.items
+    fn bounded(&self, alloc: Global, numbers: &[u32], points: usize) -> Result<u64, AllocError>
+        ensures { IfOk result (IsPricedBound self.now.instance.kind self.now.instance.kerf
+            self.now.instance.step self.now.instance.sizes.items self.now.instance.wants.items
             numbers.now) }
     {
-        let question = &self.question;
-        let (kind, kerf, step) = (question.kind, question.kerf, question.step);
+        let instance = &self.instance;
+        let (kind, kerf, step) = (instance.kind, instance.kerf, instance.step);
         priced_cost(
             alloc,
             kind,
             kerf,
             step,
             points,
-            &question.sizes,
-            &question.wants,
+            &instance.sizes,
+            &instance.wants,
             numbers,
         )
     }
@@ -68,9 +68,9 @@ impl Certified {
         numbers: Vec<u32>,
         points: usize,
     ) -> Result<(), AllocError>
-        ensures { self.new.question ≡ self.old.question }
+        ensures { self.new.instance ≡ self.old.instance }
     {
-        let bound = self.rated(alloc, &numbers, points)?;
+        let bound = self.bounded(alloc, &numbers, points)?;
         if bound > self.certificate.bound {
             self.certificate = Certificate { numbers, bound };
         }

@@ -9,7 +9,7 @@ ghost use Rattle.cut_bound.specs.Stages.{IsStaged};
 ghost use Rattle.cut_order.specs.Places.{AreStaged, IsFewOrderPlan};
 
 use crate::places::unit_count;
-use crate::question::Question;
+use crate::instance::Instance;
 use crate::rests::largest_rest;
 use cut_bound::{CheckFault, CheckedOrder, MAX_ORDER_UNITS, PlannedUnit, check_order, is_staged};
 use cut_measure::{Axis, MAX_KERF, MAX_NUMBERS, Size};
@@ -127,16 +127,16 @@ fn plan_of(
 // The planned unit of one that was found, if it is a plan of one of the sizes.
 fn planned_unit(
     alloc: Global,
-    question: &Question,
+    instance: &Instance,
     unit: FoundUnit,
 ) -> Result<Option<PlannedUnit>, AllocError>
     ensures { IfOk result
-        (λ found. IfSome found (λ planned. IsStaged question.now.stages planned.plan.tree)) }
+        (λ found. IfSome found (λ planned. IsStaged instance.now.stages planned.plan.tree)) }
 {
-    let Some(stock) = question.sizes.get(unit.place) else {
+    let Some(stock) = instance.sizes.get(unit.place) else {
         return Ok(None);
     };
-    let (size, kerf, stages) = (stock.size, question.kerf, question.stages);
+    let (size, kerf, stages) = (stock.size, instance.kerf, instance.stages);
     let Some(plan) = plan_of(alloc, unit.node, size, kerf, stages)? else {
         return Ok(None);
     };
@@ -150,15 +150,15 @@ fn planned_unit(
 // Planned units of those that were found, if each is a plan of one of the sizes.
 fn planned_units(
     alloc: Global,
-    question: &Question,
+    instance: &Instance,
     found: Vec<FoundUnit>,
 ) -> Result<Option<Vec<PlannedUnit>>, AllocError>
     ensures { IfOk result
-        (λ found. IfSome found (λ units. AreStaged question.now.stages units.items)) }
+        (λ found. IfSome found (λ units. AreStaged instance.now.stages units.items)) }
 {
     let mut units = Vec::new(alloc);
     for unit in found {
-        let Some(planned) = planned_unit(alloc, question, unit)? else {
+        let Some(planned) = planned_unit(alloc, instance, unit)? else {
             return Ok(None);
         };
         units.push(planned)?;
@@ -169,21 +169,21 @@ fn planned_units(
 // What the check reports of units, if they are a plan of the order.
 fn checked(
     alloc: Global,
-    question: &Question,
+    instance: &Instance,
     units: &[PlannedUnit],
 ) -> Result<Option<CheckedOrder>, AllocError>
-    requires { AreStaged question.now.stages units.now }
-    ensures { IfOk result (λ reported. IfSome reported (λ _. IsFewOrderPlan question.now.wants.items
-        question.now.kerf question.now.stages question.now.sizes.items units.now)) }
+    requires { AreStaged instance.now.stages units.now }
+    ensures { IfOk result (λ reported. IfSome reported (λ _. IsFewOrderPlan instance.now.wants.items
+        instance.now.kerf instance.now.stages instance.now.sizes.items units.now)) }
 {
     if unit_count(units) > MAX_ORDER_UNITS as u128 {
         return Ok(None);
     }
     match check_order(
         alloc,
-        question.kerf,
-        &question.sizes,
-        &question.wants,
+        instance.kerf,
+        &instance.sizes,
+        &instance.wants,
         units,
         0,
     ) {
@@ -213,15 +213,15 @@ fn copies(alloc: Global, units: &[PlannedUnit]) -> Result<Vec<PlannedUnit>, Allo
 /// known of them; none would be taken if they failed.
 pub fn kept_units(
     alloc: Global,
-    question: &Question,
+    instance: &Instance,
     kept: &Kept,
 ) -> Result<Vec<PlannedUnit>, AllocError>
-    requires { kept.now.stages ≡ question.now.stages }
-    ensures { IfOk result (λ units. IsFewOrderPlan question.now.wants.items question.now.kerf
-        question.now.stages question.now.sizes.items units.items) }
+    requires { kept.now.stages ≡ instance.now.stages }
+    ensures { IfOk result (λ units. IsFewOrderPlan instance.now.wants.items instance.now.kerf
+        instance.now.stages instance.now.sizes.items units.items) }
 {
     let units = copies(alloc, &kept.units)?;
-    match checked(alloc, question, &units)? {
+    match checked(alloc, instance, &units)? {
         Some(_) => Ok(units),
         None => Ok(Vec::new(alloc)),
     }
@@ -237,12 +237,12 @@ fn sum_of(missing: &[u32]) -> u128 {
 }
 
 // The cells of the largest rest of found units.
-fn rest_of(question: &Question, found: &[FoundUnit]) -> u64 {
+fn rest_of(instance: &Instance, found: &[FoundUnit]) -> u64 {
     let mut largest: u64 = 0;
     for unit in found {
-        if let Some(stock) = question.sizes.get(unit.place) {
+        if let Some(stock) = instance.sizes.get(unit.place) {
             let (w, h) = (stock.size.w(), stock.size.h());
-            largest = largest.max(largest_rest(&unit.node, w, h, question.kerf));
+            largest = largest.max(largest_rest(&unit.node, w, h, instance.kerf));
         }
     }
     largest
@@ -259,17 +259,17 @@ fn is_better(missing: u128, cost: u128, rest: u64, than: &Kept) -> bool {
 /// leaves out fewer pieces, or as many at a lower cost, or it costs as much and has a larger rest.
 pub fn better(
     alloc: Global,
-    question: &Question,
+    instance: &Instance,
     found: Vec<FoundUnit>,
     than: &Kept,
 ) -> Result<Option<Kept>, AllocError>
-    ensures { IfOk result (λ better. IfSome better (λ kept. kept.stages ≡ question.now.stages)) }
+    ensures { IfOk result (λ better. IfSome better (λ kept. kept.stages ≡ instance.now.stages)) }
 {
-    let rest = rest_of(question, &found);
-    let Some(units) = planned_units(alloc, question, found)? else {
+    let rest = rest_of(instance, &found);
+    let Some(units) = planned_units(alloc, instance, found)? else {
         return Ok(None);
     };
-    let Some(checked) = checked(alloc, question, &units)? else {
+    let Some(checked) = checked(alloc, instance, &units)? else {
         return Ok(None);
     };
     let missing = sum_of(&checked.missing);
@@ -281,6 +281,6 @@ pub fn better(
         missing,
         cost: checked.cost,
         rest,
-        stages: question.stages,
+        stages: instance.stages,
     }))
 }

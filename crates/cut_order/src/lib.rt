@@ -9,7 +9,7 @@ mod complete;
 mod found;
 mod places;
 mod planning;
-mod question;
+mod instance;
 mod rests;
 mod search;
 mod seek;
@@ -21,5 +21,5 @@ pub use cut_bound::{
     PlannedUnit, Price, StockSize, least_cost,
 };
 pub use planning::plan_order;
-pub use question::{MAX_COST, MAX_STAGES, MIN_STAGES, Question, is_stage_limit, is_stock};
+pub use instance::{MAX_COST, MAX_STAGES, MIN_STAGES, Instance, is_stage_limit, is_stock};
 pub use search::OrderSearch;

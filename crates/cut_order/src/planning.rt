@@ -5,7 +5,7 @@ ghost use Rattle.cut_plan.specs.Proposals.{AreDemands};
 ghost use Rattle.cut_plan.specs.declared.faults.PlanFault.TheVariants.{NoMemory};
 ghost use Rattle.cut_bound.specs.Orders as orders;
 ghost use Rattle.cut_order.specs.Answers.{IsAnswerOf, IsOrderAnswer};
-ghost use Rattle.cut_order.specs.Searches.{question_of};
+ghost use Rattle.cut_order.specs.Searches.{instance_of};
 ghost use Rattle.cut_order.specs.Stocks.{IsStageLimit, IsStock};
 
 use crate::answer::OrderPlan;
@@ -17,7 +17,7 @@ use std::alloc::{AllocError, Global};
 
 // Lets a search go on by at most so many calls of `advance`.
 fn go_on(alloc: Global, search: &mut OrderSearch, calls: u32) -> Result<(), AllocError>
-    ensures { question_of search.new ≡ question_of search.old }
+    ensures { instance_of search.new ≡ instance_of search.old }
 {
     for _ in 0..calls {
         let more = search.advance(alloc)?;
@@ -30,7 +30,7 @@ fn go_on(alloc: Global, search: &mut OrderSearch, calls: u32) -> Result<(), Allo
 
 // The answer of a search after so many calls of `advance`.
 fn answer_after(alloc: Global, search: OrderSearch, calls: u32) -> Result<OrderPlan, AllocError>
-    ensures { IfOk result (IsOrderAnswer (question_of search)) }
+    ensures { IfOk result (IsOrderAnswer (instance_of search)) }
 {
     let mut search = search;
     go_on(alloc, &mut search, calls)?;

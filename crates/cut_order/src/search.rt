@@ -11,7 +11,7 @@ use crate::answer::{OrderPlan, answer_of};
 use crate::certified::Certified;
 use crate::complete::complete;
 use crate::found::{Kept, better, kept_units};
-use crate::question::Question;
+use crate::instance::Instance;
 use crate::seek::search_for;
 use cut_bound::{StockSize, order_fault};
 use cut_measure::{Kind, MAX_KERF};
@@ -37,25 +37,25 @@ pub struct OrderSearch {
     kept: Kept,
     pending: Option<Pending>,
     search: Search,
-    ghost limited: { kept.stages ≡ certified.question.stages },
+    ghost limited: { kept.stages ≡ certified.instance.stages },
 }
 
 impl OrderSearch {
-    ghost use Rattle.cut_order.specs.Searches.{question_of};
+    ghost use Rattle.cut_order.specs.Searches.{instance_of};
 
     // A search that found nothing yet.
-    fn begin(alloc: Global, question: Question) -> Result<OrderSearch, AllocError>
-        ensures { IfOk result (λ search. question_of search ≡ question) }
+    fn begin(alloc: Global, instance: Instance) -> Result<OrderSearch, AllocError>
+        ensures { IfOk result (λ search. instance_of search ≡ instance) }
     {
-        let search = search_for(alloc, &question)?;
+        let search = search_for(alloc, &instance)?;
         let kept = Kept {
             units: Vec::new(alloc),
             missing: u128::MAX,
             cost: u128::MAX,
             rest: 0,
-            stages: question.stages,
+            stages: instance.stages,
         };
-        let certified = Certified::new(alloc, question);
+        let certified = Certified::new(alloc, instance);
         Ok(OrderSearch {
             certified,
             kept,
@@ -80,11 +80,11 @@ impl OrderSearch {
         requires demands { AreDemands wants.now }
         requires faultless { orders.order_fault kind kerf step sizes.now wants.now ≡ None }
         ensures { IfOk result (λ search. Asks kind kerf step stages sizes.now wants.now
-            (question_of search)) }
+            (instance_of search)) }
     {
         let sizes = Vec::from_slice(alloc, sizes)?;
         let wants = Vec::from_slice(alloc, wants)?;
-        let question = Question {
+        let instance = Instance {
             kind,
             kerf,
             step,
@@ -92,7 +92,7 @@ impl OrderSearch {
             sizes,
             wants,
         };
-        let search = OrderSearch::begin(alloc, question)?;
+        let search = OrderSearch::begin(alloc, instance)?;
         Ok(search)
     }
 
@@ -116,7 +116,7 @@ impl OrderSearch {
         requires stock { IsStock kind sizes.now }
         requires demands { AreDemands wants.now }
         ensures ok { IfOk result (λ search. Asks kind kerf step stages sizes.now wants.now
-            (question_of search)) }
+            (instance_of search)) }
         ensures faulty { IfSome (orders.order_fault kind kerf step sizes.now wants.now)
             (λ fault. result ≡ Err fault) }
         ensures err { IfErr result (λ fault. (fault ≡ NoMemory)
@@ -142,10 +142,10 @@ impl OrderSearch {
 
     // Keeps units that are a better plan of the order.
     fn consider(&mut self, alloc: Global, found: Vec<FoundUnit>) -> Result<(), AllocError>
-        ensures { question_of self.new ≡ question_of self.old }
+        ensures { instance_of self.new ≡ instance_of self.old }
     {
         let certified = &self.certified;
-        let found = better(alloc, &certified.question, found, &self.kept)?;
+        let found = better(alloc, &certified.instance, found, &self.kept)?;
         if let Some(kept) = found {
             self.kept = kept;
         }
@@ -154,7 +154,7 @@ impl OrderSearch {
 
     // Lets the search go on; whether there is more to do.
     fn go_on(&mut self, alloc: Global) -> Result<bool, AllocError>
-        ensures { question_of self.new ≡ question_of self.old }
+        ensures { instance_of self.new ≡ instance_of self.old }
     {
         let least = self.certified.certificate.bound;
         let best = self.best_cost();
@@ -175,7 +175,7 @@ impl OrderSearch {
 
     /// Goes on, by one table at most; whether there is more to do.
     pub fn advance(&mut self, alloc: Global) -> Result<bool, AllocError>
-        ensures { question_of self.new ≡ question_of self.old }
+        ensures { instance_of self.new ≡ instance_of self.old }
     {
         match self.pending.take() {
             Some(pending) => {
@@ -189,11 +189,11 @@ impl OrderSearch {
     /// The best that was found so far, with units added as long as an unused one holds a missing
     /// piece.
     pub fn finish(&self, alloc: Global) -> Result<OrderPlan, AllocError>
-        ensures { IfOk result (IsOrderAnswer (question_of self.now)) }
+        ensures { IfOk result (IsOrderAnswer (instance_of self.now)) }
     {
-        let question = &self.certified.question;
-        let mut units = kept_units(alloc, question, &self.kept)?;
-        complete(alloc, question, &mut units)?;
+        let instance = &self.certified.instance;
+        let mut units = kept_units(alloc, instance, &self.kept)?;
+        complete(alloc, instance, &mut units)?;
         let plan = answer_of(alloc, &self.certified, units)?;
         Ok(plan)
     }

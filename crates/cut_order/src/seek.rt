@@ -1,7 +1,7 @@
 //! The search for prices and units (`cut_search`). It owes nothing but that it is safe and ends:
 //! what it finds is checked.
 
-use crate::question::Question;
+use crate::instance::Instance;
 use cut_bound::StockSize;
 use cut_search::search::Search;
 use cut_search_bars::stock::SearchSize;
@@ -20,15 +20,15 @@ fn search_sizes(alloc: Global, sizes: &[StockSize]) -> Result<Vec<SearchSize>, A
 }
 
 /// A search for a question that has made no table yet.
-pub fn search_for(alloc: Global, question: &Question) -> Result<Search, AllocError> {
-    let sizes = search_sizes(alloc, &question.sizes)?;
+pub fn search_for(alloc: Global, instance: &Instance) -> Result<Search, AllocError> {
+    let sizes = search_sizes(alloc, &instance.sizes)?;
     Search::new(
         alloc,
-        question.kind,
-        question.kerf,
-        question.step,
-        question.stages,
+        instance.kind,
+        instance.kerf,
+        instance.step,
+        instance.stages,
         &sizes,
-        &question.wants,
+        &instance.wants,
     )
 }

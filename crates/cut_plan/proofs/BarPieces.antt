@@ -5,7 +5,7 @@ use Rattle.std.proofs.lemmas.List.Elements.{All-append, All-contains, All-replic
 use Rattle.std.proofs.lemmas.List.Folds.{sum_by-replicate}
 use Rattle.std.proofs.lemmas.List.Sums.{sum_by-append, sum_by-cons}
 use Rattle.cut_tree.specs.declared.token.TheConstants.{MAX_CUTS}
-use Rattle.cut_measure.specs.Measures.{Extent}
+use Rattle.cut_measure.specs.Measures.{Size}
 use Rattle.cut_tree.specs.Tree.{leaf_sum, cut_count}
 use Rattle.cut_tree.specs.Patterns.{Pattern}
 use Rattle.cut_tree.specs.Bars.{IsBarPiece, bar_tree, bar_length}
@@ -47,7 +47,7 @@ lengths : (wants : List Want) (ns : List ℕ) → HaveLength wants → All (λ q
 lengths wants ns some = all_pieces (λ q. 1 ≤ q.1) wants ns some
 
 -- the tree of best counts is a bar's plan, worth what the counts are
-pub best_tree : (size : Extent) (k : ℕ) (wants : List Want) (ns : List ℕ) → HaveOwnDemands wants → AreUprightOfHeightOne wants → size.h ≡ 1 → HaveLength wants → AreBestCounts k wants (size.w + k) ns
+pub best_tree : (size : Size) (k : ℕ) (wants : List Want) (ns : List ℕ) → HaveOwnDemands wants → AreUprightOfHeightOne wants → size.h ≡ 1 → HaveLength wants → AreBestCounts k wants (size.w + k) ns
     → IsBarPlan size k wants (bar_tree (pieces_of wants ns) size.w k) × (worth_of wants (bar_tree (pieces_of wants ns) size.w k) ≡ worth_of_counts wants ns)
 best_tree size k wants ns own flat high some best =
     let sums : (f : ℕ → ℕ) → leaf_sum f (bar_tree (pieces_of wants ns) size.w k) ≡ total_of (λ x. f x.demand) wants ns =
@@ -83,7 +83,7 @@ some_bar [] w k all fits many = absurd (omega arith)
 some_bar (p ∷ ps) w k all fits many = let one : 1 ≤ p.1 = all 0 p (omega arith) in omega (arith, spent-cons k p ps, one, fits)
 
 -- the plan of best pieces is proposed
-pub is_proposal : (size : Extent) (k : ℕ) (wants : List Want) (pieces : Pieces) (plan : Pattern) → HaveOwnDemands wants → AreUprightOfHeightOne wants → size.h ≡ 1 → AreBestPieces size k wants pieces
+pub is_proposal : (size : Size) (k : ℕ) (wants : List Want) (pieces : Pieces) (plan : Pattern) → HaveOwnDemands wants → AreUprightOfHeightOne wants → size.h ≡ 1 → AreBestPieces size k wants pieces
     → plan.tree ≡ bar_tree pieces.pieces.items size.w k → (plan.w ≡ size.w) × (plan.h ≡ size.h) × (plan.kerf ≡ k)
     → IsBarProposal size k wants (record { plan = plan; worth = pieces.worth })
 is_proposal size k wants pieces plan own flat high b tree unit =
@@ -95,7 +95,7 @@ is_proposal size k wants pieces plan own flat high b tree unit =
       worth = rw same (b.worth ∙ sym made.1);
     }
 
-pub too_many : (size : Extent) (k : ℕ) (wants : List Want) (pieces : Pieces) → HaveOwnDemands wants → AreUprightOfHeightOne wants → size.h ≡ 1 → AreBestPieces size k wants pieces
+pub too_many : (size : Size) (k : ℕ) (wants : List Want) (pieces : Pieces) → HaveOwnDemands wants → AreUprightOfHeightOne wants → size.h ≡ 1 → AreBestPieces size k wants pieces
     → MAX_CUTS < cut_count (bar_tree pieces.pieces.items size.w k) → HasManyPieces size k wants
 too_many size k wants pieces own flat high b cuts =
     let many = subst (λ ps. MAX_CUTS < cut_count (bar_tree ps size.w k)) b.list cuts in
@@ -108,6 +108,6 @@ too_many size k wants pieces own flat high b cuts =
     }
 
 -- the pieces of best counts aren't too long
-pub not_long : (size : Extent) (k : ℕ) (wants : List Want) (pieces : Pieces) → AreBestPieces size k wants pieces → bar_length pieces.pieces.items k ≤ size.w
+pub not_long : (size : Size) (k : ℕ) (wants : List Want) (pieces : Pieces) → AreBestPieces size k wants pieces → bar_length pieces.pieces.items k ≤ size.w
 not_long size k wants pieces b =
     subst (λ ps. bar_length ps k ≤ size.w) (sym b.list) (fits_bar (pieces_of wants b.counts) size.w k (has_span wants k size.w b.counts b.best))

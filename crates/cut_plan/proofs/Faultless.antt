@@ -12,7 +12,7 @@ use Rattle.cut_bars.specs.declared.bar.TheConstants.{MAX_BAR_LENGTH}
 use Rattle.cut_sheets.specs.declared.sheet.TheConstants.{MAX_STEPS}
 use Rattle.cut_measure.specs.declared.sizes.Kind.{Kind}
 use Rattle.cut_measure.specs.declared.sizes.Kind.TheVariants.{Bar, Sheet}
-use Rattle.cut_measure.specs.Measures.{Extent}
+use Rattle.cut_measure.specs.Measures.{Size}
 use Rattle.cut_wants.specs.declared.wants.Want.{Want}
 use Rattle.std.proofs.lemmas.Bool.Decides.{eqb_tells}
 use Rattle.cut_tree.specs.Tree.{Tree}
@@ -54,12 +54,12 @@ past true f o e = absurd (cc)
 past false f o e = (refl, e)
 
 -- no fault stands before the tables
-pub record Faultless (kind : Kind) (size : Extent) (k s : ℕ) (wants : List Want) : Type 0 where
+pub record Faultless (kind : Kind) (size : Size) (k s : ℕ) (wants : List Want) : Type 0 where
   pub in_range : are_bad_wants MAX_WANTS kind wants ≡ false
   pub stepped : is_bad_step kind k s wants ≡ false
   pub small : is_large kind size k s ≡ false
 
-pub faultless : (kind : Kind) (size : Extent) (k s : ℕ) (wants : List Want) → plan_fault kind size k s wants ≡ None → Faultless kind size k s wants
+pub faultless : (kind : Kind) (size : Size) (k s : ℕ) (wants : List Want) → plan_fault kind size k s wants ≡ None → Faultless kind size k s wants
 faultless kind size k s wants e =
     let a = past (are_bad_wants MAX_WANTS kind wants) _ _ e in
     let b = past (is_bad_step kind k s wants) _ _ a.1 in
@@ -128,12 +128,12 @@ is_step k s wants e =
           (ltb-false (x.size.w + k) s b.0, ltb-false (x.size.h + k) s b.1);
     }
 
-pub few_steps : (size : Extent) (k s : ℕ) → is_large Sheet size k s ≡ false → (steps_down k s size.w ≤ MAX_STEPS) × (steps_down k s size.h ≤ MAX_STEPS)
+pub few_steps : (size : Size) (k s : ℕ) → is_large Sheet size k s ≡ false → (steps_down k s size.w ≤ MAX_STEPS) × (steps_down k s size.h ≤ MAX_STEPS)
 few_steps size k s e =
     let a = neither (nat_lt MAX_STEPS (steps_down k s size.w)) (nat_lt MAX_STEPS (steps_down k s size.h)) e in
     (ltb-false MAX_STEPS (steps_down k s size.w) a.0, ltb-false MAX_STEPS (steps_down k s size.h) a.1)
 
-pub short : (size : Extent) (k s : ℕ) → is_large Bar size k s ≡ false → size.w ≤ MAX_BAR_LENGTH
+pub short : (size : Size) (k s : ℕ) → is_large Bar size k s ≡ false → size.w ≤ MAX_BAR_LENGTH
 short size k s e = ltb-false MAX_BAR_LENGTH size.w e
 
 pub left_small : (xs : List Want) → ((x : Want) → Contains xs x → IsInRange x) → worth_left xs ≤ length xs * 1000000000000000
@@ -162,7 +162,7 @@ counts_length (x ∷ xs) [] is = absurd is
 counts_length (x ∷ xs) (a ∷ ns) is = ap suc (counts_length xs ns is.1)
 
 -- the best worth is at least 1 where something fits
-pub some_worth : (kind : Kind) (size : Extent) (k s : ℕ) (wants : List Want) (best : ℕ) → are_bad_wants MAX_WANTS kind wants ≡ false → SomeFits size wants
+pub some_worth : (kind : Kind) (size : Size) (k s : ℕ) (wants : List Want) (best : ℕ) → are_bad_wants MAX_WANTS kind wants ≡ false → SomeFits size wants
     → ((t : Tree) → Legal wants k t size.w size.h → IsWithinCounts wants t → worth_of wants t ≤ best) → 1 ≤ best
 some_worth kind size k s wants best e fit each =
     let x = fit.want in
@@ -182,7 +182,7 @@ some_worth kind size k s wants best e fit each =
     omega (arith, each p.tree p.legal within, worth, r.worth)
 
 -- no legal tree within the counts is worth more than a unit's best
-pub unit_most : (kind : Kind) (size : Extent) (k s : ℕ) (wants : List Want) (best : ℕ) → is_bad_step kind k s wants ≡ false → IsUnitBest kind size k s wants best
+pub unit_most : (kind : Kind) (size : Size) (k s : ℕ) (wants : List Want) (best : ℕ) → is_bad_step kind k s wants ≡ false → IsUnitBest kind size k s wants best
     → (t : Tree) → Legal wants k t size.w size.h → IsWithinCounts wants t → worth_of wants t ≤ best
 unit_most Bar size k s wants best e b t l within = b.most t (l, within)
 unit_most Sheet size k s wants best e b t l within = ceiling_holds wants k s size.w size.h best (is_step k s wants e) b t l

@@ -11,7 +11,7 @@ use Rattle.std.proofs.lemmas.List.Sums.{sum_by-cons}
 use Rattle.cut_tree.specs.declared.token.TheConstants.{MAX_CUTS}
 use Rattle.cut_sheets.specs.declared.sheet.TheConstants.{MAX_STEPS}
 use Rattle.cut_measure.specs.declared.sizes.Axis.TheVariants.{X, Y}
-use Rattle.cut_measure.specs.Measures.{Extent}
+use Rattle.cut_measure.specs.Measures.{Size}
 use Rattle.cut_tree.specs.Tree.{Tree, Rest, Piece, Trim, Cut, IsShaped, leaf_sum, count_of, cut_count}
 use Rattle.cut_tree.specs.Patterns.{HasDemands}
 use Rattle.cut_wants.specs.declared.wants.Want.{Want}
@@ -28,11 +28,11 @@ use Rattle.cut_bars.proofs.BarCounts.{tree_counts, tree_total}
 use Rattle.cut_sheets.proofs.BestWorths.{in_get}
 use Rattle.cut_sheets.proofs.SheetSteps.{down_worth, leaf_sum-same, exact_wants, steps_inside}
 use Rattle.cut_plan.specs.Proposals.{AreDemands, HasDemandNumber}
-use Rattle.cut_plan.specs.Sheets.{IsCutting, IsFirstCutting, kept_counts, dropped_of, IsSheetPlan, IsCeiling, HasManyKept}
+use Rattle.cut_plan.specs.Sheets.{AreBestLeaves, AreFirstLeaves, kept_counts, dropped_of, IsSheetPlan, IsCeiling, HasManyKept}
 
-cutting : (wants : List Want) (p q : ℕ) (old new : List ℕ) (kept : Tree) → KeepsLeaves wants p q old new kept → length new ≡ length wants → ((i : ℕ) → get_or old i 0 ≡ 0) → p ≤ MAX_STEPS → q ≤ MAX_STEPS
-    → ((i : ℕ) → i < length new → get_or new i 0 ≤ get_or old i 0 + p * q) → IsCutting wants p q new kept
-cutting wants p q old new kept k len zeros pp qq grown = record {
+best_leaves : (wants : List Want) (p q : ℕ) (old new : List ℕ) (kept : Tree) → KeepsLeaves wants p q old new kept → length new ≡ length wants → ((i : ℕ) → get_or old i 0 ≡ 0) → p ≤ MAX_STEPS → q ≤ MAX_STEPS
+    → ((i : ℕ) → i < length new → get_or new i 0 ≤ get_or old i 0 + p * q) → AreBestLeaves wants p q new kept
+best_leaves wants p q old new kept k len zeros pp qq grown = record {
   tree = k.leaves.tree;
   legal = k.leaves.legal;
   best = k.leaves.best;
@@ -45,11 +45,11 @@ cutting wants p q old new kept k len zeros pp qq grown = record {
 }
 
 -- the same of the first ones of those that are kept
-pub first_cutting : (wants : List Want) (p q : ℕ) (old new : List ℕ) (kept : Kept) → IsKept wants p q old new kept → length new ≡ length wants → ((i : ℕ) → get_or old i 0 ≡ 0)
-    → p ≤ MAX_STEPS → q ≤ MAX_STEPS → ((i : ℕ) → i < length new → get_or new i 0 ≤ get_or old i 0 + p * q) → IsFirstCutting wants p q new kept
-first_cutting wants p q old new kept k len zeros pp qq grown = record {
+pub first_leaves : (wants : List Want) (p q : ℕ) (old new : List ℕ) (kept : Kept) → IsKept wants p q old new kept → length new ≡ length wants → ((i : ℕ) → get_or old i 0 ≡ 0)
+    → p ≤ MAX_STEPS → q ≤ MAX_STEPS → ((i : ℕ) → i < length new → get_or new i 0 ≤ get_or old i 0 + p * q) → AreFirstLeaves wants p q new kept
+first_leaves wants p q old new kept k len zeros pp qq grown = record {
   all = k.all;
-  cutting = cutting wants p q old new k.all k.keeps len zeros pp qq grown;
+  best_leaves = best_leaves wants p q old new k.all k.keeps len zeros pp qq grown;
   whole = k.whole;
   more = λ e. (k.more e).0;
 }
@@ -164,8 +164,8 @@ shaped_of wants k (Cut X a t u) w h l = (l.0, l.1, shaped_of wants k t a h l.2, 
 shaped_of wants k (Cut Y a t u) w h l = (l.0, l.1, shaped_of wants k t w a l.2, shaped_of wants k u w (h - a - k) l.3)
 
 -- what is laid out
-pub laid : (size : Extent) (k s : ℕ) (wants : List Want) (counts : List ℕ) (kept tree : Tree) (worth dropped : ℕ) → HaveOwnDemands wants
-    → IsCutting (wants_up k s wants) (steps_down k s size.w) (steps_down k s size.h) counts kept → Places wants k kept size.w size.h tree → length counts ≡ length wants
+pub laid : (size : Size) (k s : ℕ) (wants : List Want) (counts : List ℕ) (kept tree : Tree) (worth dropped : ℕ) → HaveOwnDemands wants
+    → AreBestLeaves (wants_up k s wants) (steps_down k s size.w) (steps_down k s size.h) counts kept → Places wants k kept size.w size.h tree → length counts ≡ length wants
     → worth ≡ worth_of_counts wants (kept_counts wants counts) → dropped ≡ dropped_of wants counts → IsSheetPlan size k s wants tree worth dropped
 laid size k s wants counts kept tree worth dropped own c p len is_worth is_dropped = record {
   up = c.tree;
@@ -201,8 +201,8 @@ laid size k s wants counts kept tree worth dropped own c p len is_worth is_dropp
         minimum i.0 x i.1 ∙ ap (λ n. min n x.left) (exact i.0 x i.1)
 
 -- what is laid out of more pieces than a plan has takes more cuts than it may have
-pub many_kept : (size : Extent) (k s : ℕ) (wants : List Want) (counts : List ℕ) (all : Tree) → HaveOwnDemands wants → HaveSides wants → 1 ≤ s
-    → IsCutting (wants_up k s wants) (steps_down k s size.w) (steps_down k s size.h) counts all → length counts ≡ length wants → MAX_CUTS + 1 < leaf_count all
+pub many_kept : (size : Size) (k s : ℕ) (wants : List Want) (counts : List ℕ) (all : Tree) → HaveOwnDemands wants → HaveSides wants → 1 ≤ s
+    → AreBestLeaves (wants_up k s wants) (steps_down k s size.w) (steps_down k s size.h) counts all → length counts ≡ length wants → MAX_CUTS + 1 < leaf_count all
     → HasManyKept size k s wants
 many_kept size k s wants counts all own sides pos c len more =
     let places = kept_places wants k s all _ _ size.w size.h pos sides c.inside c.pruned (steps_inside k s size.w) (steps_inside k s size.h) in
@@ -221,8 +221,8 @@ sum_small g [] each = omega arith
 sum_small g (x ∷ xs) each = omega (arith, each x (Contains-head x xs), sum_small g xs (λ y h. each y (Contains-tail x xs y h)), sum_by-cons g x xs)
 
 -- the cuts of what is laid out are no more than a number can report
-pub few_laid : (size : Extent) (k s : ℕ) (wants : List Want) (counts : List ℕ) (kept tree : Tree) → HaveOwnDemands wants
-    → IsCutting (wants_up k s wants) (steps_down k s size.w) (steps_down k s size.h) counts kept → Places wants k kept size.w size.h tree → length counts ≡ length wants
+pub few_laid : (size : Size) (k s : ℕ) (wants : List Want) (counts : List ℕ) (kept tree : Tree) → HaveOwnDemands wants
+    → AreBestLeaves (wants_up k s wants) (steps_down k s size.w) (steps_down k s size.h) counts kept → Places wants k kept size.w size.h tree → length counts ≡ length wants
     → cut_count tree ≤ 3 * (length wants * 250000)
 few_laid size k s wants counts kept tree own c p len =
     let sum = weigh_sum (count_of tree) (λ x. count_of tree x.demand) wants (λ x has. refl) in
@@ -263,7 +263,7 @@ same_steps : (k : ℕ) (xs : List Want) → wants_up k 1 xs ≡ wants_down k 1 x
 same_steps k xs = exact_wants k 1 xs (omega arith) (all_exact k xs)
 
 -- a whole best tree is worth what it is worth in steps
-whole_worth : (size : Extent) (k : ℕ) (wants : List Want) (tree : Tree) (worth : ℕ) → HaveOwnDemands wants → (l : IsSheetPlan size k 1 wants tree worth 0)
+whole_worth : (size : Size) (k : ℕ) (wants : List Want) (tree : Tree) (worth : ℕ) → HaveOwnDemands wants → (l : IsSheetPlan size k 1 wants tree worth 0)
     → worth ≡ worth_of (wants_up k 1 wants) l.up
 whole_worth size k wants tree worth own l =
     let few : (x : Want) → Contains wants x → count_of l.up x.demand ≤ x.left = none_dropped (count_of l.up) wants (sym l.dropped_is) in
@@ -275,7 +275,7 @@ whole_worth size k wants tree worth own l =
     ∙ sym (leaf_sum-same (of_demand (λ x. x.worth) (wants_down k 1 wants)) (of_demand (λ x. x.worth) wants) l.up (down_worth k 1 wants))
     ∙ ap (λ xs. worth_of xs l.up) (sym (same_steps k wants))
 
-pub whole_best : (size : Extent) (k : ℕ) (wants : List Want) (tree : Tree) (worth ceiling : ℕ) → HaveOwnDemands wants → IsSheetPlan size k 1 wants tree worth 0
+pub whole_best : (size : Size) (k : ℕ) (wants : List Want) (tree : Tree) (worth ceiling : ℕ) → HaveOwnDemands wants → IsSheetPlan size k 1 wants tree worth 0
     → IsCeiling size k 1 wants ceiling → worth ≡ ceiling
 whole_best size k wants tree worth ceiling own l c =
     let up = subst (λ xs. IsBestOf xs 0 (steps_down k 1 size.w) (steps_down k 1 size.h) worth) (same_steps k wants)

@@ -7,7 +7,7 @@ use Rattle.cut_bars.specs.declared.bar.TheConstants.{MAX_BAR_LENGTH}
 use Rattle.cut_sheets.specs.declared.sheet.TheConstants.{MAX_STEPS}
 use Rattle.cut_measure.specs.declared.sizes.Kind.{Kind}
 use Rattle.cut_measure.specs.declared.sizes.Kind.TheVariants.{Bar, Sheet}
-use Rattle.cut_measure.specs.Measures.{Extent}
+use Rattle.cut_measure.specs.Measures.{Size}
 use Rattle.cut_wants.specs.declared.wants.Want.{Want}
 use Rattle.cut_sheets.specs.Rounded.{steps_down}
 use Rattle.cut_plan.specs.declared.faults.PlanFault.{PlanFault}
@@ -39,16 +39,16 @@ abbrev pub is_bad_step : Kind → (kerf step : ℕ) → List Want → Bool
 is_bad_step Bar k s wants = false
 is_bad_step Sheet k s wants = s == 0 || list_any (is_short k s) wants
 
-abbrev pub is_large : Kind → Extent → (kerf step : ℕ) → Bool
+abbrev pub is_large : Kind → Size → (kerf step : ℕ) → Bool
 is_large Bar size k s = nat_lt MAX_BAR_LENGTH size.w
 is_large Sheet size k s = nat_lt MAX_STEPS (steps_down k s size.w) || nat_lt MAX_STEPS (steps_down k s size.h)
 
 -- the want fits the unit, turned where it may be
-abbrev pub is_fitting : Extent → Want → Bool
+abbrev pub is_fitting : Size → Want → Bool
 is_fitting size x =
     (nat_le x.size.w size.w && nat_le x.size.h size.h) || (x.may_turn && nat_le x.size.h size.w && nat_le x.size.w size.h)
 
-abbrev pub plan_fault : Kind → Extent → (kerf step : ℕ) → List Want → Option PlanFault
+abbrev pub plan_fault : Kind → Size → (kerf step : ℕ) → List Want → Option PlanFault
 plan_fault kind size k s wants =
     if are_bad_wants MAX_WANTS kind wants then Some BadWant
     else (if is_bad_step kind k s wants then Some BadStep
@@ -56,7 +56,7 @@ plan_fault kind size k s wants =
     else (if list_any (is_fitting size) wants then None else Some NothingFits)))
 
 -- a want that fits, with sides that a size has
-pub record SomeFits (size : Extent) (wants : List Want) : Type 0 where
+pub record SomeFits (size : Size) (wants : List Want) : Type 0 where
   pub want : Want
   pub there : Contains wants want
   pub fits : IsTrue (is_fitting size want)

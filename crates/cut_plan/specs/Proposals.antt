@@ -2,7 +2,7 @@
 use Rattle.std.specs.Prelude.{◌≡◌, ℕ, ◌+◌, ◌≤◌, ◌<◌, List, [], ◌∷◌, ◌++◌, replicate, All}
 use Rattle.cut_measure.specs.declared.ranges.TheConstants.{MAX_NUMBERS}
 use Rattle.cut_tree.specs.declared.token.TheConstants.{MAX_CUTS}
-use Rattle.cut_measure.specs.Measures.{Extent}
+use Rattle.cut_measure.specs.Measures.{Size}
 use Rattle.cut_tree.specs.Tree.{Tree, cut_count}
 use Rattle.cut_tree.specs.Bars.{bar_tree}
 use Rattle.cut_wants.specs.declared.wants.Want.{Want}
@@ -25,7 +25,7 @@ pieces_of (x ∷ xs) [] = []
 pieces_of (x ∷ xs) (a ∷ ns) = replicate a (x.demand, x.size.w) ++ pieces_of xs ns
 
 -- the pieces of best counts, and their worth
-pub record AreBestPieces (size : Extent) (kerf : ℕ) (wants : List Want) (pieces : Pieces) : Type 0 where
+pub record AreBestPieces (size : Size) (kerf : ℕ) (wants : List Want) (pieces : Pieces) : Type 0 where
   pub counts : List ℕ
   pub best : AreBestCounts kerf wants (size.w + kerf) counts
   pub list : pieces.pieces.items ≡ pieces_of wants counts
@@ -33,7 +33,7 @@ pub record AreBestPieces (size : Extent) (kerf : ℕ) (wants : List Want) (piece
   pub some : HaveLength wants
 
 -- The tree of some counts in the order of the wants, such that no legal tree within the counts is worth more.
-pub record IsBarPlan (size : Extent) (kerf : ℕ) (wants : List Want) (tree : Tree) : Type 0 where
+pub record IsBarPlan (size : Size) (kerf : ℕ) (wants : List Want) (tree : Tree) : Type 0 where
   pub counts : List ℕ
   pub few : AreCounts wants counts
   pub same : tree ≡ bar_tree (pieces_of wants counts) size.w kerf
@@ -42,13 +42,13 @@ pub record IsBarPlan (size : Extent) (kerf : ℕ) (wants : List Want) (tree : Tr
   pub best : (t : Tree) → Legal wants kerf t size.w size.h → IsWithinCounts wants t → worth_of wants t ≤ worth_of wants tree
 
 -- such a plan, and what it is worth
-pub record IsBarProposal (size : Extent) (kerf : ℕ) (wants : List Want) (proposal : Proposal) : Type 0 where
+pub record IsBarProposal (size : Size) (kerf : ℕ) (wants : List Want) (proposal : Proposal) : Type 0 where
   pub planned : IsBarPlan size kerf wants proposal.plan.tree
   pub unit : (proposal.plan.w ≡ size.w) × (proposal.plan.h ≡ size.h) × (proposal.plan.kerf ≡ kerf)
   pub worth : proposal.worth ≡ worth_of wants proposal.plan.tree
 
 -- such a plan that has over 255 pieces and takes over 255 cuts
-pub record HasManyPieces (size : Extent) (kerf : ℕ) (wants : List Want) : Type 0 where
+pub record HasManyPieces (size : Size) (kerf : ℕ) (wants : List Want) : Type 0 where
   pub tree : Tree
   pub planned : IsBarPlan size kerf wants tree
   pub many : MAX_CUTS < leaf_count tree

@@ -1,7 +1,7 @@
 //! What holds of plans: each listed piece is one of the wants, and a sheet's plan of which nothing dropped is best.
 
 ghost use Rattle.std.specs.Prelude.{◌≡◌, ℕ, ◌≤◌, List, All, None};
-ghost use Rattle.cut_measure.specs.Measures.{Extent};
+ghost use Rattle.cut_measure.specs.Measures.{Size};
 ghost use Rattle.cut_measure.specs.declared.sizes.Kind.TheVariants.{Sheet};
 ghost use Rattle.cut_tree.specs.Tree.{Tree};
 ghost use Rattle.cut_tree.specs.Leaves.{leaves_of};
@@ -21,10 +21,10 @@ pub fn legal_pieces_are_listed()
 /// A sheet's plan with step 1 of which nothing was dropped is a best one: it is worth its ceiling, and no legal plan, of
 /// however many pieces, is worth more.
 pub fn whole_plans_are_best()
-    ensures ceiling { (size : Extent) (k : ℕ) (wants : List Want) (p : SheetProposal)
+    ensures ceiling { (size : Size) (k : ℕ) (wants : List Want) (p : SheetProposal)
         → plan_fault Sheet size k 1 wants ≡ None → IsSheetProposal size k 1 wants p → p.dropped ≡ 0
         → p.worth ≡ p.ceiling }
-    ensures best { (size : Extent) (k : ℕ) (wants : List Want) (p : SheetProposal)
+    ensures best { (size : Size) (k : ℕ) (wants : List Want) (p : SheetProposal)
         → plan_fault Sheet size k 1 wants ≡ None → IsSheetProposal size k 1 wants p → p.dropped ≡ 0
         → (t : Tree) → Legal wants k t size.w size.h → worth_of wants t ≤ p.worth }
 {}

@@ -39,7 +39,7 @@ pub struct SheetProposal {
 
 /// The counts of a best tree's leaves by want, the first ones of those that are kept, and what the best tree is worth.
 #[derive(Drop)]
-pub struct Cutting {
+pub struct BestLeaves {
     pub counts: Vec<u32>,
     pub kept: Kept,
     pub best: u64,
@@ -60,20 +60,20 @@ fn kept_leaves(
     wants: &[Scaled],
     across: usize,
     down: usize,
-) -> Result<Cutting, AllocError>
+) -> Result<BestLeaves, AllocError>
     requires own { HaveOwnDemands wants.now }
     requires small { HaveSidesAndBoundedWorths wants.now }
     requires across { across ≤ MAX_STEPS }
     requires down { down ≤ MAX_STEPS }
     ensures kept { IfOk result
-        (λ c. spec.IsFirstCutting wants.now across down c.counts.items c.kept) }
+        (λ c. spec.AreFirstLeaves wants.now across down c.counts.items c.kept) }
     ensures best { IfOk result (λ c. IsBestOf wants.now 0 across down c.best) }
 {
     let table = best_table(alloc, wants, across, down)?;
     let mut counts = vec![in alloc; 0u32; wants.len()]?;
     let kept = keep(alloc, wants, &table, across + 1, across, down, &mut counts)?;
     let best = worth_at(wants, &table, across + 1, across, down);
-    Ok(Cutting { counts, kept, best })
+    Ok(BestLeaves { counts, kept, best })
 }
 
 // Of each count at most what is left.
@@ -108,11 +108,11 @@ fn cut_up(
     kerf: u32,
     step: u32,
     wants: &[Want],
-) -> Result<Cutting, AllocError>
+) -> Result<BestLeaves, AllocError>
     requires kerf { kerf ≤ MAX_KERF }
     requires faultless { plan_fault Sheet size kerf step wants.now ≡ None }
     ensures sides { IfOk result (λ _. HaveSides wants.now) }
-    ensures kept { IfOk result (λ c. spec.IsFirstCutting (wants_up kerf step wants.now)
+    ensures kept { IfOk result (λ c. spec.AreFirstLeaves (wants_up kerf step wants.now)
         (steps_down kerf step size.w) (steps_down kerf step size.h) c.counts.items c.kept) }
     ensures best { IfOk result (λ c. IsBestOf (wants_up kerf step wants.now) 0
         (steps_down kerf step size.w) (steps_down kerf step size.h) c.best) }
@@ -120,8 +120,8 @@ fn cut_up(
     let scaled = all_up(alloc, wants, kerf, step)?;
     let across = ((size.w() + kerf) / step) as usize;
     let down = ((size.h() + kerf) / step) as usize;
-    let cutting = kept_leaves(alloc, &scaled, across, down)?;
-    Ok(cutting)
+    let best_leaves = kept_leaves(alloc, &scaled, across, down)?;
+    Ok(best_leaves)
 }
 
 // The kept leaves on the sheet itself.
@@ -131,26 +131,26 @@ fn lay_out(
     kerf: u32,
     step: u32,
     wants: &[Want],
-    cutting: Cutting,
+    best_leaves: BestLeaves,
 ) -> Result<Laid, AllocError>
     requires kerf { kerf ≤ MAX_KERF }
     requires faultless { plan_fault Sheet size kerf step wants.now ≡ None }
     requires sides { HaveSides wants.now }
-    requires kept { spec.IsCutting (wants_up kerf step wants.now) (steps_down kerf step size.w)
-        (steps_down kerf step size.h) cutting.counts.items (tree_of cutting.kept.tree) }
+    requires kept { spec.AreBestLeaves (wants_up kerf step wants.now) (steps_down kerf step size.w)
+        (steps_down kerf step size.h) best_leaves.counts.items (tree_of best_leaves.kept.tree) }
     requires best { IsBestOf (wants_up kerf step wants.now) 0 (steps_down kerf step size.w)
-        (steps_down kerf step size.h) cutting.best }
+        (steps_down kerf step size.h) best_leaves.best }
     ensures laid { IfOk result
         (λ l. spec.IsSheetPlan size kerf step wants.now (tree_of l.root) l.worth l.dropped) }
     ensures few { IfOk result (λ l. cut_count (tree_of l.root) < 2 ^ 32) }
     ensures ceiling { IfOk result (λ l. spec.IsCeiling size kerf step wants.now l.ceiling) }
 {
-    let tree = &cutting.kept.tree;
+    let tree = &best_leaves.kept.tree;
     let root = place(alloc, wants, tree, size.w(), size.h(), kerf, step)?;
-    let kept = kept_counts(alloc, wants, &cutting.counts)?;
+    let kept = kept_counts(alloc, wants, &best_leaves.counts)?;
     let worth = counted_worth(wants, &kept);
-    let dropped = dropped_of(wants, &cutting.counts);
-    let ceiling = ceiling_beside(alloc, wants, size, kerf, step, cutting.best)?;
+    let dropped = dropped_of(wants, &best_leaves.counts);
+    let ceiling = ceiling_beside(alloc, wants, size, kerf, step, best_leaves.best)?;
     Ok(Laid {
         root,
         worth,
@@ -209,13 +209,13 @@ fn faultless_sheet(
         (λ fault. (fault ≡ NoMemory)
         ⊎ ((fault ≡ TableTooLarge) × spec.HasManyKept size kerf step wants.now)) }
 {
-    let Ok(cutting) = cut_up(alloc, size, kerf, step, wants) else {
+    let Ok(best_leaves) = cut_up(alloc, size, kerf, step, wants) else {
         return Err(PlanFault::NoMemory);
     };
-    if !cutting.kept.is_whole {
+    if !best_leaves.kept.is_whole {
         return Err(PlanFault::TableTooLarge);
     }
-    match lay_out(alloc, size, kerf, step, wants, cutting) {
+    match lay_out(alloc, size, kerf, step, wants, best_leaves) {
         Ok(laid) => proposal_of(alloc, size, kerf, step, wants, laid),
         Err(_) => Err(PlanFault::NoMemory),
     }

@@ -8,7 +8,7 @@ use Rattle.cut_measure.specs.declared.sizes.Axis.{Axis}
 use Rattle.cut_measure.specs.declared.sizes.Axis.TheVariants.{X, Y}
 use Rattle.cut_tree.specs.Tree.{Tree, Rest, Piece, Trim, Cut, CutsInto, leaf_sum, cut_count}
 use Rattle.cut_wants.specs.declared.wants.Want.{Want}
-use Rattle.cut_measure.specs.Measures.{Extent}
+use Rattle.cut_measure.specs.Measures.{Size}
 use Rattle.cut_wants.specs.Legal.{Legal, leaf_count, IsWantedPiece, HaveOwnDemands, of_demand}
 use Rattle.cut_wants.proofs.LeafSums.{of_demand_found}
 use Rattle.cut_sheets.specs.Rounded.{steps_up, wants_up}
@@ -151,22 +151,22 @@ corner wants k d b l m w h is one one' lw mh = record {
   few_cuts = omega (arith, cut_off_cuts X l w k (cut_off Y m h k (Piece d b)), cut_off_cuts Y m h k (Piece d b));
 }
 
-pub corner_upright : (wants : List Want) (k d : ℕ) (w h : ℕ) (size : Extent) → HaveOwnDemands wants → IsInside wants d false w h
+pub corner_upright : (wants : List Want) (k d : ℕ) (w h : ℕ) (size : Size) → HaveOwnDemands wants → IsInside wants d false w h
     → (x : Want) × Contains wants x × (x.demand ≡ d) × (x.size ≡ size) → 1 ≤ size.w → 1 ≤ size.h
     → Places wants k (Piece d false) w h (cut_off X size.w w k (cut_off Y size.h h k (Piece d false)))
 corner_upright wants k d w h size own in_ f one one' =
     let s = same_size wants in_.0 f.0 own in_.1 f.1 (in_.2 ∙ sym f.2) in
-    let e : in_.0.size.w ≡ size.w = s.0 ∙ ap (λ (z : Extent). z.w) f.3 in
-    let e' : in_.0.size.h ≡ size.h = s.1 ∙ ap (λ (z : Extent). z.h) f.3 in
+    let e : in_.0.size.w ≡ size.w = s.0 ∙ ap (λ (z : Size). z.w) f.3 in
+    let e' : in_.0.size.h ≡ size.h = s.1 ∙ ap (λ (z : Size). z.h) f.3 in
     corner wants k d false size.w size.h w h (in_.0, in_.1, in_.2, (e, e')) one one' (omega (arith, in_.3)) (omega (arith, in_.3))
 
-pub corner_turned : (wants : List Want) (k d : ℕ) (w h : ℕ) (size : Extent) → HaveOwnDemands wants → IsInside wants d true w h
+pub corner_turned : (wants : List Want) (k d : ℕ) (w h : ℕ) (size : Size) → HaveOwnDemands wants → IsInside wants d true w h
     → (x : Want) × Contains wants x × (x.demand ≡ d) × (x.size ≡ size) → 1 ≤ size.w → 1 ≤ size.h
     → Places wants k (Piece d true) w h (cut_off X size.h w k (cut_off Y size.w h k (Piece d true)))
 corner_turned wants k d w h size own in_ f one one' =
     let s = same_size wants in_.0 f.0 own in_.1 f.1 (in_.2 ∙ sym f.2) in
-    let e : in_.0.size.w ≡ size.w = s.0 ∙ ap (λ (z : Extent). z.w) f.3 in
-    let e' : in_.0.size.h ≡ size.h = s.1 ∙ ap (λ (z : Extent). z.h) f.3 in
+    let e : in_.0.size.w ≡ size.w = s.0 ∙ ap (λ (z : Size). z.w) f.3 in
+    let e' : in_.0.size.h ≡ size.h = s.1 ∙ ap (λ (z : Size). z.h) f.3 in
     corner wants k d true size.h size.w w h (in_.0, in_.1, in_.2, (in_.3.0, e', e)) one' one (omega (arith, in_.3)) (omega (arith, in_.3))
 
 pub places_x : (wants : List Want) (k s a w h : ℕ) (t u t' u' : Tree) → IsFull t → IsFull u → k < a * s → a * s < w

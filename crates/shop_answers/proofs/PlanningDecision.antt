@@ -5,7 +5,7 @@ use Rattle.std.specs.List.{AllByRecursion, cons_option}
 use Rattle.std.specs.Option.{option_or}
 use Rattle.std.proofs.lemmas.List.Elements.{recursion_from_All}
 use Rattle.cut_measure.specs.declared.sizes.Kind.{Kind}
-use Rattle.cut_measure.specs.Measures.{Extent, is_size, size_of}
+use Rattle.cut_measure.specs.Measures.{Size, is_size, size_of}
 use Rattle.cut_wants.specs.declared.wants.Want.{Want}
 use Rattle.shop_records.specs.declared.records.Material.{Material}
 use Rattle.shop_records.specs.declared.records.Part.{Part}
@@ -62,14 +62,14 @@ planned_answer found known part material at numbers step wants here there free a
 
 -- ---- bounds
 
-pub sized : (kind : Kind) (w h : ℕ) (size : Extent) → Some size ≡ size_of kind w h → (is_size kind w h ≡ true) × (size ≡ record { w = w; h = h })
+pub sized : (kind : Kind) (w h : ℕ) (size : Size) → Some size ≡ size_of kind w h → (is_size kind w h ≡ true) × (size ≡ record { w = w; h = h })
 sized kind w h size is = by (is_size kind w h) refl is
   where
-    by : (b : Bool) → is_size kind w h ≡ b → Some size ≡ (if b then Some (let e : Extent = record { w = w; h = h } in e) else None) → (is_size kind w h ≡ true) × (size ≡ record { w = w; h = h })
+    by : (b : Bool) → is_size kind w h ≡ b → Some size ≡ (if b then Some (let e : Size = record { w = w; h = h } in e) else None) → (is_size kind w h ≡ true) × (size ≡ record { w = w; h = h })
     by true e is = (e, cc)
     by false e is = cc
 
-module _ (known : Option Material) (code : List ℕ) (w h : ℕ) (size : Extent) (material : Material) (at : ℕ → Option Demand) (numbers : List ℕ) (step : ℕ)
+module _ (known : Option Material) (code : List ℕ) (w h : ℕ) (size : Size) (material : Material) (at : ℕ → Option Demand) (numbers : List ℕ) (step : ℕ)
     (there : known ≡ Some material) (is : Some size ≡ size_of material.kind w h) where
   first_refusal : bound_refusal (Some material) code (record { w = w; h = h }) at numbers ≡ numbers_refusal at code numbers
   first_refusal =
@@ -88,7 +88,7 @@ module _ (known : Option Material) (code : List ℕ) (w h : ℕ) (size : Extent)
       → (answer : Reply) → IsBounded material.kind size material.limits.kerf step wants answer → IsBoundAnswer known code (record { w = w; h = h }) at numbers step answer
   bounded_answer wants allowed same answer it =
       answer_by None answer allowed
-      (subst (λ (e : Extent). IsBounded material.kind e material.limits.kerf step (wants_of at numbers) answer) (sized material.kind w h size is).1
+      (subst (λ (e : Size). IsBounded material.kind e material.limits.kerf step (wants_of at numbers) answer) (sized material.kind w h size is).1
       (subst (λ ws. IsBounded material.kind size material.limits.kerf step ws answer) same it))
 
   pub refused_answer : (refusal : Refusal) → numbers_refusal at code numbers ≡ Some refusal → IsBoundAnswer known code (record { w = w; h = h }) at numbers step (Refused refusal)

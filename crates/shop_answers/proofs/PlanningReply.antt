@@ -10,7 +10,7 @@ use Rattle.std.proofs.lemmas.Option.{MatchOption-at_none}
 use Rattle.cut_measure.specs.declared.ranges.TheConstants.{MAX_NUMBERS}
 use Rattle.cut_measure.specs.declared.sizes.Kind.{Kind}
 use Rattle.cut_measure.specs.declared.sizes.Kind.TheVariants.{Bar, Sheet}
-use Rattle.cut_measure.specs.Measures.{Extent}
+use Rattle.cut_measure.specs.Measures.{Size}
 use Rattle.cut_measure.specs.Names.{Name}
 use Rattle.cut_tree.specs.declared.leaves.Leaf.{Leaf}
 use Rattle.cut_tree.specs.Tree.{Tree, count_of}
@@ -127,9 +127,9 @@ module _ (at : ℕ → Option Demand) (material : List ℕ) where
       by : (b : Bool) → HasSides x b leaf.w leaf.h
           → (if b then d.may_turn && leaf.w == d.size.h && leaf.h == d.size.w else leaf.w == d.size.w && leaf.h == d.size.h) ≡ true
       by true s =
-          both_true (both_true (sym turns ∙ s.0) (eq-eqb leaf.w d.size.h (sym s.1 ∙ ap (λ (e : Extent). e.h) size))) (eq-eqb leaf.h d.size.w (sym s.2 ∙ ap (λ (e : Extent). e.w) size))
+          both_true (both_true (sym turns ∙ s.0) (eq-eqb leaf.w d.size.h (sym s.1 ∙ ap (λ (e : Size). e.h) size))) (eq-eqb leaf.h d.size.w (sym s.2 ∙ ap (λ (e : Size). e.w) size))
       by false s =
-          both_true (eq-eqb leaf.w d.size.w (sym s.0 ∙ ap (λ (e : Extent). e.w) size)) (eq-eqb leaf.h d.size.h (sym s.1 ∙ ap (λ (e : Extent). e.h) size))
+          both_true (eq-eqb leaf.w d.size.w (sym s.0 ∙ ap (λ (e : Size). e.w) size)) (eq-eqb leaf.h d.size.h (sym s.1 ∙ ap (λ (e : Size). e.h) size))
 
   module _ (numbers : List ℕ) (allowed : demands_refusal at material numbers ≡ None) where
     abbrev Wanted : Leaf → Type 0
@@ -169,7 +169,7 @@ module _ (at : ℕ → Option Demand) (material : List ℕ) where
 -- ---- a reported plan
 
 -- the text is that of a legal plan of the wants within the counts
-record IsReported (size : Extent) (k : ℕ) (wants : List Want) (text : List ℕ) : Type 0 where
+record IsReported (size : Size) (k : ℕ) (wants : List Want) (text : List ℕ) : Type 0 where
   pub plan : Pattern
   pub is : IsPlan plan
   pub text_is : text ≡ text_of plan.tree
@@ -183,13 +183,13 @@ module _ (ceiling dropped : ℕ) (text : List ℕ) (worth : ℕ) where
   abbrev answer : Reply
   answer = reply.Plan ceiling dropped text worth
 
-  proposed : (kind : Kind) (size : Extent) (k s : ℕ) (wants : List Want) → IsProposed kind (planned_size kind size) k s wants answer → IsReported (planned_size kind size) k wants text
+  proposed : (kind : Kind) (size : Size) (k s : ℕ) (wants : List Want) → IsProposed kind (planned_size kind size) k s wants answer → IsReported (planned_size kind size) k wants text
   proposed Bar size k s wants p =
       record { plan = p.0.plan; is = p.1; text_is = cc; width = p.2.unit.0; height = p.2.unit.1; kerf = p.2.unit.2; legal = p.2.planned.legal; within = p.2.planned.within }
   proposed Sheet size k s wants p =
       record { plan = p.0.plan; is = p.1; text_is = cc; width = p.2.unit.0; height = p.2.unit.1; kerf = p.2.unit.2; legal = p.2.laid.legal; within = p.2.laid.within }
 
-  reported : (kind : Kind) (size : Extent) (k s : ℕ) (wants : List Want) → IsPlanned kind (planned_size kind size) k s wants answer → IsReported (planned_size kind size) k wants text
+  reported : (kind : Kind) (size : Size) (k s : ℕ) (wants : List Want) → IsPlanned kind (planned_size kind size) k s wants answer → IsReported (planned_size kind size) k wants text
   reported kind size k s wants it = by (plan_fault kind (planned_size kind size) k s wants) it
     where
       by : (o : Option PlanFault)
@@ -254,14 +254,14 @@ module _ (ceiling dropped : ℕ) (text : List ℕ) (worth : ℕ) where
         by : (kind : Kind) → rows.material.kind ≡ kind → planned_size kind rows.row.size ≡ rows.row.size
         by Bar e =
             let flat : rows.row.size.h ≡ 1 = (well_formed.parts part rows.row rows.here).flat rows.material known e in
-            ap (λ n. (let s : Extent = record { w = rows.row.size.w; h = n } in s)) (sym flat)
+            ap (λ n. (let s : Size = record { w = rows.row.size.w; h = n } in s)) (sym flat)
         by Sheet e = refl
 
     width : plan.w ≡ rows.row.size.w
-    width = rows.plan.width ∙ ap (λ (e : Extent). e.w) as_it_is
+    width = rows.plan.width ∙ ap (λ (e : Size). e.w) as_it_is
 
     height : plan.h ≡ rows.row.size.h
-    height = rows.plan.height ∙ ap (λ (e : Extent). e.h) as_it_is
+    height = rows.plan.height ∙ ap (λ (e : Size). e.h) as_it_is
 
     spelled : IsSpelling text plan.tree plan.w plan.h plan.kerf
     spelled = subst (λ t. IsSpelling t plan.tree plan.w plan.h plan.kerf) (sym rows.plan.text_is) (spells_itself plan rows.plan.is)

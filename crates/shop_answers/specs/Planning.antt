@@ -5,7 +5,7 @@ use Rattle.std.specs.Option.{option_or}
 use Rattle.cut_measure.specs.declared.ranges.TheConstants.{MAX_NUMBERS}
 use Rattle.cut_measure.specs.declared.sizes.Kind.{Kind}
 use Rattle.cut_measure.specs.declared.sizes.Kind.TheVariants.{Bar, Sheet}
-use Rattle.cut_measure.specs.Measures.{Extent, is_size}
+use Rattle.cut_measure.specs.Measures.{Size, is_size}
 use Rattle.cut_tree.specs.Patterns.{IsPlan}
 use Rattle.cut_tree.specs.Spelling.{text_of}
 use Rattle.cut_wants.specs.declared.wants.Want.{Want}
@@ -96,26 +96,26 @@ planner_refusal fault.NothingFits = NothingFits
 planner_refusal fault.NoMemory = NoMemory
 
 -- a plan that may be proposed, by its tree's text; of a bar nothing is dropped, and no plan is worth more
-abbrev pub IsProposed : Kind → Extent → (kerf step : ℕ) → List Want → Reply → Type 0
+abbrev pub IsProposed : Kind → Size → (kerf step : ℕ) → List Want → Reply → Type 0
 IsProposed Bar size k s wants answer =
     (p : Proposal) × IsPlan p.plan × IsBarProposal size k wants p × (answer ≡ reply.Plan p.worth 0 (text_of p.plan.tree) p.worth)
 IsProposed Sheet size k s wants answer =
     (p : SheetProposal) × IsPlan p.plan × IsSheetProposal size k s wants p × (answer ≡ reply.Plan p.ceiling p.dropped (text_of p.plan.tree) p.worth)
 
 -- a plan that would be proposed takes over 255 cuts
-abbrev pub HasManyCuts : Kind → Extent → (kerf step : ℕ) → List Want → Type 0
+abbrev pub HasManyCuts : Kind → Size → (kerf step : ℕ) → List Want → Type 0
 HasManyCuts Bar size k s wants = HasManyPieces size k wants
 HasManyCuts Sheet size k s wants = HasManyKept size k s wants
 
 -- what a planner of units of a kind may answer: its first fault, or else a plan, or that the plan takes too many cuts
-abbrev pub IsPlanned : Kind → Extent → (kerf step : ℕ) → List Want → Reply → Type 0
+abbrev pub IsPlanned : Kind → Size → (kerf step : ℕ) → List Want → Reply → Type 0
 IsPlanned kind size k s wants answer =
     MatchOption (plan_fault kind size k s wants)
     (IsProposed kind size k s wants answer ⊎ ((answer ≡ reply.Refused TableTooLarge) × HasManyCuts kind size k s wants))
     (λ why. answer ≡ reply.Refused (planner_refusal why))
 
 -- the same of a bound, which is never refused for a plan of many cuts
-abbrev pub IsBounded : Kind → Extent → (kerf step : ℕ) → List Want → Reply → Type 0
+abbrev pub IsBounded : Kind → Size → (kerf step : ℕ) → List Want → Reply → Type 0
 IsBounded kind size k s wants answer =
     MatchOption (plan_fault kind size k s wants)
     ((b : Bound) × IsBound kind size k s wants b × (answer ≡ reply.Bound b.best b.units))
@@ -124,7 +124,7 @@ IsBounded kind size k s wants answer =
 -- ---- queries
 
 -- a bar is planned by its length
-abbrev pub planned_size : Kind → Extent → Extent
+abbrev pub planned_size : Kind → Size → Size
 planned_size Bar size = record { w = size.w; h = 1 }
 planned_size Sheet size = size
 
@@ -144,13 +144,13 @@ IsPlanAnswer part material at numbers step answer =
     (λ refusal. answer ≡ reply.Refused refusal)
 
 -- why there is no bound for a unit of this material and these sides, before the planner is asked
-abbrev pub bound_refusal : Option Material → List ℕ → Extent → (ℕ → Option Demand) → List ℕ → Option Refusal
+abbrev pub bound_refusal : Option Material → List ℕ → Size → (ℕ → Option Demand) → List ℕ → Option Refusal
 bound_refusal None code size at numbers = Some NoMaterial
 bound_refusal (Some material) code size at numbers =
     option_or (first_of ((not (is_size material.kind size.w size.h), BadSize) ∷ [])) (numbers_refusal at code numbers)
 
 -- what may be answered to a query for a bound
-abbrev pub IsBoundAnswer : Option Material → List ℕ → Extent → (ℕ → Option Demand) → List ℕ → (step : ℕ) → Reply → Type 0
+abbrev pub IsBoundAnswer : Option Material → List ℕ → Size → (ℕ → Option Demand) → List ℕ → (step : ℕ) → Reply → Type 0
 IsBoundAnswer material code size at numbers step answer =
     MatchOption (bound_refusal material code size at numbers)
     (MatchOption material ⊥ (λ m. IsBounded m.kind size m.limits.kerf step (wants_of at numbers) answer))

@@ -11,7 +11,7 @@ use Rattle.cut_tree.specs.Tree.{Tree, count_of}
 use Rattle.cut_wants.specs.declared.wants.Want.{Want}
 use Rattle.cut_bound.specs.declared.planned.PlannedUnit.{PlannedUnit}
 use Rattle.cut_bound.specs.declared.stock.StockSize.{StockSize}
-use Rattle.cut_bound.specs.Cuttings.{CutUnit}
+use Rattle.cut_bound.specs.Solutions.{CutUnit}
 use Rattle.cut_bound.specs.Planned.{IsPlanFor, IsPlannedUnit, one_of}
 use Rattle.cut_bound.proofs.PlannedUnits.{planned_all}
 use Rattle.shop_records.specs.declared.records.Demand.{Demand}

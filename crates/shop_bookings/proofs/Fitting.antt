@@ -5,7 +5,7 @@ use Rattle.std.specs.List.{AllByRecursion}
 use Rattle.std.specs.Option.{option_or}
 use Rattle.std.specs.Cmp.Derive.{both_true}
 use Rattle.std.proofs.lemmas.List.Elements.{All-contains, All-weaker, recursion_from_All}
-use Rattle.cut_measure.specs.Measures.{Extent}
+use Rattle.cut_measure.specs.Measures.{Size}
 use Rattle.cut_measure.specs.declared.ranges.TheConstants.{MAX_NUMBERS}
 use Rattle.cut_measure.specs.declared.sizes.Kind.{Kind}
 use Rattle.cut_measure.specs.declared.sizes.Kind.TheVariants.{Bar, Sheet}
@@ -44,7 +44,7 @@ fits_by x true w h has =
 fits_by x false w h has = both_true (eq-eqb w x.size.w (sym has.0)) (eq-eqb h x.size.h (sym has.1))
 
 -- the sides by which a part is planned are its own
-flat_size : (kind : Kind) (size : Extent) → (kind ≡ Bar → size.h ≡ 1) → ((planned_size kind size).w ≡ size.w) × ((planned_size kind size).h ≡ size.h)
+flat_size : (kind : Kind) (size : Size) → (kind ≡ Bar → size.h ≡ 1) → ((planned_size kind size).w ≡ size.w) × ((planned_size kind size).h ≡ size.h)
 flat_size Bar size flat = (refl, sym (flat refl))
 flat_size Sheet size flat = (refl, refl)
 
@@ -61,7 +61,7 @@ module _ (texts : Texts) (m : Content) (well_formed : IsWellFormed texts m) (cod
       let so_far = d.so_far in
       (d.least, omega (arith, last, so_far))) wants are
 
-  module _ (part : StockPart) (is : IsPartOf m code material.kind part) (size : Extent) (wide : part.size.w ≡ size.w) (high : part.size.h ≡ size.h)
+  module _ (part : StockPart) (is : IsPartOf m code material.kind part) (size : Size) (wide : part.size.w ≡ size.w) (high : part.size.h ≡ size.h)
       (plan : Pattern) (suits : IsPlanFor wants material.limits.kerf size plan) where
     here : is.row.material ≡ code
     here = same_codes is.row.material code is.of
@@ -71,12 +71,12 @@ module _ (texts : Texts) (m : Content) (well_formed : IsWellFormed texts m) (cod
 
     pub as_wide : plan.w ≡ is.row.size.w
     as_wide =
-        suits.wide ∙ sym wide ∙ ap (λ (s : Extent). s.w) is.size
+        suits.wide ∙ sym wide ∙ ap (λ (s : Size). s.w) is.size
         ∙ (flat_size material.kind is.row.size (λ bar. (well_formed.parts part.name is.row is.found).flat material its bar)).0
 
     pub as_high : plan.h ≡ is.row.size.h
     as_high =
-        suits.high ∙ sym high ∙ ap (λ (s : Extent). s.h) is.size
+        suits.high ∙ sym high ∙ ap (λ (s : Size). s.h) is.size
         ∙ (flat_size material.kind is.row.size (λ bar. (well_formed.parts part.name is.row is.found).flat material its bar)).1
 
     legal : Legal wants plan.kerf plan.tree plan.w plan.h
@@ -133,7 +133,7 @@ module _ (texts : Texts) (m : Content) (well_formed : IsWellFormed texts m) (cod
         let found : demand_at m leaf.demand ≡ Some want.demand = ap (demand_at m) (sym piece.2) ∙ want.found in
         let of : same_code want.demand.material is.row.material ≡ true = subst (λ c. same_code want.demand.material c ≡ true) (sym here) want.of in
         let fits : fits_demand leaf want.demand ≡ true =
-        subst (λ (s : Extent). (if leaf.turned then want.demand.may_turn && leaf.w == s.h && leaf.h == s.w else leaf.w == s.w && leaf.h == s.h) ≡ true) want.size
+        subst (λ (s : Size). (if leaf.turned then want.demand.may_turn && leaf.w == s.h && leaf.h == s.w else leaf.w == s.w && leaf.h == s.h) ≡ true) want.size
         (subst (λ b. (if leaf.turned then b && leaf.w == x.size.h && leaf.h == x.size.w else leaf.w == x.size.w && leaf.h == x.size.h) ≡ true) want.turns
         (fits_by x leaf.turned leaf.w leaf.h piece.3)) in
         ap (leaf_refusal is.row.material leaf) found

@@ -18,8 +18,8 @@ use Rattle.cut_wants.specs.declared.wants.Want.{Want}
 use Rattle.cut_wants.specs.Legal.{IsWantedPiece, Legal}
 use Rattle.cut_bound.specs.declared.planned.PlannedUnit.{PlannedUnit}
 use Rattle.cut_bound.specs.declared.stock.StockSize.{StockSize}
-use Rattle.cut_bound.specs.Cuttings.{CutUnit, IsCutUnit, pieces_of}
-use Rattle.cut_bound.specs.Planned.{IsPlannedUnit, MakesNoMore, cutting_of, one_of}
+use Rattle.cut_bound.specs.Solutions.{CutUnit, IsCutUnit, pieces_of}
+use Rattle.cut_bound.specs.Planned.{IsPlannedUnit, MakesNoMore, solution_of, one_of}
 use Rattle.cut_bound.proofs.PlannedUnits.{are_cut, planned_sum}
 use Rattle.shop_records.specs.declared.records.Demand.{Demand}
 use Rattle.shop_records.specs.Content.{Content, demand_at}
@@ -152,10 +152,10 @@ any_true {X} p (x ∷ xs) e = by (λ f. any_true p xs f) (p x) refl e
 
 module _ (wants : List Want) (kerf : ℕ) (sizes : List StockSize) (units : List PlannedUnit) (planned : All (IsPlannedUnit wants kerf sizes) units) where
   -- a demand that isn't wanted has no piece
-  no_pieces : (number : ℕ) → list_any (λ (x : Want). x.demand == number) wants ≡ false → pieces_of (cutting_of units) number ≡ 0
+  no_pieces : (number : ℕ) → list_any (λ (x : Want). x.demand == number) wants ≡ false → pieces_of (solution_of units) number ≡ 0
   no_pieces number none =
-      sum_none (λ (c : CutUnit). count_of c.tree number) (cutting_of units)
-      (λ c i. let cut = all_in (IsCutUnit wants kerf sizes) (cutting_of units) (are_cut wants kerf sizes units planned) c i in
+      sum_none (λ (c : CutUnit). count_of c.tree number) (solution_of units)
+      (λ c i. let cut = all_in (IsCutUnit wants kerf sizes) (solution_of units) (are_cut wants kerf sizes units planned) c i in
       by c.tree cut.stock.size.w cut.stock.size.h cut.legal (count_of c.tree number) refl)
     where
       by : (t : Tree) (w h : ℕ) → Legal wants kerf t w h → (n : ℕ) → count_of t number ≡ n → n ≡ 0
@@ -169,17 +169,17 @@ module _ (wants : List Want) (kerf : ℕ) (sizes : List StockSize) (units : List
           let no : true ≡ false = sym is ∙ not in
           cc
 
-  pub few_pieces : (m : Content) (code : List ℕ) → All (IsWantOf m code) wants → MakesNoMore wants (cutting_of units) → (number : ℕ) (d : Demand) → demand_at m number ≡ Some d
-      → pieces_of (cutting_of units) number ≤ left_of d
+  pub few_pieces : (m : Content) (code : List ℕ) → All (IsWantOf m code) wants → MakesNoMore wants (solution_of units) → (number : ℕ) (d : Demand) → demand_at m number ≡ Some d
+      → pieces_of (solution_of units) number ≤ left_of d
   few_pieces m code are no_more number d found = by (list_any (λ (x : Want). x.demand == number) wants) refl
     where
-      by : (b : Bool) → list_any (λ (x : Want). x.demand == number) wants ≡ b → pieces_of (cutting_of units) number ≤ left_of d
+      by : (b : Bool) → list_any (λ (x : Want). x.demand == number) wants ≡ b → pieces_of (solution_of units) number ≤ left_of d
       by false e = let none = no_pieces number e in omega (arith, none)
       by true e =
           let x = any_true (λ (x : Want). x.demand == number) wants e in
           let want = all_in (IsWantOf m code) wants are x.0 x.1 in
-          let few = all_in (λ (x : Want). pieces_of (cutting_of units) x.demand ≤ x.left) wants no_more x.0 x.1 in
+          let few = all_in (λ (x : Want). pieces_of (solution_of units) x.demand ≤ x.left) wants no_more x.0 x.1 in
           let is : x.0.demand ≡ number = eqb-true x.0.demand number x.2 in
           let same : want.demand ≡ d = same_some want.demand d (sym want.found ∙ ap (demand_at m) is ∙ found) in
           let left : x.0.left ≡ left_of d = want.left ∙ ap left_of same in
-          subst (λ n. pieces_of (cutting_of units) n ≤ left_of d) is (subst (λ n. pieces_of (cutting_of units) x.0.demand ≤ n) left few)
+          subst (λ n. pieces_of (solution_of units) n ≤ left_of d) is (subst (λ n. pieces_of (solution_of units) x.0.demand ≤ n) left few)

@@ -8,8 +8,8 @@ use Rattle.cut_measure.specs.Names.{Name}
 use Rattle.cut_tree.specs.Spelling.{text_of}
 use Rattle.cut_bound.specs.declared.planned.PlannedUnit.{PlannedUnit}
 use Rattle.cut_bound.specs.declared.stock.StockSize.{StockSize}
-use Rattle.cut_bound.specs.Cuttings.{CutUnit, units_at}
-use Rattle.cut_bound.specs.Planned.{cutting_of, one_of}
+use Rattle.cut_bound.specs.Solutions.{CutUnit, units_at}
+use Rattle.cut_bound.specs.Planned.{solution_of, one_of}
 use Rattle.cut_bound.proofs.PlannedUnits.{planned_sum}
 use Rattle.shop_records.specs.Elements.{IsIn}
 use Rattle.shop_records.proofs.Basics.{all_in, in_append, in_first, in_later, in_map, map_in}
@@ -38,7 +38,7 @@ cut_parts (Some s) ranked before u = limited s.limit (taken ranked before u s)
 abbrev pub slots_from : List StockSize → List StockPart → (before units : List PlannedUnit) → List Slot
 slots_from sizes ranked before [] = []
 slots_from sizes ranked before (u ∷ us) =
-    map (slot_of u) (cut_parts (slice_get sizes u.place) ranked (units_at (cutting_of before) u.place) u) ++ slots_from sizes ranked (before ++ u ∷ []) us
+    map (slot_of u) (cut_parts (slice_get sizes u.place) ranked (units_at (solution_of before) u.place) u) ++ slots_from sizes ranked (before ++ u ∷ []) us
 
 -- a unit of these, and a part of its size
 pub record IsSlot (sizes : List StockSize) (ranked : List StockPart) (units : List PlannedUnit) (slot : Slot) : Type 0 where
@@ -73,14 +73,14 @@ module _ (sizes : List StockSize) (ranked : List StockPart) where
   slots_are before [] slot i = absurd i
   slots_are before (u ∷ us) slot i =
       by (λ j. slots_are (before ++ u ∷ []) us slot j)
-      (in_append slot (map (slot_of u) (cut_parts (slice_get sizes u.place) ranked (units_at (cutting_of before) u.place) u)) (slots_from sizes ranked (before ++ u ∷ []) us) i)
+      (in_append slot (map (slot_of u) (cut_parts (slice_get sizes u.place) ranked (units_at (solution_of before) u.place) u)) (slots_from sizes ranked (before ++ u ∷ []) us) i)
     where
       by : (IsIn slot (slots_from sizes ranked (before ++ u ∷ []) us) → IsSlot sizes ranked us slot)
-          → IsIn slot (map (slot_of u) (cut_parts (slice_get sizes u.place) ranked (units_at (cutting_of before) u.place) u)) ⊎ IsIn slot (slots_from sizes ranked (before ++ u ∷ []) us)
+          → IsIn slot (map (slot_of u) (cut_parts (slice_get sizes u.place) ranked (units_at (solution_of before) u.place) u)) ⊎ IsIn slot (slots_from sizes ranked (before ++ u ∷ []) us)
           → IsSlot sizes ranked (u ∷ us) slot
       by more (inl j) =
-          let p = in_map (slot_of u) (cut_parts (slice_get sizes u.place) ranked (units_at (cutting_of before) u.place) u) slot j in
-          subst (IsSlot sizes ranked (u ∷ us)) (sym p.2) (cut_slot (units_at (cutting_of before) u.place) u us (slice_get sizes u.place) p.0 refl p.1)
+          let p = in_map (slot_of u) (cut_parts (slice_get sizes u.place) ranked (units_at (solution_of before) u.place) u) slot j in
+          subst (IsSlot sizes ranked (u ∷ us)) (sym p.2) (cut_slot (units_at (solution_of before) u.place) u us (slice_get sizes u.place) p.0 refl p.1)
       by more (inr j) =
           let r = more j in
           record { unit = inr r.unit; stock = r.stock; there = r.there; part = r.part; of = r.of }
@@ -102,7 +102,7 @@ module _ (sizes : List StockSize) (ranked : List StockPart) where
   reported_slot before (u ∷ us) e name i j = by (λ k. reported_slot (before ++ u ∷ []) us e name k j) (slice_get sizes u.place) i
     where
       n : ℕ
-      n = units_at (cutting_of before) u.place
+      n = units_at (solution_of before) u.place
 
       Later : Type 0
       Later = IsIn e (entries_from sizes ranked (before ++ u ∷ []) us) → HasSlot (slots_from sizes ranked (before ++ u ∷ []) us) e name
@@ -153,9 +153,9 @@ module _ (sizes : List StockSize) (ranked : List StockPart) where
   pub slots_sum : (f : CutUnit → ℕ) (before us : List PlannedUnit) → sum_by (λ (slot : Slot). f (one_of slot.unit)) (slots_from sizes ranked before us) ≤ planned_sum f us
   slots_sum f before [] = omega arith
   slots_sum f before (u ∷ us) =
-      let ps = cut_parts (slice_get sizes u.place) ranked (units_at (cutting_of before) u.place) u in
+      let ps = cut_parts (slice_get sizes u.place) ranked (units_at (solution_of before) u.place) u in
       let both = sum_by-append (λ (slot : Slot). f (one_of slot.unit)) (map (slot_of u) ps) (slots_from sizes ranked (before ++ u ∷ []) us) in
-      let here = few_sum f u ps u.times (few_taken (units_at (cutting_of before) u.place) u (slice_get sizes u.place)) in
+      let here = few_sum f u ps u.times (few_taken (units_at (solution_of before) u.place) u (slice_get sizes u.place)) in
       let more = slots_sum f (before ++ u ∷ []) us in
       let all = sum_by-cons (λ (v : PlannedUnit). v.times * f (one_of v)) u us in
       omega (arith, both, here, more, all)

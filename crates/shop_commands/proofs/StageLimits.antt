@@ -2,7 +2,7 @@
 use Rattle.std.proofs.Common.{ℕ, Option, Some, None, refl}
 use Rattle.std.specs.Prelude.{nat_le}
 use Rattle.std.proofs.lemmas.Bool.{le-leb}
-use Rattle.cut_order.specs.declared.question.TheConstants as orders
+use Rattle.cut_order.specs.declared.instance.TheConstants as orders
 use Rattle.cut_order.specs.Stocks.{IsStageLimit}
 use Rattle.shop_words.specs.CommandLine.{HasStages}
 

@@ -5,7 +5,7 @@ use Rattle.cut_tree.specs.declared.token.TheConstants.{MAX_CUTS}
 use Rattle.cut_bars.specs.declared.bar.TheConstants.{MAX_BAR_LENGTH}
 use Rattle.cut_sheets.specs.declared.sheet.TheConstants.{MAX_STEPS}
 use Rattle.cut_plan.specs.declared.faults.TheConstants.{MAX_WANTS}
-use Rattle.cut_order.specs.declared.question.TheConstants as orders
+use Rattle.cut_order.specs.declared.instance.TheConstants as orders
 use Rattle.shop_files.specs.declared.limits.TheConstants.{MAX_TEXT_LEN, MAX_PIECES, MAX_LINES, MAX_ENTRIES}
 use Rattle.shop_answers.specs.declared.listing.TheConstants.{MAX_LISTED, MAX_LISTED_BYTES}
 use Rattle.shop_records.specs.declared.notes.TheConstants.{MAX_NOTE_LEN}

@@ -1,7 +1,7 @@
 -- Plans of problem files, and of the lines of order files.
 use Rattle.std.specs.Prelude.{◌≡◌, ℕ, List, ◌++◌, ◌⊎◌, codes, map, None, Option, Some}
 use Rattle.std.specs.Fmt.{decimal}
-use Rattle.cut_measure.specs.Measures.{Extent}
+use Rattle.cut_measure.specs.Measures.{Size}
 use Rattle.cut_measure.specs.declared.sizes.Kind.TheVariants.{Sheet}
 use Rattle.cut_tree.specs.Spelling.{text_of}
 use Rattle.cut_plan.specs.declared.faults.PlanFault.{PlanFault}
@@ -35,44 +35,44 @@ plan_lines p =
     ++ codes "\ntree " ++ text_of p.plan.tree ++ codes "\n"
 
 -- The planner finds no fault in a problem, and these are the lines of a plan that it may propose.
-pub record IsPlanText (size : Extent) (pieces : List Piece) (kerf step : ℕ) (lines : List ℕ) : Type 0 where
+pub record IsPlanText (size : Size) (pieces : List Piece) (kerf step : ℕ) (lines : List ℕ) : Type 0 where
   pub faultless : plan_fault Sheet size kerf step (wants_of pieces) ≡ None
   pub proposal : SheetProposal
   pub proposed : IsSheetProposal size kerf step (wants_of pieces) proposal
   pub says : lines ≡ plan_lines proposal
 
 -- the planner has this fault for a problem
-abbrev pub HasPlanFault : Extent → List Piece → (kerf step : ℕ) → PlanFault → Type 0
+abbrev pub HasPlanFault : Size → List Piece → (kerf step : ℕ) → PlanFault → Type 0
 HasPlanFault size pieces kerf step fault =
     (plan_fault Sheet size kerf step (wants_of pieces) ≡ Some fault) ⊎ ((fault ≡ TableTooLarge) × HasManyKept size kerf step (wants_of pieces))
 
 -- memory ran out, or the planner has a fault, and it is reported by its number and name
-abbrev pub IsPlanless : Extent → List Piece → (kerf step : ℕ) → Fault → Type 0
+abbrev pub IsPlanless : Size → List Piece → (kerf step : ℕ) → Fault → Type 0
 IsPlanless size pieces kerf step fault =
     (fault ≡ NoMemory) ⊎ ((cause : PlanFault) × (fault ≡ planner_fault cause) × HasPlanFault size pieces kerf step cause)
 
 -- a file's bytes spell a problem, and these are the lines of its plan
 abbrev pub IsFilePlan : List ℕ → (kerf step : ℕ) → List ℕ → Type 0
-IsFilePlan bytes kerf step lines = (size : Extent) × (pieces : List Piece) × IsProblem bytes size pieces × IsPlanText size pieces kerf step lines
+IsFilePlan bytes kerf step lines = (size : Size) × (pieces : List Piece) × IsProblem bytes size pieces × IsPlanText size pieces kerf step lines
 
 -- memory ran out, the bytes have a fault, or they spell a problem that has no plan
 abbrev pub IsFileFault : List ℕ → (kerf step : ℕ) → Fault → Type 0
 IsFileFault bytes kerf step (Text fault) = IsProblemFault bytes fault.offset fault.cause
-IsFileFault bytes kerf step fault = (fault ≡ NoMemory) ⊎ ((size : Extent) × (pieces : List Piece) × IsProblem bytes size pieces × IsPlanless size pieces kerf step fault)
+IsFileFault bytes kerf step fault = (fault ≡ NoMemory) ⊎ ((size : Size) × (pieces : List Piece) × IsProblem bytes size pieces × IsPlanless size pieces kerf step fault)
 
 -- a file's bytes spell a problem, and these are the lines of the plans of all its pieces
 abbrev pub IsFileWhole : List ℕ → (kerf : ℕ) → (step stages : Option ℕ) → List ℕ → Type 0
-IsFileWhole bytes kerf step stages lines = (size : Extent) × (pieces : List Piece) × IsProblem bytes size pieces × IsWholeText size pieces kerf step stages lines
+IsFileWhole bytes kerf step stages lines = (size : Size) × (pieces : List Piece) × IsProblem bytes size pieces × IsWholeText size pieces kerf step stages lines
 
 -- all pieces can't be planned, and that is reported by its number and name
-abbrev pub IsWholeless : Extent → List Piece → (kerf : ℕ) → (step : Option ℕ) → Fault → Type 0
+abbrev pub IsWholeless : Size → List Piece → (kerf : ℕ) → (step : Option ℕ) → Fault → Type 0
 IsWholeless size pieces kerf step fault = (cause : PlanFault) × (fault ≡ planner_fault cause) × IsWholeFault size pieces kerf step cause
 
 -- memory ran out, the bytes have a fault, or they spell a problem whose pieces can't be planned
 abbrev pub IsFileWholeFault : List ℕ → (kerf : ℕ) → (step : Option ℕ) → Fault → Type 0
 IsFileWholeFault bytes kerf step (Text fault) = IsProblemFault bytes fault.offset fault.cause
 IsFileWholeFault bytes kerf step fault =
-    (fault ≡ NoMemory) ⊎ ((size : Extent) × (pieces : List Piece) × IsProblem bytes size pieces × IsWholeless size pieces kerf step fault)
+    (fault ≡ NoMemory) ⊎ ((size : Size) × (pieces : List Piece) × IsProblem bytes size pieces × IsWholeless size pieces kerf step fault)
 
 -- ---- order files
 

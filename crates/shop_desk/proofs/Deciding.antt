@@ -20,7 +20,7 @@ use Rattle.shop_records.specs.declared.refusals.Refusal.TheVariants.{NoMemory, S
 use Rattle.shop_records.specs.Messages.{Texts}
 use Rattle.shop_records.specs.Readings.{Reading, unread, Lines, Problem, Again, plan_in, reading_of}
 use Rattle.shop_records.specs.Content.{Content, material_at, part_at, job_at, has_order, import_at, demand_at, material_of, part_of_job, totals_of, totals_for, begun_at, demands_of}
-use Rattle.cut_measure.specs.Measures.{Extent}
+use Rattle.cut_measure.specs.Measures.{Size}
 use Rattle.shop_files.specs.declared.problems.Piece.{Piece}
 use Rattle.shop_records.specs.declared.imports.Form.{Form}
 use Rattle.shop_records.specs.declared.imports.Form.TheVariants.{Csv, Cgcut}
@@ -237,7 +237,7 @@ module _ (texts : Texts) (m : Content) (order text : List ℕ) where
           (λ change is. is ∙ ap (λ t. lines_change order t found first) is_body ∙ ap (λ ls. lines_change order text ls first) is_lines ∙ ap (lines_change order text lines) is_first)
 
       -- a problem file
-      pub problem_decided : (material : List ℕ) (size : Extent) (pieces : List Piece) (known : Option Material) (totals : Totals) (act : ℕ) → known ≡ material_at m material
+      pub problem_decided : (material : List ℕ) (size : Size) (pieces : List Piece) (known : Option Material) (totals : Totals) (act : ℕ) → known ≡ material_at m material
           → totals ≡ totals_of m material → act ≡ m.last_act + 1 → found ≡ problem_lines material pieces → Read (Cgcut material) (Problem size pieces) → (before after : ℕ) (result : Result Change Refusal)
           → Decides (problem_refusal used (material_at m) known totals act first size found) (λ change. change ≡ problem_change order material body size found totals act first) result
           → IsJudged texts m (Import order (Cgcut material) text) before result after

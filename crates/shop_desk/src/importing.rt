@@ -1,7 +1,7 @@
 //! Imports of order files and problem files: their texts are read, and decided from a book's rows.
 
 ghost use Rattle.std.specs.Prelude.{◌≡◌, ◌≤◌, ℕ, List, Option, Some, IfOk, IfSome, IsTrue, MatchOption};
-ghost use Rattle.cut_measure.specs.Measures.{Extent};
+ghost use Rattle.cut_measure.specs.Measures.{Size};
 ghost use Rattle.shop_files.specs.declared.orders.OrderLine.{OrderLine as OrderLineOf};
 ghost use Rattle.shop_files.specs.declared.problems.Piece.{Piece as PieceOf};
 ghost use Rattle.shop_files.specs.Orders.{IsOrders};
@@ -48,7 +48,7 @@ fn file_lines(alloc: Global, text: &Text) -> Result<Option<LineList>, AllocError
 fn file_problem(alloc: Global, text: &Text) -> Result<Option<Problem>, AllocError>
     ensures spelled { IfOk result
         (λ read. MatchOption read
-        ((size : Extent) (pieces : List PieceOf) → IsProblem text.now size pieces → ⊥)
+        ((size : Size) (pieces : List PieceOf) → IsProblem text.now size pieces → ⊥)
         (λ p. IsProblem text.now p.size p.pieces)) }
     ensures in_range { IfOk result (λ read. IfSome read (λ p. ArePieces p.pieces)) }
 {

@@ -6,7 +6,7 @@ use Rattle.std.proofs.lemmas.Bool.{and_parts, leb-true, false≢true}
 use Rattle.std.proofs.lemmas.List.{length-map, map-append}
 use Rattle.std.proofs.lemmas.Option.{none-some}
 use Rattle.std.specs.Option.{unwrap_or}
-use Rattle.cut_measure.specs.Measures.{Extent, size_of}
+use Rattle.cut_measure.specs.Measures.{Size, size_of}
 use Rattle.cut_measure.specs.declared.sizes.Kind.TheVariants.{Sheet}
 use Rattle.std.proofs.lemmas.List.Folds.{list_all_at}
 use Rattle.shop_files.specs.declared.problems.Problem.{Problem}
@@ -107,10 +107,10 @@ pub sized : (w h : ℕ) → (1 ≤ w) × (w ≤ 200000) → (1 ≤ h) × (h ≤ 
 sized w h a b = rw (le-leb 1 w a.0, le-leb w 200000 a.1, le-leb 1 h b.0, le-leb h 60000 b.1) refl
 
 -- a size that was made is of these sides
-pub sized_is : (w h : ℕ) (r : Option Extent) (size : Extent) → r ≡ Some size → r ≡ size_of Sheet w h → (1 ≤ w) × (w ≤ 200000) → (1 ≤ h) × (h ≤ 60000) → size ≡ record { w = w; h = h }
+pub sized_is : (w h : ℕ) (r : Option Size) (size : Size) → r ≡ Some size → r ≡ size_of Sheet w h → (1 ≤ w) × (w ≤ 200000) → (1 ≤ h) × (h ≤ 60000) → size ≡ record { w = w; h = h }
 sized_is w h r size some is a b = ap (λ o. unwrap_or o size) (sym some ∙ is ∙ sized w h a b)
 
-pub not_sized : (w h : ℕ) (r : Option Extent) → r ≡ None → r ≡ size_of Sheet w h → (1 ≤ w) × (w ≤ 200000) → (1 ≤ h) × (h ≤ 60000) → ⊥
+pub not_sized : (w h : ℕ) (r : Option Size) → r ≡ None → r ≡ size_of Sheet w h → (1 ≤ w) × (w ≤ 200000) → (1 ≤ h) × (h ≤ 60000) → ⊥
 not_sized w h r none is a b = none-some (record { w = w; h = h }) (sym none ∙ is ∙ sized w h a b)
 
 pub all_good : (p : ℕ → Bool) (text : List ℕ) → ((i : ℕ) → i < length text → p (get_or text i 0) ≡ true) → list_all p text ≡ true
@@ -140,10 +140,10 @@ same_pieces (p ∷ ps) (q ∷ qs) e =
     let rest = same_pieces ps qs (tail_of (tail_of (tail_of (tail_of e)))) in
     λ i. one i ∷ rest i
 
-same_size : (s t : Extent) → s.w ≡ t.w → s.h ≡ t.h → s ≡ t
+same_size : (s t : Size) → s.w ≡ t.w → s.h ≡ t.h → s ≡ t
 same_size s t a b = λ i. record { w = a i; h = b i }
 
-pub one_problem : (text : List ℕ) (s t : Extent) (ps qs : List Piece) → IsProblem text s ps → IsProblem text t qs → (s ≡ t) × (ps ≡ qs)
+pub one_problem : (text : List ℕ) (s t : Size) (ps qs : List Piece) → IsProblem text s ps → IsProblem text t qs → (s ≡ t) × (ps ≡ qs)
 one_problem text s t ps qs a b =
     let e = sym a.numbers ∙ b.numbers in
     (same_size s t (head_of (tail_of e)) (head_of (tail_of (tail_of e))), same_pieces ps qs (tail_of (tail_of (tail_of e))))
@@ -158,17 +158,17 @@ flat_length : (ps : List Piece) → length (flat_map piece_numbers ps) ≡ 4 * l
 flat_length [] = refl
 flat_length (p ∷ ps) = omega (arith, flat_length ps)
 
-whole_length : (runs : List DigitRun) (s : Extent) (ps : List Piece) → map value_of runs ≡ numbers_of s ps → length runs ≡ 3 + 4 * length ps
+whole_length : (runs : List DigitRun) (s : Size) (ps : List Piece) → map value_of runs ≡ numbers_of s ps → length runs ≡ 3 + 4 * length ps
 whole_length runs s ps e = omega (arith, length-map runs value_of, ap length e, flat_length ps)
 
-whole_wanted : (runs : List DigitRun) (s : Extent) (ps : List Piece) → map value_of runs ≡ numbers_of s ps → AllFit 0 runs → wanted runs ≡ 3 + 4 * length ps
+whole_wanted : (runs : List DigitRun) (s : Size) (ps : List Piece) → map value_of runs ≡ numbers_of s ps → AllFit 0 runs → wanted runs ≡ 3 + 4 * length ps
 whole_wanted [] s ps e fit = absurd (no_cons (sym e))
 whole_wanted (run ∷ more) s ps e fit = wanted_is (run ∷ more) run more refl fit.0 ∙ ap (λ n. 3 + 4 * n) (head_of e)
 
 true_not_false : {b : Bool} → b ≡ true → b ≡ false → ⊥
 true_not_false p q = false≢true (sym q ∙ p)
 
-pub spelled_not_faulty : (text : List ℕ) (s : Extent) (ps : List Piece) → IsProblem text s ps → (offset : ℕ) (cause : TextCause) → IsProblemFault text offset cause → cause ≡ NoMemory
+pub spelled_not_faulty : (text : List ℕ) (s : Size) (ps : List Piece) → IsProblem text s ps → (offset : ℕ) (cause : TextCause) → IsProblemFault text offset cause → cause ≡ NoMemory
 spelled_not_faulty text s ps is offset Long h =
     elim h [
       | inl l ↦ absurd (omega (arith, l.0, is.short))
@@ -187,7 +187,7 @@ spelled_not_faulty text s ps is offset Short h =
 spelled_not_faulty text s ps is offset NoMemory h = refl
 
 pub only_problem : (text : List ℕ) (r : Result Problem TextFault) → IfOk r (λ p. IsProblem text p.size p.pieces) → IfErr r (λ f. IsProblemFault text f.offset f.cause)
-    → (size : Extent) (pieces : List Piece) → IsProblem text size pieces → MatchResult r (λ p. (p.size ≡ size) × (p.pieces ≡ pieces)) (λ f. f.cause ≡ NoMemory)
+    → (size : Size) (pieces : List Piece) → IsProblem text size pieces → MatchResult r (λ p. (p.size ≡ size) × (p.pieces ≡ pieces)) (λ f. f.cause ≡ NoMemory)
 only_problem text (Ok p) ok err size pieces is = one_problem text p.size size p.pieces pieces ok is
 only_problem text (Err f) ok err size pieces is = spelled_not_faulty text size pieces is f.offset f.cause err
 
@@ -220,7 +220,7 @@ pieces_fit i (a ∷ b ∷ c ∷ d ∷ more) (p ∷ ps) third e fit = (
   pieces_fit (suc (suc (suc (suc i)))) more ps (omega (arith, third)) (tail_of (tail_of (tail_of (tail_of e)))) fit.1.1.1.1,
 )
 
-problem_in_range : (runs : List DigitRun) (s : Extent) (ps : List Piece) → map value_of runs ≡ numbers_of s ps → AllFit 0 runs → ArePieces ps
+problem_in_range : (runs : List DigitRun) (s : Size) (ps : List Piece) → map value_of runs ≡ numbers_of s ps → AllFit 0 runs → ArePieces ps
 problem_in_range [] s ps e fit = absurd (no_cons (sym e))
 problem_in_range (a ∷ []) s ps e fit = absurd (no_cons (sym (tail_of e)))
 problem_in_range (a ∷ b ∷ []) s ps e fit = absurd (no_cons (sym (tail_of (tail_of e))))

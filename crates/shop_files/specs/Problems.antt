@@ -1,7 +1,7 @@
 -- Problem files: a count of pieces, a rectangle, and of each piece its sides, how many of it there may be, and its worth.
 use Rattle.std.specs.Prelude.{ℕ, suc, ◌≡◌, ◌+◌, ◌*◌, ◌%◌, ◌<◌, ◌≤◌, ◌&&◌, ◌||◌, ◌==◌, Bool, true, false, nat_le, if◌then◌else◌, List, [], ◌∷◌, ◌++◌, map, length, get_or, drop, ◌⊎◌}
 use Rattle.std.specs.List.{list_all, flat_map, AllByRecursion}
-use Rattle.cut_measure.specs.Measures.{Extent}
+use Rattle.cut_measure.specs.Measures.{Size}
 use Rattle.cut_measure.specs.declared.ranges.TheConstants.{MAX_WIDTH, MAX_HEIGHT, MAX_COUNT, MAX_WORTH}
 use Rattle.shop_files.specs.declared.limits.TheConstants.{MAX_TEXT_LEN, MAX_PIECES}
 use Rattle.shop_files.specs.Runs.{DigitRun, is_digit, value_of, runs_from, runs_of}
@@ -37,11 +37,11 @@ wanted (run ∷ more) = if fits 0 run then 3 + 4 * value_of run else 3
 abbrev pub piece_numbers : Piece → List ℕ
 piece_numbers p = p.w ∷ p.h ∷ p.most ∷ p.worth ∷ []
 
-abbrev pub numbers_of : Extent → List Piece → List ℕ
+abbrev pub numbers_of : Size → List Piece → List ℕ
 numbers_of size pieces = length pieces ∷ size.w ∷ size.h ∷ flat_map piece_numbers pieces
 
 -- the text spells the problem of a rectangle and these pieces
-pub record IsProblem (text : List ℕ) (size : Extent) (pieces : List Piece) : Type 0 where
+pub record IsProblem (text : List ℕ) (size : Size) (pieces : List Piece) : Type 0 where
   pub short : length text ≤ MAX_TEXT_LEN
   pub bytes : list_all is_problem_byte text ≡ true
   pub numbers : map value_of (runs_of text) ≡ numbers_of size pieces

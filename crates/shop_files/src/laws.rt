@@ -1,7 +1,7 @@
 //! What holds of all files: a text has one first fault, and none that is spelled has a fault.
 
 ghost use Rattle.std.specs.Prelude.{◌≡◌, ℕ, List};
-ghost use Rattle.cut_measure.specs.Measures.{Extent};
+ghost use Rattle.cut_measure.specs.Measures.{Size};
 ghost use Rattle.shop_files.specs.Problems.{IsProblem, IsProblemFault};
 ghost use Rattle.shop_files.specs.Orders.{IsOrders, IsOrdersFault};
 ghost use Rattle.shop_files.specs.Shops.{IsShopFile, IsShopFault};
@@ -19,7 +19,7 @@ pub fn one_first_fault()
     ensures one_problem_fault { (text : List ℕ) (m n : ℕ) (a b : TextCause)
         → (a ≡ problem.NoMemory → ⊥) → (b ≡ problem.NoMemory → ⊥)
         → IsProblemFault text m a → IsProblemFault text n b → (m ≡ n) × (a ≡ b) }
-    ensures spelled_problem { (text : List ℕ) (size : Extent) (pieces : List Piece) (offset : ℕ)
+    ensures spelled_problem { (text : List ℕ) (size : Size) (pieces : List Piece) (offset : ℕ)
         (cause : TextCause)
         → IsProblem text size pieces → IsProblemFault text offset cause → cause ≡ problem.NoMemory }
     ensures one_orders_fault { (text : List ℕ) (row field other place : ℕ)

@@ -5,7 +5,7 @@ ghost use Rattle.std.specs.Option.{SomeIff};
 ghost use Rattle.std.specs.Str.Parse.{AllDigits, digits_value};
 ghost use Rattle.shop_files.specs.Runs.{DigitRun, is_digit};
 ghost use Rattle.shop_files.specs.Problems.{most_at, runs_at, is_problem_byte, IsNumbers, ArePieces, IsProblem, IsProblemFault, Stops, StopsOrEnds, HasNumber, HasPiece, HasPieces};
-ghost use Rattle.cut_measure.specs.Measures.{Extent};
+ghost use Rattle.cut_measure.specs.Measures.{Size};
 ghost use Rattle.shop_files.specs.declared.problems.TextCause.TheVariants.{NoMemory};
 
 use crate::limits::{MAX_PIECES, MAX_TEXT_LEN};
@@ -278,7 +278,7 @@ pub fn read_cgcut(alloc: Global, text: &[u8]) -> Result<Problem, TextFault>
     ensures spelled { IfOk result (λ p. IsProblem text.now p.size p.pieces) }
     ensures in_range { IfOk result (λ p. ArePieces p.pieces) }
     ensures fault { IfErr result (λ f. IsProblemFault text.now f.offset f.cause) }
-    ensures only { (size : Extent) (pieces : List Piece) → IsProblem text.now size pieces
+    ensures only { (size : Size) (pieces : List Piece) → IsProblem text.now size pieces
         → MatchResult result (λ p. (p.size ≡ size) × (p.pieces ≡ pieces))
         (λ f. f.cause ≡ NoMemory) }
 {

@@ -4,7 +4,7 @@ use Rattle.std.specs.Prelude.{Some, if◌then◌else◌, ◌&&◌}
 use Rattle.std.specs.FinMap.{FinMap, get}
 use Rattle.std.specs.Ordering.{nat_cmp}
 use Rattle.cut_measure.specs.Names.{Name, name_cmp}
-use Rattle.cut_measure.specs.Measures.{Extent, below}
+use Rattle.cut_measure.specs.Measures.{Size, below}
 use Rattle.shop_records.specs.declared.records.Material.{Material}
 use Rattle.shop_records.specs.declared.records.Part.{Part}
 use Rattle.shop_records.specs.declared.records.State.{State}
@@ -77,7 +77,7 @@ pub record Follows (effects : List Effect) (content : Content) : Type 0 where
 
 -- ---- units
 
-abbrev pub unit_of : List ℕ → List ℕ → Extent → ℕ → ℕ → ReceivedUnit
+abbrev pub unit_of : List ℕ → List ℕ → Size → ℕ → ℕ → ReceivedUnit
 unit_of material batch size act i = record { name = record { act = act; node = i }; material = material; batch = batch; size = size }
 
 unit_acts_by : (earlier : List Effect) (done : Effect) → ((u : ReceivedUnit) → IsIn u (units_of earlier) → u.name.act ≤ acts_of earlier)

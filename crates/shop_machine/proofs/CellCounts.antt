@@ -8,7 +8,7 @@ use Rattle.std.proofs.lemmas.List.Sums.{sum_by-cons}
 use Rattle.std.proofs.lemmas.Bool.{and_parts}
 use Rattle.cut_measure.specs.Codes.{code_cmp}
 use Rattle.cut_measure.specs.Names.{Name}
-use Rattle.cut_measure.specs.Measures.{Extent, below}
+use Rattle.cut_measure.specs.Measures.{Size, below}
 use Rattle.cut_tree.proofs.CellSums.{sum_cells, bit, sum_cells-same, sum_cells-add, sum_cells-zero, sum_mark, mark_in, mark_out}
 use Rattle.shop_records.specs.declared.records.Part.{Part}
 use Rattle.shop_records.specs.declared.records.State.{State}
@@ -42,7 +42,7 @@ in_below (suc n) i k =
       | inr j ↦ elim j [ inl e ↦ omega arith | inr z ↦ absurd z ]
     ]
 
-new_apart : (material batch : List ℕ) (size : Extent) (act n : ℕ) → Apart unit_name (map (unit_of material batch size act) (below n))
+new_apart : (material batch : List ℕ) (size : Size) (act n : ℕ) → Apart unit_name (map (unit_of material batch size act) (below n))
 new_apart material batch size act zero = tt
 new_apart material batch size act (suc n) =
     subst (Apart unit_name) (sym (map-append (unit_of material batch size act) (below n) (n ∷ [])))
@@ -326,7 +326,7 @@ module _ (texts : Texts) (effects : List Effect) (content : Content) (well_forme
   cell_received u i x y xw yh =
       let whole : IsWhole content.parts u = s.wholes u i in
       let p : Part = whole.row in
-      let px : p.x ≡ 0 = whole.x in let py : p.y ≡ 0 = whole.y in let pw : p.size.w ≡ u.size.w = ap (λ (e : Extent). e.w) whole.size in let ph : p.size.h ≡ u.size.h = ap (λ (e : Extent). e.h) whole.size in
+      let px : p.x ≡ 0 = whole.x in let py : p.y ≡ 0 = whole.y in let pw : p.size.w ≡ u.size.w = ap (λ (e : Size). e.w) whole.size in let ph : p.size.h ≡ u.size.h = ap (λ (e : Size). e.h) whole.size in
       let name : p.name ≡ u.name = (well_formed.parts u.name p whole.kept).named in
       sum_values-one content.parts (λ v. mark (is_whole v && same_name v.root u.name) v x y) u.name p whole.kept
       (λ k r g other. mark_out (is_whole r && same_name r.root u.name) r.x r.y r.size.w r.size.h x y (λ t left right top bottom.

@@ -3,7 +3,7 @@ use Rattle.std.proofs.Common.{◌≡◌, ℕ, ◌+◌, ◌-◌, ◌<◌, ◌≤�
 use Rattle.std.specs.Prelude.{Option, Some, None, ◌↔◌, if◌then◌else◌}
 use Rattle.std.specs.FinMap.{FinMap, get, insert}
 use Rattle.cut_measure.specs.Names.{Name, name_cmp}
-use Rattle.cut_measure.specs.Measures.{Extent, CutParams, is_kept, below}
+use Rattle.cut_measure.specs.Measures.{Size, CutParams, is_kept, below}
 use Rattle.cut_tree.specs.declared.lay.Owner as of_row
 use Rattle.cut_tree.specs.declared.lay.Owner.TheVariants as owner
 use Rattle.cut_tree.specs.declared.lay.Row.{Row}
@@ -25,7 +25,7 @@ use Rattle.shop_records.proofs.Basics.{names_total, names_same, names_equal, nam
 abbrev pub Named : FinMap name_cmp Part → Type 0
 Named m = (n : Name) (p : Part) → get m n ≡ Some p → p.name ≡ n
 
-sizes_equal : (a b : Extent) → a.w ≡ b.w → a.h ≡ b.h → a ≡ b
+sizes_equal : (a b : Size) → a.w ≡ b.w → a.h ≡ b.h → a ≡ b
 sizes_equal a b p q = λ i. record { w = p i; h = q i }
 
 -- ---- a part whose state changes, not being cut before or after
@@ -136,14 +136,14 @@ kept_stands : (b : Bool) → standing_as (if b then Standing else Scrap) ≡ (if
 kept_stands true = refl
 kept_stands false = refl
 
-pub after_cut_whole : (params : CutParams) (of : of_row.Owner) (size : Extent) → is_gone (state_after_cut params of size) ≡ false
+pub after_cut_whole : (params : CutParams) (of : of_row.Owner) (size : Size) → is_gone (state_after_cut params of size) ≡ false
 after_cut_whole params (owner.Piece demand) size = refl
 after_cut_whole params owner.Rest size = kept_or_not (is_kept params size)
 after_cut_whole params owner.Kerf size = refl
 after_cut_whole params owner.Uncut size = kept_or_not (is_kept params size)
 after_cut_whole params owner.Lost size = refl
 
-after_cut_stands : (params : CutParams) (of : of_row.Owner) (size : Extent) → standing_as (state_after_cut params of size) ≡ state_after_cut params of size
+after_cut_stands : (params : CutParams) (of : of_row.Owner) (size : Size) → standing_as (state_after_cut params of size) ≡ state_after_cut params of size
 after_cut_stands params (owner.Piece demand) size = refl
 after_cut_stands params owner.Rest size = kept_stands (is_kept params size)
 after_cut_stands params owner.Kerf size = refl
@@ -233,8 +233,8 @@ module _ (m : FinMap name_cmp Part) (named : Named m) (p : Name) (row : Part) (k
   -- the part of a row is the owner's at the spot
   row_owner : (r : Row) (s : Spot) (i j x y : ℕ) → IsSpot r s i j → row.x + i ≡ x → row.y + j ≡ y → IsOwner (owner_at params job s) x y (row_part row params job r)
   row_owner r s i j x y place across down =
-      let mine : Extent = record { w = r.w; h = r.h } in
-      let its : Extent = record { w = s.w; h = s.h } in
+      let mine : Size = record { w = r.w; h = r.h } in
+      let its : Size = record { w = s.w; h = s.h } in
       let sizes : mine ≡ its = sizes_equal mine its (sym place.w) (sym place.h) in
       let px : r.x + s.x ≡ i = place.x in let py : r.y + s.y ≡ j = place.y in
       record {
@@ -298,7 +298,7 @@ module _ (m : FinMap name_cmp Part) (named : Named m) (p : Name) (row : Part) (k
             let row' = held_row u x y o.owner.x o.owner.y ws.across ws.down h in
             in_new o.owner after u x y row'.0 row'.1 row'.2 ws.across ws.down h
             (there o.owner h.root o.owned (sym ws.name ∙ named p row kept) (sym ws.state ∙ stands)
-            ∙ ap (λ (e : Extent). Some (owner_at params job (spot_of tree e.w e.h params.kerf outcome 0 0 o.owner.x o.owner.y))) (sym ws.size))
+            ∙ ap (λ (e : Size). Some (owner_at params job (spot_of tree e.w e.h params.kerf outcome 0 0 o.owner.x o.owner.y))) (sym ws.size))
             (λ n q k g. sym (named n q k) ∙ ap (λ (v : Part). v.name) (o.alone n q k g) ∙ e.0))
         | inr e ↦ record {
           part = o.part;
@@ -321,7 +321,7 @@ module _ (m : FinMap name_cmp Part) (named : Named m) (p : Name) (row : Part) (k
 
 -- ---- units that are received
 
-module _ (m : FinMap name_cmp Part) (material batch : List ℕ) (size : Extent) (act count : ℕ)
+module _ (m : FinMap name_cmp Part) (material batch : List ℕ) (size : Size) (act count : ℕ)
     (older : (n : Name) (p : Part) → get m n ≡ Some p → (n.act ≡ act → ⊥) × (p.root.act ≡ act → ⊥)) where
   abbrev pub after_receipt : FinMap name_cmp Part
   after_receipt = with_parts (unit_parts material batch size act count) m

@@ -51,9 +51,9 @@ worked stop E found on (Some m) at totals j part params is_j is_p is_m allowed i
     (subst (λ (o : Option Part). MatchOption o ⊥ (λ p. E j p m.limits)) (sym is_p) (subst (λ (r : CutParams). E j part r) (sym is_m) it))
 
 -- the change of a job that ended so, from its parts and their cells
-pub end_made : (stop : Stop) (j : Job) (part : Part) (params : CutParams) (t : Totals) (laid : List Row) (rows : List Demand) (parts : List Part) (come moved : Totals) (answer : Reply) (state : JobState) (halt : Option JobHalt)
-    (base : Change) → base ≡ no_change answer → state ≡ ended_state stop → halt ≡ kept_halt stop j.act → parts ≡ map (row_part part params j.act) laid → come ≡ tally (map (row_part part params j.act) laid)
-    → moved ≡ moved_totals part come t → answer ≡ ended_reply stop j.act come
+pub end_made : (stop : Stop) (j : Job) (part : Part) (params : CutParams) (t : Totals) (laid : List Row) (rows : List Demand) (parts : List Part) (incoming moved : Totals) (answer : Reply) (state : JobState) (halt : Option JobHalt)
+    (base : Change) → base ≡ no_change answer → state ≡ ended_state stop → halt ≡ kept_halt stop j.act → parts ≡ map (row_part part params j.act) laid → incoming ≡ tally (map (row_part part params j.act) laid)
+    → moved ≡ moved_totals part incoming t → answer ≡ ended_reply stop j.act incoming
     → record base {
       parts = parts;
       moved = Some (in_state (Cut j.act) part);
@@ -62,10 +62,10 @@ pub end_made : (stop : Stop) (j : Job) (part : Part) (params : CutParams) (t : T
       demands = rows;
       totals = Some (record { material = part.material; totals = moved });
     } ≡ end_change stop j part params t laid rows
-end_made stop j part params t laid rows parts come moved answer state halt base e s h f c m g =
+end_made stop j part params t laid rows parts incoming moved answer state halt base e s h f c m g =
     let made = map (row_part part params j.act) laid in
     let reported : answer ≡ ended_reply stop j.act (tally made) = g ∙ ap (ended_reply stop j.act) c in
-    let sums : moved ≡ moved_totals part (tally made) t = m ∙ ap (λ (come : Totals). moved_totals part come t) c in
+    let sums : moved ≡ moved_totals part (tally made) t = m ∙ ap (λ (incoming : Totals). moved_totals part incoming t) c in
     λ i.
     record (((e ∙ ap no_change reported) i)) {
       parts = f i;

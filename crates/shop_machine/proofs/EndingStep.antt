@@ -11,7 +11,7 @@ use Rattle.std.proofs.lemmas.List.Sums.{sum_by-le-sum_by}
 use Rattle.std.proofs.lemmas.Nat.{mul-le}
 use Rattle.cut_measure.specs.Codes.{code_cmp}
 use Rattle.cut_measure.specs.Names.{Name, name_cmp}
-use Rattle.cut_measure.specs.Measures.{CutParams, Extent, is_kept}
+use Rattle.cut_measure.specs.Measures.{CutParams, Size, is_kept}
 use Rattle.cut_measure.specs.declared.ranges.TheConstants.{MAX_WIDTH, MAX_HEIGHT, MAX_NUMBERS}
 use Rattle.cut_tree.specs.declared.lay.Owner.{Owner}
 use Rattle.cut_tree.specs.declared.lay.Owner.TheVariants as owner
@@ -72,7 +72,7 @@ job_waits m stop number j found allowed =
 
 -- ---- what becomes of a rectangle
 
-pub after_cut_uncut : (params : CutParams) (o : Owner) (size : Extent) → is_uncut (state_after_cut params o size) ≡ true
+pub after_cut_uncut : (params : CutParams) (o : Owner) (size : Size) → is_uncut (state_after_cut params o size) ≡ true
 after_cut_uncut params (owner.Piece demand) size = refl
 after_cut_uncut params owner.Rest size = by (is_kept params size)
   where
@@ -87,7 +87,7 @@ after_cut_uncut params owner.Uncut size = by (is_kept params size)
     by false = refl
 after_cut_uncut params owner.Lost size = refl
 
-pub after_cut_piece : (number : ℕ) (params : CutParams) (o : Owner) (size : Extent) → is_piece_for number (state_after_cut params o size) ≡ is_owner_of number o
+pub after_cut_piece : (number : ℕ) (params : CutParams) (o : Owner) (size : Size) → is_piece_for number (state_after_cut params o size) ≡ is_owner_of number o
 after_cut_piece number params (owner.Piece demand) size = refl
 after_cut_piece number params owner.Rest size = by (is_kept params size)
   where

@@ -3,7 +3,7 @@ use Rattle.std.proofs.Common.{◌≡◌, ℕ, suc, ◌+◌, ◌<◌, List, [], �
 use Rattle.std.specs.Prelude.{Option, Some, None}
 use Rattle.std.specs.Option.{option_or}
 use Rattle.std.proofs.lemmas.List.{take_more, length-take-le}
-use Rattle.cut_measure.specs.Measures.{Extent}
+use Rattle.cut_measure.specs.Measures.{Size}
 use Rattle.shop_files.specs.declared.orders.OrderLine.{OrderLine}
 use Rattle.shop_files.specs.declared.problems.Piece.{Piece}
 use Rattle.shop_records.specs.declared.imports.Form.{Form}
@@ -71,7 +71,7 @@ pub unused : (used : Bool) → used ≡ false → first_of ((used, OrderExists) 
 unused used e = ap (λ b. first_of ((b, OrderExists) ∷ [])) e
 
 -- the receipt of a rectangle, by its sides
-pub received_as : (known : Option Material) (totals : Totals) (act w h : ℕ) (size : Extent) (material batch : List ℕ) (change : Change) → w ≡ size.w → h ≡ size.h
+pub received_as : (known : Option Material) (totals : Totals) (act w h : ℕ) (size : Size) (material batch : List ℕ) (change : Change) → w ≡ size.w → h ≡ size.h
     → (receive_refusal known totals act w h 1 ≡ None) × (change ≡ receive_change material batch (record { w = w; h = h }) act 1 totals)
     → (receive_refusal known totals act size.w size.h 1 ≡ None) × (change ≡ receive_change material batch size act 1 totals)
 received_as known totals act w h size material batch change e f made =

@@ -2,7 +2,7 @@
 use Rattle.std.proofs.Common.{◌≡◌, ℕ, ◌+◌, List, [], ◌∷◌, Bool, true, false, refl, sym, subst, arith, inl, inr}
 use Rattle.std.specs.Prelude.{Option, Some, None, IfSome, MatchOption, IsTrue, ◌⊎◌, not}
 use Rattle.cut_measure.specs.Codes.{is_code}
-use Rattle.cut_measure.specs.Measures.{Extent, is_size}
+use Rattle.cut_measure.specs.Measures.{Size, is_size}
 use Rattle.shop_files.specs.declared.orders.OrderLine.{OrderLine}
 use Rattle.shop_files.specs.declared.problems.Piece.{Piece}
 use Rattle.shop_records.specs.declared.records.Material.{Material}
@@ -50,7 +50,7 @@ module _ (texts : Texts) (m : Content) (order : List ℕ) where
   -- it is of a problem
   pub record IsOfProblem (form : Form) (text : List ℕ) (read : Reading) (change : Change) : Type 0 where
     pub material : List ℕ
-    pub size : Extent
+    pub size : Size
     pub lines : List OrderLine
     pub ordered : IsOrder (has_order m order) (material_at m) lines (m.last_demand + 1)
     pub receipt : IsReceipt (material_at m material) (totals_of m material) (m.last_act + 1) size.w size.h 1
@@ -71,7 +71,7 @@ module _ (texts : Texts) (m : Content) (order : List ℕ) where
   made_before form text answer None h = absurd h
   made_before form text answer (Some row) h = h.1.0
 
-  of_problem : (material text : List ℕ) (size : Extent) (pieces : List Piece) (change : Change) → Refused (Cgcut material) (Problem size pieces)
+  of_problem : (material text : List ℕ) (size : Size) (pieces : List Piece) (change : Change) → Refused (Cgcut material) (Problem size pieces)
       → Made (Cgcut material) text (Problem size pieces) change → IsOfProblem (Cgcut material) text (Problem size pieces) change
   of_problem material text size pieces change allowed makes =
       let lines = problem_lines material pieces in
@@ -105,7 +105,7 @@ module _ (texts : Texts) (m : Content) (order : List ℕ) where
   -- ---- the content after it
 
   -- the unit of a problem is there, and its order isn't yet
-  abbrev pub after_receipt : Extent → List ℕ → Content
+  abbrev pub after_receipt : Size → List ℕ → Content
   after_receipt size material = with_messages m.kept m.imports (changed m (receive_change material order size (m.last_act + 1) 1 (totals_of m material)))
 
   pub import_stock : (message : Message) (form : Form) (text : List ℕ) (read : Reading) (change : Change) → IsStock m → IsAccepted form text read change
@@ -208,7 +208,7 @@ module _ (texts : Texts) (m : Content) (order : List ℕ) where
   reports_one form text None one h = absurd h
   reports_one form text (Some row) one h = let it = one row refl in h.1 it.0 it.1.0 it.1.1
 
-  problem_agrees : (material : List ℕ) (size : Extent) (lines : List OrderLine) → IsStock m
+  problem_agrees : (material : List ℕ) (size : Size) (lines : List OrderLine) → IsStock m
       → NoFault (problem_refusal (has_order m order) (material_at m) (material_at m material) (totals_of m material) (m.last_act + 1) (m.last_demand + 1) size lines)
   problem_agrees material size lines stock =
       let all = stock.in_range.adds_up material in
@@ -217,7 +217,7 @@ module _ (texts : Texts) (m : Content) (order : List ℕ) where
       (either _ _ (lines_agree (material_at m) 0 lines)
       (either _ _ (receive_agrees (material_at m material) (totals_of m material) (m.last_act + 1) size.w size.h 1 (omega (arith, all))) (order_agrees (has_order m order) (material_at m) lines (m.last_demand + 1)))))
     where
-      unit_agrees : (known : Option Material) (size : Extent) → NoFault (unit_refusal known size)
+      unit_agrees : (known : Option Material) (size : Size) → NoFault (unit_refusal known size)
       unit_agrees None size = λ e. cc
       unit_agrees (Some row) size = other (not (is_size row.kind size.w size.h)) _ _ (λ e. cc) none
 

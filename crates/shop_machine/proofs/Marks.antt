@@ -6,7 +6,7 @@ use Rattle.std.proofs.lemmas.List.Sums.{sum_by-cons, sum_by-append, sum_by_push}
 use Rattle.std.specs.FinMap.{FinMap, entries, entries_sorted, is_sorted, get, get-entries, values}
 use Rattle.std.specs.FinMap.Entries.{below_all}
 use Rattle.cut_measure.specs.Names.{Name, name_cmp}
-use Rattle.cut_measure.specs.Measures.{Extent, below, cells_of}
+use Rattle.cut_measure.specs.Measures.{Size, below, cells_of}
 use Rattle.cut_tree.specs.Counting.{sum_below}
 use Rattle.cut_tree.proofs.CellSums as rectangle
 use Rattle.cut_tree.proofs.CellSums.{sum_cells, sum_below-same}
@@ -66,7 +66,7 @@ sum_by-below f zero = refl
 sum_by-below f (suc n) = sum_by_push f (below n) n ∙ ap (λ m. m + f n) (sum_by-below f n)
 
 -- the cells of a rectangle one by one
-sum_by-cells : (f : ℕ × ℕ → ℕ) (size : Extent) → sum_by f (cells_of size) ≡ sum_cells (λ x y. f (x, y)) size.w size.h
+sum_by-cells : (f : ℕ × ℕ → ℕ) (size : Size) → sum_by f (cells_of size) ≡ sum_cells (λ x y. f (x, y)) size.w size.h
 unfolding cells_of
 sum_by-cells f size =
     sum_by-flat_map f (λ y. map (λ x. (x, y)) (below size.w)) (below size.h)

@@ -72,18 +72,18 @@ same_demand a b n o l m s t w x r d i =
 
 module _ (old : FinMap nat_cmp Demand) (tree : Tree) where
   pub no_reserved : LeavesOthers old with_reserved tree
-  no_reserved number d is gone = same_demand (with_reserved 0 d) d refl refl refl refl refl refl refl refl (omega arith) refl
+  no_reserved number d is outgoing = same_demand (with_reserved 0 d) d refl refl refl refl refl refl refl refl (omega arith) refl
 
   pub no_freed : LeavesOthers old with_freed tree
-  no_freed number d is gone = same_demand (with_freed 0 d) d refl refl refl refl refl refl refl refl (omega arith) refl
+  no_freed number d is outgoing = same_demand (with_freed 0 d) d refl refl refl refl refl refl refl refl (omega arith) refl
 
   -- where each demand stands under its own number, and no more is laid than the tree's pieces
   pub no_laid : (laid : List Row) → ((d : ℕ) → pieces_in d laid ≤ count_of tree d) → ((number : ℕ) (d : Demand) → get old number ≡ Some d → d.number ≡ number)
       → LeavesOthers old (with_laid laid) tree
-  no_laid laid few numbered number d is gone =
+  no_laid laid few numbered number d is outgoing =
       let less = few d.number in
       let own : count_of tree d.number ≡ count_of tree number = ap (count_of tree) (numbered number d is) in
-      let none : pieces_in d.number laid ≡ 0 = omega (arith, less, own, gone) in
+      let none : pieces_in d.number laid ≡ 0 = omega (arith, less, own, outgoing) in
       same_demand (with_laid laid 0 d) d refl refl refl refl refl refl refl refl (omega arith) (omega (arith, none))
 
 -- ---- parts

@@ -66,19 +66,19 @@ module _ (m : FinMap name_cmp Part) (named : Named m) (p : Name) (row : Part) (k
   abbrev pub made : List Part
   made = map (row_part row params job) rows
 
-  abbrev pub gone : List Part
-  gone = map (in_state (Undone job)) made
+  abbrev pub outgoing : List Part
+  outgoing = map (in_state (Undone job)) made
 
   abbrev pub put_back : FinMap name_cmp Part
-  put_back = with_parts gone (insert m p (in_state Standing row))
+  put_back = with_parts outgoing (insert m p (in_state Standing row))
 
-  pub gone_of : (x : Part) → IsIn x gone → (r : Row) × IsIn r rows × (x ≡ in_state (Undone job) (row_part row params job r))
+  pub gone_of : (x : Part) → IsIn x outgoing → (r : Row) × IsIn r rows × (x ≡ in_state (Undone job) (row_part row params job r))
   gone_of x i =
       let a = in_map (in_state (Undone job)) made x i in
       let b = in_map (row_part row params job) rows a.0 a.1 in
       (b.0, b.1, a.2 ∙ ap (in_state (Undone job)) b.2)
 
-  gone_in : (r : Row) → IsIn r rows → IsIn (in_state (Undone job) (row_part row params job r)) gone
+  gone_in : (r : Row) → IsIn r rows → IsIn (in_state (Undone job) (row_part row params job r)) outgoing
   gone_in r i = map_in (in_state (Undone job)) made (row_part row params job r) (map_in (row_part row params job) rows r i)
 
   row_whole : (r : Row) → is_gone (row_part row params job r).state ≡ false
@@ -94,7 +94,7 @@ module _ (m : FinMap name_cmp Part) (named : Named m) (p : Name) (row : Part) (k
       → ((n.act ≡ job) × ((r : Row) × IsIn r rows × (q ≡ in_state (Undone job) (row_part row params job r))))
       ⊎ (((n ≡ p) × (q ≡ in_state Standing row)) ⊎ ((n ≡ p → ⊥) × ((n.act ≡ job → ⊥) × (get m n ≡ Some q))))
   back_cases n q k =
-      elim (put_cases gone (insert m p (in_state Standing row)) n) [
+      elim (put_cases outgoing (insert m p (in_state Standing row)) n) [
         | inl f ↦ (
             let r = gone_of f.0 f.1 in
             let act : n.act ≡ job = ap (λ (v : Name). v.act) (sym f.2) ∙ ap (λ (v : Part). v.name.act) r.2 in
@@ -118,7 +118,7 @@ module _ (m : FinMap name_cmp Part) (named : Named m) (p : Name) (row : Part) (k
   -- each row is kept under its name
   pub back_named : (n : Name) (q : Part) → get put_back n ≡ Some q → q.name ≡ n
   back_named n q k =
-      elim (put_cases gone (insert m p (in_state Standing row)) n) [
+      elim (put_cases outgoing (insert m p (in_state Standing row)) n) [
         | inl f ↦ ap (λ (v : Part). v.name) (same_some q f.0 (sym k ∙ f.3)) ∙ f.2
         | inr f ↦ elim (name_cases n p) [
           | inl e ↦ (
@@ -131,14 +131,14 @@ module _ (m : FinMap name_cmp Part) (named : Named m) (p : Name) (row : Part) (k
   -- a name that is neither the part's nor one of those is found as before
   pub back_same : (n : Name) → (n ≡ p → ⊥) → ((r : Row) → IsIn r rows → (record { act = job; node = r.node }) ≡ n → ⊥) → get put_back n ≡ get m n
   back_same n other none =
-      elim (put_cases gone (insert m p (in_state Standing row)) n) [
+      elim (put_cases outgoing (insert m p (in_state Standing row)) n) [
         | inl f ↦ (let r = gone_of f.0 f.1 in absurd (none r.0 r.1 (ap (λ (v : Part). v.name) (sym r.2) ∙ f.2)))
         | inr f ↦ f.1 ∙ get_other names_total names_same m p (in_state Standing row) n other
       ]
 
   pub back_row : get put_back p ≡ Some (in_state Standing row)
   back_row =
-      elim (put_cases gone (insert m p (in_state Standing row)) p) [
+      elim (put_cases outgoing (insert m p (in_state Standing row)) p) [
         | inl f ↦ (
             let r = gone_of f.0 f.1 in
             absurd (not_made (ap (λ (v : Name). v.act) (sym f.2) ∙ ap (λ (v : Part). v.name.act) r.2)))
@@ -151,7 +151,7 @@ module _ (m : FinMap name_cmp Part) (named : Named m) (p : Name) (row : Part) (k
   -- each row is there still, in some state
   pub back_still : (n : Name) (q : Part) → get m n ≡ Some q → (s : State) × (get put_back n ≡ Some (in_state s q))
   back_still n q k =
-      elim (put_cases gone (insert m p (in_state Standing row)) n) [
+      elim (put_cases outgoing (insert m p (in_state Standing row)) n) [
         | inl f ↦ (
             let r = gone_of f.0 f.1 in
             let name : (record { act = job; node = r.0.node }) ≡ n = ap (λ (v : Part). v.name) (sym r.2) ∙ f.2 in

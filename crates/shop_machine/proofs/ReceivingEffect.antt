@@ -3,7 +3,7 @@ use Rattle.std.proofs.Common.{◌∙◌, true≢false, ◌≡◌, ℕ, ◌+◌, 
 use Rattle.std.specs.Prelude.{Some}
 use Rattle.std.specs.FinMap.{FinMap, get}
 use Rattle.cut_measure.specs.Names.{Name, name_cmp}
-use Rattle.cut_measure.specs.Measures.{Extent, below}
+use Rattle.cut_measure.specs.Measures.{Size, below}
 use Rattle.shop_records.specs.declared.records.Part.{Part}
 use Rattle.shop_records.specs.declared.records.State.TheVariants.{Standing}
 use Rattle.cut_measure.specs.Codes.{code_cmp}
@@ -25,7 +25,7 @@ module _ (earlier : List Effect) (old : Content) (range : IsInRange old) (f : Fo
   Next done change = Follows (done ∷ earlier) (with_messages kept imports (changed old change))
 
   module _ (material batch : List ℕ) (w h count : ℕ) where
-    abbrev size : Extent
+    abbrev size : Size
     size = record { w = w; h = h }
 
     abbrev received : ℕ → ReceivedUnit

@@ -11,7 +11,7 @@ use Rattle.std.proofs.lemmas.Bool.{eq-eqb, and_parts, not-false, leb-true, le-le
 use Rattle.cut_measure.proofs.Cells.{length-below}
 use Rattle.cut_measure.specs.Codes.{code_cmp}
 use Rattle.cut_measure.specs.Names.{Name, name_cmp}
-use Rattle.cut_measure.specs.Measures.{Extent, below, is_size}
+use Rattle.cut_measure.specs.Measures.{Size, below, is_size}
 use Rattle.cut_measure.specs.declared.ranges.TheConstants.{MAX_NUMBERS}
 use Rattle.cut_measure.specs.declared.sizes.Kind.TheVariants.{Bar}
 use Rattle.shop_records.specs.declared.records.TheConstants.{MAX_RECEIVED}
@@ -108,7 +108,7 @@ same_self name = ap (λ b. b && (name.node == name.node)) (eq-eqb name.act name.
 
 module _ (m : Content) (stock : IsStock m) (material batch : List ℕ) (w h count : ℕ)
     (receipt : IsReceipt (material_at m material) (totals_of m material) (m.last_act + 1) w h count) where
-  abbrev size : Extent
+  abbrev size : Size
   size = record { w = w; h = h }
 
   abbrev act : ℕ

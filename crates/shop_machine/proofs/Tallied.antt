@@ -8,7 +8,7 @@ use Rattle.std.proofs.lemmas.List.Sums.{sum_by-cons, sum_by-le-sum_by}
 use Rattle.std.proofs.lemmas.Nat.{mul-le}
 use Rattle.cut_measure.specs.declared.ranges.TheConstants.{MAX_WIDTH, MAX_HEIGHT}
 use Rattle.cut_measure.specs.Codes.{code_cmp}
-use Rattle.cut_measure.specs.Measures.{Extent}
+use Rattle.cut_measure.specs.Measures.{Size}
 use Rattle.cut_measure.specs.Names.{name_cmp}
 use Rattle.shop_records.specs.declared.records.Part.{Part}
 use Rattle.shop_records.specs.declared.records.State.{State}
@@ -85,7 +85,7 @@ as_standing c part (state.Undone job) e = cc
 -- the cells of a part that is there are in the sums
 within : (m : FinMap name_cmp Part) (part : Part) → get m part.name ≡ Some part → (c : Column) (code : List ℕ) → cells_as c code part ≤ cells_in c code (values m)
 within m part there c code =
-    let empty : Extent = record { w = 0; h = 0 } in
+    let empty : Size = record { w = 0; h = 0 } in
     let none : Part = record part { size = empty } in
     let over = sum_over names_total names_same (cells_as c code) m part.name part none there in
     let zero = by (counts_for c code none) in
@@ -133,13 +133,13 @@ module _ (m : FinMap name_cmp Part) (part : Part) (s : State) (made : List Part)
       omega (arith, sum, same, none code c))
 
   -- a part of which these are the cells, column by column
-  pub record Becomes (come : Totals) : Type 0 where
-    pub stock : cells_counted Stock (in_state s part ∷ []) + cells_counted Stock made ≡ come.stock
-    pub rack : cells_counted Rack (in_state s part ∷ []) + cells_counted Rack made ≡ come.rack
-    pub pieces : cells_counted Pieces (in_state s part ∷ []) + cells_counted Pieces made ≡ come.pieces
-    pub kerf : cells_counted Kerf (in_state s part ∷ []) + cells_counted Kerf made ≡ come.kerf
-    pub scrap : cells_counted Scrap (in_state s part ∷ []) + cells_counted Scrap made ≡ come.scrap
-    pub returned : cells_counted Returned (in_state s part ∷ []) + cells_counted Returned made ≡ come.returned
+  pub record Becomes (incoming : Totals) : Type 0 where
+    pub stock : cells_counted Stock (in_state s part ∷ []) + cells_counted Stock made ≡ incoming.stock
+    pub rack : cells_counted Rack (in_state s part ∷ []) + cells_counted Rack made ≡ incoming.rack
+    pub pieces : cells_counted Pieces (in_state s part ∷ []) + cells_counted Pieces made ≡ incoming.pieces
+    pub kerf : cells_counted Kerf (in_state s part ∷ []) + cells_counted Kerf made ≡ incoming.kerf
+    pub scrap : cells_counted Scrap (in_state s part ∷ []) + cells_counted Scrap made ≡ incoming.scrap
+    pub returned : cells_counted Returned (in_state s part ∷ []) + cells_counted Returned made ≡ incoming.returned
 
   module _ (all : (x : Part) → IsIn x made → x.material ≡ part.material) (none : (code : List ℕ) → sum_by (cells_as Received code) made ≡ 0) where
     column_moved : (c : Column) (code : List ℕ) (b : Bool) → is_eq (code_cmp part.material code) ≡ b
@@ -147,14 +147,14 @@ module _ (m : FinMap name_cmp Part) (part : Part) (s : State) (made : List Part)
         ≡ cells_in c code (values m) + (if b then cells_counted c (in_state s part ∷ []) else 0) + (if b then cells_counted c made else 0)
     column_moved c code b e =
         let sum = sum_moved m part s made there new apart (cells_as c code) in
-        let gone = of_one part code c b e in
+        let outgoing = of_one part code c b e in
         let put = of_one (in_state s part) code c b e in
         let more = of_material part.material code c b e made all in
-        omega (arith, sum, gone, put, more)
+        omega (arith, sum, outgoing, put, more)
 
-    move_own : (c : Column) (come : ℕ) → cells_counted c (in_state s part ∷ []) + cells_counted c made ≡ come
-        → cells_in c part.material (values after) ≡ cells_in c part.material (values m) - cells_counted c (part ∷ []) + come
-    move_own c come is =
+    move_own : (c : Column) (incoming : ℕ) → cells_counted c (in_state s part ∷ []) + cells_counted c made ≡ incoming
+        → cells_in c part.material (values after) ≡ cells_in c part.material (values m) - cells_counted c (part ∷ []) + incoming
+    move_own c incoming is =
         let sum = column_moved c part.material true (own part.material) in
         let less = own_within m part there c in
         omega (arith, sum, less, is)
@@ -169,30 +169,30 @@ module _ (m : FinMap name_cmp Part) (part : Part) (s : State) (made : List Part)
         omega (arith, sum, no)
 
     -- each material has its sums
-    pub sums_move : (come : Totals) → Becomes come → (code : List ℕ)
+    pub sums_move : (incoming : Totals) → Becomes incoming → (code : List ℕ)
         → totals_in code (values after)
-        ≡ with_totals (Some (record { material = part.material; totals = moved_totals part come (totals_in part.material (values m)) })) code (totals_in code (values m))
-    sums_move come is code = by (is_eq (code_cmp part.material code)) refl
+        ≡ with_totals (Some (record { material = part.material; totals = moved_totals part incoming (totals_in part.material (values m)) })) code (totals_in code (values m))
+    sums_move incoming is code = by (is_eq (code_cmp part.material code)) refl
       where
         t : Totals
         t = totals_in part.material (values m)
 
         by : (b : Bool) → is_eq (code_cmp part.material code) ≡ b
-            → totals_in code (values after) ≡ (if is_eq (code_cmp part.material code) then moved_totals part come (totals_in part.material (values m)) else totals_in code (values m))
+            → totals_in code (values after) ≡ (if is_eq (code_cmp part.material code) then moved_totals part incoming (totals_in part.material (values m)) else totals_in code (values m))
         by true e =
             ap (λ c. totals_in c (values after)) (sym (codes_same part.material code (equal (code_cmp part.material code) e)))
-            ∙ same_totals (totals_in part.material (values after)) (moved_totals part come (totals_in part.material (values m))) received_stays
-            (move_own Stock come.stock is.stock) (move_own Rack come.rack is.rack) (move_own Pieces come.pieces is.pieces) (move_own Kerf come.kerf is.kerf)
-            (move_own Scrap come.scrap is.scrap) (move_own Returned come.returned is.returned)
-            ∙ sym (ap (λ b. if b then moved_totals part come (totals_in part.material (values m)) else totals_in code (values m)) e)
+            ∙ same_totals (totals_in part.material (values after)) (moved_totals part incoming (totals_in part.material (values m))) received_stays
+            (move_own Stock incoming.stock is.stock) (move_own Rack incoming.rack is.rack) (move_own Pieces incoming.pieces is.pieces) (move_own Kerf incoming.kerf is.kerf)
+            (move_own Scrap incoming.scrap is.scrap) (move_own Returned incoming.returned is.returned)
+            ∙ sym (ap (λ b. if b then moved_totals part incoming (totals_in part.material (values m)) else totals_in code (values m)) e)
         by false e =
             same_sums code (values after) (values m) (λ c. stay c code e)
-            ∙ sym (ap (λ b. if b then moved_totals part come (totals_in part.material (values m)) else totals_in code (values m)) e)
+            ∙ sym (ap (λ b. if b then moved_totals part incoming (totals_in part.material (values m)) else totals_in code (values m)) e)
 
 -- ---- the totals of a content hold its parts
 
-pub moves : (gone most n : ℕ) → gone ≤ n → n + most < 2 ^ 64 → can_move gone most n ≡ true
-moves gone most n held in_limit = ap (λ b. b && nat_lt (n + most) (2 ^ 64)) (le-leb gone n held) ∙ lt-ltb (n + most) (2 ^ 64) in_limit
+pub moves : (outgoing most n : ℕ) → outgoing ≤ n → n + most < 2 ^ 64 → can_move outgoing most n ≡ true
+moves outgoing most n held in_limit = ap (λ b. b && nat_lt (n + most) (2 ^ 64)) (le-leb outgoing n held) ∙ lt-ltb (n + most) (2 ^ 64) in_limit
 
 pub six : (a b c d e f : Bool) → a ≡ true → b ≡ true → c ≡ true → d ≡ true → e ≡ true → f ≡ true → (a && b && c && d && e && f) ≡ true
 six a b c d e f p q r s t u =
@@ -207,13 +207,13 @@ held m stock part there =
     let most = stock.in_range.received part.material in
     let all = stock.in_range.adds_up part.material in
     let t : Totals = totals_of m part.material in
-    let gone : Totals = tally (part ∷ []) in
+    let outgoing : Totals = tally (part ∷ []) in
     let cells : ℕ = part.size.w * part.size.h in
-    six (can_move gone.stock cells t.stock) (can_move gone.rack cells t.rack) (can_move gone.pieces cells t.pieces) (can_move gone.kerf cells t.kerf) (can_move gone.scrap cells t.scrap)
-    (can_move gone.returned cells t.returned)
-    (moves gone.stock cells t.stock (own_within m.parts part there Stock) (omega (arith, few, most, all)))
-    (moves gone.rack cells t.rack (own_within m.parts part there Rack) (omega (arith, few, most, all)))
-    (moves gone.pieces cells t.pieces (own_within m.parts part there Pieces) (omega (arith, few, most, all)))
-    (moves gone.kerf cells t.kerf (own_within m.parts part there Kerf) (omega (arith, few, most, all)))
-    (moves gone.scrap cells t.scrap (own_within m.parts part there Scrap) (omega (arith, few, most, all)))
-    (moves gone.returned cells t.returned (own_within m.parts part there Returned) (omega (arith, few, most, all)))
+    six (can_move outgoing.stock cells t.stock) (can_move outgoing.rack cells t.rack) (can_move outgoing.pieces cells t.pieces) (can_move outgoing.kerf cells t.kerf) (can_move outgoing.scrap cells t.scrap)
+    (can_move outgoing.returned cells t.returned)
+    (moves outgoing.stock cells t.stock (own_within m.parts part there Stock) (omega (arith, few, most, all)))
+    (moves outgoing.rack cells t.rack (own_within m.parts part there Rack) (omega (arith, few, most, all)))
+    (moves outgoing.pieces cells t.pieces (own_within m.parts part there Pieces) (omega (arith, few, most, all)))
+    (moves outgoing.kerf cells t.kerf (own_within m.parts part there Kerf) (omega (arith, few, most, all)))
+    (moves outgoing.scrap cells t.scrap (own_within m.parts part there Scrap) (omega (arith, few, most, all)))
+    (moves outgoing.returned cells t.returned (own_within m.parts part there Returned) (omega (arith, few, most, all)))

@@ -120,8 +120,8 @@ module _ (m : Content) (named : Named m.parts) (j : Job) (row : Part) (material 
   abbrev pub made : List Part
   made = map (row_part row material.limits j.act) laid
 
-  abbrev pub gone : List Part
-  gone = map (in_state (Undone j.act)) made
+  abbrev pub outgoing : List Part
+  outgoing = map (in_state (Undone j.act)) made
 
   pub there : (r : Row) → IsIn r laid → part_at m (record { act = j.act; node = r.node }) ≡ Some (row_part row material.limits j.act r)
   there r i =
@@ -153,13 +153,13 @@ module _ (m : Content) (named : Named m.parts) (j : Job) (row : Part) (material 
   other_act = not_made m.parts named row.name row u.on j.act u.cut material.limits j.plan.tree outcome laid u.is_laid there all
 
   -- the sum of those parts alone
-  pub sum_gone : (f : Part → ℕ) → sum_by f (values (with_parts gone m.parts)) + sum_by f made ≡ sum_by f (values m.parts) + sum_by f gone
+  pub sum_gone : (f : Part → ℕ) → sum_by f (values (with_parts outgoing m.parts)) + sum_by f made ≡ sum_by f (values m.parts) + sum_by f outgoing
   sum_gone f = sum_replaced (in_state (Undone j.act)) (λ p. refl) f made m.parts apart made_there
 
   -- the sum of all parts, when the part stands again in their place
   pub sum_back : (f : Part → ℕ)
-      → sum_by f (values (with_parts gone (insert m.parts row.name (in_state Standing row)))) + f row + sum_by f made
-      ≡ sum_by f (values m.parts) + f (in_state Standing row) + sum_by f gone
+      → sum_by f (values (with_parts outgoing (insert m.parts row.name (in_state Standing row)))) + f row + sum_by f made
+      ≡ sum_by f (values m.parts) + f (in_state Standing row) + sum_by f outgoing
   sum_back f =
       let one = sum_over names_total names_same f m.parts row.name row (in_state Standing row) u.on in
       let more = sum_replaced (in_state (Undone j.act)) (λ p. refl) f made (insert m.parts row.name (in_state Standing row)) apart

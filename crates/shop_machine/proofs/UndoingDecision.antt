@@ -87,9 +87,9 @@ module _ (found_job : Option Job) (halt : Option JobHalt) (part : Option Part) (
       by (Some m) is = subst (λ (r : CutParams). E j p r) (sym is) it
 
 -- the change of a job that is undone, from the parts that it left and their cells
-pub undo_made : (end : Stop) (j : Job) (p : Part) (params : CutParams) (t : Totals) (rows : List Demand) (left undone : List Part) (gone come after : Totals) (base : Change)
-    → base ≡ no_change (reply.Undo j.act j.part) → left ≡ left_parts end j p params → undone ≡ map (in_state (Undone j.act)) left → gone ≡ tally left
-    → come ≡ tally (in_state Standing p ∷ []) → after ≡ totals_after gone come t
+pub undo_made : (end : Stop) (j : Job) (p : Part) (params : CutParams) (t : Totals) (rows : List Demand) (left undone : List Part) (outgoing incoming after : Totals) (base : Change)
+    → base ≡ no_change (reply.Undo j.act j.part) → left ≡ left_parts end j p params → undone ≡ map (in_state (Undone j.act)) left → outgoing ≡ tally left
+    → incoming ≡ tally (in_state Standing p ∷ []) → after ≡ totals_after outgoing incoming t
     → record base {
       moved = Some (in_state Standing p);
       undone = undone;
@@ -97,11 +97,11 @@ pub undo_made : (end : Stop) (j : Job) (p : Part) (params : CutParams) (t : Tota
       demands = rows;
       totals = Some (record { material = p.material; totals = after });
     } ≡ undo_change end j p params t rows
-undo_made end j p params t rows left undone gone come after base e l u g c a =
+undo_made end j p params t rows left undone outgoing incoming after base e l u g c a =
     let parts : undone ≡ map (in_state (Undone j.act)) (left_parts end j p params) = u ∙ ap (map (in_state (Undone j.act))) l in
-    let cells : gone ≡ tally (left_parts end j p params) = g ∙ ap tally l in
+    let cells : outgoing ≡ tally (left_parts end j p params) = g ∙ ap tally l in
     let sums : after ≡ totals_after (tally (left_parts end j p params)) (tally (in_state Standing p ∷ [])) t =
-    a ∙ ap (λ (x : Totals). totals_after x come t) cells ∙ ap (λ (x : Totals). totals_after (tally (left_parts end j p params)) x t) c in
+    a ∙ ap (λ (x : Totals). totals_after x incoming t) cells ∙ ap (λ (x : Totals). totals_after (tally (left_parts end j p params)) x t) c in
     λ i.
     record (e i) {
       moved = Some (in_state Standing p);
@@ -118,17 +118,17 @@ module _ (end : Stop) (j : Job) (p : Part) (params : CutParams) where
   pub left_is : (laid : List Row) (left : List Part) → laid ≡ laid_by end j → left ≡ map (row_part p params j.act) laid → left ≡ left_parts end j p params
   left_is laid left rows is = is ∙ ap (map (row_part p params j.act)) rows
 
-  pub gone_is : (laid : List Row) (gone : Totals) → laid ≡ laid_by end j → gone ≡ tally (map (row_part p params j.act) laid) → gone ≡ tally (left_parts end j p params)
-  gone_is laid gone rows is = is ∙ ap (λ (rows : List Row). tally (map (row_part p params j.act) rows)) rows
+  pub gone_is : (laid : List Row) (outgoing : Totals) → laid ≡ laid_by end j → outgoing ≡ tally (map (row_part p params j.act) laid) → outgoing ≡ tally (left_parts end j p params)
+  gone_is laid outgoing rows is = is ∙ ap (λ (rows : List Row). tally (map (row_part p params j.act) rows)) rows
 
   pub is_left : (found left : List Part) (test b : Bool) → left ≡ left_parts end j p params → test ≡ (same_state p.state (Cut j.act) && same_parts found left) → test ≡ b
       → are_as_left end j p params found ≡ b
   is_left found left test b is tests says = ap (λ (ps : List Part). same_state p.state (Cut j.act) && same_parts found ps) (sym is) ∙ sym tests ∙ says
 
-  pub holds_cells : (t gone : Totals) (most : ℕ) (test b : Bool) → gone ≡ tally (left_parts end j p params) → most ≡ p.size.w * p.size.h → test ≡ have_cells most gone t → test ≡ b
+  pub holds_cells : (t outgoing : Totals) (most : ℕ) (test b : Bool) → outgoing ≡ tally (left_parts end j p params) → most ≡ p.size.w * p.size.h → test ≡ have_cells most outgoing t → test ≡ b
       → have_cells (p.size.w * p.size.h) (tally (left_parts end j p params)) t ≡ b
-  holds_cells t gone most test b is cells tests says =
-      ap (λ (x : Totals). have_cells (p.size.w * p.size.h) x t) (sym is) ∙ ap (λ n. have_cells n gone t) (sym cells) ∙ sym tests ∙ says
+  holds_cells t outgoing most test b is cells tests says =
+      ap (λ (x : Totals). have_cells (p.size.w * p.size.h) x t) (sym is) ∙ ap (λ n. have_cells n outgoing t) (sym cells) ∙ sym tests ∙ says
 
   pub taken_back : (at : ℕ → Option Demand) (t : Totals) (cells made : Bool) → have_cells (p.size.w * p.size.h) (tally (left_parts end j p params)) t ≡ cells
       → list_all (λ (leaf : Leaf). has_made (pieces_in leaf.demand (laid_by end j)) (at leaf.demand)) (plan_leaves j.plan) ≡ made

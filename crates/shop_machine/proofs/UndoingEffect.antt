@@ -38,10 +38,10 @@ use Rattle.shop_machine.proofs.Undoable.{IsUndoable, there, all, undoable}
 -- where each demand stands under its own number, and no more was laid than the tree's pieces
 pub no_unmade : (old : FinMap nat_cmp Demand) (tree : Tree) (laid : List Row) → ((d : ℕ) → pieces_in d laid ≤ count_of tree d)
     → ((number : ℕ) (d : Demand) → get old number ≡ Some d → d.number ≡ number) → LeavesOthers old (with_unmade laid) tree
-no_unmade old tree laid few numbered number d is gone =
+no_unmade old tree laid few numbered number d is outgoing =
     let less = few d.number in
     let own : count_of tree d.number ≡ count_of tree number = ap (count_of tree) (numbered number d is) in
-    same_demand (with_unmade laid 0 d) d refl refl refl refl refl refl refl refl refl (omega (arith, less, own, gone))
+    same_demand (with_unmade laid 0 d) d refl refl refl refl refl refl refl refl refl (omega (arith, less, own, outgoing))
 
 module _ (texts : Texts) (message : Message) (earlier : List Effect) (old : Content) (well_formed : IsWellFormed texts old) (f : Follows earlier old)
     (j : Job) (row : Part) (material : Material) (outcome : ℕ → Outcome) (laid : List Row) (u : IsUndoable old j row material outcome laid) where

@@ -12,7 +12,7 @@ use Rattle.std.proofs.lemmas.Nat.{mul-le}
 use Rattle.cut_measure.specs.declared.ranges.TheConstants.{MAX_WIDTH, MAX_HEIGHT, MAX_NUMBERS}
 use Rattle.cut_measure.specs.Codes.{code_cmp}
 use Rattle.cut_measure.specs.Names.{Name, name_cmp}
-use Rattle.cut_measure.specs.Measures.{CutParams, Extent, is_kept}
+use Rattle.cut_measure.specs.Measures.{CutParams, Size, is_kept}
 use Rattle.cut_tree.specs.declared.lay.Owner.{Owner}
 use Rattle.cut_tree.specs.declared.lay.Owner.TheVariants as owner
 use Rattle.cut_tree.specs.declared.lay.Row.{Row}
@@ -56,7 +56,7 @@ use Rattle.shop_machine.proofs.Undoable.{IsUndoable, there, all, made_of, rise, 
 use Rattle.shop_machine.proofs.UndoingEffect.{no_unmade}
 
 -- what is made at a job's end isn't reserved
-after_cut_free : (number : ℕ) (params : CutParams) (o : Owner) (size : Extent) → is_reserved_for number (state_after_cut params o size) ≡ false
+after_cut_free : (number : ℕ) (params : CutParams) (o : Owner) (size : Size) → is_reserved_for number (state_after_cut params o size) ≡ false
 after_cut_free number params (owner.Piece demand) size = refl
 after_cut_free number params owner.Rest size = by (is_kept params size)
   where
@@ -113,8 +113,8 @@ module _ (m : Content) (stock : IsStock m) (j : Job) (row : Part) (material : Ma
   abbrev made : List Part
   made = map (row_part row material.limits j.act) laid
 
-  abbrev gone : List Part
-  gone = map (in_state (state.Undone j.act)) made
+  abbrev outgoing : List Part
+  outgoing = map (in_state (state.Undone j.act)) made
 
   here : (r : Row) → IsIn r laid → part_at m (record { act = j.act; node = r.node }) ≡ Some (row_part row material.limits j.act r)
   here = there m named j row material (outcome_of end) laid u
@@ -128,15 +128,15 @@ module _ (m : Content) (stock : IsStock m) (j : Job) (row : Part) (material : Ma
   row_cut : row ≡ in_state (state.Cut j.act) row
   row_cut = λ i. record row { state = u.cut i }
 
-  sums : (f : Part → ℕ) → sum_by f (values (with_parts gone (insert m.parts row.name (in_state state.Standing row)))) + f row + sum_by f made
-      ≡ sum_by f (values m.parts) + f (in_state state.Standing row) + sum_by f gone
+  sums : (f : Part → ℕ) → sum_by f (values (with_parts outgoing (insert m.parts row.name (in_state state.Standing row)))) + f row + sum_by f made
+      ≡ sum_by f (values m.parts) + f (in_state state.Standing row) + sum_by f outgoing
   sums = sum_back m named j row material (outcome_of end) laid u
 
-  gone_none : (f : Part → ℕ) → ((p : Part) → f (in_state (state.Undone j.act) p) ≡ 0) → sum_by f gone ≡ 0
+  gone_none : (f : Part → ℕ) → ((p : Part) → f (in_state (state.Undone j.act) p) ≡ 0) → sum_by f outgoing ≡ 0
   gone_none f none = sum_map f (in_state (state.Undone j.act)) made ∙ sum_none (λ p. f (in_state (state.Undone j.act) p)) made (λ p i. none p)
 
   -- pieces of a demand
-  made_less : (d : ℕ) → count_by (λ (p : Part). is_piece_for d p.state) (values (with_parts gone (insert m.parts row.name (in_state state.Standing row)))) + pieces_in d laid ≡ made_in d m
+  made_less : (d : ℕ) → count_by (λ (p : Part). is_piece_for d p.state) (values (with_parts outgoing (insert m.parts row.name (in_state state.Standing row)))) + pieces_in d laid ≡ made_in d m
   made_less d =
       let f : Part → ℕ = λ p. if is_piece_for d p.state then 1 else 0 in
       let sum = sums f in
@@ -157,7 +157,7 @@ module _ (m : Content) (stock : IsStock m) (j : Job) (row : Part) (material : Ma
       omega (arith, sum, none, count)
 
   column_back : (c : Column) → is_after_cut c ≡ true → (code : List ℕ) (b : Bool) → is_eq (code_cmp row.material code) ≡ b
-      → cells_in c code (values (with_parts gone (insert m.parts row.name (in_state state.Standing row)))) + (if b then cells_counted c made else 0)
+      → cells_in c code (values (with_parts outgoing (insert m.parts row.name (in_state state.Standing row)))) + (if b then cells_counted c made else 0)
       ≡ cells_in c code (values m.parts) + (if b then cells_counted c (in_state state.Standing row ∷ []) else 0)
   column_back c is code b e =
       let sum = sums (cells_as c code) in
@@ -168,16 +168,16 @@ module _ (m : Content) (stock : IsStock m) (j : Job) (row : Part) (material : Ma
       let count = of_material row.material code c b e made (λ x i. ap (λ (p : Part). p.material) (made_of m named j row material (outcome_of end) laid u x i).2) in
       omega (arith, sum, none, cut, stands, count)
 
-  received_back : (code : List ℕ) → cells_in Received code (values (with_parts gone (insert m.parts row.name (in_state state.Standing row)))) ≡ cells_in Received code (values m.parts)
+  received_back : (code : List ℕ) → cells_in Received code (values (with_parts outgoing (insert m.parts row.name (in_state state.Standing row)))) ≡ cells_in Received code (values m.parts)
   received_back code =
       let f : Part → ℕ = cells_as Received code in
       let sum = sums f in
-      let same : sum_by f gone ≡ sum_by f made = sum_map f (in_state (state.Undone j.act)) made in
+      let same : sum_by f outgoing ≡ sum_by f made = sum_map f (in_state (state.Undone j.act)) made in
       let stands : f (in_state state.Standing row) ≡ f row = refl in
       omega (arith, sum, same, stands)
 
   move_back : (c : Column) → is_after_cut c ≡ true
-      → cells_in c row.material (values (with_parts gone (insert m.parts row.name (in_state state.Standing row))))
+      → cells_in c row.material (values (with_parts outgoing (insert m.parts row.name (in_state state.Standing row))))
       ≡ cells_in c row.material (values m.parts) - cells_counted c made + cells_counted c (in_state state.Standing row ∷ [])
   move_back c is =
       let sum = column_back c is row.material true (own row.material) in
@@ -185,10 +185,10 @@ module _ (m : Content) (stock : IsStock m) (j : Job) (row : Part) (material : Ma
       omega (arith, sum, less)
 
   stay_back : (c : Column) → is_after_cut c ≡ true → (code : List ℕ) → is_eq (code_cmp row.material code) ≡ false
-      → cells_in c code (values (with_parts gone (insert m.parts row.name (in_state state.Standing row)))) ≡ cells_in c code (values m.parts)
+      → cells_in c code (values (with_parts outgoing (insert m.parts row.name (in_state state.Standing row)))) ≡ cells_in c code (values m.parts)
   stay_back c is code e = let sum = column_back c is code false e in omega (arith, sum)
 
-  sums_back : (code : List ℕ) → totals_in code (values (with_parts gone (insert m.parts row.name (in_state state.Standing row))))
+  sums_back : (code : List ℕ) → totals_in code (values (with_parts outgoing (insert m.parts row.name (in_state state.Standing row))))
       ≡ with_totals (Some (record { material = row.material; totals = totals_after (tally made) (tally (in_state state.Standing row ∷ [])) (totals_of m row.material) })) code (totals_of m code)
   sums_back code = by (is_eq (code_cmp row.material code)) refl
     where
@@ -196,16 +196,16 @@ module _ (m : Content) (stock : IsStock m) (j : Job) (row : Part) (material : Ma
       now = totals_after (tally made) (tally (in_state state.Standing row ∷ [])) (totals_of m row.material)
 
       by : (b : Bool) → is_eq (code_cmp row.material code) ≡ b
-          → totals_in code (values (with_parts gone (insert m.parts row.name (in_state state.Standing row))))
+          → totals_in code (values (with_parts outgoing (insert m.parts row.name (in_state state.Standing row))))
           ≡ (if is_eq (code_cmp row.material code) then totals_after (tally made) (tally (in_state state.Standing row ∷ [])) (totals_of m row.material) else totals_of m code)
       by true e =
-          ap (λ c. totals_in c (values (with_parts gone (insert m.parts row.name (in_state state.Standing row))))) (sym (codes_same row.material code (equal (code_cmp row.material code) e)))
-          ∙ same_totals (totals_in row.material (values (with_parts gone (insert m.parts row.name (in_state state.Standing row)))))
+          ap (λ c. totals_in c (values (with_parts outgoing (insert m.parts row.name (in_state state.Standing row))))) (sym (codes_same row.material code (equal (code_cmp row.material code) e)))
+          ∙ same_totals (totals_in row.material (values (with_parts outgoing (insert m.parts row.name (in_state state.Standing row)))))
           (totals_after (tally made) (tally (in_state state.Standing row ∷ [])) (totals_of m row.material)) (received_back row.material)
           (move_back Stock refl) (move_back Rack refl) (move_back Pieces refl) (move_back Kerf refl) (move_back Scrap refl) (move_back Returned refl)
           ∙ sym (ap (λ b. if b then totals_after (tally made) (tally (in_state state.Standing row ∷ [])) (totals_of m row.material) else totals_of m code) e)
       by false e =
-          same_totals (totals_in code (values (with_parts gone (insert m.parts row.name (in_state state.Standing row))))) (totals_of m code) (received_back code)
+          same_totals (totals_in code (values (with_parts outgoing (insert m.parts row.name (in_state state.Standing row))))) (totals_of m code) (received_back code)
           (stay_back Stock refl code e) (stay_back Rack refl code e) (stay_back Pieces refl code e) (stay_back Kerf refl code e) (stay_back Scrap refl code e) (stay_back Returned refl code e)
           ∙ sym (ap (λ b. if b then totals_after (tally made) (tally (in_state state.Standing row ∷ [])) (totals_of m row.material) else totals_of m code) e)
 
@@ -406,13 +406,13 @@ module _ (m : Content) (stock : IsStock m) (j : Job) (row : Part) (material : Ma
       parts = All-nil _;
       rising = no_message_ids (λ (a b : Part). name_cmp a.name b.name ≡ Less);
       moved = record { before = row; found = u.on; is = refl; known = is_known (material_at m row.material) material u.known };
-      undone = all_from (IsMovedPart m) gone
+      undone = all_from (IsMovedPart m) outgoing
           (λ x i.
           let a = in_map (in_state (state.Undone j.act)) made x i in
           let r = made_of m named j row material (outcome_of end) laid u a.0 a.1 in
           subst (IsMovedPart m) (sym (a.2 ∙ ap (in_state (state.Undone j.act)) r.2))
           (record { before = row_part row material.limits j.act r.0; found = here r.0 r.1; is = refl; known = is_known (material_at m row.material) material u.known }));
-      apart = pairs_from (λ (a b : Part). name_cmp a.name b.name ≡ Less) gone
+      apart = pairs_from (λ (a b : Part). name_cmp a.name b.name ≡ Less) outgoing
           (map_pairs (λ (a b : Part). name_cmp a.name b.name ≡ Less) (in_state (state.Undone j.act)) made (rise m named j row material (outcome_of end) laid u));
       halt = tt;
       begun = tt;

@@ -2,7 +2,7 @@
 use Rattle.std.specs.Prelude.{◌≡◌, ℕ, ◌+◌, ◌&&◌, ◌==◌, List, [], ◌∷◌, map, Bool, false, not, nat_le, if◌then◌else◌, Option, Some, None, length, is_some, true, ◌||◌}
 use Rattle.std.specs.List.{list_all}
 use Rattle.cut_measure.specs.declared.ranges.TheConstants.{MAX_WIDTH, MAX_HEIGHT, MAX_NUMBERS}
-use Rattle.cut_measure.specs.Measures.{Extent, CutParams, is_kept}
+use Rattle.cut_measure.specs.Measures.{Size, CutParams, is_kept}
 use Rattle.cut_tree.specs.declared.lay.Owner.{Owner}
 use Rattle.cut_tree.specs.declared.lay.Owner.TheVariants as owner
 use Rattle.cut_tree.specs.declared.lay.Row.{Row}
@@ -95,7 +95,7 @@ pub record IsWork (old : Content) (number : ℕ) (j : Job) (part : Part) (materi
   pub of : material_at old part.material ≡ Some material
 
 -- what becomes of a laid rectangle
-abbrev pub state_after_cut : CutParams → Owner → Extent → State
+abbrev pub state_after_cut : CutParams → Owner → Size → State
 state_after_cut params (owner.Piece demand) size = Piece demand
 state_after_cut params owner.Rest size = if is_kept params size then Standing else Scrap
 state_after_cut params owner.Kerf size = Kerf
@@ -105,7 +105,7 @@ state_after_cut params owner.Lost size = Scrap
 -- the part that a laid row of a job on a part becomes, in the received unit's coordinates
 abbrev pub row_part : Part → CutParams → ℕ → Row → Part
 row_part part params act row =
-    let size : Extent = record { w = row.w; h = row.h } in
+    let size : Size = record { w = row.w; h = row.h } in
     record {
       name = record { act = act; node = row.node };
       material = part.material;
@@ -125,9 +125,9 @@ ended_state (stop.Saved halt rest) = job.Broken
 
 -- the cells of the new parts, column by column, are reported
 abbrev pub ended_reply : Stop → ℕ → Totals → Reply
-ended_reply stop.All number come = reply.Done number come.kerf come.pieces come.rack come.scrap
-ended_reply (stop.After halt) number come = reply.Break number come.kerf come.pieces come.rack come.scrap
-ended_reply (stop.Saved halt rest) number come = reply.Break number come.kerf come.pieces come.rack come.scrap
+ended_reply stop.All number incoming = reply.Done number incoming.kerf incoming.pieces incoming.rack incoming.scrap
+ended_reply (stop.After halt) number incoming = reply.Break number incoming.kerf incoming.pieces incoming.rack incoming.scrap
+ended_reply (stop.Saved halt rest) number incoming = reply.Break number incoming.kerf incoming.pieces incoming.rack incoming.scrap
 
 -- where the work on the plan halted is kept
 abbrev pub kept_halt : Stop → ℕ → Option JobHalt

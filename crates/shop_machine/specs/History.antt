@@ -6,7 +6,7 @@ use Rattle.std.specs.Option.{option_map}
 use Rattle.std.specs.FinMap as maps
 use Rattle.cut_measure.specs.Codes.{code_cmp}
 use Rattle.cut_measure.specs.Names.{Name, name_cmp}
-use Rattle.cut_measure.specs.Measures.{Extent, CutParams, below, cells_of}
+use Rattle.cut_measure.specs.Measures.{Size, CutParams, below, cells_of}
 use Rattle.cut_tree.specs.Tree.{Tree}
 use Rattle.cut_tree.specs.Cells.{Outcome, Spot, spot_of}
 use Rattle.shop_records.specs.declared.records.Part.{Part}
@@ -103,7 +103,7 @@ pub record ReceivedUnit : Type 0 where
   pub name : Name
   pub material : List ℕ
   pub batch : List ℕ
-  pub size : Extent
+  pub size : Size
 
 -- what was done, the newest first
 abbrev pub effects_of : List Entry → List Effect
@@ -207,7 +207,7 @@ job_of (done ∷ earlier) number = job_by done (acts_of earlier + 1) number (job
 pub record Owner : Type 0 where
   pub state : State
   pub name : Name
-  pub size : Extent
+  pub size : Size
   pub x : ℕ
   pub y : ℕ
 
@@ -218,7 +218,7 @@ stands_as part owner = same_name owner.name part && is_free owner.state
 -- a cell at that spot of a job
 abbrev pub owner_at : CutParams → ℕ → Spot → Owner
 owner_at params number spot =
-    let size : Extent = record { w = spot.w; h = spot.h } in
+    let size : Size = record { w = spot.w; h = spot.h } in
     record { state = state_after_cut params spot.owner size; name = record { act = number; node = spot.node }; size = size; x = spot.x; y = spot.y }
 
 -- The owner after the cuts of a job, before which it was this one: where that was the job's part, the cell is followed down

@@ -1,7 +1,7 @@
 -- Importing an order from a file.
 use Rattle.std.specs.Prelude.{◌≡◌, ℕ, suc, List, [], ◌∷◌, Bool, false, if◌then◌else◌, not, length, Option, Some, None, IfSome, MatchOption}
 use Rattle.std.specs.Option.{option_or}
-use Rattle.cut_measure.specs.Measures.{Extent, is_size}
+use Rattle.cut_measure.specs.Measures.{Size, is_size}
 use Rattle.shop_files.specs.declared.orders.OrderLine.{OrderLine}
 use Rattle.shop_files.specs.declared.problems.Piece.{Piece}
 use Rattle.shop_files.specs.Orders.{IsOrders}
@@ -34,7 +34,7 @@ abbrev pub Spells : Form → List ℕ → Reading → Type 0
 Spells Csv text (Lines lines) = IsOrders text lines
 Spells Csv text unread = (lines : List OrderLine) → IsOrders text lines → ⊥
 Spells (Cgcut material) text (Problem size pieces) = IsProblem text size pieces
-Spells (Cgcut material) text unread = (size : Extent) (pieces : List Piece) → IsProblem text size pieces → ⊥
+Spells (Cgcut material) text unread = (size : Size) (pieces : List Piece) → IsProblem text size pieces → ⊥
 Spells form text _ = ⊥
 
 -- what an import stands for, from the row that is kept of its order: the same again, or what its text spells
@@ -64,12 +64,12 @@ abbrev pub unread_refusal : Bool → Refusal
 unread_refusal used = if used then OrderExists else BadText
 
 -- the material is known, and the rectangle is one of its sizes
-abbrev pub unit_refusal : Option Material → Extent → Option Refusal
+abbrev pub unit_refusal : Option Material → Size → Option Refusal
 unit_refusal None size = Some NoMaterial
 unit_refusal (Some m) size = first_of ((not (is_size m.kind size.w size.h), BadSize) ∷ [])
 
 -- of a problem: its rectangle is judged as a receipt of one unit, and its lines as an order
-abbrev pub problem_refusal : Bool → (List ℕ → Option Material) → Option Material → Totals → (act first : ℕ) → Extent → List OrderLine → Option Refusal
+abbrev pub problem_refusal : Bool → (List ℕ → Option Material) → Option Material → Totals → (act first : ℕ) → Size → List OrderLine → Option Refusal
 problem_refusal used at known totals act first size lines =
     option_or (first_of ((used, OrderExists) ∷ []))
     (option_or (unit_refusal known size)
@@ -104,7 +104,7 @@ lines_change order text lines first =
     }
 
 -- a problem makes an order, and receives a unit of its rectangle, the order's code being its batch
-abbrev pub problem_change : List ℕ → List ℕ → List ℕ → Extent → List OrderLine → Totals → (act first : ℕ) → Change
+abbrev pub problem_change : List ℕ → List ℕ → List ℕ → Size → List OrderLine → Totals → (act first : ℕ) → Change
 problem_change order material text size lines totals act first =
     let receipt : Change = receive_change material order size act 1 totals in
     record (order_change order lines first) {

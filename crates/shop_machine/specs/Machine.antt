@@ -2,7 +2,7 @@
 use Rattle.std.specs.Prelude.{◌≡◌, ◌≢◌, ◌+◌, ℕ, List, [], ◌∷◌, Option, Some, None, MatchOption, max}
 use Rattle.std.specs.Option.{option_map}
 use Rattle.cut_measure.specs.Names.{Name}
-use Rattle.cut_measure.specs.Measures.{Extent, CutParams}
+use Rattle.cut_measure.specs.Measures.{Size, CutParams}
 use Rattle.cut_tree.specs.declared.halts.Stop.TheVariants as stop
 use Rattle.cut_tree.specs.Tree.{Tree}
 use Rattle.cut_tree.specs.Cells.{Outcome, all_made}
@@ -136,7 +136,7 @@ pub data Effect : Type 0 where
   -- a material is cut by these parameters
   SetsParams : (material : List ℕ) (params : CutParams) → Effect
   -- an act: units of one size are received
-  Receives : (material batch : List ℕ) (size : Extent) (count : ℕ) → Effect
+  Receives : (material batch : List ℕ) (size : Size) (count : ℕ) → Effect
   -- lines of an order are asked for, the first ones or further ones
   Orders : (order : List ℕ) (lines : List OrderLine) → Effect
   -- an act: a part is to be cut by this tree

@@ -24,37 +24,37 @@ tally parts =
     }
 
 -- a total holds what goes, and 64 bits hold it with so much more
-abbrev pub can_move : (gone most total : ℕ) → Bool
-can_move gone most total = nat_le gone total && nat_lt (total + most) (2 ^ 64)
+abbrev pub can_move : (outgoing most total : ℕ) → Bool
+can_move outgoing most total = nat_le outgoing total && nat_lt (total + most) (2 ^ 64)
 
 -- The totals of a part's material hold the part, and as many cells more. So they do in each content that a history gives.
 abbrev pub has_cells : Part → Totals → Bool
 has_cells part t =
-    let gone : Totals = tally (part ∷ []) in
+    let outgoing : Totals = tally (part ∷ []) in
     let most : ℕ = part.size.w * part.size.h in
-    can_move gone.stock most t.stock && can_move gone.rack most t.rack && can_move gone.pieces most t.pieces && can_move gone.kerf most t.kerf
-    && can_move gone.scrap most t.scrap && can_move gone.returned most t.returned
+    can_move outgoing.stock most t.stock && can_move outgoing.rack most t.rack && can_move outgoing.pieces most t.pieces && can_move outgoing.kerf most t.kerf
+    && can_move outgoing.scrap most t.scrap && can_move outgoing.returned most t.returned
 
 -- no more than so many cells, in each column but that of received
-pub record AreFew (most : ℕ) (come : Totals) : Type 0 where
-  pub stock : come.stock ≤ most
-  pub rack : come.rack ≤ most
-  pub pieces : come.pieces ≤ most
-  pub kerf : come.kerf ≤ most
-  pub scrap : come.scrap ≤ most
-  pub returned : come.returned ≤ most
+pub record AreFew (most : ℕ) (incoming : Totals) : Type 0 where
+  pub stock : incoming.stock ≤ most
+  pub rack : incoming.rack ≤ most
+  pub pieces : incoming.pieces ≤ most
+  pub kerf : incoming.kerf ≤ most
+  pub scrap : incoming.scrap ≤ most
+  pub returned : incoming.returned ≤ most
 
 -- The totals when a part becomes other parts, of which these are the cells: its own go, and theirs come. What was received
 -- stays.
 abbrev pub moved_totals : Part → Totals → Totals → Totals
-moved_totals part come t =
-    let gone : Totals = tally (part ∷ []) in
+moved_totals part incoming t =
+    let outgoing : Totals = tally (part ∷ []) in
     record {
       received = t.received;
-      stock = t.stock - gone.stock + come.stock;
-      rack = t.rack - gone.rack + come.rack;
-      pieces = t.pieces - gone.pieces + come.pieces;
-      kerf = t.kerf - gone.kerf + come.kerf;
-      scrap = t.scrap - gone.scrap + come.scrap;
-      returned = t.returned - gone.returned + come.returned;
+      stock = t.stock - outgoing.stock + incoming.stock;
+      rack = t.rack - outgoing.rack + incoming.rack;
+      pieces = t.pieces - outgoing.pieces + incoming.pieces;
+      kerf = t.kerf - outgoing.kerf + incoming.kerf;
+      scrap = t.scrap - outgoing.scrap + incoming.scrap;
+      returned = t.returned - outgoing.returned + incoming.returned;
     }

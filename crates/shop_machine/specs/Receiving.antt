@@ -1,7 +1,7 @@
 -- Receiving units.
 use Rattle.std.specs.Prelude.{ℕ, ◌+◌, ◌*◌, ◌&&◌, List, [], ◌∷◌, map, not, nat_le, nat_lt, Option, Some, None}
 use Rattle.cut_measure.specs.declared.ranges.TheConstants.{MAX_NUMBERS}
-use Rattle.cut_measure.specs.Measures.{Extent, is_size, below}
+use Rattle.cut_measure.specs.Measures.{Size, is_size, below}
 use Rattle.shop_records.specs.declared.records.TheConstants.{MAX_RECEIVED}
 use Rattle.shop_machine.specs.declared.receiving.TheConstants.{MAX_RECEIVED_UNITS}
 use Rattle.shop_records.specs.declared.records.Material.{Material}
@@ -24,7 +24,7 @@ receive_refusal (Some m) totals act w h count =
     ∷ (not (nat_le totals.stock totals.received), StoreFault) ∷ [])
 
 -- the unit of this index: it stands, and is its own root
-abbrev pub unit_part : List ℕ → List ℕ → Extent → ℕ → ℕ → Part
+abbrev pub unit_part : List ℕ → List ℕ → Size → ℕ → ℕ → Part
 unit_part material batch size act i =
     record {
       name = record { act = act; node = i };
@@ -37,14 +37,14 @@ unit_part material batch size act i =
       state = Standing;
     }
 
-abbrev pub unit_parts : List ℕ → List ℕ → Extent → ℕ → ℕ → List Part
+abbrev pub unit_parts : List ℕ → List ℕ → Size → ℕ → ℕ → List Part
 unit_parts material batch size act count = map (unit_part material batch size act) (below count)
 
 -- all cells of the units were received, and are in stock
 abbrev pub received_totals : ℕ → Totals → Totals
 received_totals cells t = record t { received = t.received + cells; stock = t.stock + cells }
 
-abbrev pub receive_change : List ℕ → List ℕ → Extent → ℕ → ℕ → Totals → Change
+abbrev pub receive_change : List ℕ → List ℕ → Size → ℕ → ℕ → Totals → Change
 receive_change material batch size act count totals =
     record (no_change (reply.Receive act count)) {
       parts = unit_parts material batch size act count;

@@ -55,23 +55,23 @@ abbrev pub are_as_left : Stop → Job → Part → CutParams → List Part → B
 are_as_left end j part params found = same_state part.state (Cut j.act) && same_parts found (left_parts end j part params)
 
 -- the totals when these cells go and those come; what was received stays
-abbrev pub totals_after : (gone come t : Totals) → Totals
-totals_after gone come t =
+abbrev pub totals_after : (outgoing incoming t : Totals) → Totals
+totals_after outgoing incoming t =
     record {
       received = t.received;
-      stock = t.stock - gone.stock + come.stock;
-      rack = t.rack - gone.rack + come.rack;
-      pieces = t.pieces - gone.pieces + come.pieces;
-      kerf = t.kerf - gone.kerf + come.kerf;
-      scrap = t.scrap - gone.scrap + come.scrap;
-      returned = t.returned - gone.returned + come.returned;
+      stock = t.stock - outgoing.stock + incoming.stock;
+      rack = t.rack - outgoing.rack + incoming.rack;
+      pieces = t.pieces - outgoing.pieces + incoming.pieces;
+      kerf = t.kerf - outgoing.kerf + incoming.kerf;
+      scrap = t.scrap - outgoing.scrap + incoming.scrap;
+      returned = t.returned - outgoing.returned + incoming.returned;
     }
 
 -- the totals hold the cells that go, and as many more as a part has
-abbrev pub have_cells : (most : ℕ) → (gone t : Totals) → Bool
-have_cells most gone t =
-    can_move gone.stock most t.stock && can_move gone.rack most t.rack && can_move gone.pieces most t.pieces && can_move gone.kerf most t.kerf
-    && can_move gone.scrap most t.scrap && can_move gone.returned most t.returned
+abbrev pub have_cells : (most : ℕ) → (outgoing t : Totals) → Bool
+have_cells most outgoing t =
+    can_move outgoing.stock most t.stock && can_move outgoing.rack most t.rack && can_move outgoing.pieces most t.pieces && can_move outgoing.kerf most t.kerf
+    && can_move outgoing.scrap most t.scrap && can_move outgoing.returned most t.returned
 
 -- so many of the demand are made
 abbrev pub has_made : ℕ → Option Demand → Bool

@@ -249,8 +249,8 @@ fn ended_state(stop: &Stop) -> JobState
 }
 
 // What is reported of a job that ended so: the cells of its new parts.
-fn ended_reply(stop: &Stop, job: u32, come: &Totals) -> Reply
-    ensures { result ≡ ended_reply stop.now job come.now }
+fn ended_reply(stop: &Stop, job: u32, incoming: &Totals) -> Reply
+    ensures { result ≡ ended_reply stop.now job incoming.now }
 {
     let Totals {
         kerf,
@@ -258,7 +258,7 @@ fn ended_reply(stop: &Stop, job: u32, come: &Totals) -> Reply
         rack,
         scrap,
         ..
-    } = *come;
+    } = *incoming;
     match stop {
         Stop::All => Reply::Done {
             job,
@@ -336,8 +336,8 @@ pub(crate) fn ended_parts(
 {
     let _stop = stop;
     let parts = cut_parts(alloc, part, limits, job.act, rows)?;
-    let come = tally(parts.as_slice());
-    Ok((parts, come))
+    let incoming = tally(parts.as_slice());
+    Ok((parts, incoming))
 }
 
 // The rows of a plan's demands once its pieces aren't reserved any more, and those that were laid are made.
@@ -378,8 +378,8 @@ fn end(
     let rows = laid_rows(alloc, &job.plan, stop)?;
     let laid: &[Row] = &rows;
     let demands = laid_demands(alloc, &job.plan, laid, leaves)?;
-    let (parts, come) = ended_parts(alloc, &job, &part, limits, stop, laid)?;
-    let reply = ended_reply(stop, job.act, &come);
+    let (parts, incoming) = ended_parts(alloc, &job, &part, limits, stop, laid)?;
+    let reply = ended_reply(stop, job.act, &incoming);
     let halt = kept_halt(alloc, stop, job.act)?;
     Ok(Change {
         parts,
@@ -395,7 +395,7 @@ fn end(
         demands,
         totals: Some(MaterialTotals {
             material: part.material,
-            totals: moved_totals(&part, &come, totals),
+            totals: moved_totals(&part, &incoming, totals),
         }),
         ..no_change(alloc, reply)
     })

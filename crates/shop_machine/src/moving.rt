@@ -44,50 +44,50 @@ pub fn tally_one(part: &Part) -> Totals
 }
 
 /// Whether a total holds what goes, and has room for so much more.
-pub(crate) fn can_move(gone: u64, most: u64, total: u64) -> bool
-    ensures { result ≡ can_move gone most total }
+pub(crate) fn can_move(outgoing: u64, most: u64, total: u64) -> bool
+    ensures { result ≡ can_move outgoing most total }
 {
-    gone <= total && most <= u64::MAX - total
+    outgoing <= total && most <= u64::MAX - total
 }
 
 /// Whether the totals of a part's material hold the part, and have room for as many cells more.
 pub fn has_cells(part: &Part, totals: &Totals) -> bool
     ensures { result ≡ has_cells part.now totals.now }
 {
-    let gone = tally_one(part);
+    let outgoing = tally_one(part);
     let most = part.size.cells();
-    can_move(gone.stock, most, totals.stock)
-        && can_move(gone.rack, most, totals.rack)
-        && can_move(gone.pieces, most, totals.pieces)
-        && can_move(gone.kerf, most, totals.kerf)
-        && can_move(gone.scrap, most, totals.scrap)
-        && can_move(gone.returned, most, totals.returned)
+    can_move(outgoing.stock, most, totals.stock)
+        && can_move(outgoing.rack, most, totals.rack)
+        && can_move(outgoing.pieces, most, totals.pieces)
+        && can_move(outgoing.kerf, most, totals.kerf)
+        && can_move(outgoing.scrap, most, totals.scrap)
+        && can_move(outgoing.returned, most, totals.returned)
 }
 
 /// A total when cells go and others come.
-pub(crate) fn moved_total(gone: u64, come: u64, total: u64, most: u64) -> u64
-    requires holds { IsTrue (can_move gone most total) }
-    requires few { come ≤ most }
-    ensures { result ≡ total - gone + come }
+pub(crate) fn moved_total(outgoing: u64, incoming: u64, total: u64, most: u64) -> u64
+    requires holds { IsTrue (can_move outgoing most total) }
+    requires few { incoming ≤ most }
+    ensures { result ≡ total - outgoing + incoming }
 {
-    total - gone + come
+    total - outgoing + incoming
 }
 
 /// The totals when a part becomes other parts, of which these are the cells, column by column.
-pub fn moved_totals(part: &Part, come: &Totals, totals: &Totals) -> Totals
+pub fn moved_totals(part: &Part, incoming: &Totals, totals: &Totals) -> Totals
     requires holds { IsTrue (has_cells part.now totals.now) }
-    requires few { AreFew (part.now.size.w * part.now.size.h) come.now }
-    ensures { result ≡ moved_totals part.now come.now totals.now }
+    requires few { AreFew (part.now.size.w * part.now.size.h) incoming.now }
+    ensures { result ≡ moved_totals part.now incoming.now totals.now }
 {
-    let gone = tally_one(part);
+    let outgoing = tally_one(part);
     let most = part.size.cells();
     Totals {
         received: totals.received,
-        stock: moved_total(gone.stock, come.stock, totals.stock, most),
-        rack: moved_total(gone.rack, come.rack, totals.rack, most),
-        pieces: moved_total(gone.pieces, come.pieces, totals.pieces, most),
-        kerf: moved_total(gone.kerf, come.kerf, totals.kerf, most),
-        scrap: moved_total(gone.scrap, come.scrap, totals.scrap, most),
-        returned: moved_total(gone.returned, come.returned, totals.returned, most),
+        stock: moved_total(outgoing.stock, incoming.stock, totals.stock, most),
+        rack: moved_total(outgoing.rack, incoming.rack, totals.rack, most),
+        pieces: moved_total(outgoing.pieces, incoming.pieces, totals.pieces, most),
+        kerf: moved_total(outgoing.kerf, incoming.kerf, totals.kerf, most),
+        scrap: moved_total(outgoing.scrap, incoming.scrap, totals.scrap, most),
+        returned: moved_total(outgoing.returned, incoming.returned, totals.returned, most),
     }
 }

@@ -19,12 +19,12 @@ fn turned(alloc: Global, part: Part, state: State, totals: &Totals, reply: Reply
     ensures { result ≡ state_change state part totals.now reply }
 {
     let moved = Part { state, ..part };
-    let come = tally_one(&moved);
+    let incoming = tally_one(&moved);
     Change {
         moved: Some(moved),
         totals: Some(MaterialTotals {
             material: part.material,
-            totals: moved_totals(&part, &come, totals),
+            totals: moved_totals(&part, &incoming, totals),
         }),
         ..no_change(alloc, reply)
     }

@@ -209,31 +209,31 @@ fn are_as_left(job: u32, part: &Part, left: &[Part], found: &[Part]) -> bool
 }
 
 // Whether totals hold the cells that go, and have room for as many more as a part has.
-fn have_cells(most: u64, gone: &Totals, totals: &Totals) -> bool
-    ensures { result ≡ have_cells most gone.now totals.now }
+fn have_cells(most: u64, outgoing: &Totals, totals: &Totals) -> bool
+    ensures { result ≡ have_cells most outgoing.now totals.now }
 {
-    can_move(gone.stock, most, totals.stock)
-        && can_move(gone.rack, most, totals.rack)
-        && can_move(gone.pieces, most, totals.pieces)
-        && can_move(gone.kerf, most, totals.kerf)
-        && can_move(gone.scrap, most, totals.scrap)
-        && can_move(gone.returned, most, totals.returned)
+    can_move(outgoing.stock, most, totals.stock)
+        && can_move(outgoing.rack, most, totals.rack)
+        && can_move(outgoing.pieces, most, totals.pieces)
+        && can_move(outgoing.kerf, most, totals.kerf)
+        && can_move(outgoing.scrap, most, totals.scrap)
+        && can_move(outgoing.returned, most, totals.returned)
 }
 
 // The totals when these cells go and those come.
-fn totals_after(most: u64, gone: &Totals, come: &Totals, totals: &Totals) -> Totals
-    requires holds { IsTrue (have_cells most gone.now totals.now) }
-    requires few { AreFew most come.now }
-    ensures { result ≡ totals_after gone.now come.now totals.now }
+fn totals_after(most: u64, outgoing: &Totals, incoming: &Totals, totals: &Totals) -> Totals
+    requires holds { IsTrue (have_cells most outgoing.now totals.now) }
+    requires few { AreFew most incoming.now }
+    ensures { result ≡ totals_after outgoing.now incoming.now totals.now }
 {
     Totals {
         received: totals.received,
-        stock: moved_total(gone.stock, come.stock, totals.stock, most),
-        rack: moved_total(gone.rack, come.rack, totals.rack, most),
-        pieces: moved_total(gone.pieces, come.pieces, totals.pieces, most),
-        kerf: moved_total(gone.kerf, come.kerf, totals.kerf, most),
-        scrap: moved_total(gone.scrap, come.scrap, totals.scrap, most),
-        returned: moved_total(gone.returned, come.returned, totals.returned, most),
+        stock: moved_total(outgoing.stock, incoming.stock, totals.stock, most),
+        rack: moved_total(outgoing.rack, incoming.rack, totals.rack, most),
+        pieces: moved_total(outgoing.pieces, incoming.pieces, totals.pieces, most),
+        kerf: moved_total(outgoing.kerf, incoming.kerf, totals.kerf, most),
+        scrap: moved_total(outgoing.scrap, incoming.scrap, totals.scrap, most),
+        returned: moved_total(outgoing.returned, incoming.returned, totals.returned, most),
     }
 }
 
@@ -284,17 +284,17 @@ fn undo(
     alloc: Global,
     over: Over,
     left: &[Part],
-    gone: &Totals,
+    outgoing: &Totals,
     laid: &[Row],
     totals: &Totals,
     leaves: &[FoundLeaf],
 ) -> Result<Change, AllocError>
     requires left { left.now ≡ left_parts over.end over.job over.part over.limits }
-    requires gone { gone.now ≡ tally left.now }
+    requires outgoing { outgoing.now ≡ tally left.now }
     requires laid { laid.now ≡ laid_by over.end over.job }
     requires leaves { leaves_in leaves.now ≡ plan_leaves over.job.plan }
     requires cells { IsTrue (have_cells (over.part.size.w * over.part.size.h)
-        gone.now totals.now) }
+        outgoing.now totals.now) }
     requires rows { All (HasRow (λ n demand. pieces_in demand.number laid.now ≤ demand.made)
         over.job.plan.tree) leaves.now }
     ensures change { IfOk result
@@ -316,9 +316,9 @@ fn undo(
         state: State::Standing,
         ..part
     };
-    let come = tally_one(&moved);
+    let incoming = tally_one(&moved);
     let most = part.size.cells();
-    let after = totals_after(most, gone, &come, totals);
+    let after = totals_after(most, outgoing, &incoming, totals);
     let reply = Reply::Undo {
         job: job.act,
         part: job.part,
@@ -366,18 +366,18 @@ pub fn decide_undo(
     let over = find_over(job, halt, part, material)?;
     let rows = laid_by(alloc, &over.end, &over.job)?;
     let laid: &[Row] = &rows;
-    let (left, gone) = ended_parts(alloc, &over.job, &over.part, over.limits, &over.end, laid)?;
+    let (left, outgoing) = ended_parts(alloc, &over.job, &over.part, over.limits, &over.end, laid)?;
     let parts = left.as_slice();
     if !are_as_left(over.job.act, &over.part, parts, found) {
         return Err(Refusal::PartsMoved);
     }
     let most = over.part.size.cells();
-    if !have_cells(most, &gone, &totals) {
+    if !have_cells(most, &outgoing, &totals) {
         return Err(Refusal::StoreFault);
     }
     if !are_made(laid, leaves) {
         return Err(Refusal::StoreFault);
     }
-    let change = undo(alloc, over, parts, &gone, laid, &totals, leaves)?;
+    let change = undo(alloc, over, parts, &outgoing, laid, &totals, leaves)?;
     Ok(change)
 }

@@ -6,8 +6,8 @@ use Rattle.std.proofs.lemmas.List.{append-nil, drop_all, drop_more, take_more}
 use Rattle.cut_wants.specs.declared.wants.Want.{Want}
 use Rattle.cut_bound.specs.declared.planned.PlannedUnit.{PlannedUnit}
 use Rattle.cut_bound.specs.declared.stock.StockSize.{StockSize}
-use Rattle.cut_bound.specs.Cuttings.{units_at}
-use Rattle.cut_bound.specs.Planned.{cutting_of}
+use Rattle.cut_bound.specs.Solutions.{units_at}
+use Rattle.cut_bound.specs.Planned.{solution_of}
 use Rattle.shop_plans.specs.declared.answers.MissingPieces.{MissingPieces}
 use Rattle.shop_planning.specs.declared.instance.StockPart.{StockPart}
 use Rattle.shop_planning.specs.declared.response.Entry.{Entry}
@@ -19,7 +19,7 @@ module _ (sizes : List StockSize) (ranked : List StockPart) (shares : List Plann
   rest k = entries_from sizes ranked (take k shares) (drop k shares)
 
   abbrev before : ℕ
-  before = units_at (cutting_of (take i shares)) u.place
+  before = units_at (solution_of (take i shares)) u.place
 
   at : rest i ≡ cons_option (option_map (entry_of ranked before u) (slice_get sizes u.place)) (rest (i + 1))
   at =

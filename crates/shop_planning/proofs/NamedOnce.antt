@@ -8,12 +8,12 @@ use Rattle.std.proofs.lemmas.List.{append-nil, drop-take, take-take}
 use Rattle.std.proofs.lemmas.List.Sorted.{sum_by-IsPermutation}
 use Rattle.std.proofs.lemmas.List.Sums.{sum_by-append, sum_by-cons, sum_by-take-drop, sum_by-take-le}
 use Rattle.cut_measure.specs.declared.sizes.Kind.{Kind}
-use Rattle.cut_measure.specs.Measures.{Extent, is_size}
+use Rattle.cut_measure.specs.Measures.{Size, is_size}
 use Rattle.cut_measure.specs.Names.{Name}
 use Rattle.cut_bound.specs.declared.planned.PlannedUnit.{PlannedUnit}
 use Rattle.cut_bound.specs.declared.stock.StockSize.{StockSize}
-use Rattle.cut_bound.specs.Cuttings.{CutUnit, units_at}
-use Rattle.cut_bound.specs.Planned.{cutting_of}
+use Rattle.cut_bound.specs.Solutions.{CutUnit, units_at}
+use Rattle.cut_bound.specs.Planned.{solution_of}
 use Rattle.cut_order.proofs.GrownUnits.{sum_pushed}
 use Rattle.shop_records.specs.Same.{same_name}
 use Rattle.shop_plans.specs.declared.limits.TheConstants.{UNIT_COST}
@@ -98,27 +98,27 @@ module _ (ranked : List StockPart) (name : Name) where
     added None k rest = omega arith
     added (Some s) k rest = sum_by-cons named (entry_of ranked k u s) rest
 
-    used_here : (before : List PlannedUnit) → units_at (cutting_of (before ++ u ∷ [])) u.place ≡ units_at (cutting_of before) u.place + u.times
+    used_here : (before : List PlannedUnit) → units_at (solution_of (before ++ u ∷ [])) u.place ≡ units_at (solution_of before) u.place + u.times
     used_here before =
         let same : cond {A = ℕ} (eqb u.place u.place) 1 0 ≡ 1 = rw (eq-eqb u.place u.place refl) refl in
-        sum_pushed (λ (v : CutUnit). cond (eqb v.place u.place) 1 0) before u ∙ ap (λ n. units_at (cutting_of before) u.place + u.times * n) same ∙ omega arith
+        sum_pushed (λ (v : CutUnit). cond (eqb v.place u.place) 1 0) before u ∙ ap (λ n. units_at (solution_of before) u.place + u.times * n) same ∙ omega arith
 
-    used_elsewhere : (before : List PlannedUnit) (i : ℕ) → (i ≡ u.place → ⊥) → units_at (cutting_of (before ++ u ∷ [])) i ≡ units_at (cutting_of before) i
+    used_elsewhere : (before : List PlannedUnit) (i : ℕ) → (i ≡ u.place → ⊥) → units_at (solution_of (before ++ u ∷ [])) i ≡ units_at (solution_of before) i
     used_elsewhere before i other =
         let none : cond {A = ℕ} (eqb u.place i) 1 0 ≡ 0 = rw (ne_eqb u.place i (λ e. other (sym e))) refl in
-        sum_pushed (λ (v : CutUnit). cond (eqb v.place i) 1 0) before u ∙ ap (λ n. units_at (cutting_of before) i + u.times * n) none ∙ omega arith
+        sum_pushed (λ (v : CutUnit). cond (eqb v.place i) 1 0) before u ∙ ap (λ n. units_at (solution_of before) i + u.times * n) none ∙ omega arith
 
   -- plans name what their units take
   plans_take : (sizes : List StockSize) (before us : List PlannedUnit)
-      → took (units_at (cutting_of before)) sizes + sum_by named (entries_from sizes ranked before us) ≡ took (units_at (cutting_of (before ++ us))) sizes
-  plans_take sizes before [] = omega (arith, ap (λ (vs : List PlannedUnit). took (units_at (cutting_of vs)) sizes) (append-nil before))
+      → took (units_at (solution_of before)) sizes + sum_by named (entries_from sizes ranked before us) ≡ took (units_at (solution_of (before ++ us))) sizes
+  plans_take sizes before [] = omega (arith, ap (λ (vs : List PlannedUnit). took (units_at (solution_of vs)) sizes) (append-nil before))
   plans_take sizes before (u ∷ us) =
       omega (
         arith,
-        added u (slice_get sizes u.place) (units_at (cutting_of before) u.place) (entries_from sizes ranked (before ++ u ∷ []) us),
-        took_more u (units_at (cutting_of before)) (units_at (cutting_of (before ++ u ∷ []))) sizes u.place (used_here u before) (used_elsewhere u before),
+        added u (slice_get sizes u.place) (units_at (solution_of before) u.place) (entries_from sizes ranked (before ++ u ∷ []) us),
+        took_more u (units_at (solution_of before)) (units_at (solution_of (before ++ u ∷ []))) sizes u.place (used_here u before) (used_elsewhere u before),
         plans_take sizes (before ++ u ∷ []) us,
-        ap (λ (vs : List PlannedUnit). took (units_at (cutting_of vs)) sizes) (append_assoc before (u ∷ []) us),
+        ap (λ (vs : List PlannedUnit). took (units_at (solution_of vs)) sizes) (append_assoc before (u ∷ []) us),
       )
 
   -- how often it is among all parts of a size
@@ -148,7 +148,7 @@ module _ (ranked : List StockPart) (name : Name) where
     where
       by : (t : Bool) → sum_by (λ (s : StockSize). among_all s.limit s) (filter_map (bought_size kind) bs) ≡ 0
           → sum_by (λ (s : StockSize). among_all s.limit s)
-          (cons_option (option_map (λ (size : Extent). let s : StockSize = record { size = size; cost = size.w * size.h * UNIT_COST; limit = None } in s) (if t then Some (record { w = b.w; h = b.h }) else None)) (filter_map (bought_size kind) bs))
+          (cons_option (option_map (λ (size : Size). let s : StockSize = record { size = size; cost = size.w * size.h * UNIT_COST; limit = None } in s) (if t then Some (record { w = b.w; h = b.h }) else None)) (filter_map (bought_size kind) bs))
           ≡ 0
       by true more =
           omega (
@@ -193,6 +193,6 @@ named_once instance kind buy units reported name sizes is =
       plans,
       moved,
       plans_take is.ranked name instance.sizes.items [] (shares_of units),
-      took_few is.ranked name (units_at (cutting_of (shares_of units))) instance.sizes.items,
+      took_few is.ranked name (units_at (solution_of (shares_of units))) instance.sizes.items,
       all,
     )

@@ -4,7 +4,7 @@ use Rattle.std.specs.Prelude.{All, filter_map, if◌then◌else◌, option_map, 
 use Rattle.std.specs.Bool.{Decides}
 use Rattle.std.specs.Cmp.{unsigned_Decides}
 use Rattle.std.proofs.lemmas.Bool.Decides.{Decides-and, Decides-like}
-use Rattle.cut_measure.specs.Measures.{Extent, is_size}
+use Rattle.cut_measure.specs.Measures.{Size, is_size}
 use Rattle.std.specs.List.{cons_option}
 use Rattle.std.proofs.lemmas.List.{drop_more, length-append, length-map}
 use Rattle.std.proofs.lemmas.List.Elements.{All-map, All-weaker}
@@ -12,7 +12,7 @@ use Rattle.std.proofs.lemmas.List.Sums.{sum_by-append, sum_by-cons}
 use Rattle.cut_measure.specs.declared.sizes.Kind.{Kind}
 use Rattle.cut_bound.specs.declared.stock.StockSize.{StockSize}
 use Rattle.cut_bound.specs.declared.limits.TheConstants.{MAX_BOUGHT_SIZES, MAX_PARTS}
-use Rattle.cut_order.specs.declared.question.TheConstants.{MAX_COST}
+use Rattle.cut_order.specs.declared.instance.TheConstants.{MAX_COST}
 use Rattle.cut_order.specs.Stocks.{IsStock, parts_of}
 use Rattle.shop_plans.specs.declared.limits.TheConstants.{UNIT_COST}
 use Rattle.shop_plans.specs.declared.queries.BuySize.{BuySize}
@@ -49,7 +49,7 @@ none_at_hand kind [] = refl
 none_at_hand kind (b ∷ bs) = by (is_size kind b.w b.h) (none_at_hand kind bs)
   where
     by : (t : Bool) → parts_of (filter_map (bought_size kind) bs) ≡ 0
-        → parts_of (cons_option (option_map (λ (size : Extent). let s : StockSize = record { size = size; cost = size.w * size.h * UNIT_COST; limit = None } in s) (if t then Some (record { w = b.w; h = b.h }) else None)) (filter_map (bought_size kind) bs)) ≡ 0
+        → parts_of (cons_option (option_map (λ (size : Size). let s : StockSize = record { size = size; cost = size.w * size.h * UNIT_COST; limit = None } in s) (if t then Some (record { w = b.w; h = b.h }) else None)) (filter_map (bought_size kind) bs)) ≡ 0
     by true more =
         omega (
           arith,

@@ -10,8 +10,8 @@ use Rattle.cut_tree.specs.Spelling.{text_of}
 use Rattle.cut_bound.specs.declared.limits.TheConstants.{MAX_PARTS}
 use Rattle.cut_bound.specs.declared.planned.PlannedUnit.{PlannedUnit}
 use Rattle.cut_bound.specs.declared.stock.StockSize.{StockSize}
-use Rattle.cut_bound.specs.Cuttings.{units_at}
-use Rattle.cut_bound.specs.Planned.{cutting_of}
+use Rattle.cut_bound.specs.Solutions.{units_at}
+use Rattle.cut_bound.specs.Planned.{solution_of}
 use Rattle.shop_plans.specs.declared.answers.ReportedPlan.{ReportedPlan}
 use Rattle.shop_planning.specs.declared.instance.PlanInstance.{PlanInstance}
 use Rattle.shop_planning.specs.declared.instance.StockPart.{StockPart}
@@ -66,7 +66,7 @@ entry_of ranked before u s = entry_by s.limit ranked before u s
 abbrev pub entries_from : List StockSize → List StockPart → (before units : List PlannedUnit) → List Entry
 entries_from sizes ranked before [] = []
 entries_from sizes ranked before (u ∷ us) =
-    cons_option (option_map (entry_of ranked (units_at (cutting_of before) u.place) u) (slice_get sizes u.place)) (entries_from sizes ranked (before ++ u ∷ []) us)
+    cons_option (option_map (entry_of ranked (units_at (solution_of before) u.place) u) (slice_get sizes u.place)) (entries_from sizes ranked (before ++ u ∷ []) us)
 
 abbrev pub entries_of : List StockSize → List StockPart → List PlannedUnit → List Entry
 entries_of sizes ranked units = entries_from sizes ranked [] units

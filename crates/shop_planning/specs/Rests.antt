@@ -1,6 +1,6 @@
 -- The largest rest that is kept when plans are carried out.
 use Rattle.std.specs.Prelude.{◌≡◌, ◌⊎◌, ℕ, ◌*◌, ◌≤◌, List, All, Any, fold, if◌then◌else◌, max}
-use Rattle.cut_measure.specs.Measures.{Extent, CutParams}
+use Rattle.cut_measure.specs.Measures.{Size, CutParams}
 use Rattle.cut_tree.specs.declared.lay.Row.{Row}
 use Rattle.cut_tree.specs.declared.halts.Stop.TheVariants as stop
 use Rattle.cut_tree.specs.Laying.{IsLaid}

@@ -3,9 +3,9 @@ use Rattle.std.specs.Prelude.{◌≡◌, ◌≤◌, ℕ, ◌+◌, ◌*◌, ◌==
 use Rattle.std.specs.List.{list_any}
 use Rattle.cut_measure.specs.declared.sizes.Kind.{Kind}
 use Rattle.cut_measure.specs.declared.sizes.Kind.TheVariants.{Bar, Sheet}
-use Rattle.cut_measure.specs.Measures.{Extent, size_of}
+use Rattle.cut_measure.specs.Measures.{Size, size_of}
 use Rattle.cut_bound.specs.declared.stock.StockSize.{StockSize}
-use Rattle.cut_order.specs.declared.question.TheConstants.{MAX_COST}
+use Rattle.cut_order.specs.declared.instance.TheConstants.{MAX_COST}
 use Rattle.shop_records.specs.declared.records.Part.{Part}
 use Rattle.shop_records.specs.Columns.{is_whole}
 use Rattle.shop_answers.specs.Planning.{planned_size}
@@ -16,7 +16,7 @@ use Rattle.shop_planning.specs.declared.instance.StockPart.{StockPart}
 -- ---- parts
 
 -- each cell of a unit costs 100, and one of a remnant as much as the query says
-abbrev pub part_cost : (remnant : ℕ) → Part → Extent → ℕ
+abbrev pub part_cost : (remnant : ℕ) → Part → Size → ℕ
 part_cost remnant part size = if is_whole part then size.w * size.h * UNIT_COST else size.w * size.h * remnant
 
 -- a part at a place of the stock's list
@@ -59,7 +59,7 @@ part_sizes parts = map (part_size parts) (firsts are_alike [] parts)
 
 -- a size that may be bought, without limit, where units of the kind may have it
 abbrev pub bought_size : Kind → BuySize → Option StockSize
-bought_size kind b = option_map (λ (size : Extent). let s : StockSize = record { size = size; cost = size.w * size.h * UNIT_COST; limit = None } in s) (size_of kind b.w b.h)
+bought_size kind b = option_map (λ (size : Size). let s : StockSize = record { size = size; cost = size.w * size.h * UNIT_COST; limit = None } in s) (size_of kind b.w b.h)
 
 -- the sizes of the parts, and then those that may be bought
 abbrev pub sizes_of : Kind → List StockPart → List BuySize → List StockSize

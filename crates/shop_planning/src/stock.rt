@@ -4,7 +4,7 @@ ghost use Rattle.std.specs.Prelude.{◌≡◌, ◌≤◌, ◌++◌, All, IfOk, I
 ghost use Rattle.std.specs.List.{list_any};
 ghost use Rattle.cut_bound.specs.declared.limits.TheConstants.{MAX_BOUGHT_SIZES, MAX_PARTS};
 ghost use Rattle.cut_order.specs.Stocks.{IsStock};
-ghost use Rattle.cut_order.specs.declared.question.TheConstants.{MAX_COST};
+ghost use Rattle.cut_order.specs.declared.instance.TheConstants.{MAX_COST};
 ghost use Rattle.shop_plans.specs.declared.limits.TheConstants.{UNIT_COST};
 ghost use Rattle.shop_answers.specs.Planning.{planned_size};
 ghost use Rattle.shop_planning.specs.Stock as spec;

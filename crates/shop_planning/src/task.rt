@@ -4,7 +4,7 @@ ghost use Rattle.std.proofs.Props.{props};
 ghost use Rattle.std.specs.Prelude.{◌≡◌, IfOk, IfSome};
 ghost use Rattle.cut_plan.specs.declared.faults.PlanFault.TheVariants.{NoMemory};
 ghost use Rattle.cut_order.specs.Answers.{Asks};
-ghost use Rattle.cut_order.specs.Searches.{question_of};
+ghost use Rattle.cut_order.specs.Searches.{instance_of};
 ghost use Rattle.shop_planning.specs.Answers.{IsPlanOf};
 
 use crate::instance::PlanInstance;
@@ -21,7 +21,7 @@ pub struct PlanTask {
     search: Option<OrderSearch>,
     left: u32,
     ghost asks: { IfSome search
-        (λ s. Asks instance.kind instance.kerf instance.step instance.stages instance.sizes.items instance.wants.items (question_of s)) } by { Prim.hlevel props },
+        (λ s. Asks instance.kind instance.kerf instance.step instance.stages instance.sizes.items instance.wants.items (instance_of s)) } by { Prim.hlevel props },
 }
 
 // A planner's lack of memory, handed on.
@@ -34,7 +34,7 @@ fn want_of_memory(_fault: PlanFault) -> AllocError
 // A search for what is asked.
 fn search_for(alloc: Global, instance: &PlanInstance) -> Result<OrderSearch, AllocError>
     ensures { IfOk result (λ search. Asks instance.now.kind instance.now.kerf instance.now.step instance.now.stages
-        instance.now.sizes.items instance.now.wants.items (question_of search)) }
+        instance.now.sizes.items instance.now.wants.items (instance_of search)) }
 {
     match OrderSearch::new(
         alloc,

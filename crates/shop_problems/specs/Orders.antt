@@ -1,7 +1,7 @@
 -- The plans of the lines of an order file.
 use Rattle.std.specs.Prelude.{◌≡◌, ◌⊎◌, ◌≤◌, ◌||◌, ℕ, suc, List, [], ◌∷◌, filter, if◌then◌else◌, length, map, nat_lt, Option, Some, None, sum_by}
 use Rattle.std.specs.Str.{bytes_eq}
-use Rattle.cut_measure.specs.Measures.{Extent}
+use Rattle.cut_measure.specs.Measures.{Size}
 use Rattle.cut_measure.specs.declared.sizes.Kind.{Kind}
 use Rattle.cut_wants.specs.declared.wants.Want.{Want}
 use Rattle.cut_plan.specs.declared.faults.PlanFault.{PlanFault}
@@ -41,13 +41,13 @@ wants_in material lines = wants_from 1 (lines_of material lines)
 -- ---- the plan
 
 -- the first fault: over 10 sizes, or one that stands twice, or that of the order
-abbrev pub plan_fault : StockMaterial → List Extent → List Want → Option PlanFault
+abbrev pub plan_fault : StockMaterial → List Size → List Want → Option PlanFault
 plan_fault m sizes wants =
     if nat_lt MAX_BOUGHT_SIZES (length sizes) || has_twice sizes then Some BadWant
     else order_fault m.kind m.limits.kerf None (stock_of sizes) wants
 
 -- an answer to the order of these wants, from units of these sizes, of at most so many stages
-pub record IsPlanned (m : StockMaterial) (sizes : List Extent) (stages : Option ℕ) (wants : List Want) (plan : OrderPlan) : Type 0 where
+pub record IsPlanned (m : StockMaterial) (sizes : List Size) (stages : Option ℕ) (wants : List Want) (plan : OrderPlan) : Type 0 where
   pub few : length sizes ≤ MAX_BOUGHT_SIZES
   pub answers : IsAnswerOf m.kind m.limits.kerf None stages (stock_of sizes) wants plan
 
@@ -61,13 +61,13 @@ abbrev pub summary_of : OrderPlan → OrderSummary
 summary_of plan = record { units = count_of plan.units.items; bound = plan.bound; proved = plan.proved; missing = missing_of plan }
 
 -- with one size the lines of its plans; with several the cost too, and the lines of each size by its name
-abbrev pub ArePlanLines : Kind → List Extent → OrderPlan → List ℕ → Type 0
+abbrev pub ArePlanLines : Kind → List Size → OrderPlan → List ℕ → Type 0
 ArePlanLines kind sizes plan text =
     ((length sizes ≡ 1) × AreOrderLines (summary_of plan) plan.units.items text)
     ⊎ (((length sizes ≡ 1) → ⊥) × AreSizesLines (summary_of plan) plan.cost (map (size_text kind) sizes) plan.units.items text)
 
 -- the lines that report a plan of a material's lines from units of these sizes
-pub record IsTextFrom (lines : List OrderLine) (code : List ℕ) (material : StockMaterial) (sizes : List Extent) (stages : Option ℕ) (text : List ℕ) : Type 0 where
+pub record IsTextFrom (lines : List OrderLine) (code : List ℕ) (material : StockMaterial) (sizes : List Size) (stages : Option ℕ) (text : List ℕ) : Type 0 where
   pub plan : OrderPlan
   pub planned : IsPlanned material sizes stages (wants_in code lines) plan
   pub reported : ArePlanLines material.kind sizes plan text
@@ -76,7 +76,7 @@ pub record IsTextFrom (lines : List OrderLine) (code : List ℕ) (material : Sto
 pub record IsLinesText (lines : List OrderLine) (entries : List MaterialEntry) (code : List ℕ) (texts : List (List ℕ)) (stages : Option ℕ) (text : List ℕ) : Type 0 where
   pub material : StockMaterial
   pub known : material_in entries code ≡ Some material
-  pub sizes : List Extent
+  pub sizes : List Size
   pub said : AreSizes material.kind texts sizes
   pub from : IsTextFrom lines code material sizes stages text
 
@@ -88,4 +88,4 @@ IsLinesFault lines entries code texts fault.BadSize =
 IsLinesFault lines entries code texts (fault.Plan f) =
     (f ≡ NoMemory)
     ⊎ ((m : StockMaterial) × (material_in entries code ≡ Some m)
-    × ((sizes : List Extent) × AreSizes m.kind texts sizes × (plan_fault m sizes (wants_in code lines) ≡ Some f)))
+    × ((sizes : List Size) × AreSizes m.kind texts sizes × (plan_fault m sizes (wants_in code lines) ≡ Some f)))

@@ -1,6 +1,6 @@
 -- Which steps a rectangle and its pieces take, and what helps where a step is refused.
 use Rattle.std.specs.Prelude.{ℕ, ◌+◌, ◌==◌, ◌&&◌, ◌||◌, List, [], ◌∷◌, if◌then◌else◌, min, nat_le, nat_lt, Option, Some, None}
-use Rattle.cut_measure.specs.Measures.{Extent}
+use Rattle.cut_measure.specs.Measures.{Size}
 use Rattle.cut_measure.specs.declared.sizes.Kind.{Kind}
 use Rattle.cut_measure.specs.declared.sizes.Kind.TheVariants.{Bar, Sheet}
 use Rattle.shop_files.specs.declared.problems.Piece.{Piece}
@@ -16,7 +16,7 @@ shortest [] = MAX_GIVEN_STEP
 shortest (p ∷ ps) = min (min p.w p.h) (shortest ps)
 
 -- From the least step by which no side has over 500 steps to the longest that is over no piece's side and a kerf, and may be given.
-abbrev pub steps_of : Extent → List Piece → (kerf : ℕ) → Steps
+abbrev pub steps_of : Size → List Piece → (kerf : ℕ) → Steps
 steps_of size pieces k = record { least = least_for size k; most = min (shortest pieces + k) MAX_GIVEN_STEP }
 
 -- this step serves, or none does
@@ -26,7 +26,7 @@ help_beside steps (Some step) =
     if nat_lt steps.most steps.least || nat_le steps.least step && nat_le step steps.most then help.Whole else help.Steps steps
 
 -- of one rectangle
-abbrev pub help_of_one : Extent → List Piece → (kerf step : ℕ) → StepHelp
+abbrev pub help_of_one : Size → List Piece → (kerf step : ℕ) → StepHelp
 help_of_one size pieces k step = if size.h == 1 then help.Whole else help_beside (steps_of size pieces k) (Some step)
 
 abbrev pub help_of_kind : Kind → Steps → Option ℕ → StepHelp
@@ -34,5 +34,5 @@ help_of_kind Bar steps step = help.ShorterBar
 help_of_kind Sheet steps step = help_beside steps step
 
 -- of as many rectangles as all pieces take
-abbrev pub help_of_all : Extent → List Piece → (kerf : ℕ) → Option ℕ → StepHelp
+abbrev pub help_of_all : Size → List Piece → (kerf : ℕ) → Option ℕ → StepHelp
 help_of_all size pieces k step = help_of_kind (kind_of size pieces) (steps_of size pieces k) step

@@ -3,7 +3,7 @@ use Rattle.std.specs.Prelude.{◌≡◌, ℕ, suc, ◌*◌, ◌<◌, ◌⊎◌, 
 use Rattle.std.specs.List.{after_first, before_first, find, list_any, position_or_len}
 use Rattle.std.specs.Str.{bytes_eq}
 use Rattle.cut_measure.specs.Lengths.{IsLengthText, mm_text}
-use Rattle.cut_measure.specs.Measures.{Extent, CutParams, params_of, size_of}
+use Rattle.cut_measure.specs.Measures.{Size, CutParams, params_of, size_of}
 use Rattle.cut_measure.specs.declared.sizes.Kind.{Kind}
 use Rattle.cut_measure.specs.declared.sizes.Kind.TheVariants.{Bar, Sheet}
 use Rattle.cut_bound.specs.declared.stock.StockSize.{StockSize}
@@ -70,27 +70,27 @@ material_in entries material = material_of (entry_in entries material)
 -- ---- sizes
 
 -- a length alone is a bar's size
-abbrev pub IsBarText : List ℕ → Extent → Type 0
+abbrev pub IsBarText : List ℕ → Size → Type 0
 IsBarText text size = (w : ℕ) × IsLengthText text w × (size_of Bar w 1 ≡ Some size)
 
 -- two texts that say the sides of a sheet
-abbrev pub AreSides : (first second : List ℕ) → Extent → Type 0
+abbrev pub AreSides : (first second : List ℕ) → Size → Type 0
 AreSides first second size = (w h : ℕ) × IsLengthText first w × IsLengthText second h × (size_of Sheet w h ≡ Some size)
 
 abbrev pub is_x : ℕ → Bool
 is_x b = b == 120
 
 -- what stands before a text's first `x`, and what stands behind it, say the sides
-abbrev pub IsSheetText : List ℕ → Extent → Type 0
+abbrev pub IsSheetText : List ℕ → Size → Type 0
 IsSheetText text size = (position_or_len is_x text < length text) × AreSides (before_first is_x text) (after_first is_x text) size
 
 -- the text says this size of a unit of the kind
-abbrev pub IsSizeText : Kind → List ℕ → Extent → Type 0
+abbrev pub IsSizeText : Kind → List ℕ → Size → Type 0
 IsSizeText Bar text size = IsBarText text size
 IsSizeText Sheet text size = IsSheetText text size
 
 -- the texts say these sizes, one each
-abbrev pub AreSizes : Kind → List (List ℕ) → List Extent → Type 0
+abbrev pub AreSizes : Kind → List (List ℕ) → List Size → Type 0
 AreSizes kind [] [] = Unit {0}
 AreSizes kind [] (size ∷ sizes) = ⊥
 AreSizes kind (text ∷ texts) [] = ⊥
@@ -99,30 +99,30 @@ AreSizes kind (text ∷ texts) (size ∷ sizes) = IsSizeText kind text size × A
 -- one of the texts says no size
 abbrev pub HasBadSize : Kind → List (List ℕ) → Type 0
 HasBadSize kind [] = ⊥
-HasBadSize kind (text ∷ texts) = ((size : Extent) → IsSizeText kind text size → ⊥) ⊎ HasBadSize kind texts
+HasBadSize kind (text ∷ texts) = ((size : Size) → IsSizeText kind text size → ⊥) ⊎ HasBadSize kind texts
 
-abbrev pub same_size : Extent → Extent → Bool
+abbrev pub same_size : Size → Size → Bool
 same_size a b = a.w == b.w && a.h == b.h
 
 -- a size stands twice
-abbrev pub has_twice : List Extent → Bool
+abbrev pub has_twice : List Size → Bool
 has_twice [] = false
-has_twice (size ∷ sizes) = list_any (λ (other : Extent). same_size other size) sizes || has_twice sizes
+has_twice (size ∷ sizes) = list_any (λ (other : Size). same_size other size) sizes || has_twice sizes
 
 -- ---- the stock
 
 -- a unit costs 1 where there is no other size, so that costs are numbers of units, and else its cells
-abbrev pub cost_of : Extent → (single : Bool) → ℕ
+abbrev pub cost_of : Size → (single : Bool) → ℕ
 cost_of size single = if single then 1 else size.w * size.h
 
 -- as many units of each of these sizes as are wanted, where that is a single size, or not
-abbrev pub stock_at : (single : Bool) → List Extent → List StockSize
-stock_at single sizes = map (λ (size : Extent). record { size = size; cost = cost_of size single; limit = None }) sizes
+abbrev pub stock_at : (single : Bool) → List Size → List StockSize
+stock_at single sizes = map (λ (size : Size). record { size = size; cost = cost_of size single; limit = None }) sizes
 
-abbrev pub stock_of : List Extent → List StockSize
+abbrev pub stock_of : List Size → List StockSize
 stock_of sizes = stock_at (length sizes == 1) sizes
 
 -- a bar's length, or a sheet's sides
-abbrev pub size_text : Kind → Extent → List ℕ
+abbrev pub size_text : Kind → Size → List ℕ
 size_text Bar size = mm_text size.w
 size_text Sheet size = mm_text size.w ++ codes "x" ++ mm_text size.h

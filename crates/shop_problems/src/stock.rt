@@ -2,8 +2,8 @@
 
 ghost use Rattle.std.specs.Prelude.{◌≡◌, ◌≤◌, ◌⊎◌, All, IfErr, IfOk, MatchOption, map, option_map, string_bytes};
 ghost use Rattle.std.specs.List.{list_any};
-ghost use Rattle.cut_measure.specs.Measures.{Extent};
-ghost use Rattle.cut_order.specs.declared.question.TheConstants.{MAX_COST};
+ghost use Rattle.cut_measure.specs.Measures.{Size};
+ghost use Rattle.cut_order.specs.declared.instance.TheConstants.{MAX_COST};
 ghost use Rattle.shop_problems.specs.Stock as spec;
 ghost use Rattle.shop_problems.specs.declared.stock.StockFault.TheVariants as fault;
 
@@ -121,7 +121,7 @@ pub fn material_in(entries: &[MaterialEntry], material: &str) -> Option<StockMat
 
 // The size of a sheet whose sides two texts say.
 fn sides_of(w: &str, h: &str) -> Option<Size>
-    ensures { MatchOption result ((size : Extent) → spec.AreSides w.now h.now size → ⊥)
+    ensures { MatchOption result ((size : Size) → spec.AreSides w.now h.now size → ⊥)
         (spec.AreSides w.now h.now) }
 {
     let w = read_mm(w)?;
@@ -131,7 +131,7 @@ fn sides_of(w: &str, h: &str) -> Option<Size>
 
 // The size of a sheet that a text says: two lengths with an `x` between them.
 fn sheet_in(text: &str) -> Option<Size>
-    ensures { MatchOption result ((size : Extent) → spec.IsSheetText text.now size → ⊥)
+    ensures { MatchOption result ((size : Size) → spec.IsSheetText text.now size → ⊥)
         (spec.IsSheetText text.now) }
 {
     match text.split_once('x') {
@@ -142,7 +142,7 @@ fn sheet_in(text: &str) -> Option<Size>
 
 // The size of a bar that a text says: its length.
 fn bar_in(text: &str) -> Option<Size>
-    ensures { MatchOption result ((size : Extent) → spec.IsBarText text.now size → ⊥)
+    ensures { MatchOption result ((size : Size) → spec.IsBarText text.now size → ⊥)
         (spec.IsBarText text.now) }
 {
     let w = read_mm(text)?;
@@ -151,7 +151,7 @@ fn bar_in(text: &str) -> Option<Size>
 
 /// The size of a unit that a text says, in millimetres.
 pub fn size_in(kind: Kind, text: &str) -> Option<Size>
-    ensures { MatchOption result ((size : Extent) → spec.IsSizeText kind text.now size → ⊥)
+    ensures { MatchOption result ((size : Size) → spec.IsSizeText kind text.now size → ⊥)
         (spec.IsSizeText kind text.now) }
 {
     match kind {

@@ -1,6 +1,6 @@
 -- What the text of a command was read as.
 use Rattle.std.specs.Prelude.{List, Option, Some, None}
-use Rattle.cut_measure.specs.Measures.{Extent}
+use Rattle.cut_measure.specs.Measures.{Size}
 use Rattle.cut_tree.specs.Patterns.{Pattern}
 use Rattle.shop_files.specs.declared.orders.OrderLine.{OrderLine}
 use Rattle.shop_files.specs.declared.problems.Piece.{Piece}
@@ -14,7 +14,7 @@ pub data Reading : Type 0 where
   -- the lines of an order file
   Lines : (lines : List OrderLine) → Reading
   -- a problem's rectangle and pieces
-  Problem : (size : Extent) (pieces : List Piece) → Reading
+  Problem : (size : Size) (pieces : List Piece) → Reading
   -- the same import again, and its first reply, where the row that is kept of it stores one
   Again : (answer : Option Reply) → Reading
 

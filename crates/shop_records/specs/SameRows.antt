@@ -1,6 +1,6 @@
 -- Equality of parts as a test.
 use Rattle.std.specs.Prelude.{ℕ, ◌&&◌, ◌==◌, List, [], ◌∷◌, Bool, true, false}
-use Rattle.cut_measure.specs.Measures.{Extent}
+use Rattle.cut_measure.specs.Measures.{Size}
 use Rattle.shop_records.specs.declared.records.Part.{Part}
 use Rattle.shop_records.specs.declared.records.State.{State}
 use Rattle.shop_records.specs.declared.records.StateWord.{StateWord}
@@ -22,7 +22,7 @@ word_number word.Undone = 7
 abbrev pub same_state : State → State → Bool
 same_state a b = (word_number (state_word a) == word_number (state_word b)) && (state_of a == state_of b)
 
-abbrev pub same_size : Extent → Extent → Bool
+abbrev pub same_size : Size → Size → Bool
 same_size a b = (a.w == b.w) && (a.h == b.h)
 
 -- of one name, material, batch and unit

@@ -6,7 +6,7 @@ use Rattle.std.specs.Bool.{Decides}
 use Rattle.std.specs.Cmp.{unsigned_Decides}
 use Rattle.std.specs.Cmp.Lexicographic.{bytes_decides}
 use Rattle.std.proofs.lemmas.Bool.Decides.{Decides-and, Decides-like}
-use Rattle.cut_measure.specs.Measures.{Extent}
+use Rattle.cut_measure.specs.Measures.{Size}
 use Rattle.cut_measure.specs.Names.{Name}
 use Rattle.shop_records.specs.declared.records.Part.{Part}
 use Rattle.shop_records.specs.declared.records.State.{State}
@@ -104,7 +104,7 @@ own_state (state.Undone a) = (unsigned_Decides a a).1 refl
 state_decides : (a b : State) → Decides (same_state a b) (a ≡ b)
 state_decides a b = (one_state a b, λ e. subst (λ k. same_state a k ≡ true) e (own_state a))
 
-pub size_decides : (a b : Extent) → Decides (nat_eq a.w b.w && nat_eq a.h b.h) (a ≡ b)
+pub size_decides : (a b : Size) → Decides (nat_eq a.w b.w && nat_eq a.h b.h) (a ≡ b)
 size_decides a b =
     Decides-like _ (λ p i. record { w = p.0 i; h = p.1 i }) (λ p. (ap (λ s. s.w) p, ap (λ s. s.h) p)) (Decides-and _ _ (unsigned_Decides a.w b.w) (unsigned_Decides a.h b.h))
 

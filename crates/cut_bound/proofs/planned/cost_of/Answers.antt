@@ -2,7 +2,7 @@ use Rattle.std.proofs.Common.{◌*◌, ◌^◌, ap, ◌∙◌, arith}
 use Rattle.std.specs.Prelude.{slice_get}
 use Rattle.std.specs.Option.{option_map_or}
 use Rattle.cut_bound.specs.declared.stock.StockSize.{StockSize}
-use Rattle.cut_bound.specs.Cuttings.{CutUnit}
+use Rattle.cut_bound.specs.Solutions.{CutUnit}
 use Rattle.cut_bound.proofs.PlannedUnits.{planned_done, planned_over}
 use Rattle.cut_bound.proofs.planned.cost_of.Goals as goal
 

@@ -1,6 +1,6 @@
 use Rattle.std.proofs.Common.{◌∙◌, arith}
 use Rattle.cut_tree.specs.Tree.{count_of}
-use Rattle.cut_bound.specs.Cuttings.{CutUnit}
+use Rattle.cut_bound.specs.Solutions.{CutUnit}
 use Rattle.cut_bound.proofs.PlannedUnits.{planned_done}
 use Rattle.cut_bound.proofs.planned.pieces_of.Goals as goal
 

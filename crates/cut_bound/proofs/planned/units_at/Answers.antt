@@ -1,6 +1,6 @@
 use Rattle.std.proofs.Common.{◌∙◌, arith}
 use Rattle.std.specs.Prelude.{◌==◌, if◌then◌else◌}
-use Rattle.cut_bound.specs.Cuttings.{CutUnit}
+use Rattle.cut_bound.specs.Solutions.{CutUnit}
 use Rattle.cut_bound.proofs.PlannedUnits.{planned_done}
 use Rattle.cut_bound.proofs.planned.units_at.Goals as goal
 

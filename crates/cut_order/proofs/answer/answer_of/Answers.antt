@@ -2,7 +2,7 @@ use Rattle.std.proofs.Common.{◌≡◌, ◌<◌, ◌↔◌, ℕ, List, refl, su
 use Rattle.std.specs.Prelude.{All, IsSome, IsTrue, map}
 use Rattle.cut_bound.specs.declared.planned.PlannedUnit.{PlannedUnit}
 use Rattle.cut_bound.specs.declared.stock.StockSize.{StockSize}
-use Rattle.cut_bound.specs.Cuttings.{cost_at_hand}
+use Rattle.cut_bound.specs.Solutions.{cost_at_hand}
 use Rattle.cut_bound.specs.Planned.{IsChecked}
 use Rattle.cut_bound.specs.Prices.{price_of, priced, step_of}
 use Rattle.cut_order.specs.declared.answer.OrderPlan.{OrderPlan}
@@ -11,7 +11,7 @@ use Rattle.cut_order.proofs.answer.answer_of.Goals as goal
 
 pub returns : goal.returns
 returns c =
-    let q = c.args.certified.now.question in
+    let q = c.args.certified.now.instance in
     let cert = c.args.certified.now.certificate in
     let checked = c.in_ok-checked.checked in
     let plan : OrderPlan = record {

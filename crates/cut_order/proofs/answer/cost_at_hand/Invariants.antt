@@ -1,5 +1,5 @@
 use Rattle.std.proofs.Common.{◌≡◌, ◌*◌, ◌≤◌, ◌^◌, take}
-use Rattle.cut_bound.specs.Cuttings as cuttings
+use Rattle.cut_bound.specs.Solutions as cuttings
 use Rattle.cut_order.proofs.answer.cost_at_hand.Given as goal
 
 abbrev pub invariant-loop-stock : goal.invariant-loop-stock

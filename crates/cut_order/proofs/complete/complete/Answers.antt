@@ -8,7 +8,7 @@ use Rattle.cut_order.proofs.complete.complete.Goals as goal
 
 pub loop-want-preserved : goal.loop-want-preserved
 loop-want-preserved c =
-    let sizes = c.args.question.now.sizes.items in
+    let sizes = c.args.instance.now.sizes.items in
     let old = IsFilledOrFull sizes c.loop-want.units.items in
     let P = IsFilledOrFull sizes c.fill_want.new.units.items in
     let new = c.in_ok-fill_want.ensures in
@@ -22,6 +22,6 @@ loop-want-preserved c =
 
 pub returns-clause-filled : goal.returns-clause-filled
 returns-clause-filled c =
-    let P = IsFilledOrFull c.args.question.now.sizes.items c.loop-want.units.items in
+    let P = IsFilledOrFull c.args.instance.now.sizes.items c.loop-want.units.items in
     subst (λ (xs : List Want). All P xs) c.as_slice-wants.ensures.value
     (subst (λ (xs : List Want). All P xs) (take_all c.loop-want.want-index c.as_slice-wants.result.now (omega arith)) c.loop-want.invariant.filled)

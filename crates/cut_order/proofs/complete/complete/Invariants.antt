@@ -5,6 +5,6 @@ use Rattle.cut_order.proofs.complete.complete.Given as goal
 
 abbrev pub invariant-loop-want : goal.invariant-loop-want
 invariant-loop-want l = record {
-  plan : IsFewOrderPlan l.question.wants.items l.question.kerf l.question.stages l.question.sizes.items l.units.items;
-  filled : All (IsFilledOrFull l.question.sizes.items l.units.items) (take l.want-index l.wants);
+  plan : IsFewOrderPlan l.instance.wants.items l.instance.kerf l.instance.stages l.instance.sizes.items l.units.items;
+  filled : All (IsFilledOrFull l.instance.sizes.items l.units.items) (take l.want-index l.wants);
 }

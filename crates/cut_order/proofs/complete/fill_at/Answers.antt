@@ -1,6 +1,6 @@
 use Rattle.std.proofs.Common.{◌≡◌, ◌≤◌, List, sym, subst, arith}
 use Rattle.std.specs.Prelude.{IsTrue, Some, slice_get}
-use Rattle.cut_measure.specs.Measures.{Extent}
+use Rattle.cut_measure.specs.Measures.{Size}
 use Rattle.cut_plan.specs.Faults.{is_fitting}
 use Rattle.cut_plan.proofs.Faultless as sound
 use Rattle.cut_bound.specs.declared.stock.StockSize.{StockSize}
@@ -16,11 +16,11 @@ single_plan-requires-clause-fits c =
     let add = c.added_at-times.ensures in
     let sizes = c.deref-2.result.now in
     let same = c.size_at-size.ensures add.stock (subst (λ (zs : List StockSize). slice_get zs c.args.place ≡ Some add.stock) (sym c.deref-2.ensures.value) add.there) in
-    subst (λ (s : Extent). IsTrue (is_fitting s c.args.want.now)) (sym same) (add.fits (omega arith))
+    subst (λ (s : Size). IsTrue (is_fitting s c.args.want.now)) (sym same) (add.fits (omega arith))
 
 pub returns-clause-plan : goal.returns-clause-plan
 returns-clause-plan c =
-    let q = c.args.question.now in
+    let q = c.args.instance.now in
     let x = c.args.want.now in
     let u : PlannedUnit = record { place = c.args.place; times = c.added_at-times.result; plan = c.in_ok-plan.plan } in
     let add : IsAddition q.sizes.items c.args.units.now.items x u.place u.times =
@@ -35,7 +35,7 @@ returns-clause-plan c =
 
 pub returns-clause-done : goal.returns-clause-done
 returns-clause-done c =
-    let q = c.args.question.now in
+    let q = c.args.instance.now in
     let x = c.args.want.now in
     let u : PlannedUnit = record { place = c.args.place; times = c.added_at-times.result; plan = c.in_ok-plan.plan } in
     let add : IsAddition q.sizes.items c.args.units.now.items x u.place u.times =

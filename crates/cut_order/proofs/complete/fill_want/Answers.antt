@@ -9,10 +9,10 @@ loop-place-preserved c =
       plan = new.plan;
       grown = grown_on c.args.units.now.items c.loop-place.units.items c.fill_at.new.units.items c.loop-place.invariant.grown new.grown;
       done =
-          done_next c.args.question.now.sizes.items c.loop-place.units.items c.fill_at.new.units.items c.args.want.now c.loop-place.place new.grown new.plan.few c.loop-place.invariant.done new.done;
+          done_next c.args.instance.now.sizes.items c.loop-place.units.items c.fill_at.new.units.items c.args.want.now c.loop-place.place new.grown new.plan.few c.loop-place.invariant.done new.done;
     }
 
 pub returns-clause-filled : goal.returns-clause-filled
 returns-clause-filled c =
-    all_done c.args.question.now.sizes.items c.loop-place.units.items c.args.want.now c.loop-place.invariant.plan.few
+    all_done c.args.instance.now.sizes.items c.loop-place.units.items c.args.want.now c.loop-place.invariant.plan.few
     (λ place lt. c.loop-place.invariant.done place (omega (arith, lt, c.len-place-end.ensures)))

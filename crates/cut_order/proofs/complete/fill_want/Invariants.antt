@@ -4,7 +4,7 @@ use Rattle.cut_order.proofs.complete.fill_want.Given as goal
 
 abbrev pub invariant-loop-place : goal.invariant-loop-place
 invariant-loop-place l = record {
-  plan : IsFewOrderPlan l.question.wants.items l.question.kerf l.question.stages l.question.sizes.items l.units.items;
+  plan : IsFewOrderPlan l.instance.wants.items l.instance.kerf l.instance.stages l.instance.sizes.items l.units.items;
   grown : IsGrown l.initial.units.items l.units.items;
-  done : AreDoneTo l.question.sizes.items l.units.items l.want l.place;
+  done : AreDoneTo l.instance.sizes.items l.units.items l.want l.place;
 }

@@ -22,7 +22,7 @@ kept_leaves-requires-clause-small c =
     )
 
 pub returns-clause-kept : goal.returns-clause-kept
-returns-clause-kept c = rw (c.deref.ensures.value, c.in_ok-scaled.ensures.value, c.w.ensures.value, c.h.ensures.value) at c.in_ok-cutting.ensures.kept
+returns-clause-kept c = rw (c.deref.ensures.value, c.in_ok-scaled.ensures.value, c.w.ensures.value, c.h.ensures.value) at c.in_ok-best_leaves.ensures.kept
 
 pub returns-clause-best : goal.returns-clause-best
-returns-clause-best c = rw (c.deref.ensures.value, c.in_ok-scaled.ensures.value, c.w.ensures.value, c.h.ensures.value) at c.in_ok-cutting.ensures.best
+returns-clause-best c = rw (c.deref.ensures.value, c.in_ok-scaled.ensures.value, c.w.ensures.value, c.h.ensures.value) at c.in_ok-best_leaves.ensures.best

@@ -27,20 +27,20 @@ pub counted_worth-worth-requires-clause-len : goal.counted_worth-worth-requires-
 counted_worth-worth-requires-clause-len c =
     let f = sound.faultless Sheet c.args.size c.args.kerf c.args.step c.args.wants.now c.requires.faultless in
     let cut = c.requires.kept in
-    let len : length c.args.cutting.counts.items ≡ length c.args.wants.now = cut.len ∙ length-map c.args.wants.now (want_up c.args.kerf c.args.step) in
+    let len : length c.args.best_leaves.counts.items ≡ length c.args.wants.now = cut.len ∙ length-map c.args.wants.now (want_up c.args.kerf c.args.step) in
     rw (c.deref-2.ensures.value, c.in_ok-kept.ensures, c.deref.ensures.value) (
-    sound.counts_length c.args.wants.now (kept_counts c.args.wants.now c.args.cutting.counts.items) (kept_left c.args.wants.now c.args.cutting.counts.items len)
+    sound.counts_length c.args.wants.now (kept_counts c.args.wants.now c.args.best_leaves.counts.items) (kept_left c.args.wants.now c.args.best_leaves.counts.items len)
     )
 
 pub counted_worth-worth-requires-clause-small : goal.counted_worth-worth-requires-clause-small
 counted_worth-worth-requires-clause-small c =
     let f = sound.faultless Sheet c.args.size c.args.kerf c.args.step c.args.wants.now c.requires.faultless in
     let cut = c.requires.kept in
-    let len : length c.args.cutting.counts.items ≡ length c.args.wants.now = cut.len ∙ length-map c.args.wants.now (want_up c.args.kerf c.args.step) in
-    let left = kept_left c.args.wants.now c.args.cutting.counts.items len in
+    let len : length c.args.best_leaves.counts.items ≡ length c.args.wants.now = cut.len ∙ length-map c.args.wants.now (want_up c.args.kerf c.args.step) in
+    let left = kept_left c.args.wants.now c.args.best_leaves.counts.items len in
     rw (c.deref-2.ensures.value, c.in_ok-kept.ensures, c.deref.ensures.value) (omega (
       arith,
-      sound.value_left c.args.wants.now (kept_counts c.args.wants.now c.args.cutting.counts.items) left,
+      sound.value_left c.args.wants.now (kept_counts c.args.wants.now c.args.best_leaves.counts.items) left,
       sound.left_fits Sheet c.args.wants.now f.in_range,
     ))
 
@@ -48,26 +48,26 @@ pub dropped_of-dropped-requires-clause-small : goal.dropped_of-dropped-requires-
 dropped_of-dropped-requires-clause-small c =
     let f = sound.faultless Sheet c.args.size c.args.kerf c.args.step c.args.wants.now c.requires.faultless in
     let cut = c.requires.kept in
-    rw c.deref-3.ensures.value (omega (arith, dropped_small c.args.wants.now c.args.cutting.counts.items cut.small, sound.few _ Sheet c.args.wants.now f.in_range))
+    rw c.deref-3.ensures.value (omega (arith, dropped_small c.args.wants.now c.args.best_leaves.counts.items cut.small, sound.few _ Sheet c.args.wants.now f.in_range))
 
 pub returns-clause-laid : goal.returns-clause-laid
 returns-clause-laid c =
     let f = sound.faultless Sheet c.args.size c.args.kerf c.args.step c.args.wants.now c.requires.faultless in
     let cut = c.requires.kept in
-    let len : length c.args.cutting.counts.items ≡ length c.args.wants.now = cut.len ∙ length-map c.args.wants.now (want_up c.args.kerf c.args.step) in
+    let len : length c.args.best_leaves.counts.items ≡ length c.args.wants.now = cut.len ∙ length-map c.args.wants.now (want_up c.args.kerf c.args.step) in
     let places = rw (c.w.ensures.value, c.h.ensures.value) at c.in_ok-root.ensures in
-    laid c.args.size c.args.kerf c.args.step c.args.wants.now c.args.cutting.counts.items _ _ _ _ (sound.own _ Sheet c.args.wants.now f.in_range) cut places len
+    laid c.args.size c.args.kerf c.args.step c.args.wants.now c.args.best_leaves.counts.items _ _ _ _ (sound.own _ Sheet c.args.wants.now f.in_range) cut places len
     (rw (c.deref-2.ensures.value, c.in_ok-kept.ensures, c.deref.ensures.value) at c.counted_worth-worth.ensures) (rw c.deref-3.ensures.value at c.dropped_of-dropped.ensures)
 
 pub returns-clause-few : goal.returns-clause-few
 returns-clause-few c =
     let f = sound.faultless Sheet c.args.size c.args.kerf c.args.step c.args.wants.now c.requires.faultless in
     let cut = c.requires.kept in
-    let len : length c.args.cutting.counts.items ≡ length c.args.wants.now = cut.len ∙ length-map c.args.wants.now (want_up c.args.kerf c.args.step) in
+    let len : length c.args.best_leaves.counts.items ≡ length c.args.wants.now = cut.len ∙ length-map c.args.wants.now (want_up c.args.kerf c.args.step) in
     let places = rw (c.w.ensures.value, c.h.ensures.value) at c.in_ok-root.ensures in
     omega (
       arith,
-      few_laid c.args.size c.args.kerf c.args.step c.args.wants.now c.args.cutting.counts.items _ _ (sound.own _ Sheet c.args.wants.now f.in_range) cut places len,
+      few_laid c.args.size c.args.kerf c.args.step c.args.wants.now c.args.best_leaves.counts.items _ _ (sound.own _ Sheet c.args.wants.now f.in_range) cut places len,
       sound.few _ Sheet c.args.wants.now f.in_range,
     )
 

@@ -1,6 +1,6 @@
 use Rattle.std.proofs.Common.{◌≡◌, List, subst, ap, ◌∙◌}
 use Rattle.std.specs.Prelude.{MatchOption}
-use Rattle.cut_measure.specs.Measures.{Extent}
+use Rattle.cut_measure.specs.Measures.{Size}
 use Rattle.shop_files.specs.declared.problems.Piece.{Piece}
 use Rattle.shop_files.specs.Problems.{IsProblem}
 use Rattle.shop_records.specs.Content.{material_at}
@@ -25,7 +25,7 @@ returns-clause-decision g c =
     let lines : lines_in c.deref.result.now ≡ problem_lines c.args.material c.in-Some.problem.pieces = rw c.deref.ensures.value is_lines in
     let found : AreMaterialsFound (material_at m) c.deref.result.now = rw c.deref.ensures.value (c.in_ok-found.ensures.found clean_disk m at_found) in
     let spelled : IsProblem c.args.text.now c.in-Some.problem.size c.in-Some.problem.pieces =
-    subst (λ o. MatchOption o ((size : Extent) (pieces : List Piece) → IsProblem c.args.text.now size pieces → ⊥) (λ p. IsProblem c.args.text.now p.size p.pieces)) c.in-Some.is c.in_ok-problem.ensures.spelled in
+    subst (λ o. MatchOption o ((size : Size) (pieces : List Piece) → IsProblem c.args.text.now size pieces → ⊥) (λ p. IsProblem c.args.text.now p.size p.pieces)) c.in-Some.is c.in_ok-problem.ensures.spelled in
     problem_decided json_texts m c.args.order c.args.text.now c.in_ok-used.used (c.in_ok-used.ensures.row before_rows m held) (lines_in c.deref.result.now) c.in_ok-first.first c.in_ok-body.body c.in_ok-body.ensures
     (c.in_ok-first.ensures.number before_found m at_first) c.args.material c.in-Some.problem.size c.in-Some.problem.pieces is.known is.totals is.act
     rows.of_material rows.of_totals rows.of_act lines (new, spelled)

@@ -18,7 +18,7 @@ returns-clause-change c =
       is_laid = subst (IsLaid plan.tree plan.w plan.h plan.kerf (outcome_of c.args.stop.now)) (sym c.deref-laid.ensures.value) c.in_ok-rows.ensures.laid;
       rows = c.in_ok-demands.demands;
       recounted = c.in_ok-demands.ensures at found;
-      is = end_made c.args.stop.now c.args.work.job c.args.work.part c.args.work.limits c.args.totals.now c.deref-laid.result.now c.in_ok-demands.demands c.in_ok-parts.parts c.in_ok-parts.come
+      is = end_made c.args.stop.now c.args.work.job c.args.work.part c.args.work.limits c.args.totals.now c.deref-laid.result.now c.in_ok-demands.demands c.in_ok-parts.parts c.in_ok-parts.incoming
           c.moved_totals.result c.ended_reply-reply.result c.ended_state.result c.in_ok-halt.halt c.no_change.result c.no_change.ensures c.ended_state.ensures c.in_ok-halt.ensures c.in_ok-parts.ensures.parts c.in_ok-parts.ensures.cells
           c.moved_totals.ensures c.ended_reply-reply.ensures;
     }

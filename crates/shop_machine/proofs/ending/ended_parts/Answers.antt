@@ -25,8 +25,8 @@ cut_parts-requires-clause-down c =
     let part = part_fits c.args.job.now c.args.part.now c.requires.part in
     (row.some_height, omega (arith, row.bottom, part.height, part.bottom))
 
-pub tally-come-requires : goal.tally-come-requires
-tally-come-requires c =
+pub tally-incoming-requires : goal.tally-incoming-requires
+tally-incoming-requires c =
     let plan = c.args.job.now.plan in
     let made : c.as_slice.result.now ≡ map (row_part c.args.part.now c.args.limits c.args.job.now.act) c.args.rows.now = c.as_slice.ensures ∙ c.in_ok-parts.ensures in
     let cells = ap (sum_by (λ (p : Part). p.size.w * p.size.h)) made ∙ part_cells c.args.part.now c.args.limits c.args.job.now.act plan.tree plan.w plan.h plan.kerf (outcome_of c.args.stop.now) c.args.rows.now c.requires.laid in
@@ -35,7 +35,7 @@ tally-come-requires c =
     omega (arith, cells, few)
 
 pub returns-clause-cells : goal.returns-clause-cells
-returns-clause-cells c = c.tally-come.ensures ∙ ap tally (c.as_slice.ensures ∙ c.in_ok-parts.ensures)
+returns-clause-cells c = c.tally-incoming.ensures ∙ ap tally (c.as_slice.ensures ∙ c.in_ok-parts.ensures)
 
 pub returns-clause-few : goal.returns-clause-few
 returns-clause-few c =
@@ -44,5 +44,5 @@ returns-clause-few c =
     let cells = part_cells c.args.part.now c.args.limits c.args.job.now.act plan.tree plan.w plan.h plan.kerf (outcome_of c.args.stop.now) c.args.rows.now c.requires.laid in
     let part = part_fits c.args.job.now c.args.part.now c.requires.part in
     let sides : plan.w * plan.h ≡ c.args.part.now.size.w * c.args.part.now.size.h = ap (λ w. w * plan.h) (sym part.width) ∙ ap (λ h. c.args.part.now.size.w * h) (sym part.height) in
-    subst (AreFew (c.args.part.now.size.w * c.args.part.now.size.h)) (sym (c.tally-come.ensures ∙ ap tally (c.as_slice.ensures ∙ c.in_ok-parts.ensures)))
+    subst (AreFew (c.args.part.now.size.w * c.args.part.now.size.h)) (sym (c.tally-incoming.ensures ∙ ap tally (c.as_slice.ensures ∙ c.in_ok-parts.ensures)))
     (few_tallied made (c.args.part.now.size.w * c.args.part.now.size.h) (cells ∙ sides))

@@ -12,6 +12,6 @@ returns-clause-change c =
     λ at found. (
       c.in_ok-demands.demands,
       subst (λ (l : List Row). AreRecounted at (with_unmade l) c.args.over.job.plan.tree c.in_ok-demands.demands) c.requires.laid (c.in_ok-demands.ensures at found),
-      undo_made c.args.over.end c.args.over.job c.args.over.part c.args.over.limits c.args.totals.now c.in_ok-demands.demands c.args.left.now c.in_ok-undone.undone c.args.gone.now
-          c.tally_one-come.result c.totals_after-after.result c.no_change.result c.no_change.ensures c.requires.left c.in_ok-undone.ensures c.requires.gone c.tally_one-come.ensures c.totals_after-after.ensures,
+      undo_made c.args.over.end c.args.over.job c.args.over.part c.args.over.limits c.args.totals.now c.in_ok-demands.demands c.args.left.now c.in_ok-undone.undone c.args.outgoing.now
+          c.tally_one-incoming.result c.totals_after-after.result c.no_change.result c.no_change.ensures c.requires.left c.in_ok-undone.ensures c.requires.outgoing c.tally_one-incoming.ensures c.totals_after-after.ensures,
     )

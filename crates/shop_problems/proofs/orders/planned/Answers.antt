@@ -2,7 +2,7 @@ use Rattle.std.proofs.Common.{◌∙◌, ◌≤◌, length, rules, subst, sym}
 use Rattle.std.specs.Prelude.{All}
 use Rattle.cut_bound.specs.declared.limits.TheConstants.{MAX_BOUGHT_SIZES}
 use Rattle.cut_bound.specs.declared.stock.StockSize.{StockSize}
-use Rattle.cut_order.specs.declared.question.TheConstants.{MAX_COST}
+use Rattle.cut_order.specs.declared.instance.TheConstants.{MAX_COST}
 use Rattle.shop_problems.proofs.BoughtSizes.{is_stock}
 use Rattle.shop_problems.proofs.orders.planned.Goals as goal
 

@@ -1,7 +1,7 @@
 use Rattle.std.proofs.Common.{◌≡◌, ◌≤◌, ◌++◌, drop}
 use Rattle.std.specs.Prelude.{All}
 use Rattle.cut_bound.specs.declared.stock.StockSize.{StockSize}
-use Rattle.cut_order.specs.declared.question.TheConstants.{MAX_COST}
+use Rattle.cut_order.specs.declared.instance.TheConstants.{MAX_COST}
 use Rattle.shop_problems.specs.Stock.{stock_at}
 use Rattle.shop_problems.proofs.stock.stock_of.Given as goal
 
